@@ -1,0 +1,2 @@
+-- The theory of this crate's definitions, in the order in which it is built. Assumes nothing.
+pub mod Configurations

@@ -1,0 +1,10 @@
+-- The definitions of this crate, in reading order. Assumes nothing.
+pub mod Terms
+pub mod Matching
+pub mod Solving
+pub mod Firing
+pub mod Derivations
+pub mod Strategy
+pub mod Variants
+pub mod Overlaps
+pub mod Verdict

@@ -1,0 +1,5 @@
+-- The definitions of this crate, in reading order. Assumes nothing.
+pub mod Bytes
+pub mod Lists
+pub mod Lines
+pub mod Fields
