@@ -9,19 +9,8 @@ use mathlib.Core.Option.{Option, none, some}
 use mathlib.Core.Path.{_≡_}
 use lib.ListN.{length, getD, getElem?}
 use Rattle.text.specs.Lists.{onward, every, has, tabled, upTo}
-use Rattle.semantics.specs.Terms.{
-  Term,
-  con,
-  var,
-  Constraint,
-  Rule,
-  Program,
-  Goal,
-  State,
-  failed,
-  live,
-  mapTerms,
-}
+use Rattle.semantics.specs.Terms.{Term, con, var, Constraint, Rule, Program, Goal, State, failed, live}
+use Rattle.semantics.specs.Terms.{mapTerms}
 use Rattle.semantics.specs.Firing.{fireAt}
 
 -- an event: the goal's constraint of a number, from 0, enters; or the rule of a number, from 0, fires at positions

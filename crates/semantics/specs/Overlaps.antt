@@ -11,19 +11,8 @@ use mathlib.Core.Option.{Option, none, some}
 use lib.Dec.{eqb}
 use lib.ListN.{length, getElem?}
 use Rattle.text.specs.Lists.{onward, bind, every, has, placeFrom, gather, answers, upTo}
-use Rattle.semantics.specs.Terms.{
-  Term,
-  con,
-  var,
-  Constraint,
-  Equation,
-  Rule,
-  Program,
-  Goal,
-  State,
-  mapTerms,
-  weight,
-}
+use Rattle.semantics.specs.Terms.{Term, con, var, Constraint, Equation, Rule, Program, Goal, State, mapTerms}
+use Rattle.semantics.specs.Terms.{weight, alphabet}
 use Rattle.semantics.specs.Solving.{solve}
 use Rattle.semantics.specs.Firing.{fireAt}
 use Rattle.semantics.specs.Strategy.{Final, normalise, entered}
