@@ -1,0 +1,91 @@
+-- The two replies, from bytes to bytes, and what the lent output holds afterwards.
+--   Reply              a refusal (number, text, line) or a listing
+--   runReply           the run of a goal over a program, for an output of some room
+--   checkReply         the check of a program
+--   outputAfter        every byte of the lent output
+--   printed            what the two programs print
+-- Assumes nothing.
+use Prim.Native.Nat.{ℕ}
+use Prim.Native.String.{String}
+use mathlib.Core.Bool.{Bool, true, false, cond}
+use mathlib.Core.List.{List, [], _∷_, _++_}
+use lib.Dec.{ltb}
+use lib.ListN.{length, drop}
+use Rattle.text.specs.Bytes.{ascii}
+use Rattle.text.specs.Lines.{parted}
+use Rattle.semantics.specs.Terms.{Program}
+use Rattle.semantics.specs.Strategy.{run}
+use Rattle.semantics.specs.Verdict.{verdict}
+use Rattle.syntax.specs.Answers.{Answer, refused, accepted}
+use Rattle.syntax.specs.Programs.{Reading, readProgram}
+use Rattle.syntax.specs.Goals.{GoalReading, readGoal}
+use Rattle.listing.specs.Listing.{Naming, decimal, lineOf, endListing, verdictListing}
+
+-- the text that a refusal names: S for a program's (document 01: the sheet's), G for a goal's
+pub data Text : Type 0 where
+  programText goalText : Text
+
+-- a reply: a refusal by document 01's number, with its text and the line, from 1, or 0; or a listing
+pub data Reply : Type 0 where
+  refusal : ℕ → Text → ℕ → Reply
+  listing : List ℕ → Reply
+
+-- an answer about a text, as a reply: what is accepted goes on
+unfoldable pub replyOf : {A : Type 0} → Text → Answer A → (A → Reply) → Reply
+replyOf text (refused number line) next = refusal number text line
+replyOf text (accepted a) next = next a
+
+-- a listing that fits the room, or number 11
+unfoldable pub fitted : Text → ℕ → List ℕ → Reply
+fitted text room bytes = cond (ltb room (length bytes)) (refusal 11 text 0) (listing bytes)
+
+-- how listings of a program name things, with these constants
+unfoldable pub namingOf : Program → List (List ℕ) → Naming
+namingOf p constants = record { symbols = p .symbols; constants = constants }
+
+-- the listing of the run of a goal over a program
+unfoldable pub runListing : Reading → GoalReading → List ℕ
+runListing p g = endListing (namingOf (p .program) (g .constants)) (g .letters) (run (p .program) (g .goal))
+
+-- the listing of the check of a program
+unfoldable pub checkListing : Reading → List ℕ
+checkListing p = verdictListing (namingOf (p .program) (p .constants)) (verdict (p .program))
+
+-- the reply of the run: the program's refusals, then the goal's, then number 11
+unfoldable pub runReply : List ℕ → List ℕ → ℕ → Reply
+runReply program goal room =
+    replyOf programText (readProgram program)
+    (λ p. replyOf goalText (readGoal p goal) (λ g. fitted goalText room (runListing p g)))
+
+-- the reply of the check
+unfoldable pub checkReply : List ℕ → ℕ → Reply
+checkReply program room = replyOf programText (readProgram program) (λ p. fitted programText room (checkListing p))
+
+-- the lent output afterwards: untouched under a refusal; the listing, and then the old bytes, otherwise
+unfoldable pub outputAfter : Reply → List ℕ → List ℕ
+outputAfter (refusal number text line) old = old
+outputAfter (listing bytes) old = bytes ++ drop (length bytes) old
+
+-- the letter of a text
+unfoldable pub textLetter : Text → List ℕ
+textLetter programText = ascii "S"
+textLetter goalText = ascii "G"
+
+-- what a program prints of a reply
+unfoldable pub printed : Reply → List ℕ
+printed (refusal number text line) = lineOf (ascii "REFUSED") (decimal number ∷ textLetter text ∷ decimal line ∷ [])
+printed (listing bytes) = bytes
+
+-- enough room for every listing that the programs print
+unfoldable pub ample : ℕ
+ample = 65536
+
+-- all that `sheetrun` prints on an input: a program, then optionally the line `GOAL` and a goal
+unfoldable pub sheetrun : List ℕ → List ℕ
+sheetrun input =
+    let parts = parted input in
+    printed (runReply (parts .program) (parts .goal) ample)
+
+-- all that `sheetcheck` prints on an input: a program
+unfoldable pub sheetcheck : List ℕ → List ℕ
+sheetcheck input = printed (checkReply input ample)

@@ -1,0 +1,11 @@
+-- Opens every definition of this crate at once: a proof that says `unfolding opened` computes with all of them.
+-- Assumes nothing.
+use Prim.Native.Nat.{ℕ}
+use Rattle.listing.specs.Listing.{decimalFrom, decimal, fieldsBehind, lineOf, termShown, constraintShown}
+use Rattle.listing.specs.Listing.{constraintLines, unbound, overlapVariable, boundLines, stateListing}
+use Rattle.listing.specs.Listing.{endListing, pairLines, verdictListing}
+
+-- a name to say on an `unfolding` line
+unfoldable pub opened : ℕ
+unfolding decimalFrom decimal fieldsBehind lineOf termShown constraintShown constraintLines unbound overlapVariable boundLines stateListing endListing pairLines verdictListing
+opened = 0

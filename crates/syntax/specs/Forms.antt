@@ -1,0 +1,99 @@
+-- The forms of a line, and what its term fields stand for.
+--   Form, formOf             what a line means, by its first field
+--   Place, placeAfter        which form may follow which
+--   constantsAfter, termOf   constants and variables, numbered by first appearance
+-- Assumes nothing.
+use Prim.Native.Nat.{ℕ, _+_, _-_}
+use mathlib.Core.Bool.{Bool, true, false, cond, not, _&&_, _||_}
+use mathlib.Core.List.{List, [], _∷_, map}
+use mathlib.Core.Option.{Option, none, some}
+use lib.Dec.{ltb, eqb}
+use lib.ListN.{length, getD, drop}
+use Rattle.text.specs.Bytes.{between}
+use Rattle.text.specs.Lists.{every, placeOf, isKnown, withName}
+use Rattle.text.specs.Fields.{isName, isTerm}
+use Rattle.semantics.specs.Terms.{Term, con, var, Constraint, Symbol, symbolAt}
+
+-- the forms of a line: K, R, H, B, E and G, and any other
+pub data Form : Type 0 where
+  symbolForm ruleForm headForm bodyForm equationForm goalForm noForm : Form
+
+-- the form that a byte stands for, over all byte values
+unfoldable pub formOfByte : ℕ → Form
+formOfByte b =
+    cond (eqb b 75) symbolForm
+    (cond (eqb b 82) ruleForm
+    (cond (eqb b 72) headForm (cond (eqb b 66) bodyForm (cond (eqb b 69) equationForm (cond (eqb b 71) goalForm noForm)))))
+
+-- the form of a line by its first field, which is one letter
+unfoldable pub formOf : List ℕ → Form
+formOf [] = noForm
+formOf (b ∷ []) = formOfByte b
+formOf (b ∷ c ∷ s) = noForm
+
+-- where a line stands in a program: among the K lines, or in a rule behind its R or H lines, its B lines or its E lines
+pub data Place : Type 0 where
+  inSymbols inHeads inBody inEquations : Place
+
+-- the place behind a line of a form, if it may stand at this place: all K lines come first; in each rule H lines come before
+-- B lines, and B lines before E lines
+unfoldable pub placeAfter : Form → Place → Option Place
+placeAfter symbolForm inSymbols = some inSymbols
+placeAfter symbolForm inHeads = none
+placeAfter symbolForm inBody = none
+placeAfter symbolForm inEquations = none
+placeAfter ruleForm place = some inHeads
+placeAfter headForm inSymbols = none
+placeAfter headForm inHeads = some inHeads
+placeAfter headForm inBody = none
+placeAfter headForm inEquations = none
+placeAfter bodyForm inSymbols = none
+placeAfter bodyForm inHeads = some inBody
+placeAfter bodyForm inBody = some inBody
+placeAfter bodyForm inEquations = none
+placeAfter equationForm inSymbols = none
+placeAfter equationForm inHeads = some inEquations
+placeAfter equationForm inBody = some inEquations
+placeAfter equationForm inEquations = some inEquations
+placeAfter goalForm place = none
+placeAfter noForm place = none
+
+-- a field of a line by its number, from 0
+unfoldable pub fieldAt : ℕ → List (List ℕ) → List ℕ
+fieldAt n fs = getD fs n []
+
+-- the constants after a line: those before it, then the new ones among its term fields, in order
+unfoldable pub constantsAfter : List (List ℕ) → List (List ℕ) → List (List ℕ)
+constantsAfter [] constants = constants
+constantsAfter (f ∷ fs) constants = constantsAfter fs (cond (isName f) (withName f constants) constants)
+
+-- the number of the constant that appears first: constants count from 32, behind every symbol's number
+unfoldable pub firstConstant : ℕ
+firstConstant = 32
+
+-- what a term field stands for: a constant by its place, or a variable by the number that its letter has
+unfoldable pub termOf : (List ℕ → ℕ) → List (List ℕ) → List ℕ → Term
+termOf variable constants f = cond (isName f) (con (firstConstant + placeOf f constants)) (var (variable f))
+
+-- the number of a rule's variable: its letter's, A being 0
+unfoldable pub letterNumber : List ℕ → ℕ
+letterNumber f = getD f 0 65 - 65
+
+-- whether an H, B or G line has the wrong count of fields (two to six) or a field of wrong form
+unfoldable pub isConstraintFaulty : List (List ℕ) → Bool
+isConstraintFaulty fs = not (between 2 6 (length fs)) || not (isName (fieldAt 1 fs)) || not (every isTerm (drop 2 fs))
+
+-- the number of a symbol by its name; behind the last where none has it
+unfoldable pub symbolNumber : List Symbol → List ℕ → ℕ
+symbolNumber symbols name = placeOf name (map (λ s. s .name) symbols)
+
+-- whether the symbol of an H, B or G line was not declared, or the number of terms is not its own
+unfoldable pub isUndeclared : List Symbol → List (List ℕ) → Bool
+isUndeclared symbols fs =
+    let n = symbolNumber symbols (fieldAt 1 fs) in
+    not (ltb n (length symbols)) || not (eqb (length (drop 2 fs)) (symbolAt symbols n .arity))
+
+-- the constraint of an H, B or G line
+unfoldable pub constraintOf : List Symbol → (List ℕ → ℕ) → List (List ℕ) → List (List ℕ) → Constraint
+constraintOf symbols variable constants fs =
+    record { symbol = symbolNumber symbols (fieldAt 1 fs); terms = map (termOf variable constants) (drop 2 fs) }
