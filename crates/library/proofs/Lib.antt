@@ -1,2 +1,3 @@
--- Laws of this crate's definitions. Assumes nothing.
+-- Laws of this crate's definitions, and the starred cases. Assumes nothing.
 pub mod Opened
+pub mod Starred

@@ -3,8 +3,10 @@
 use Prim.Native.Nat.{ℕ}
 use Rattle.library.specs.Replies.{replyOf, fitted, namingOf, runListing, checkListing, runReply, checkReply}
 use Rattle.library.specs.Replies.{outputAfter, textLetter, printed, ample, sheetrun, sheetcheck}
+use Rattle.library.specs.Starred.{overlapShown, selfOverlapOf, shown, twoWays, reflexive, leq, pq, holding}
+use Rattle.library.specs.Starred.{pqEnd, onQ, onP, row, starred}
 
 -- a name to say on an `unfolding` line
 unfoldable pub opened : ℕ
-unfolding replyOf fitted namingOf runListing checkListing runReply checkReply outputAfter textLetter printed ample sheetrun sheetcheck
+unfolding replyOf fitted namingOf runListing checkListing runReply checkReply outputAfter textLetter printed ample sheetrun sheetcheck overlapShown selfOverlapOf shown twoWays reflexive leq pq holding pqEnd onQ onP row starred
 opened = 0

@@ -76,9 +76,9 @@ unfoldable pub printed : Reply → List ℕ
 printed (refusal number text line) = lineOf (ascii "REFUSED") (decimal number ∷ textLetter text ∷ decimal line ∷ [])
 printed (listing bytes) = bytes
 
--- enough room for every listing that the programs print
+-- enough room for every listing that the programs print (docs/DECISIONS.md says why)
 unfoldable pub ample : ℕ
-ample = 65536
+ample = 32768
 
 -- all that `sheetrun` prints on an input: a program, then optionally the line `GOAL` and a goal
 unfoldable pub sheetrun : List ℕ → List ℕ
