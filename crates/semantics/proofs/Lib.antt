@@ -3,3 +3,4 @@ pub mod Configurations
 pub mod Multisets
 pub mod Atoms
 pub mod Closure
+pub mod Cores
