@@ -4,3 +4,4 @@ pub mod Multisets
 pub mod Atoms
 pub mod Closure
 pub mod Cores
+pub mod Isos
