@@ -5,3 +5,4 @@ pub mod Atoms
 pub mod Closure
 pub mod Cores
 pub mod Isos
+pub mod Stepping
