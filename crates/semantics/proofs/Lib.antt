@@ -1,2 +1,3 @@
 -- The theory of this crate's definitions, in the order in which it is built. Assumes nothing.
 pub mod Configurations
+pub mod Options
