@@ -1,3 +1,5 @@
 -- The theory of this crate's definitions, in the order in which it is built. Assumes nothing.
 pub mod Configurations
 pub mod Options
+pub mod Lifting
+pub mod SolveLaws
