@@ -1,5 +1,6 @@
 -- The theory of this crate's definitions, in the order in which it is built. Assumes nothing.
 pub mod Configurations
+pub mod Multisets
 pub mod Options
 pub mod Lifting
 pub mod SolveLaws

@@ -19,7 +19,8 @@ use Rattle.semantics.proofs.Configurations.{Or, inl, inr, Member, first
 use Rattle.semantics.proofs.Configurations.{lift, liftEqn}
 use Rattle.semantics.proofs.Configurations as C
 use Rattle.semantics.proofs.Options.{decide, true-false, none-some, bind-some, bind-none, cond-some, eqb-equal, equal-eqb}
-use Rattle.semantics.proofs.Lifting.{down, down-lift, lift-down, map-member, member-map}
+use Rattle.semantics.proofs.Lifting.{down, down-lift}
+use Rattle.semantics.proofs.Multisets.{member-map, member-unmap}
 
 -- a substitution that solves one equation: constants remain, the sides become equal, and a term stays or is one side and becomes
 -- the other
@@ -228,14 +229,14 @@ solve-solution es p =
     record {
       fixes = λ c. h (con c) ∙ f c;
       joins = solves-joins r;
-      follows = solves-follows (map liftEqn es) r (λ e m. given (map-member liftEqn m)) (λ t. same);
+      follows = solves-follows (map liftEqn es) r (λ e m. given (member-map liftEqn m)) (λ t. same);
     }
 
 -- what is equivalent under the equations is equal under their solution
 pub solution-equal :
     {es : List Equation} {τ : Term → Term} → Solution es τ → {s t : Tm ℕ} → Eqv (map liftEqn es) s t → τ (down s) ≡ τ (down t)
 solution-equal {es} {τ} q (given {e = e} m) =
-    let (e′, m′, p) = member-map liftEqn es m in
+    let (e′, m′, p) = member-unmap liftEqn es m in
     rw p (simp down-lift (q .joins m′))
 solution-equal q same = refl
 solution-equal q (flip r) = sym (solution-equal q r)
@@ -252,7 +253,7 @@ solution-again {τ = τ} q t = sym (simp down-lift at (solution-equal q (q .foll
 
 -- without an answer, the equations equate two different constants
 pub solve-clash : (es : List Equation) → solve es (λ t. t) ≡ none → Clash (map liftEqn es)
-solve-clash es p = clash-follows (map liftEqn es) es (λ t. t) p (λ e m. given (map-member liftEqn m)) (λ t. same)
+solve-clash es p = clash-follows (map liftEqn es) es (λ t. t) p (λ e m. given (member-map liftEqn m)) (λ t. same)
 
 -- a term stays, or becomes one that has every property that all sides of the equations have
 pub solve-within :
