@@ -4,3 +4,4 @@ pub mod Multisets
 pub mod Options
 pub mod Lifting
 pub mod SolveLaws
+pub mod PositionLaws
