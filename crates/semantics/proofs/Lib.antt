@@ -5,3 +5,4 @@ pub mod Options
 pub mod Lifting
 pub mod SolveLaws
 pub mod PositionLaws
+pub mod MatchLaws
