@@ -7,3 +7,8 @@ pub mod Closure
 pub mod Cores
 pub mod Isos
 pub mod Stepping
+pub mod Options
+pub mod Lifting
+pub mod SolveLaws
+pub mod PositionLaws
+pub mod MatchLaws
