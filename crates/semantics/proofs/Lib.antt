@@ -1,2 +1,5 @@
 -- The theory of this crate's definitions, in the order in which it is built. Assumes nothing.
 pub mod Configurations
+pub mod Bools
+pub mod Search
+pub mod Choosing
