@@ -1,6 +1,6 @@
 -- Tests and optional values, taken apart.
 --   T-of, of-T                      a test as an equation and as a type
---   eqb-eq, eqb-same, eqb-apart     equal numbers
+--   eqb-eq, eqb-same, eqb-differ    equal numbers
 --   and-true, or-cases              both tests; one of two tests
 --   bind-some, bind-is              a bind that answers
 --   unless-some, when-some          a condition with none on one side
@@ -34,9 +34,13 @@ eqb-eq m n e = eqb→eq m n (T-of e)
 pub eqb-same : (n : ℕ) → eqb n n ≡ true
 eqb-same n = of-T (eqb n n) (eqb-refl n)
 
--- numbers that the test finds different
-pub eqb-apart : (m n : ℕ) → eqb m n ≡ false → m ≡ n → ⊥
-eqb-apart m n e p = not-both (eqb n n) (eqb-same n) (rw p at e)
+-- a test that cannot pass fails
+pub false-unless : (b : Bool) → (b ≡ true → ⊥) → b ≡ false
+false-unless true f = absurd (f refl)
+false-unless false f = refl
+
+pub eqb-differ : (m n : ℕ) → (m ≡ n → ⊥) → eqb m n ≡ false
+eqb-differ m n d = false-unless (eqb m n) (λ e. d (eqb-eq m n e))
 
 -- both tests pass
 pub and-true : (a b : Bool) → (a && b) ≡ true → (a ≡ true) × (b ≡ true)

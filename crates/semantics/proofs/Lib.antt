@@ -3,3 +3,4 @@ pub mod Configurations
 pub mod Bools
 pub mod Search
 pub mod Choosing
+pub mod Removal
