@@ -4,3 +4,5 @@ pub mod Bools
 pub mod Search
 pub mod Choosing
 pub mod Removal
+pub mod Pairs
+pub mod Comparison
