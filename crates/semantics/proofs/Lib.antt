@@ -1,5 +1,9 @@
 -- The theory of this crate's definitions, in the order in which it is built. Assumes nothing.
 pub mod Configurations
+pub mod Multisets
+pub mod Atoms
+pub mod Closure
+pub mod Cores
 pub mod Bools
 pub mod Search
 pub mod Choosing
