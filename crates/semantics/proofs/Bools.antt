@@ -8,10 +8,10 @@
 use Prim.Native.Nat.{ℕ}
 use mathlib.Core.Bool.{Bool, true, false, cond, _&&_, _||_}
 use mathlib.Core.Option.{Option, none, some}
-use mathlib.Core.Path.{_≡_, refl, subst}
+use mathlib.Core.Path.{_≡_, refl}
 use native.Mathlib.Omega.{arith}
 use lib.Dec.{T, eqb, eqb→eq, eqb-refl}
-use Rattle.text.specs.Lists.{bind, onward}
+use Rattle.text.specs.Lists.{bind}
 use Rattle.semantics.proofs.Configurations.{Or, inl, inr}
 
 -- a test that passes

@@ -16,7 +16,7 @@ use Rattle.semantics.specs.Matching.{Assignment, unassigned, matchAt}
 use Rattle.semantics.specs.Firing.{fired, fireAt}
 use Rattle.semantics.specs.Derivations.{NoRuleFits}
 use Rattle.semantics.specs.Strategy.{Match, find, Choice, chooseFrom, choose, advance}
-use Rattle.semantics.proofs.Configurations.{Or, inl, inr}
+use Rattle.semantics.proofs.Configurations.{Or}
 use Rattle.semantics.proofs.Bools.{some-not-none, none-unless, bind-some}
 use Rattle.semantics.proofs.Search.{Before, find-sound, find-complete, find-smallest}
 

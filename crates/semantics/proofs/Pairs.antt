@@ -5,20 +5,19 @@
 --   pairConstraint-sound     what is paired is made equal by the renaming
 --   pairConstraint-complete  what a renaming makes equal is paired, inside that renaming
 -- Assumes nothing.
-use Prim.Native.Nat.{ℕ, zero, suc}
-use native.Mathlib.Omega.{arith}
+use Prim.Native.Nat.{ℕ}
 use mathlib.Core.Bool.{Bool, true, false, cond, _&&_, _||_}
 use mathlib.Core.List.{List, [], _∷_}
-use mathlib.Core.Option.{Option, none, some}
-use mathlib.Core.Path.{_≡_, refl, sym, _∙_, ap}
+use mathlib.Core.Option.{none, some}
+use mathlib.Core.Path.{_≡_, refl, sym}
 use lib.Dec.{eqb}
-use Rattle.text.specs.Lists.{bind}
 use Rattle.semantics.specs.Terms.{Term, con, var, Constraint}
 use Rattle.semantics.specs.Variants.{OneToOne, TermVariant, sameCon, partners, Pointwise, empty, each, ConstraintVariant}
 use Rattle.semantics.specs.Variants.{Pair, arePartners, arePaired, pairTerm, pairTerms, pairConstraint}
 use Rattle.semantics.proofs.Configurations.{Or, inl, inr}
+use Rattle.semantics.proofs.Multisets.{pointwise-mono}
 use Rattle.semantics.proofs.Bools.{not-both, some-not-none, eqb-eq, eqb-same, and-true, or-cases, or-false, or-right}
-use Rattle.semantics.proofs.Bools.{bind-some, when-some, eqb-differ}
+use Rattle.semantics.proofs.Bools.{bind-some, when-some}
 
 -- the renaming of a list of pairs
 abbrev pub Paired : List Pair → ℕ → ℕ → Type 0
@@ -60,8 +59,8 @@ unpaired x y (p ∷ ps) e a b h o =
     go (v .0) (v .1) (paired-cases a b p ps h) o (unpaired x y ps (u .1) a b)
   where
     go :
-        eqb x (p .left) ≡ false → eqb y (p .right) ≡ false → Or ((a ≡ p .left) × (b ≡ p .right)) (Paired ps a b) → Or (a ≡ x) (b ≡ y)
-        → (Paired ps a b → Or (a ≡ x) (b ≡ y) → ⊥) → ⊥
+        eqb x (p .left) ≡ false → eqb y (p .right) ≡ false → Or ((a ≡ p .left) × (b ≡ p .right)) (Paired ps a b)
+        → Or (a ≡ x) (b ≡ y) → (Paired ps a b → Or (a ≡ x) (b ≡ y) → ⊥) → ⊥
     go f g (inl c) (inl q) more = not-both (eqb x (p .left)) (rw (sym q, c .0) (eqb-same (p .left))) f
     go f g (inl c) (inr q) more = not-both (eqb y (p .right)) (rw (sym q, c .1) (eqb-same (p .right))) g
     go f g (inr c) o more = more c o
@@ -80,7 +79,8 @@ has-pair x y (p ∷ ps) e = go (or-cases (eqb x (p .left) || eqb y (p .right)) (
         Or ((eqb x (p .left) || eqb y (p .right)) ≡ true) (arePaired x y ps ≡ true)
         → (arePaired x y ps ≡ true → (a : ℕ) × (b : ℕ) × (Paired ps a b) × (Or (a ≡ x) (b ≡ y)))
         → (a : ℕ) × (b : ℕ) × (Paired (p ∷ ps) a b) × (Or (a ≡ x) (b ≡ y))
-    go (inl t) more = (p .left, p .right, paired-new (p .left) (p .right) ps, first (or-cases (eqb x (p .left)) (eqb y (p .right)) t))
+    go (inl t) more =
+        (p .left, p .right, paired-new (p .left) (p .right) ps, first (or-cases (eqb x (p .left)) (eqb y (p .right)) t))
     go (inr t) more = let m = more t in (m .0, m .1, paired-old p ps (m .0) (m .1) (m .2), m .3)
 
 -- a list of pairs that holds another, and is one to one if the other is
@@ -88,7 +88,7 @@ pub record Grown (ps qs : List Pair) : Type 0 where
   pub holds : Inside (Paired ps) (Paired qs)
   pub oneToOne : OneToOne (Paired ps) → OneToOne (Paired qs)
 
-grown-same : (ps : List Pair) → Grown ps ps
+pub grown-same : (ps : List Pair) → Grown ps ps
 grown-same ps = record { holds = λ x y h. h; oneToOne = λ o. o }
 
 pub grown-chain : {ps qs rs : List Pair} → Grown ps qs → Grown qs rs → Grown ps rs
@@ -103,32 +103,35 @@ unpaired-one-to-one = (λ x y z p q. not-both false p refl, λ x y z p q. not-bo
 grown-pair : (x y : ℕ) (ps : List Pair) → arePaired x y ps ≡ false → Grown ps (record { left = x; right = y } ∷ ps)
 grown-pair x y ps f = record { holds = paired-old (record { left = x; right = y }) ps; oneToOne = grown }
   where
+    more : List Pair
+    more = record { left = x; right = y } ∷ ps
+    here : (a b : ℕ) → Paired more a b → Or ((a ≡ x) × (b ≡ y)) (Paired ps a b)
+    here a b = paired-cases a b (record { left = x; right = y }) ps
     right :
-        (a b c : ℕ) → OneToOne (Paired ps) → Or ((a ≡ x) × (b ≡ y)) (Paired ps a b) → Or ((a ≡ x) × (c ≡ y)) (Paired ps a c) → b ≡ c
+        (a b c : ℕ) → OneToOne (Paired ps) → Or ((a ≡ x) × (b ≡ y)) (Paired ps a b) → Or ((a ≡ x) × (c ≡ y)) (Paired ps a c)
+        → b ≡ c
     right a b c o (inl u) (inl v) = cc
     right a b c o (inl u) (inr v) = absurd (unpaired x y ps f a c v (inl (u .0)))
     right a b c o (inr u) (inl v) = absurd (unpaired x y ps f a b u (inl (v .0)))
     right a b c o (inr u) (inr v) = o .0 a b c u v
     left :
-        (a b c : ℕ) → OneToOne (Paired ps) → Or ((a ≡ x) × (c ≡ y)) (Paired ps a c) → Or ((b ≡ x) × (c ≡ y)) (Paired ps b c) → a ≡ b
+        (a b c : ℕ) → OneToOne (Paired ps) → Or ((a ≡ x) × (c ≡ y)) (Paired ps a c) → Or ((b ≡ x) × (c ≡ y)) (Paired ps b c)
+        → a ≡ b
     left a b c o (inl u) (inl v) = cc
     left a b c o (inl u) (inr v) = absurd (unpaired x y ps f b c v (inr (u .1)))
     left a b c o (inr u) (inl v) = absurd (unpaired x y ps f a c u (inr (v .1)))
     left a b c o (inr u) (inr v) = o .1 a b c u v
-    grown : OneToOne (Paired ps) → OneToOne (Paired (record { left = x; right = y } ∷ ps))
-    grown o = (
-      λ a b c p q. right a b c o (paired-cases a b (record { left = x; right = y }) ps p) (paired-cases a c (record { left = x; right = y }) ps q),
-      λ a b c p q. left a b c o (paired-cases a c (record { left = x; right = y }) ps p) (paired-cases b c (record { left = x; right = y }) ps q))
+    grown : OneToOne (Paired ps) → OneToOne (Paired more)
+    grown o = (λ a b c p q. right a b c o (here a b p) (here a c q), λ a b c p q. left a b c o (here a c p) (here b c q))
 
 -- a larger renaming makes equal what a smaller one does
 term-inside : {ρ σ : ℕ → ℕ → Type 0} → Inside ρ σ → {s t : Term} → TermVariant ρ s t → TermVariant σ s t
 term-inside i sameCon = sameCon
 term-inside i (partners {x = x} {y = y} r) = partners (i x y r)
 
-terms-inside :
+pub terms-inside :
     {ρ σ : ℕ → ℕ → Type 0} → Inside ρ σ → {ss ts : List Term} → Pointwise (TermVariant ρ) ss ts → Pointwise (TermVariant σ) ss ts
-terms-inside i empty = empty
-terms-inside i (each r rs) = each (term-inside i r) (terms-inside i rs)
+terms-inside i h = pointwise-mono (λ s t r. term-inside i r) h
 
 pub constraint-inside :
     {ρ σ : ℕ → ℕ → Type 0} → Inside ρ σ → {c d : Constraint} → ConstraintVariant ρ c d → ConstraintVariant σ c d
@@ -159,7 +162,8 @@ pairTerm-sound (var x) (var y) ps qs e = go (arePartners x y ps) refl (arePaired
 
 -- the same for lists of terms
 pub pairTerms-sound :
-    (ss ts : List Term) (ps qs : List Pair) → pairTerms ss ts ps ≡ some qs → Grown ps qs × Pointwise (TermVariant (Paired qs)) ss ts
+    (ss ts : List Term) (ps qs : List Pair) → pairTerms ss ts ps ≡ some qs
+    → Grown ps qs × Pointwise (TermVariant (Paired qs)) ss ts
 unfolding pairTerms
 pairTerms-sound [] [] ps qs e = let w : ps ≡ qs = cc in (rw (← w) (grown-same ps), empty)
 pairTerms-sound [] (t ∷ ts) ps qs e = some-not-none none e refl

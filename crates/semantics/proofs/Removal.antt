@@ -8,15 +8,15 @@ use Prim.Native.Nat.{ℕ, zero, suc, _+_, _<_}
 use native.Mathlib.Omega.{arith}
 use mathlib.Core.Bool.{Bool, true, false, cond, _||_}
 use mathlib.Core.List.{List, [], _∷_, _++_}
-use mathlib.Core.Option.{Option, none, some}
-use mathlib.Core.Path.{_≡_, refl, sym, _∙_, ap}
+use mathlib.Core.Option.{none, some}
+use mathlib.Core.Path.{_≡_, refl, ap}
 use lib.Dec.{eqb}
 use lib.ListN.{getElem?}
 use Rattle.text.specs.Lists.{has}
 use Rattle.semantics.specs.Terms.{Constraint}
 use Rattle.semantics.specs.Firing.{without}
 use Rattle.semantics.specs.Variants.{Inserted, here, there}
-use Rattle.semantics.proofs.Bools.{not-both, some-not-none, eqb-same, eqb-differ, or-right}
+use Rattle.semantics.proofs.Bools.{some-not-none, eqb-same, eqb-differ, or-right}
 
 -- the last number of a list stands in it
 pub has-last : (n : ℕ) (l : List ℕ) → has n (l ++ (n ∷ [])) ≡ true
