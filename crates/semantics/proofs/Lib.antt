@@ -12,3 +12,9 @@ pub mod Lifting
 pub mod SolveLaws
 pub mod PositionLaws
 pub mod MatchLaws
+pub mod Bools
+pub mod Search
+pub mod Choosing
+pub mod Removal
+pub mod Pairs
+pub mod Comparison
