@@ -108,3 +108,9 @@ pub derives-image :
     {X Y : Type 0} {D : List (Eqn Y)} (f : X → Tm Y) (E : List (Eqn X)) (F : List (Eqn Y))
     → map (subEqn f) E ≡ F → ((e : Eqn Y) → Member e F → Member e D) → Derives D f E
 derives-image f E F p d e i = given (d (subEqn f e) (subst (Member (subEqn f e)) p (member-map (subEqn f) i)))
+
+-- one substitution after another
+pub derives-comp :
+    {X Y Z : Type 0} {D : List (Eqn Y)} {G : List (Eqn Z)} (f : X → Tm Y) (g : Y → Tm Z) (E : List (Eqn X))
+    → Derives D f E → Derives G g D → Derives G (λ x. sub g (f x)) E
+derives-comp {G} f g E d k e i = subst₂ (Eqv G) (sub-sub g f (e .left)) (sub-sub g f (e .right)) (eqv-sub g k (d e i))

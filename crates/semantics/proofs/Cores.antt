@@ -2,7 +2,6 @@
 --   core-refl, -sym, -trans     they compose
 --   core-add, -adds, -equal     equations added on both sides
 --   Ext, core-extend, ext-…     new variables on both sides
---   linked, core-linked         new variables, equations of theirs, and equations between them and old terms
 -- Assumes nothing.
 use Prim.Native.Nat.{ℕ}
 use mathlib.Core.List.{List, [], _∷_, _++_, map}
@@ -202,15 +201,3 @@ pub ext-new-eqns :
     → Pointwise (Sides (Ext Z R)) (map (subEqn new) l) (map (subEqn new) l)
 ext-new-eqns h l =
     pointwise-map (subEqn new) (subEqn new) (pointwise-refl (λ e. (ext-new h (e .left), ext-new h (e .right))) l)
-
--- the equations of a configuration that is extended by new variables, as a firing and a context do it: new terms are equated
--- with old ones, and there are equations of new terms
-abbrev pub linked : {X Z : Type 0} → List (Tm Z) → List (Tm X) → List (Eqn Z) → List (Eqn X) → List (Eqn (Or X Z))
-linked ns os F E = equal (map (sub new) ns) (map (sub old) os) ++ (map (subEqn new) F ++ map (subEqn old) E)
-
--- such an extension on both sides
-pub core-linked :
-    {X Y Z : Type 0} {E : List (Eqn X)} {D : List (Eqn Y)} {R : Tm X → Tm Y → Type 0} {l : List (Tm X)} {m : List (Tm Y)}
-    (ns : List (Tm Z)) (F : List (Eqn Z)) → Pointwise R l m → Core E D R → Core (linked ns l F E) (linked ns m F D) (Ext Z R)
-core-linked {Z} ns F p k =
-    core-equal (ext-news (k .fixes) ns) (ext-old Z p) (core-adds (ext-new-eqns (k .fixes) F) (core-extend Z k))

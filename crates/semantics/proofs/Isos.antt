@@ -8,12 +8,13 @@ use Prim.Native.Nat.{ℕ}
 use mathlib.Core.List.{List, [], _∷_, _++_, map}
 use mathlib.Core.Path.{_≡_, refl, sym, subst, subst₂}
 use Rattle.semantics.specs.Variants.{Pointwise, SameMultiset}
-use Rattle.semantics.proofs.Configurations.{Member, Tm, con, var, Atom, Eqn, sub, Eqv, given, same, flip, chain}
+use Rattle.semantics.proofs.Configurations.{Member, Tm, con, var, Atom, Eqn, sub, subAtom, Eqv, given, same, flip, chain}
 use Rattle.semantics.proofs.Configurations.{Config, Inconsistent, AtomRel, Core, Iso, Same, iso, bothFail}
-use Rattle.semantics.proofs.Multisets.{pointwise-refl, pointwise-sym, pointwise-trans}
-use Rattle.semantics.proofs.Multisets.{multiset-refl, multiset-sym, multiset-trans, multiset-mono}
+use Rattle.semantics.proofs.Multisets.{pointwise-refl, pointwise-sym, pointwise-trans, pointwise-image}
+use Rattle.semantics.proofs.Multisets.{multiset-refl, multiset-sym, multiset-trans, multiset-mono, multiset-right}
+use Rattle.semantics.proofs.Multisets.{multiset-of-pointwise}
 use Rattle.semantics.proofs.Atoms.{atom-refl, atom-sym, atom-trans}
-use Rattle.semantics.proofs.Closure.{eqv-sub}
+use Rattle.semantics.proofs.Closure.{eqv-sub, eqv-path}
 use Rattle.semantics.proofs.Cores.{core-refl, core-sym, core-trans}
 
 -- a configuration equals itself
@@ -103,3 +104,19 @@ iso-of-maps C D f g used h d k undo faces stores = record {
   faces = faces;
   stores = stores;
 }
+
+-- equality by substitutions that undo each other and make the faces equal and the stores equal multisets
+pub iso-of-images :
+    (C D : Config) (f : C .Var → Tm (D .Var)) (g : D .Var → Tm (C .Var))
+    → ((e : Eqn (C .Var)) → Member e (C .eqs) → Eqv (D .eqs) (sub f (e .left)) (sub f (e .right)))
+    → ((e : Eqn (D .Var)) → Member e (D .eqs) → Eqv (C .eqs) (sub g (e .left)) (sub g (e .right)))
+    → ((t : Tm (C .Var)) → sub g (sub f t) ≡ t)
+    → map (sub f) (C .face) ≡ D .face → SameMultiset _≡_ (map (subAtom f) (C .store)) (D .store) → Iso C D
+iso-of-images C D f g d k undo faces stores =
+    iso-of-maps C D f g (λ t. Unit {0}) (λ c. tt) d k (λ t u. eqv-path (undo t))
+    (subst (Pointwise (λ u v. Unit {0} × Eqv (D .eqs) (sub f u) v) (C .face)) faces
+    (pointwise-image (sub f) (λ t. (tt, same)) (C .face)))
+    (multiset-right (multiset-of-pointwise (pointwise-image (subAtom f) (λ a. image a) (C .store))) stores)
+  where
+    image : (a : Atom (C .Var)) → AtomRel (λ u v. Unit {0} × Eqv (D .eqs) (sub f u) v) a (subAtom f a)
+    image a = record { symbols = refl; args = pointwise-image (sub f) (λ t. (tt, same)) (a .args) }

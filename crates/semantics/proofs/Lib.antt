@@ -5,4 +5,5 @@ pub mod Atoms
 pub mod Closure
 pub mod Cores
 pub mod Isos
+pub mod Links
 pub mod Stepping

@@ -17,6 +17,11 @@ pub pointwise-refl : {A : Type 0} {R : A → A → Type 0} → ((a : A) → R a 
 pointwise-refl h [] = empty
 pointwise-refl h (x ∷ l) = each (h x) (pointwise-refl h l)
 
+-- a list is related to its image where every element is related to its image
+pub pointwise-image : {A B : Type 0} {R : A → B → Type 0} (f : A → B) → ((a : A) → R a (f a)) → (l : List A) → Pointwise R l (map f l)
+pointwise-image f h [] = empty
+pointwise-image f h (x ∷ l) = each (h x) (pointwise-image f h l)
+
 -- the same lists the other way round
 pub pointwise-sym : {A B : Type 0} {R : A → B → Type 0} {l : List A} {m : List B} → Pointwise R l m → Pointwise (λ b a. R a b) m l
 pointwise-sym empty = empty
@@ -307,11 +312,13 @@ multiset-partner (later j) (put r i s) = let h = multiset-partner j s in (h .0, 
 
 -- a reordered list on the left, on the right, and reordered lists among themselves
 pub multiset-left :
-    {A B : Type 0} {R : A → B → Type 0} {k l : List A} {m : List B} → SameMultiset _≡_ k l → SameMultiset R l m → SameMultiset R k m
+    {A B : Type 0} {R : A → B → Type 0} {k l : List A} {m : List B}
+    → SameMultiset _≡_ k l → SameMultiset R l m → SameMultiset R k m
 multiset-left {R} p s = multiset-mono (λ a b h. subst (λ x. R x b) (sym (h .1)) (h .2)) (multiset-trans p s)
 
 pub multiset-right :
-    {A B : Type 0} {R : A → B → Type 0} {l : List A} {m n : List B} → SameMultiset R l m → SameMultiset _≡_ m n → SameMultiset R l n
+    {A B : Type 0} {R : A → B → Type 0} {l : List A} {m n : List B}
+    → SameMultiset R l m → SameMultiset _≡_ m n → SameMultiset R l n
 multiset-right {R} s p = multiset-mono (λ a b h. subst (R a) (h .2) (h .1)) (multiset-trans s p)
 
 pub multiset-back : {A : Type 0} {l m : List A} → SameMultiset _≡_ l m → SameMultiset _≡_ m l

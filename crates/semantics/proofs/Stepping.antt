@@ -16,8 +16,8 @@ use Rattle.semantics.proofs.Configurations.{headsOf, bodyOf, eqsOf, Fit
 use Rattle.semantics.proofs.Multisets.{pointwise-trans, pointwise-mono, pointwise-member}
 use Rattle.semantics.proofs.Multisets.{multiset-append, multiset-pick, member-cons}
 use Rattle.semantics.proofs.Atoms.{atom-trans, flat-pointwise, unflat-pointwise}
-use Rattle.semantics.proofs.Cores.{Ext, core-linked, ext-old, ext-old-atoms, ext-new-atoms}
-use Rattle.semantics.proofs.Isos.{iso-trans}
+use Rattle.semantics.proofs.Cores.{Ext, ext-old, ext-old-atoms, ext-new-atoms}
+use Rattle.semantics.proofs.Links.{core-linked}
 
 -- what stands where x first stands
 lookup : {Y : Type 0} → ℕ → List (Tm ℕ) → List (Tm Y) → Tm Y
