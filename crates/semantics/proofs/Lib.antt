@@ -7,3 +7,4 @@ pub mod Cores
 pub mod Isos
 pub mod Links
 pub mod Stepping
+pub mod Contexts

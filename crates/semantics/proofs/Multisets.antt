@@ -6,7 +6,7 @@
 --   member-…, all-…         the elements of a list
 -- Assumes nothing.
 use Prim.Native.Nat.{ℕ, suc}
-use mathlib.Core.List.{List, [], _∷_, _++_, map, append-nil}
+use mathlib.Core.List.{List, [], _∷_, _++_, map, append-nil, append-assoc, map-append}
 use mathlib.Core.Path.{_≡_, refl, sym, ap, _∙_, subst}
 use lib.ListN.{length}
 use Rattle.semantics.specs.Variants.{Pointwise, empty, each, Inserted, here, there, SameMultiset, done, put}
@@ -47,6 +47,12 @@ pub pointwise-map :
     → Pointwise (λ a b. R (f a) (g b)) l m → Pointwise R (map f l) (map g m)
 pointwise-map f g empty = empty
 pointwise-map f g (each r p) = each r (pointwise-map f g p)
+
+pub pointwise-map-right :
+    {A B D : Type 0} {R : A → D → Type 0} (g : B → D) {l : List A} {m : List B}
+    → Pointwise (λ a b. R a (g b)) l m → Pointwise R l (map g m)
+pointwise-map-right g empty = empty
+pointwise-map-right g (each r p) = each r (pointwise-map-right g p)
 
 -- and back
 pub pointwise-unmap :
@@ -346,3 +352,11 @@ multiset-pick {A} {B} {R} {l} {n} M L s p = chosen M (multiset-left (multiset-ba
     chosen (x ∷ M) (put {b = y} r i t) =
         let h = chosen M t in
         (y ∷ h .0, h .1, multiset-put refl i here (h .2), each r (h .3), h .4)
+
+-- the image of a list in two parts, and more behind it
+pub multiset-parts :
+    {A B : Type 0} (f : A → B) {l : List A} (M L : List A) (k : List B)
+    → SameMultiset _≡_ l (M ++ L) → SameMultiset _≡_ (map f l ++ k) (map f M ++ (map f L ++ k))
+multiset-parts f {l} M L k p =
+    subst (SameMultiset _≡_ (map f l ++ k)) (ap (λ n. n ++ k) (map-append f M L) ∙ append-assoc (map f M) (map f L) k)
+    (multiset-append (multiset-map f f (multiset-mono (λ a b e. ap f e) p)) (multiset-refl (λ b. refl) k))
