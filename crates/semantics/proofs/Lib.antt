@@ -8,3 +8,4 @@ pub mod Isos
 pub mod Links
 pub mod Stepping
 pub mod Contexts
+pub mod Commute
