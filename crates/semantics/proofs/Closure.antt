@@ -6,9 +6,9 @@
 use mathlib.Core.List.{List, [], _∷_, _++_, map}
 use mathlib.Core.Path.{_≡_, refl, sym, _∙_, subst, subst₂}
 use Rattle.semantics.proofs.Configurations.{Or, inl, inr, Member, first, later}
-use Rattle.semantics.proofs.Configurations.{Tm, Eqn, sub, subEqn, Eqv, given, same, flip, chain}
+use Rattle.semantics.proofs.Configurations.{Tm, var, Eqn, sub, subEqn, Eqv, given, same, flip, chain}
 use Rattle.semantics.proofs.Multisets.{member-append, member-append-left, member-append-right, member-map, member-unmap}
-use Rattle.semantics.proofs.Atoms.{sub-sub}
+use Rattle.semantics.proofs.Atoms.{sub-sub, sub-var}
 
 -- equal terms are equivalent
 pub eqv-path : {X : Type 0} {E : List (Eqn X)} {s t : Tm X} → s ≡ t → Eqv E s t
@@ -84,6 +84,10 @@ one-more (given (later i)) = inl (given i)
 one-more same = inl same
 one-more {e} (flip h) = byOne-flip {e = e} (one-more h)
 one-more {e} (chain h k) = byOne-chain {e = e} (one-more h) (one-more k)
+
+-- equations follow from themselves
+pub derives-var : {X : Type 0} (E : List (Eqn X)) → Derives E var E
+derives-var E e i = subst₂ (Eqv E) (sym (sub-var (e .left))) (sym (sub-var (e .right))) (given i)
 
 -- the equations of two lists follow
 pub derives-append :

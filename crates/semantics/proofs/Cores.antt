@@ -12,8 +12,8 @@ use Rattle.semantics.proofs.Configurations.{Or, inl, inr, Member, first
 use Rattle.semantics.proofs.Configurations.{Atom, subAtom, Eqv, given, same, flip, chain, AtomRel, Core}
 use Rattle.semantics.proofs.Multisets.{pointwise-refl, pointwise-mono, pointwise-map}
 use Rattle.semantics.proofs.Multisets.{multiset-refl, multiset-mono, multiset-map, member-map, member-unmap}
-use Rattle.semantics.proofs.Atoms.{sub-var, atom-refl, atom-mono, atom-sub}
-use Rattle.semantics.proofs.Closure.{eqv-mono, eqv-sub, eqv-path, one-more, derives-map}
+use Rattle.semantics.proofs.Atoms.{atom-refl, atom-mono, atom-sub}
+use Rattle.semantics.proofs.Closure.{eqv-mono, eqv-sub, eqv-path, one-more, derives-map, derives-var}
 
 -- equivalence itself
 pub core-refl : {X : Type 0} (E : List (Eqn X)) → Core E E (Eqv E)
@@ -113,7 +113,7 @@ pub eqv-unold :
     {X : Type 0} (Z : Type 0) {E : List (Eqn X)} (s t : Tm X) → Eqv (map (subEqn (old {Z = Z})) E) (sub old s) (sub old t) → Eqv E s t
 eqv-unold Z {E} s t h =
     subst₂ (Eqv E) (back-old Z s) (back-old Z t)
-    (eqv-sub back (derives-map back old E (λ e i. subst₂ (Eqv E) (sym (sub-var (e .left))) (sym (sub-var (e .right))) (given i))) h)
+    (eqv-sub back (derives-map back old E (derives-var E)) h)
 
 -- no old term is a new variable
 old-new : {X Z : Type 0} (s : Tm X) (z : Z) → sub old s ≡ new z → ⊥

@@ -9,3 +9,4 @@ pub mod Links
 pub mod Stepping
 pub mod Contexts
 pub mod Commute
+pub mod Peaks
