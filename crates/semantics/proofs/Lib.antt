@@ -10,3 +10,5 @@ pub mod Lifting
 pub mod SolveLaws
 pub mod PositionLaws
 pub mod MatchLaws
+pub mod MatchedTerms
+pub mod FireLaws
