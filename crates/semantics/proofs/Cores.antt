@@ -2,7 +2,6 @@
 --   core-refl, -sym, -trans     they compose
 --   core-add, -adds, -equal     equations added on both sides
 --   Ext, core-extend, ext-…     new variables on both sides
---   linked, core-linked         new variables, equations of theirs, and equations between them and old terms
 -- Assumes nothing.
 use Prim.Native.Nat.{ℕ}
 use mathlib.Core.List.{List, [], _∷_, _++_, map}
@@ -13,8 +12,8 @@ use Rattle.semantics.proofs.Configurations.{Or, inl, inr, Member, first
 use Rattle.semantics.proofs.Configurations.{Atom, subAtom, Eqv, given, same, flip, chain, AtomRel, Core}
 use Rattle.semantics.proofs.Multisets.{pointwise-refl, pointwise-mono, pointwise-map}
 use Rattle.semantics.proofs.Multisets.{multiset-refl, multiset-mono, multiset-map, member-map, member-unmap}
-use Rattle.semantics.proofs.Atoms.{sub-var, atom-refl, atom-mono, atom-sub}
-use Rattle.semantics.proofs.Closure.{eqv-mono, eqv-sub, eqv-path, one-more, derives-map}
+use Rattle.semantics.proofs.Atoms.{atom-refl, atom-mono, atom-sub}
+use Rattle.semantics.proofs.Closure.{eqv-mono, eqv-sub, eqv-path, one-more, derives-map, derives-var}
 
 -- equivalence itself
 pub core-refl : {X : Type 0} (E : List (Eqn X)) → Core E E (Eqv E)
@@ -114,7 +113,7 @@ pub eqv-unold :
     {X : Type 0} (Z : Type 0) {E : List (Eqn X)} (s t : Tm X) → Eqv (map (subEqn (old {Z = Z})) E) (sub old s) (sub old t) → Eqv E s t
 eqv-unold Z {E} s t h =
     subst₂ (Eqv E) (back-old Z s) (back-old Z t)
-    (eqv-sub back (derives-map back old E (λ e i. subst₂ (Eqv E) (sym (sub-var (e .left))) (sym (sub-var (e .right))) (given i))) h)
+    (eqv-sub back (derives-map back old E (derives-var E)) h)
 
 -- no old term is a new variable
 old-new : {X Z : Type 0} (s : Tm X) (z : Z) → sub old s ≡ new z → ⊥
@@ -202,15 +201,3 @@ pub ext-new-eqns :
     → Pointwise (Sides (Ext Z R)) (map (subEqn new) l) (map (subEqn new) l)
 ext-new-eqns h l =
     pointwise-map (subEqn new) (subEqn new) (pointwise-refl (λ e. (ext-new h (e .left), ext-new h (e .right))) l)
-
--- the equations of a configuration that is extended by new variables, as a firing and a context do it: new terms are equated
--- with old ones, and there are equations of new terms
-abbrev pub linked : {X Z : Type 0} → List (Tm Z) → List (Tm X) → List (Eqn Z) → List (Eqn X) → List (Eqn (Or X Z))
-linked ns os F E = equal (map (sub new) ns) (map (sub old) os) ++ (map (subEqn new) F ++ map (subEqn old) E)
-
--- such an extension on both sides
-pub core-linked :
-    {X Y Z : Type 0} {E : List (Eqn X)} {D : List (Eqn Y)} {R : Tm X → Tm Y → Type 0} {l : List (Tm X)} {m : List (Tm Y)}
-    (ns : List (Tm Z)) (F : List (Eqn Z)) → Pointwise R l m → Core E D R → Core (linked ns l F E) (linked ns m F D) (Ext Z R)
-core-linked {Z} ns F p k =
-    core-equal (ext-news (k .fixes) ns) (ext-old Z p) (core-adds (ext-new-eqns (k .fixes) F) (core-extend Z k))

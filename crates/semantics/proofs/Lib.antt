@@ -12,3 +12,8 @@ pub mod PositionLaws
 pub mod MatchLaws
 pub mod MatchedTerms
 pub mod FireLaws
+pub mod Links
+pub mod Stepping
+pub mod Contexts
+pub mod Commute
+pub mod Peaks
