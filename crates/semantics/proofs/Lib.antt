@@ -5,6 +5,11 @@ pub mod Atoms
 pub mod Closure
 pub mod Cores
 pub mod Isos
+pub mod Links
+pub mod Stepping
+pub mod Contexts
+pub mod Commute
+pub mod Peaks
 pub mod Options
 pub mod Lifting
 pub mod SolveLaws
@@ -12,8 +17,3 @@ pub mod PositionLaws
 pub mod MatchLaws
 pub mod MatchedTerms
 pub mod FireLaws
-pub mod Links
-pub mod Stepping
-pub mod Contexts
-pub mod Commute
-pub mod Peaks
