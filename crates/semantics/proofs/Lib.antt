@@ -10,3 +10,4 @@ pub mod Choosing
 pub mod Removal
 pub mod Pairs
 pub mod Comparison
+pub mod Weights
