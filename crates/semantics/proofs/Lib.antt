@@ -11,3 +11,4 @@ pub mod Removal
 pub mod Pairs
 pub mod Comparison
 pub mod Weights
+pub mod Bound
