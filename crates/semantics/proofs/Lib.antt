@@ -12,3 +12,4 @@ pub mod Pairs
 pub mod Comparison
 pub mod Weights
 pub mod Bound
+pub mod Entering
