@@ -3,13 +3,12 @@
 --   Bounded              firings, the state's weight and the weight that waits are within the goal's weight
 --   firings-bounded      a derivation's firings are within the goal's weight
 -- Assumes nothing.
-use Prim.Native.Nat.{ℕ, zero, suc, _+_, _<_, _≤_}
-use native.Mathlib.Nat.{zero-add}
+use Prim.Native.Nat.{ℕ, suc, _+_, _≤_}
 use native.Mathlib.Omega.{arith}
 use mathlib.Core.Bool.{Bool, true, false, cond}
 use mathlib.Core.List.{List, [], _∷_, _++_}
 use mathlib.Core.Option.{Option, none, some}
-use mathlib.Core.Path.{_≡_, refl, sym, _∙_, ap}
+use mathlib.Core.Path.{_≡_, refl}
 use lib.ListN.{getElem?}
 use Rattle.text.specs.Lists.{onward, has}
 use Rattle.semantics.specs.Terms.{Constraint, Symbol, Rule, Program, Goal, State, failed, live, mapTerms}
@@ -81,7 +80,8 @@ bounded-firing p g n ps d w b = go (getElem? (p .rules) n) refl
         (o : Option Rule) → getElem? (p .rules) n ≡ o
         → Bounded p g
             (onward o d
-            (λ r. onward (fireAt r ps (d .state)) d (λ s. record { state = s; entered = d .entered; firings = suc (d .firings) })))
+            (λ r. onward (fireAt r ps (d .state)) d
+            (λ s. record { state = s; entered = d .entered; firings = suc (d .firings) })))
     go none e = b
     go (some r) e = fires r e (fireAt r ps (d .state)) refl
 

@@ -3,19 +3,20 @@
 --   enters                the events by which the first constraints of a goal enter, in order
 --   enters-all            they lead to the state that the strategy starts from, with no firing
 -- Assumes nothing.
-use Prim.Native.Nat.{ℕ, zero, suc, _+_, _<_, _≤_}
+use Prim.Native.Nat.{ℕ, zero, suc, _<_, _≤_}
 use native.Mathlib.Omega.{arith}
 use native.Mathlib.Decide.{decLt}
-use mathlib.Core.Bool.{Bool, true, false, cond, _&&_}
+use mathlib.Core.Bool.{Bool, true, false}
 use mathlib.Core.List.{List, [], _∷_, _++_, map, map-append}
-use mathlib.Core.Option.{Option, none, some}
+use mathlib.Core.Option.{some}
 use mathlib.Core.Path.{_≡_, refl, sym, _∙_, ap}
 use lib.Dec.{eqb}
 use lib.ListN.{length, getD, getElem?, take, length-append}
 use lib.Seq.{take-length}
-use Rattle.text.specs.Lists.{onward, every, has, tabled, upTo}
-use Rattle.semantics.specs.Terms.{Term, con, var, Constraint, Program, Goal, State, failed, live, mapTerms}
-use Rattle.semantics.specs.Derivations.{Event, enter, fire, Progress, become, taken, entering, follow, followAll, start, allEntered}
+use Rattle.text.specs.Lists.{every, has, tabled, upTo}
+use Rattle.semantics.specs.Terms.{Term, con, var, Program, Goal, live, mapTerms}
+use Rattle.semantics.specs.Derivations.{Event, enter, Progress, become, taken, entering, follow, followAll, start}
+use Rattle.semantics.specs.Derivations.{allEntered}
 use Rattle.semantics.specs.Strategy.{entered}
 use Rattle.semantics.proofs.Bools.{eqb-same, eqb-differ, and-true, or-right}
 
@@ -105,8 +106,8 @@ enters-first :
 unfolding followAll start follow
 enters-first p g zero l = refl
 enters-first p g (suc n) l =
-    rw (map-append enter (upTo n) (n ∷ []), followAll-append p g (enters n) (enter n ∷ []) (start g), enters-first p g n (omega arith))
-    (entering-next g n l)
+    rw (map-append enter (upTo n) (n ∷ []), followAll-append p g (enters n) (enter n ∷ []) (start g))
+    (rw (enters-first p g n (omega arith)) (entering-next g n l))
 
 -- a test over a list with one more behind it
 every-last : (test : ℕ → Bool) (l : List ℕ) (n : ℕ) → every test l ≡ true → test n ≡ true → every test (l ++ (n ∷ [])) ≡ true

@@ -13,3 +13,4 @@ pub mod Comparison
 pub mod Weights
 pub mod Bound
 pub mod Entering
+pub mod Normal

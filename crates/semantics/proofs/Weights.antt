@@ -6,15 +6,15 @@
 --   fireAt-lighter                      a firing lowers it
 -- Assumes nothing.
 use Prim.Native.Nat.{ℕ, zero, suc, _+_, _<_, _≤_}
-use native.Mathlib.Nat.{zero-add, add-assoc, add-left-comm}
+use native.Mathlib.Nat.{zero-add, add-assoc}
 use native.Mathlib.Omega.{arith}
-use mathlib.Core.Bool.{Bool, true, false, _&&_}
+use mathlib.Core.Bool.{Bool, true, _&&_}
 use mathlib.Core.List.{List, [], _∷_, _++_, map, append-assoc, append-nil}
 use mathlib.Core.Option.{Option, none, some}
-use mathlib.Core.Path.{_≡_, refl, sym, _∙_, ap}
+use mathlib.Core.Path.{_≡_, refl, ap}
 use lib.Dec.{eqb, ltb, ltb→lt}
 use lib.ListN.{getElem?}
-use Rattle.text.specs.Lists.{every, total, bind}
+use Rattle.text.specs.Lists.{every}
 use Rattle.semantics.specs.Terms.{Term, Constraint, Symbol, Rule, Program, State, failed, live, mapTerms, mapSides}
 use Rattle.semantics.specs.Terms.{symbolAt, weight, isOfRule, isBelow, alphabet, isRuleOf, isWellFormed}
 use Rattle.semantics.specs.Matching.{Assignment, unassigned, matchTerms, matchConstraint, matchAt}
@@ -23,7 +23,7 @@ use Rattle.semantics.specs.Firing.{without, instance, settle, fired, fir
 use Rattle.semantics.specs.Variants.{Inserted, here, there}
 use Rattle.semantics.proofs.Bools.{T-of, eqb-eq, and-true, some-not-none, bind-some, when-some}
 use Rattle.semantics.proofs.Removal.{without-none, without-one}
-use Rattle.semantics.proofs.Search.{FirstFits, matchAt-cons}
+use Rattle.semantics.proofs.Search.{matchAt-cons}
 
 -- the weight of a list by its first constraint, and of none
 pub weight-cons :
@@ -84,7 +84,9 @@ matchAt-weight symbols (h ∷ hs) (p ∷ ps) cs chosen θ end e =
     omega (arith, w, a, weight-cons symbols h hs)
 
 -- an element of a list that passes a test throughout
-pub every-at {ℓ} : {A : Type ℓ} (test : A → Bool) (l : List A) (n : ℕ) (a : A) → every test l ≡ true → getElem? l n ≡ some a → test a ≡ true
+pub every-at {ℓ} :
+    {A : Type ℓ} (test : A → Bool) (l : List A) (n : ℕ) (a : A) → every test l ≡ true → getElem? l n ≡ some a
+    → test a ≡ true
 every-at test [] n a e s = some-not-none none s refl
 every-at test (b ∷ l) zero a e s = let q : b ≡ a = cc in rw (← q) (and-true (test b) (every test l) e .0)
 every-at test (b ∷ l) (suc n) a e s = every-at test l n a (and-true (test b) (every test l) e .1) s
