@@ -1,18 +1,19 @@
 -- Cores: relations of terms that respect and reflect equivalence.
 --   core-refl, -sym, -trans     they compose
 --   core-add, -adds, -equal     equations added on both sides
---   Ext, core-extend            new variables on both sides
+--   Ext, core-extend, ext-…     new variables on both sides
 -- Assumes nothing.
 use Prim.Native.Nat.{ℕ}
 use mathlib.Core.List.{List, [], _∷_, _++_, map}
 use mathlib.Core.Path.{_≡_, refl, sym, ap, _∙_, subst, subst₂}
 use native.Mathlib.Omega.{arith}
-use Rattle.semantics.specs.Variants.{Pointwise, empty, each}
+use Rattle.semantics.specs.Variants.{Pointwise, empty, each, SameMultiset}
 use Rattle.semantics.proofs.Configurations.{Or, inl, inr, Member, first, later, Tm, con, var, Eqn, sub, subEqn, old, new, equal}
-use Rattle.semantics.proofs.Configurations.{Eqv, given, same, flip, chain, Core}
-use Rattle.semantics.proofs.Multisets.{member-map, member-unmap}
-use Rattle.semantics.proofs.Atoms.{sub-var}
-use Rattle.semantics.proofs.Closure.{eqv-mono, eqv-sub, eqv-path, one-more, derives-map}
+use Rattle.semantics.proofs.Configurations.{Atom, subAtom, Eqv, given, same, flip, chain, AtomRel, Core}
+use Rattle.semantics.proofs.Multisets.{pointwise-refl, pointwise-mono, pointwise-map}
+use Rattle.semantics.proofs.Multisets.{multiset-refl, multiset-mono, multiset-map, member-map, member-unmap}
+use Rattle.semantics.proofs.Atoms.{atom-refl, atom-mono, atom-sub}
+use Rattle.semantics.proofs.Closure.{eqv-mono, eqv-sub, eqv-path, one-more, derives-map, derives-var}
 
 -- equivalence itself
 pub core-refl : {X : Type 0} (E : List (Eqn X)) → Core E E (Eqv E)
@@ -112,7 +113,7 @@ pub eqv-unold :
     {X : Type 0} (Z : Type 0) {E : List (Eqn X)} (s t : Tm X) → Eqv (map (subEqn (old {Z = Z})) E) (sub old s) (sub old t) → Eqv E s t
 eqv-unold Z {E} s t h =
     subst₂ (Eqv E) (back-old Z s) (back-old Z t)
-    (eqv-sub back (derives-map back old E (λ e i. subst₂ (Eqv E) (sym (sub-var (e .left))) (sym (sub-var (e .right))) (given i))) h)
+    (eqv-sub back (derives-map back old E (derives-var E)) h)
 
 -- no old term is a new variable
 old-new : {X Z : Type 0} (s : Tm X) (z : Z) → sub old s ≡ new z → ⊥
@@ -162,3 +163,41 @@ core-extend Z k = record {
   respects = λ r q h. ext-respects k r q h;
   reflects = λ r q h. ext-respects (core-sym k) (ext-sym r) (ext-sym q) h;
 }
+
+-- old terms and old atoms that are related remain so
+pub ext-old :
+    {X Y : Type 0} (Z : Type 0) {R : Tm X → Tm Y → Type 0} {l : List (Tm X)} {m : List (Tm Y)}
+    → Pointwise R l m → Pointwise (Ext Z R) (map (sub old) l) (map (sub old) m)
+ext-old Z p = pointwise-map (sub old) (sub old) (pointwise-mono (λ s u r. olds r) p)
+
+pub ext-old-atom :
+    {X Y : Type 0} (Z : Type 0) {R : Tm X → Tm Y → Type 0} (a : Atom X) (b : Atom Y)
+    → AtomRel R a b → AtomRel (Ext Z R) (subAtom old a) (subAtom old b)
+ext-old-atom Z a b r = atom-sub old old (atom-mono (λ s u q. olds q) r)
+
+pub ext-old-atoms :
+    {X Y : Type 0} (Z : Type 0) {R : Tm X → Tm Y → Type 0} {l : List (Atom X)} {m : List (Atom Y)}
+    → SameMultiset (AtomRel R) l m → SameMultiset (AtomRel (Ext Z R)) (map (subAtom old) l) (map (subAtom old) m)
+ext-old-atoms Z s = multiset-map (subAtom old) (subAtom old) (multiset-mono (ext-old-atom Z) s)
+
+-- a term of new variables is related to itself; so are lists of them, of atoms and of equations
+pub ext-new :
+    {X Y Z : Type 0} {R : Tm X → Tm Y → Type 0} → ((c : ℕ) → R (con c) (con c)) → (t : Tm Z) → Ext Z R (sub new t) (sub new t)
+ext-new h (con c) = olds (h c)
+ext-new h (var z) = news
+
+pub ext-news :
+    {X Y Z : Type 0} {R : Tm X → Tm Y → Type 0} → ((c : ℕ) → R (con c) (con c)) → (l : List (Tm Z))
+    → Pointwise (Ext Z R) (map (sub new) l) (map (sub new) l)
+ext-news h l = pointwise-map (sub new) (sub new) (pointwise-refl (ext-new h) l)
+
+pub ext-new-atoms :
+    {X Y Z : Type 0} {R : Tm X → Tm Y → Type 0} → ((c : ℕ) → R (con c) (con c)) → (l : List (Atom Z))
+    → SameMultiset (AtomRel (Ext Z R)) (map (subAtom new) l) (map (subAtom new) l)
+ext-new-atoms h l = multiset-map (subAtom new) (subAtom new) (multiset-refl (λ a. atom-sub new new (atom-refl (ext-new h) a)) l)
+
+pub ext-new-eqns :
+    {X Y Z : Type 0} {R : Tm X → Tm Y → Type 0} → ((c : ℕ) → R (con c) (con c)) → (l : List (Eqn Z))
+    → Pointwise (Sides (Ext Z R)) (map (subEqn new) l) (map (subEqn new) l)
+ext-new-eqns h l =
+    pointwise-map (subEqn new) (subEqn new) (pointwise-refl (λ e. (ext-new h (e .left), ext-new h (e .right))) l)
