@@ -23,16 +23,8 @@ pub mod Weights
 pub mod Bound
 pub mod Entering
 pub mod Normal
-pub mod Isos
-pub mod Links
-pub mod Stepping
 pub mod Contexts
 pub mod Commute
 pub mod Peaks
-pub mod Options
-pub mod Lifting
-pub mod SolveLaws
-pub mod PositionLaws
-pub mod MatchLaws
 pub mod MatchedTerms
 pub mod FireLaws

@@ -8,3 +8,4 @@ pub mod Strategy
 pub mod Variants
 pub mod Overlaps
 pub mod Verdict
+pub mod Published
