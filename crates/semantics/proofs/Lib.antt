@@ -17,3 +17,5 @@ pub mod PositionLaws
 pub mod MatchLaws
 pub mod MatchedTerms
 pub mod FireLaws
+pub mod VariantLaws
+pub mod Represent
