@@ -5,8 +5,8 @@
 -- Assumes nothing.
 use mathlib.Core.List.{List, [], _∷_, _++_, map}
 use mathlib.Core.Path.{_≡_, refl, sym, _∙_, subst, subst₂}
-use Rattle.semantics.proofs.Configurations.{Or, inl, inr, Member, first, later}
-use Rattle.semantics.proofs.Configurations.{Tm, var, Eqn, sub, subEqn, Eqv, given, same, flip, chain}
+use Rattle.semantics.proofs.Configurations.{Or, inl, inr, Member, first, later, Tm, var, Eqn, sub, subEqn, Eqv, given}
+use Rattle.semantics.proofs.Configurations.{same, flip, chain}
 use Rattle.semantics.proofs.Multisets.{member-append, member-append-left, member-append-right, member-map, member-unmap}
 use Rattle.semantics.proofs.Atoms.{sub-sub, sub-var}
 

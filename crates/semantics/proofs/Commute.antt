@@ -3,11 +3,11 @@
 --   commute-iso          the two orders give equal configurations
 --   commute              so what the two steps give is joined by a step each
 -- Assumes nothing.
-use mathlib.Core.List.{List, [], _∷_, _++_, map}
-use mathlib.Core.Path.{_≡_, refl, sym, _∙_}
+use mathlib.Core.List.{List, _++_, map}
+use mathlib.Core.Path.{refl, sym, _∙_}
 use Rattle.semantics.specs.Terms.{Rule}
-use Rattle.semantics.proofs.Configurations.{inl, Member, Atom, sub, subAtom, old, new, flat, Config, Iso}
-use Rattle.semantics.proofs.Configurations.{headsOf, bodyOf, eqsOf, Fits, fireC, Step, step, Steps}
+use Rattle.semantics.proofs.Configurations.{inl, Member, Atom, sub, subAtom, old, new, flat, Config, Iso, headsOf}
+use Rattle.semantics.proofs.Configurations.{bodyOf, eqsOf, Fits, fireC, Step, step, Steps}
 use Rattle.semantics.proofs.Multisets.{multiset-refl, multiset-parts}
 use Rattle.semantics.proofs.Atoms.{map-sub-sub, flat-sub}
 use Rattle.semantics.proofs.Links.{linked-old, exchange, exchange-iso}
@@ -47,7 +47,10 @@ pub commute :
     {rs : List Rule} (C : Config) (r q : Rule) (M N L : List (Atom (C .Var))) → Member r rs → Member q rs
     → Fits (C .eqs) (headsOf r) M → Fits (C .eqs) (headsOf q) N
     → (D : Config) × (B : Config) × Steps rs (fireC r C M (N ++ L)) D × Steps rs (fireC q C N (M ++ L)) B × Iso D B
-commute C r q M N L i j f g =
-    (fireC q (fireC r C M (N ++ L)) (map (subAtom old) N) (map (subAtom old) L ++ map (subAtom new) (bodyOf r)),
-    fireC r (fireC q C N (M ++ L)) (map (subAtom old) M) (map (subAtom old) L ++ map (subAtom new) (bodyOf q)),
-    steps-one (step-after C r q M N L j g), steps-one (step-after C q r N M L i f), commute-iso C r q M N L)
+commute C r q M N L i j f g = (
+  fireC q (fireC r C M (N ++ L)) (map (subAtom old) N) (map (subAtom old) L ++ map (subAtom new) (bodyOf r)),
+  fireC r (fireC q C N (M ++ L)) (map (subAtom old) M) (map (subAtom old) L ++ map (subAtom new) (bodyOf q)),
+  steps-one (step-after C r q M N L j g),
+  steps-one (step-after C q r N M L i f),
+  commute-iso C r q M N L,
+)

@@ -3,12 +3,12 @@
 --   plug-step, plug-steps               steps, in a context
 --   step-inconsistent, steps-…          a failed configuration remains failed
 -- Assumes nothing.
-use mathlib.Core.List.{List, [], _∷_, _++_, map}
-use mathlib.Core.Path.{_≡_, _∙_}
+use mathlib.Core.List.{List, _++_, map}
+use mathlib.Core.Path.{_∙_}
 use Rattle.semantics.specs.Terms.{Rule}
-use Rattle.semantics.proofs.Configurations.{inl, Member, Tm, Atom, Eqn, sub, subAtom, old, new, flat}
-use Rattle.semantics.proofs.Configurations.{Eqv, Config, Inconsistent, Iso, Same, iso, bothFail}
-use Rattle.semantics.proofs.Configurations.{headsOf, bodyOf, eqsOf, fireC, Step, step, Steps, stay, go, Context, plug}
+use Rattle.semantics.proofs.Configurations.{inl, Member, Tm, Atom, Eqn, sub, subAtom, old, new, flat, Eqv, Config}
+use Rattle.semantics.proofs.Configurations.{Inconsistent, Iso, Same, iso, bothFail, headsOf, bodyOf, eqsOf, fireC, Step}
+use Rattle.semantics.proofs.Configurations.{step, Steps, stay, go, Context, plug}
 use Rattle.semantics.proofs.Multisets.{multiset-append, multiset-parts}
 use Rattle.semantics.proofs.Atoms.{map-sub-sub, flat-sub}
 use Rattle.semantics.proofs.Closure.{eqv-sub}
@@ -45,7 +45,8 @@ plug-same K (bothFail n m) = bothFail (plug-inconsistent K n) (plug-inconsistent
 -- a failed configuration remains failed
 pub fire-inconsistent :
     {C : Config} (r : Rule) (M L : List (Atom (C .Var))) → Inconsistent C → Inconsistent (fireC r C M L)
-fire-inconsistent {C} r M L n = inconsistent-sub C (fireC r C M L) old (linked-old (flat (headsOf r)) (flat M) (eqsOf r) (C .eqs)) n
+fire-inconsistent {C} r M L n =
+    inconsistent-sub C (fireC r C M L) old (linked-old (flat (headsOf r)) (flat M) (eqsOf r) (C .eqs)) n
 
 pub step-inconsistent : {rs : List Rule} {C D : Config} → Inconsistent C → Step rs C D → Inconsistent D
 step-inconsistent n (step r M L i p f) = fire-inconsistent r M L n
@@ -57,14 +58,15 @@ steps-inconsistent n (go s t) = steps-inconsistent (step-inconsistent n s) t
 -- a step in a context: the context's own atoms stand behind the others
 pub plug-step :
     {rs : List Rule} {C C′ : Config} (K : Context) → Step rs C C′ → (D : Config) × Step rs (plug K C) D × Iso D (plug K C′)
-plug-step {C} K (step r M L i p f) =
-    (fireC r (plug K C) (map (subAtom old) M) (map (subAtom old) L ++ map (subAtom new) (K .store)),
-    step r (map (subAtom old) M) (map (subAtom old) L ++ map (subAtom new) (K .store)) i
-    (multiset-parts (subAtom old) M L (map (subAtom new) (K .store)) p)
-    (fits-sub old (linked-old (K .links) (C .face) (K .eqs) (C .eqs)) f),
-    rw flat-sub (exchange-iso (C .eqs) L (K .links) (C .face) (K .eqs) (K .store) (flat (headsOf r)) (flat M) (eqsOf r) (bodyOf r)
-    (map (sub old) (map (sub new) (K .face))) (map (sub new) (K .face))
-    (map-sub-sub exchange old (map (sub new) (K .face)) ∙ map-sub-sub (λ x. exchange (inl x)) new (K .face))))
+plug-step {C} K (step r M L i p f) = (
+  fireC r (plug K C) (map (subAtom old) M) (map (subAtom old) L ++ map (subAtom new) (K .store)),
+  step r (map (subAtom old) M) (map (subAtom old) L ++ map (subAtom new) (K .store)) i
+      (multiset-parts (subAtom old) M L (map (subAtom new) (K .store)) p)
+      (fits-sub old (linked-old (K .links) (C .face) (K .eqs) (C .eqs)) f),
+  rw flat-sub (exchange-iso (C .eqs) L (K .links) (C .face) (K .eqs) (K .store) (flat (headsOf r)) (flat M) (eqsOf r) (bodyOf r)
+      (map (sub old) (map (sub new) (K .face))) (map (sub new) (K .face))
+      (map-sub-sub exchange old (map (sub new) (K .face)) ∙ map-sub-sub (λ x. exchange (inl x)) new (K .face))),
+)
 
 -- steps in a context
 pub plug-steps :

@@ -5,13 +5,13 @@
 --   iso-of-maps                equality by substitutions both ways
 -- Assumes nothing.
 use Prim.Native.Nat.{ℕ}
-use mathlib.Core.List.{List, [], _∷_, _++_, map}
-use mathlib.Core.Path.{_≡_, refl, sym, subst, subst₂}
+use mathlib.Core.List.{List, map}
+use mathlib.Core.Path.{_≡_, subst}
 use Rattle.semantics.specs.Variants.{Pointwise, SameMultiset}
-use Rattle.semantics.proofs.Configurations.{Member, Tm, con, var, Atom, Eqn, sub, subAtom, Eqv, given, same, flip, chain}
-use Rattle.semantics.proofs.Configurations.{Config, Inconsistent, AtomRel, Core, Iso, Same, iso, bothFail}
-use Rattle.semantics.proofs.Multisets.{pointwise-refl, pointwise-sym, pointwise-trans, pointwise-image}
-use Rattle.semantics.proofs.Multisets.{multiset-refl, multiset-sym, multiset-trans, multiset-mono, multiset-right}
+use Rattle.semantics.proofs.Configurations.{Member, Tm, con, Eqn, sub, subAtom, Eqv, same, flip, chain, Config}
+use Rattle.semantics.proofs.Configurations.{Inconsistent, AtomRel, Core, Iso, Same, iso, bothFail}
+use Rattle.semantics.proofs.Multisets.{pointwise-refl, pointwise-sym, pointwise-trans, pointwise-image, multiset-refl}
+use Rattle.semantics.proofs.Multisets.{multiset-sym, multiset-trans, multiset-mono, multiset-right}
 use Rattle.semantics.proofs.Multisets.{multiset-of-pointwise}
 use Rattle.semantics.proofs.Atoms.{atom-refl, atom-sym, atom-trans, atom-image}
 use Rattle.semantics.proofs.Closure.{eqv-sub, eqv-path}

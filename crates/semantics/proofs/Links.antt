@@ -5,14 +5,14 @@
 --   Equates, derives-linked              what they follow from
 --   exchange, exchange-iso               two extensions can be made in either order
 -- Assumes nothing.
-use mathlib.Core.List.{List, [], _∷_, _++_, map, map-append, append-assoc}
+use mathlib.Core.List.{List, _++_, map, map-append, append-assoc}
 use mathlib.Core.Path.{_≡_, refl, sym, ap, ap₂, _∙_, subst, subst₂}
 use Rattle.semantics.specs.Variants.{Pointwise, SameMultiset}
-use Rattle.semantics.proofs.Configurations.{Or, inl, inr, Member, Tm, con, var, Atom, Eqn, sub, subAtom, subEqn, old, new, equal}
-use Rattle.semantics.proofs.Configurations.{Eqv, given, Config, Core, AtomRel, Iso}
-use Rattle.semantics.proofs.Multisets.{pointwise-map, multiset-append, multiset-swap, multiset-refl, multiset-of-path}
-use Rattle.semantics.proofs.Multisets.{member-append-left, member-append-right, member-map, member-unmap}
-use Rattle.semantics.proofs.Atoms.{sub-sub, map-sub-sub, map-subAtom-sub, equal-sub, equal-holds}
+use Rattle.semantics.proofs.Configurations.{Or, inl, inr, Member, Tm, con, var, Atom, Eqn, sub, subAtom, subEqn, old}
+use Rattle.semantics.proofs.Configurations.{new, equal, Eqv, given, Core, Iso}
+use Rattle.semantics.proofs.Multisets.{pointwise-map, multiset-append, multiset-swap, multiset-refl, member-append-left}
+use Rattle.semantics.proofs.Multisets.{member-append-right, member-map, member-unmap}
+use Rattle.semantics.proofs.Atoms.{map-sub-sub, map-subAtom-sub, equal-sub, equal-holds}
 use Rattle.semantics.proofs.Closure.{Derives, eqv-sub, derives-append, derives-map, derives-comp}
 use Rattle.semantics.proofs.Cores.{Ext, core-equal, core-adds, core-extend, ext-old, ext-news, ext-new-eqns}
 use Rattle.semantics.proofs.Isos.{iso-of-images}
@@ -47,14 +47,17 @@ abbrev pub Equates : {X Y W : Type 0} → List (Eqn W) → (X → Tm W) → (Y �
 Equates {W} D f g ns os = (e : Eqn W) → Member e (equal (map (sub f) ns) (map (sub g) os)) → Eqv D (e .left) (e .right)
 
 pub linked-equates :
-    {X Z : Type 0} (ns : List (Tm Z)) (os : List (Tm X)) (F : List (Eqn Z)) (E : List (Eqn X)) → Equates (linked ns os F E) new old ns os
+    {X Z : Type 0} (ns : List (Tm Z)) (os : List (Tm X)) (F : List (Eqn Z)) (E : List (Eqn X))
+    → Equates (linked ns os F E) new old ns os
 linked-equates ns os F E e i = given (member-append-left (map (subEqn new) F ++ map (subEqn old) E) i)
 
 -- the equations between two lists, under one more substitution
 equal-map-sub :
     {X Y W U : Type 0} (h : W → Tm U) (f : X → Tm W) (g : Y → Tm W) (ns : List (Tm X)) (os : List (Tm Y))
-    → map (subEqn h) (equal (map (sub f) ns) (map (sub g) os)) ≡ equal (map (sub (λ x. sub h (f x))) ns) (map (sub (λ y. sub h (g y))) os)
-equal-map-sub h f g ns os = equal-sub h (map (sub f) ns) (map (sub g) os) ∙ (λ i. equal (map-sub-sub h f ns i) (map-sub-sub h g os i))
+    → map (subEqn h) (equal (map (sub f) ns) (map (sub g) os))
+    ≡ equal (map (sub (λ x. sub h (f x))) ns) (map (sub (λ y. sub h (g y))) os)
+equal-map-sub h f g ns os =
+    equal-sub h (map (sub f) ns) (map (sub g) os) ∙ (λ i. equal (map-sub-sub h f ns i) (map-sub-sub h g os i))
 
 -- they follow under one more substitution
 pub equates-comp :
@@ -62,7 +65,8 @@ pub equates-comp :
     (ns : List (Tm X)) (os : List (Tm Y))
     → Equates D f g ns os → Derives G h D → Equates G (λ x. sub h (f x)) (λ y. sub h (g y)) ns os
 equates-comp {G} h f g ns os d k e i =
-    let m = member-unmap (subEqn h) (equal (map (sub f) ns) (map (sub g) os)) (subst (Member e) (sym (equal-map-sub h f g ns os)) i) in
+    let j = subst (Member e) (sym (equal-map-sub h f g ns os)) i in
+    let m = member-unmap (subEqn h) (equal (map (sub f) ns) (map (sub g) os)) j in
     subst (λ x. Eqv G (x .left) (x .right)) (sym (m .2)) (eqv-sub h k (d (m .0) (m .1)))
 
 -- they follow where the terms are equivalent, one by one
@@ -84,7 +88,8 @@ equates-over {D} f g k ns os d e i = d e (subst (λ l. Member e (equal (map (sub
 
 -- the equations of an extension follow from those of its parts
 pub derives-linked :
-    {X Z W : Type 0} {D : List (Eqn W)} (h : Or X Z → Tm W) (ns : List (Tm Z)) (os : List (Tm X)) (F : List (Eqn Z)) (E : List (Eqn X))
+    {X Z W : Type 0} {D : List (Eqn W)} (h : Or X Z → Tm W) (ns : List (Tm Z)) (os : List (Tm X))
+    (F : List (Eqn Z)) (E : List (Eqn X))
     → Equates D (λ z. h (inr z)) (λ x. h (inl x)) ns os → Derives D (λ z. h (inr z)) F → Derives D (λ x. h (inl x)) E
     → Derives D h (linked ns os F E)
 derives-linked {D} h ns os F E p q r =
@@ -108,7 +113,8 @@ exchange-twice (var (inr z)) = refl
 exchange-derives :
     {X Y Z : Type 0} (E : List (Eqn X)) (ns : List (Tm Y)) (os : List (Tm X)) (F : List (Eqn Y))
     (ns′ : List (Tm Z)) (os′ : List (Tm X)) (F′ : List (Eqn Z))
-    → Derives (linked ns (map (sub old) os) F (linked ns′ os′ F′ E)) exchange (linked ns′ (map (sub old) os′) F′ (linked ns os F E))
+    → Derives (linked ns (map (sub old) os) F (linked ns′ os′ F′ E)) exchange
+    (linked ns′ (map (sub old) os′) F′ (linked ns os F E))
 exchange-derives E ns os F ns′ os′ F′ =
     let outer = linked-old ns (map (sub old) os) F (linked ns′ os′ F′ E) in
     derives-linked exchange ns′ (map (sub old) os′) F′ (linked ns os F E)
@@ -138,7 +144,9 @@ exchange-stores {X} {Y} {Z} L P Q =
     q : List (Atom (Or (Or X Z) Y))
     q = map (subAtom (λ z. var (inl (inr z)))) Q
 
-    start : map (subAtom exchange) (map (subAtom old) (map (subAtom old) L ++ map (subAtom new) P) ++ map (subAtom new) Q) ≡ l ++ (p ++ q)
+    start :
+        map (subAtom exchange) (map (subAtom old) (map (subAtom old) L ++ map (subAtom new) P) ++ map (subAtom new) Q)
+        ≡ l ++ (p ++ q)
     start =
         map-append (subAtom exchange) (map (subAtom old) (map (subAtom old) L ++ map (subAtom new) P)) (map (subAtom new) Q)
         ∙ ap₂ _++_ (map-subAtom-sub exchange old (map (subAtom old) L ++ map (subAtom new) P)
@@ -161,11 +169,17 @@ pub exchange-iso :
     (face : List (Tm (Or (Or X Y) Z))) (face′ : List (Tm (Or (Or X Z) Y))) → map (sub exchange) face ≡ face′
     → Iso
     (record {
-      Var = Or (Or X Y) Z; face = face; eqs = linked ns′ (map (sub old) os′) F′ (linked ns os F E);
-      store = map (subAtom old) (map (subAtom old) L ++ map (subAtom new) P) ++ map (subAtom new) Q })
+      Var = Or (Or X Y) Z;
+      face = face;
+      eqs = linked ns′ (map (sub old) os′) F′ (linked ns os F E);
+      store = map (subAtom old) (map (subAtom old) L ++ map (subAtom new) P) ++ map (subAtom new) Q;
+    })
     (record {
-      Var = Or (Or X Z) Y; face = face′; eqs = linked ns (map (sub old) os) F (linked ns′ os′ F′ E);
-      store = map (subAtom old) (map (subAtom old) L ++ map (subAtom new) Q) ++ map (subAtom new) P })
+      Var = Or (Or X Z) Y;
+      face = face′;
+      eqs = linked ns (map (sub old) os) F (linked ns′ os′ F′ E);
+      store = map (subAtom old) (map (subAtom old) L ++ map (subAtom new) Q) ++ map (subAtom new) P;
+    })
 exchange-iso E L ns os F P ns′ os′ F′ Q face face′ p =
     iso-of-images _ _ exchange exchange (exchange-derives E ns os F ns′ os′ F′) (exchange-derives E ns′ os′ F′ ns os F)
     exchange-twice p (exchange-stores L P Q)

@@ -5,7 +5,7 @@
 --   multiset-split, -pick   the partners of a part, and of a chosen list in its order
 --   member-…, all-…         the elements of a list
 -- Assumes nothing.
-use Prim.Native.Nat.{ℕ, suc}
+use Prim.Native.Nat.{suc}
 use mathlib.Core.List.{List, [], _∷_, _++_, map, append-nil, append-assoc, map-append}
 use mathlib.Core.Path.{_≡_, refl, sym, ap, _∙_, subst}
 use lib.ListN.{length}
@@ -18,7 +18,8 @@ pointwise-refl h [] = empty
 pointwise-refl h (x ∷ l) = each (h x) (pointwise-refl h l)
 
 -- a list is related to its image where every element is related to its image
-pub pointwise-image : {A B : Type 0} {R : A → B → Type 0} (f : A → B) → ((a : A) → R a (f a)) → (l : List A) → Pointwise R l (map f l)
+pub pointwise-image :
+    {A B : Type 0} {R : A → B → Type 0} (f : A → B) → ((a : A) → R a (f a)) → (l : List A) → Pointwise R l (map f l)
 pointwise-image f h [] = empty
 pointwise-image f h (x ∷ l) = each (h x) (pointwise-image f h l)
 

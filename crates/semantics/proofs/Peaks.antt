@@ -2,14 +2,14 @@
 --   peakOf, around      the heads as a configuration, over variables of their own; the rest as its context
 --   peak-iso            the configuration equals the heads in that context, atom by atom
 -- Assumes nothing.
-use Prim.Native.Nat.{ℕ}
-use mathlib.Core.List.{List, [], _∷_, _++_, map}
+use mathlib.Core.List.{List, _++_, map}
 use mathlib.Core.Path.{_≡_, refl, sym, subst}
 use Rattle.semantics.specs.Variants.{Pointwise, SameMultiset}
-use Rattle.semantics.proofs.Configurations.{Or, inl, inr, Member, Tm, con, var, Atom, Eqn, sub, subAtom, old, new, equal, flat}
-use Rattle.semantics.proofs.Configurations.{Eqv, given, same, flip, Config, AtomRel, Iso, Context, plug}
-use Rattle.semantics.proofs.Multisets.{pointwise-sym, pointwise-mono, pointwise-map, pointwise-map-right, pointwise-unmap}
-use Rattle.semantics.proofs.Multisets.{pointwise-image, multiset-append, multiset-of-pointwise, multiset-left}
+use Rattle.semantics.proofs.Configurations.{Or, inl, inr, Member, Tm, con, var, Atom, Eqn, sub, subAtom, old, new, flat}
+use Rattle.semantics.proofs.Configurations.{Eqv, same, flip, Config, AtomRel, Iso, Context, plug}
+use Rattle.semantics.proofs.Multisets.{pointwise-sym, pointwise-mono, pointwise-map, pointwise-map-right}
+use Rattle.semantics.proofs.Multisets.{pointwise-unmap, pointwise-image, multiset-append, multiset-of-pointwise}
+use Rattle.semantics.proofs.Multisets.{multiset-left}
 use Rattle.semantics.proofs.Atoms.{eqn, equal-pairs, sub-var, atom-sym, atom-mono, atom-image, atom-sub-right}
 use Rattle.semantics.proofs.Atoms.{flat-pointwise, unflat-pointwise}
 use Rattle.semantics.proofs.Closure.{eqv-path, derives-var}
@@ -54,18 +54,21 @@ pub peak-iso :
     → SameMultiset _≡_ (C .store) (Ms ++ L)
     → (I : Iso C (plug (around C Ms L) (peakOf Hs Es)))
     × Pointwise (AtomRel (I .R)) Ms (map (subAtom old) Hs) × Pointwise (AtomRel (I .R)) L (map (subAtom new) L)
-peak-iso {W} C Hs Es Ms L δ p d s =
-    (record {
-      R = λ u v. Unit {0} × Eqv all (sub new u) v;
-      core = core-of-maps new (standing δ) (λ t. Unit {0}) (λ c. tt) (linked-new (flat Ms) (flat Hs) (C .eqs) Es)
-          (derives-linked (standing δ) (flat Ms) (flat Hs) (C .eqs) Es
-          (equates-pointwise var δ (pointwise-mono (λ m h q. subst (λ t. Eqv (C .eqs) t (sub δ h)) (sym (sub-var m)) q)
-          (flat-pointwise fitted)))
-          (derives-var (C .eqs)) d)
-          (λ t u. eqv-path (standing-new δ t));
-      faces = pointwise-image (sub new) (λ t. (tt, same)) (C .face);
-      stores = multiset-left s (multiset-append (multiset-of-pointwise matched) (multiset-of-pointwise rest));
-    }, matched, rest)
+peak-iso {W} C Hs Es Ms L δ p d s = (
+  record {
+    R = λ u v. Unit {0} × Eqv all (sub new u) v;
+    core = core-of-maps new (standing δ) (λ t. Unit {0}) (λ c. tt) (linked-new (flat Ms) (flat Hs) (C .eqs) Es)
+        (derives-linked (standing δ) (flat Ms) (flat Hs) (C .eqs) Es
+        (equates-pointwise var δ (pointwise-mono (λ m h q. subst (λ t. Eqv (C .eqs) t (sub δ h)) (sym (sub-var m)) q)
+        (flat-pointwise fitted)))
+        (derives-var (C .eqs)) d)
+        (λ t u. eqv-path (standing-new δ t));
+    faces = pointwise-image (sub new) (λ t. (tt, same)) (C .face);
+    stores = multiset-left s (multiset-append (multiset-of-pointwise matched) (multiset-of-pointwise rest));
+  },
+  matched,
+  rest,
+)
   where
     all : List (Eqn (Or W (C .Var)))
     all = linked (flat Ms) (flat Hs) (C .eqs) Es

@@ -5,14 +5,14 @@
 -- Assumes nothing.
 use Prim.Native.Nat.{ℕ}
 use mathlib.Core.Bool.{Bool, true, false, cond}
-use mathlib.Core.List.{List, [], _∷_, _++_, map}
-use mathlib.Core.Path.{_≡_, refl, sym, ap, subst}
+use mathlib.Core.List.{List, [], _∷_, map}
+use mathlib.Core.Path.{_≡_, sym, subst}
 use lib.Dec.{T, eqb, eqb→eq, eqb-refl}
 use Rattle.semantics.specs.Terms.{Rule}
 use Rattle.semantics.specs.Variants.{Pointwise, empty, each, SameMultiset}
-use Rattle.semantics.proofs.Configurations.{Or, inl, inr, Member, first, later, Tm, con, var, Atom, Eqn, sub, subAtom, old, new, flat}
-use Rattle.semantics.proofs.Configurations.{Eqv, given, same, flip, chain, Config, AtomRel, Core, Iso}
-use Rattle.semantics.proofs.Configurations.{headsOf, bodyOf, eqsOf, Fits, fireC, Step, step, Steps, stay, go}
+use Rattle.semantics.proofs.Configurations.{Or, inl, inr, Member, later, Tm, con, var, Atom, Eqn, sub, subAtom, flat}
+use Rattle.semantics.proofs.Configurations.{Eqv, flip, chain, Config, AtomRel, Core, Iso, headsOf, bodyOf, eqsOf, Fits}
+use Rattle.semantics.proofs.Configurations.{fireC, Step, step, Steps, stay, go}
 use Rattle.semantics.proofs.Multisets.{pointwise-trans, pointwise-mono, pointwise-member, pointwise-map-right}
 use Rattle.semantics.proofs.Multisets.{multiset-append, multiset-pick, member-cons}
 use Rattle.semantics.proofs.Atoms.{sub-sub, atom-trans, flat-pointwise, unflat-pointwise}
