@@ -17,5 +17,6 @@ pub mod PositionLaws
 pub mod MatchLaws
 pub mod MatchedTerms
 pub mod FireLaws
+pub mod Letters
 pub mod VariantLaws
 pub mod Represent
