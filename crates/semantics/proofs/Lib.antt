@@ -18,3 +18,4 @@ pub mod Choosing
 pub mod Removal
 pub mod Pairs
 pub mod Comparison
+pub mod Pairings
