@@ -18,4 +18,6 @@ pub mod Choosing
 pub mod Removal
 pub mod Pairs
 pub mod Comparison
+pub mod Places
 pub mod Pairings
+pub mod OverlapPositions

@@ -11,15 +11,17 @@ use mathlib.Core.Bool.{Bool, true, false, cond, not, _&&_, _||_}
 use mathlib.Core.List.{List, [], _∷_, _++_, map, append-nil}
 use mathlib.Core.Option.{some}
 use mathlib.Core.Path.{_≡_, refl, sym, ap, subst, subst₂, _∙_}
-use lib.Dec.{eqb, leb, leb→le, le→leb, nleb→lt}
+use lib.Dec.{eqb, leb}
 use lib.ListN.{length, getElem?}
 use Rattle.text.specs.Lists.{has, every, placeFrom}
 use Rattle.semantics.specs.Terms.{Constraint}
 use Rattle.semantics.specs.Overlaps.{isOneToOne, unjoinedHeads}
 use Rattle.semantics.specs.Variants.{Pointwise, empty, each, Inserted, here, there, SameMultiset, put}
 use Rattle.semantics.proofs.Configurations.{Or, inl, inr, All, none, also}
-use Rattle.semantics.proofs.Options.{decide, true-false, none-some, true-T, T-true, eqb-equal, equal-eqb, apart-eqb}
+use Rattle.semantics.proofs.Options.{decide, true-false, none-some, eqb-equal, equal-eqb, apart-eqb}
 use Rattle.semantics.proofs.Bools.{and-true, or-false, or-cases, or-right}
+use Rattle.semantics.proofs.Places.{le-or-lt, leb-true, leb-false, not-true, some-equal, placeFrom-miss, pointwise-at}
+use Rattle.semantics.proofs.Places.{getElem-map}
 use Rattle.semantics.proofs.Multisets.{multiset-put, multiset-of-path, inserted-left, inserted-right}
 
 -- the elements of the second list, the first of them numbered n, that are joined to none
@@ -48,53 +50,6 @@ abbrev rest : {A : Type 0} → ℕ → List A → List ℕ → List A
 rest n [] ds = []
 rest n (x ∷ xs) [] = []
 rest n (x ∷ xs) (d ∷ ds) = cond (keeps n d) (x ∷ rest n xs ds) (rest n xs ds)
-
--- one of two numbers is below the other, or they are equal
-pub le-or-lt : (m n : ℕ) → Or (m ≤ n) (n < m)
-le-or-lt m n = go (decide (leb m n))
-  where
-    go : Or (leb m n ≡ true) (leb m n ≡ false) → Or (m ≤ n) (n < m)
-    go (inl t) = inl (leb→le m n (true-T t))
-    go (inr t) = inr (nleb→lt m n (true-T (ap not t)))
-
--- a test of order, passed and failed
-pub leb-true : (m n : ℕ) → m ≤ n → leb m n ≡ true
-leb-true m n h = T-true (leb m n) (le→leb m n h)
-
-pub leb-false : (m n : ℕ) → n < m → leb m n ≡ false
-leb-false m n h = go (decide (leb m n))
-  where
-    go : Or (leb m n ≡ true) (leb m n ≡ false) → leb m n ≡ false
-    go (inl t) = absurd (let z : m ≤ n = leb→le m n (true-T t) in omega arith)
-    go (inr t) = t
-
--- a test whose negation passes fails
-pub not-true : (b : Bool) → not b ≡ true → b ≡ false
-not-true true e = true-false e refl
-not-true false e = refl
-
--- the value of an answer
-pub some-equal : {A : Type 0} {a b : A} → some a ≡ some b → a ≡ b
-some-equal p = cc
-
--- the place counts on
-pub placeFrom-suc : {A : Type 0} (t : A → Bool) (i : ℕ) (l : List A) → placeFrom t (suc i) l ≡ suc (placeFrom t i l)
-placeFrom-suc t i [] = refl
-placeFrom-suc t i (x ∷ l) = go (t x) (placeFrom-suc t (suc i) l)
-  where
-    go :
-        (b : Bool) → placeFrom t (suc (suc i)) l ≡ suc (placeFrom t (suc i) l)
-        → cond b (suc i) (placeFrom t (suc (suc i)) l) ≡ suc (cond b i (placeFrom t (suc i) l))
-    go true e = refl
-    go false e = e
-
--- the place of an element that passes, and of one behind an element that does not
-pub placeFrom-hit : {A : Type 0} (t : A → Bool) (i : ℕ) {x : A} (l : List A) → t x ≡ true → placeFrom t i (x ∷ l) ≡ i
-placeFrom-hit t i l e = rw e
-
-pub placeFrom-miss :
-    {A : Type 0} (t : A → Bool) (i : ℕ) {x : A} (l : List A) → t x ≡ false → placeFrom t i (x ∷ l) ≡ suc (placeFrom t i l)
-placeFrom-miss t i l e = rw e (placeFrom-suc t i l)
 
 keeps-one : (d : ℕ) → keeps 1 d ≡ true
 keeps-one zero = refl
@@ -203,14 +158,6 @@ join-union xs ys ds e u h a =
     (ap (λ k. rest k xs ds) (let z : 1 + length ys ≡ suc (length ys) = omega arith in z) ∙ rest-end (length ys) xs ds h)
     (rest-union 1 xs ys ds (omega arith) u a)
 
--- elements at one place of related lists are related
-pub pointwise-at :
-    {A B : Type 0} {R : A → B → Type 0} {l : List A} {m : List B} (i : ℕ) {a : A} {b : B} → Pointwise R l m
-    → getElem? l i ≡ some a → getElem? m i ≡ some b → R a b
-pointwise-at i empty p q = none-some refl p
-pointwise-at {R} zero (each r h) p q = subst₂ R (some-equal p) (some-equal q) r
-pointwise-at (suc i) (each r h) p q = pointwise-at i h p q
-
 -- what relates the first lists and what is left of the second ones relates the second ones
 pub join-pointwise :
     {A B : Type 0} {R : A → B → Type 0} {xs : List A} {xs′ : List B} (n : ℕ) (ys : List A) (ys′ : List B) (ds : List ℕ)
@@ -272,13 +219,6 @@ alone-map f [] ds = refl
 alone-map f (x ∷ xs) [] = refl
 alone-map f (x ∷ xs) (zero ∷ ds) = ap (f x ∷_) (alone-map f xs ds)
 alone-map f (x ∷ xs) (suc d ∷ ds) = alone-map f xs ds
-
--- the element of an image
-pub getElem-map :
-    {A B : Type 0} (f : A → B) (l : List A) (i : ℕ) {a : A} → getElem? l i ≡ some a → getElem? (map f l) i ≡ some (f a)
-getElem-map f [] i p = none-some refl p
-getElem-map f (x ∷ l) zero p = ap some (ap f (some-equal p))
-getElem-map f (x ∷ l) (suc i) p = getElem-map f l i p
 
 -- the images of joined elements agree
 pub agreed-map :
