@@ -21,3 +21,4 @@ pub mod Comparison
 pub mod Places
 pub mod Pairings
 pub mod OverlapPositions
+pub mod Partners

@@ -1,4 +1,5 @@
--- Two lists some of whose elements are joined: each element of the first has the number, from 1, of its partner in the second, or 0.
+-- Two lists some of whose elements are joined: each element of the first has the number, from 1, of its partner in the second,
+-- or 0.
 --   leftover, alone        the elements of the second and of the first list that are joined to none
 --   Agreed                 joined elements are equal
 --   join-union             the first list and what is left of the second are the second and what is alone of the first
