@@ -22,3 +22,5 @@ pub mod Places
 pub mod Pairings
 pub mod OverlapPositions
 pub mod Partners
+pub mod Listings
+pub mod Enumeration
