@@ -24,3 +24,4 @@ pub mod OverlapPositions
 pub mod Partners
 pub mod Listings
 pub mod Enumeration
+pub mod Verdicts
