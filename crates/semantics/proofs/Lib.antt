@@ -31,3 +31,11 @@ pub mod FireLaws
 pub mod Letters
 pub mod VariantLaws
 pub mod Represent
+pub mod Places
+pub mod Pairings
+pub mod OverlapPositions
+pub mod Partners
+pub mod Listings
+pub mod Enumeration
+pub mod Verdicts
+pub mod Appearing
