@@ -39,3 +39,7 @@ pub mod Listings
 pub mod Enumeration
 pub mod Verdicts
 pub mod Appearing
+pub mod Renamings
+pub mod Valuations
+pub mod Equating
+pub mod Entailment
