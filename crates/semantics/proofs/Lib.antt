@@ -43,3 +43,6 @@ pub mod Renamings
 pub mod Valuations
 pub mod Equating
 pub mod Entailment
+pub mod PublishedStates
+pub mod Emptying
+pub mod RenamedRules

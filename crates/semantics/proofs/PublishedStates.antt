@@ -1,0 +1,103 @@
+-- Published states (document 000, section 2.2.2) as configurations: a state represents a published one whose goal store is empty
+-- when it equals what is left of it once its built-in store is solved.
+--   confP                          a published state as a configuration; its goal store is left out
+--   solved-iso                     solved equations leave an equal configuration without equations
+--   Represents                     what is left of a published state equals a state
+--   represents-rep, rep-represents the same, as representing the configuration
+-- Assumes nothing.
+use Prim.Native.Nat.{ℕ}
+use mathlib.Core.List.{List, [], map}
+use mathlib.Core.Option.{Option, none, some}
+use mathlib.Core.Path.{_≡_, refl, sym, ap, subst, _∙_}
+use Rattle.semantics.specs.Terms.{Term, Constraint, Equation, State, failed, live, mapTerms}
+use Rattle.semantics.specs.Terms as T
+use Rattle.semantics.specs.Solving.{solve}
+use Rattle.semantics.specs.Firing.{settle}
+use Rattle.semantics.specs.Variants.{Variant}
+use Rattle.semantics.specs.Published.{Published, normal}
+use Rattle.semantics.proofs.Configurations.{Tm, con, var, Eqn, sub, Eqv, same, flip, Config, Inconsistent, Iso, Member}
+use Rattle.semantics.proofs.Configurations.{lift, liftAtom, liftEqn, confOf, Rep, hasFailed, isLive}
+use Rattle.semantics.proofs.Multisets.{pointwise-map, pointwise-refl, member-unmap, multiset-of-pointwise, pointwise-image}
+use Rattle.semantics.proofs.Atoms.{sub-var}
+use Rattle.semantics.proofs.Closure.{eqv-path}
+use Rattle.semantics.proofs.Isos.{iso-sym, iso-trans, iso-of-maps, same-refl}
+use Rattle.semantics.proofs.SolveLaws.{Solution, solve-solution, solve-clash, solution-down}
+use Rattle.semantics.proofs.VariantLaws.{variant-iso, iso-variant}
+use Rattle.semantics.proofs.Represent.{ScopedState, rep-same}
+
+-- a list of terms, equations and constraints as a configuration
+abbrev pub confWith : List Term → List Equation → List Constraint → Config
+confWith b es cs = record { Var = ℕ; face = map lift b; eqs = map liftEqn es; store = map liftAtom cs }
+
+-- a published state, without its goal store
+abbrev pub confP : Published → Config
+confP p = confWith (map T.var (p .variables)) (p .builtInStore) (p .userStore)
+
+-- solving the equations and putting the solution in throughout leaves an equal configuration
+pub solved-iso :
+    (b : List Term) (es : List Equation) (cs : List Constraint) {σ : Term → Term} → solve es (λ t. t) ≡ some σ
+    → Iso (confOf (map σ b) (map (mapTerms σ) cs)) (confWith b es cs)
+unfolding mapTerms
+solved-iso b es cs {σ} p =
+    iso-sym (iso-of-maps (confWith b es cs) (confOf (map σ b) (map (mapTerms σ) cs)) become var (λ t. Unit {0}) (λ c. tt) held
+    (λ e i. elim i [ ]) (λ t u. undo t)
+    (pointwise-map lift lift (pointwise-image σ becomes b))
+    (multiset-of-pointwise (pointwise-map liftAtom liftAtom (pointwise-image (mapTerms σ) (λ c. record {
+      symbols = refl;
+      args = pointwise-map lift lift (pointwise-image σ becomes (c .terms));
+    }) cs))))
+  where
+    become : ℕ → Tm ℕ
+    become x = lift (σ (T.var x))
+    at : (t : Term) → sub become (lift t) ≡ lift (σ t)
+    at (T.con c) = sym (ap lift (solve-solution es p .fixes c))
+    at (T.var x) = refl
+    becomes : (t : Term) → Unit {0} × Eqv [] (sub become (lift t)) (lift (σ t))
+    becomes t = (tt, eqv-path (at t))
+    held : (e : Eqn ℕ) → Member e (map liftEqn es) → Eqv [] (sub become (e .left)) (sub become (e .right))
+    held e i =
+        let (d, j, q) = member-unmap liftEqn es i in
+        rw q (eqv-path (at (d .left) ∙ ap lift (solve-solution es p .joins j) ∙ sym (at (d .right))))
+    undo : (t : Tm ℕ) → Eqv (map liftEqn es) (sub var (sub become t)) t
+    undo (con c) = same
+    undo (var x) = rw sub-var (flip (solve-solution es p .follows (T.var x)))
+
+-- what is left of a published state whose goal store is empty equals a state
+abbrev pub Represents : Published → State → Type 1
+Represents p s = Variant (normal p) s
+
+-- then the state represents the published state as a configuration
+pub represents-rep : (p : Published) (s : State) → ScopedState s → Represents p s → Rep s (confP p)
+unfolding normal settle
+represents-rep p s scoped = go (solve (p .builtInStore) (λ t. t)) refl s scoped
+  where
+    go :
+        (o : Option (Term → Term)) → solve (p .builtInStore) (λ t. t) ≡ o → (s : State) → ScopedState s
+        → Variant (settle o 0 (map T.var (p .variables)) (p .userStore)) s → Rep s (confP p)
+    go none q failed h v =
+        let (one, two, d, e) = solve-clash (p .builtInStore) q in
+        hasFailed (record { one = one; two = two; apart = d; clash = e })
+    go none q (live n b cs) h v = absurd (v .lower)
+    go (some σ) q failed h v = absurd (v .lower)
+    go (some σ) q (live n b cs) h v =
+        isLive h (iso-trans (iso-sym (variant-iso 0 n v))
+        (solved-iso (map T.var (p .variables)) (p .builtInStore) (p .userStore) q))
+
+-- and conversely
+pub rep-represents : (p : Published) (s : State) → Rep s (confP p) → Represents p s
+unfolding normal settle
+rep-represents p s r = go (solve (p .builtInStore) (λ t. t)) refl r
+  where
+    same-con : {x y : ℕ} → _≡_ {A = Term} (T.con x) (T.con y) → x ≡ y
+    same-con p = cc
+    go :
+        (o : Option (Term → Term)) → solve (p .builtInStore) (λ t. t) ≡ o → {s : State} → Rep s (confP p)
+        → Variant (settle o 0 (map T.var (p .variables)) (p .userStore)) s
+    go none q r =
+        let (one, two, d, e) = solve-clash (p .builtInStore) q in
+        rep-same (hasFailed (record { one = one; two = two; apart = d; clash = e })) r (same-refl (confP p))
+    go (some σ) q (hasFailed n) =
+        let k = solve-solution (p .builtInStore) q in
+        absurd (n .apart (same-con (sym (k .fixes (n .one)) ∙ solution-down k (n .clash) ∙ k .fixes (n .two))))
+    go (some σ) q (isLive {n} h I) =
+        iso-variant 0 n (iso-trans (solved-iso (map T.var (p .variables)) (p .builtInStore) (p .userStore) q) (iso-sym I))

@@ -1,0 +1,171 @@
+-- Firing a rule, all of whose variables are new, leaves the same as adding the body of a renamed copy of it.
+--   lift-renamed           a renamed term
+--   Heads, Lettering       all variables of a rule are letters
+--   Settled                a term of the state that the copy's variables leave alone, or say the same of
+--   renamed-iso            the two configurations are equal
+-- Assumes nothing.
+use Prim.Native.Nat.{ℕ, _<_}
+use mathlib.Core.List.{List, [], _∷_, _++_, map, map-append}
+use mathlib.Core.Path.{_≡_, refl, sym, ap, subst, subst₂, _∙_}
+use Rattle.semantics.specs.Terms.{Term, Constraint, Equation, Rule, mapTerms, alphabet}
+use Rattle.semantics.specs.Terms as T
+use Rattle.semantics.specs.Published.{renamed}
+use Rattle.semantics.specs.Variants.{Pointwise, empty, each, SameMultiset}
+use Rattle.semantics.proofs.Configurations.{Or, inl, inr, Member, Tm, con, var, Eqn, sub, subAtom, old, new, flat, Eqv, given}
+use Rattle.semantics.proofs.Configurations.{same, Config, AtomRel, Iso, lift, liftAtom, liftEqn, headsOf, bodyOf, eqsOf, fireC}
+use Rattle.semantics.proofs.Configurations.{TermBelow, All}
+use Rattle.semantics.proofs.Multisets.{pointwise-mono, pointwise-map, pointwise-append, pointwise-sym, pointwise-map-right}
+use Rattle.semantics.proofs.Multisets.{member-unmap, multiset-of-pointwise, multiset-right, multiset-back, multiset-swap}
+use Rattle.semantics.proofs.Multisets.{multiset-map, multiset-mono}
+use Rattle.semantics.proofs.Atoms.{sub-var, flat-pointwise}
+use Rattle.semantics.proofs.Closure.{Derives, eqv-path}
+use Rattle.semantics.proofs.Links.{Equates, derives-linked, equates-pointwise}
+use Rattle.semantics.proofs.Isos.{iso-of-maps}
+use Rattle.semantics.proofs.MatchLaws.{ConstraintRel}
+use Rattle.semantics.proofs.MatchedTerms.{ConstraintBelow, pointwise-all}
+use Rattle.semantics.proofs.FireLaws.{Lettered}
+use Rattle.semantics.proofs.Renamings.{Separates, atLetters, at-letter}
+use Rattle.semantics.proofs.PublishedStates.{confWith}
+
+-- a renamed term is that term with its variables replaced
+pub lift-renamed : (ρ : ℕ → ℕ) (t : Term) → lift (renamed ρ t) ≡ sub (λ y. var (ρ y)) (lift t)
+unfolding renamed
+lift-renamed ρ (T.con c) = refl
+lift-renamed ρ (T.var x) = refl
+
+module _ (r : Rule) (ρ : ℕ → ℕ) (b : List Term) (bs : List Equation) (M L : List Constraint) where
+  -- the configuration after firing the rule on M, L being the rest
+  abbrev pub afterFiring : Config
+  afterFiring = fireC r (confWith b bs []) (map liftAtom M) (map liftAtom L)
+
+  -- a new variable as the copy's, an old one as itself; and back
+  abbrev forth : Or ℕ ℕ → Tm ℕ
+  forth (inl x) = var x
+  forth (inr y) = var (ρ y)
+
+  abbrev pub back : ℕ → Tm (Or ℕ ℕ)
+  back = atLetters ρ new old
+
+  -- a term of the state that stays what it is, back and forth
+  abbrev pub Settled : Term → Type 0
+  Settled t = Eqv (afterFiring .eqs) (sub back (lift t)) (sub old (lift t))
+
+  -- an old variable in use is settled, a new one is a letter
+  abbrev used : Tm (Or ℕ ℕ) → Type 0
+  used (con c) = Unit {0}
+  used (var (inl x)) = Settled (T.var x)
+  used (var (inr y)) = y < alphabet
+
+  -- a term of the rule, renamed and back
+  pub back-renamed :
+      Separates ρ → (t : Term) → TermBelow alphabet t → sub back (lift (renamed ρ t)) ≡ sub new (lift t)
+  unfolding renamed
+  back-renamed apart (T.con c) h = refl
+  back-renamed apart (T.var y) h = at-letter ρ new old y apart h
+
+  module _ (bs′ : List Equation) where
+    abbrev Becomes : Tm (Or ℕ ℕ) → Tm ℕ → Type 0
+    Becomes u v = used u × Eqv (map liftEqn bs′) (sub forth u) v
+
+    old-becomes : (t : Term) → Settled t → Becomes (sub old (lift t)) (lift t)
+    old-becomes (T.con c) h = (tt, same)
+    old-becomes (T.var x) h = (h, same)
+
+    new-becomes : (t : Term) → TermBelow alphabet t → Becomes (sub new (lift t)) (lift (renamed ρ t))
+    unfolding renamed
+    new-becomes (T.con c) h = (tt, same)
+    new-becomes (T.var x) h = (h, same)
+
+    -- lists of terms, and of constraints
+    old-terms : {l : List Term} → All Settled l → Pointwise Becomes (map (sub old) (map lift l)) (map lift l)
+    old-terms h =
+        pointwise-sym (pointwise-map-right (sub old) (pointwise-map lift lift
+        (pointwise-all {R = λ s t. Becomes (sub old (lift t)) (lift s)} old-becomes h)))
+
+    old-atoms :
+        {l : List Constraint} → All (λ c. All Settled (c .terms)) l
+        → Pointwise (AtomRel Becomes) (map (subAtom old) (map liftAtom l)) (map liftAtom l)
+    old-atoms h =
+        pointwise-sym (pointwise-map-right (subAtom old) (pointwise-map liftAtom liftAtom
+        (pointwise-all {R = λ c d. AtomRel Becomes (subAtom old (liftAtom d)) (liftAtom c)} (λ c k. record {
+          symbols = refl;
+          args = old-terms k;
+        }) h)))
+
+    new-atoms :
+        {l : List Constraint} → All (ConstraintBelow alphabet) l
+        → Pointwise (AtomRel Becomes) (map (subAtom new) (map liftAtom l)) (map liftAtom (map (mapTerms (renamed ρ)) l))
+    unfolding mapTerms
+    new-atoms h =
+        pointwise-map (subAtom new) liftAtom (pointwise-map liftAtom (mapTerms (renamed ρ)) (pointwise-all (λ c k. record {
+          symbols = refl;
+          args = pointwise-map (sub new) lift (pointwise-map lift (renamed ρ) (pointwise-all new-becomes k));
+        }) h))
+
+    -- what the equations of the firing follow from
+    heads-follow :
+        Pointwise (ConstraintRel (λ s t. Eqv (map liftEqn bs′) (lift (renamed ρ s)) (lift t))) (r .heads) M
+        → Equates (map liftEqn bs′) (λ y. forth (inr y)) (λ x. forth (inl x)) (flat (headsOf r)) (flat (map liftAtom M))
+    heads-follow p =
+        equates-pointwise (λ y. forth (inr y)) (λ x. forth (inl x))
+        (flat-pointwise (pointwise-map liftAtom liftAtom (pointwise-mono (λ h c q. record {
+          symbols = q .symbols;
+          args = pointwise-map lift lift (pointwise-mono (λ s t e.
+              subst₂ (Eqv (map liftEqn bs′)) (lift-renamed ρ s) (sym (sub-var (lift t))) e) (q .terms));
+        }) p)))
+
+    equations-follow :
+        ((e : Equation) → Member e (r .equations)
+          → Eqv (map liftEqn bs′) (lift (renamed ρ (e .left))) (lift (renamed ρ (e .right))))
+        → Derives (map liftEqn bs′) (λ y. forth (inr y)) (eqsOf r)
+    equations-follow h e i =
+        let (d, j, q) = member-unmap liftEqn (r .equations) i in
+        rw q (subst₂ (Eqv (map liftEqn bs′)) (lift-renamed ρ (d .left)) (lift-renamed ρ (d .right)) (h d j))
+
+    store-follows :
+        ((e : Equation) → Member e bs → Eqv (map liftEqn bs′) (lift (e .left)) (lift (e .right)))
+        → Derives (map liftEqn bs′) (λ x. forth (inl x)) (map liftEqn bs)
+    store-follows h e i =
+        let (d, j, q) = member-unmap liftEqn bs i in
+        rw q (subst₂ (Eqv (map liftEqn bs′)) (sym (sub-var (lift (d .left)))) (sym (sub-var (lift (d .right)))) (h d j))
+
+    -- what the equations of the copy follow from
+    copy-follows :
+        ((e : Equation) → Member e bs′ → Eqv (afterFiring .eqs) (sub back (lift (e .left))) (sub back (lift (e .right))))
+        → Derives (afterFiring .eqs) back (map liftEqn bs′)
+    copy-follows h e i =
+        let (d, j, q) = member-unmap liftEqn bs′ i in
+        rw q (h d j)
+
+    -- back from the copy
+    undo : Separates ρ → (t : Tm (Or ℕ ℕ)) → used t → Eqv (afterFiring .eqs) (sub back (sub forth t)) t
+    undo apart (con c) u = same
+    undo apart (var (inl x)) u = u
+    undo apart (var (inr y)) u = eqv-path (at-letter ρ new old y apart u)
+
+  -- the configuration after the firing equals the one with the copy's equations and body: the heads, the rule's equations and
+  -- those of the state follow from the copy's equations, and the copy's from the firing's
+  pub renamed-iso :
+      (bs′ : List Equation) (us′ : List Constraint) → Separates ρ → Lettered r
+      → Pointwise (ConstraintRel (λ s t. Eqv (map liftEqn bs′) (lift (renamed ρ s)) (lift t))) (r .heads) M
+      → ((e : Equation) → Member e (r .equations)
+        → Eqv (map liftEqn bs′) (lift (renamed ρ (e .left))) (lift (renamed ρ (e .right))))
+      → ((e : Equation) → Member e bs → Eqv (map liftEqn bs′) (lift (e .left)) (lift (e .right)))
+      → ((e : Equation) → Member e bs′ → Eqv (afterFiring .eqs) (sub back (lift (e .left))) (sub back (lift (e .right))))
+      → All Settled b → All (λ c. All Settled (c .terms)) L
+      → SameMultiset _≡_ us′ (map (mapTerms (renamed ρ)) (r .body) ++ L) → Iso afterFiring (confWith b bs′ us′)
+  renamed-iso bs′ us′ apart letters heads equations kept backward hb hL split =
+      iso-of-maps afterFiring (confWith b bs′ us′) forth back used (λ c. tt)
+      (derives-linked forth (flat (headsOf r)) (flat (map liftAtom M)) (eqsOf r) (map liftEqn bs)
+      (heads-follow bs′ heads) (equations-follow bs′ equations) (store-follows bs′ kept))
+      (copy-follows bs′ backward) (undo bs′ apart) (old-terms bs′ hb)
+      (multiset-right (multiset-of-pointwise (pointwise-append (old-atoms bs′ hL) (new-atoms bs′ (letters .body)))) reordered)
+    where
+      body : List Constraint
+      body = map (mapTerms (renamed ρ)) (r .body)
+
+      reordered : SameMultiset _≡_ (map liftAtom L ++ map liftAtom body) (map liftAtom us′)
+      reordered =
+          multiset-right (multiset-swap (map liftAtom L) (map liftAtom body))
+          (subst (λ l. SameMultiset _≡_ l (map liftAtom us′)) (map-append liftAtom body L)
+          (multiset-map liftAtom liftAtom (multiset-mono (λ c d e. ap liftAtom e) (multiset-back split))))
