@@ -61,7 +61,7 @@ heads-pairs ρ hs {ms} {es} q = back hs (equated-pairs q)
     back (h ∷ hs) (each r p) = each (record { symbols = r .symbols; terms = terms (h .terms) (r .terms) }) (back hs p)
 
 -- with what all terms on the right have
-with-right :
+pub with-right :
     {R : Term → Term → Type 0} {P : Term → Type 0} {hs ms : List Constraint} → Pointwise (ConstraintRel R) hs ms
     → All (λ c. All P (c .terms)) ms → Pointwise (ConstraintRel (λ s t. R s t × P t)) hs ms
 with-right empty C.none = empty
@@ -73,7 +73,7 @@ with-right {R} {P} (each r p) (also a more) =
     terms (each k l) (also b more) = each (k, b) (terms l more)
 
 -- with what all terms on the left have
-with-left :
+pub with-left :
     {R : Term → Term → Type 0} {P : Term → Type 0} {hs ms : List Constraint} → Pointwise (ConstraintRel R) hs ms
     → All (λ c. All P (c .terms)) hs → Pointwise (ConstraintRel (λ s t. R s t × P s)) hs ms
 with-left empty C.none = empty
@@ -95,7 +95,7 @@ fits-of hs ms p =
       args = pointwise-map lift lift (q .terms);
     }) p)
 
-fits-back :
+pub fits-back :
     {E : List (C.Eqn ℕ)} {θ : ℕ → Tm ℕ} (hs ms : List Constraint)
     → Pointwise (AtomRel (λ h m. Eqv E (sub θ h) m)) (map liftAtom hs) (map liftAtom ms)
     → Pointwise (ConstraintRel (λ s t. Eqv E (sub θ (lift s)) (lift t))) hs ms

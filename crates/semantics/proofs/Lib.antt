@@ -46,3 +46,6 @@ pub mod Entailment
 pub mod PublishedStates
 pub mod Emptying
 pub mod RenamedRules
+pub mod FreshVariants
+pub mod SimplifyLaws
+pub mod FiringIsSimplify

@@ -2,8 +2,7 @@
 -- when it equals what is left of it once its built-in store is solved.
 --   confP                          a published state as a configuration; its goal store is left out
 --   solved-iso                     solved equations leave an equal configuration without equations
---   Represents                     what is left of a published state equals a state
---   represents-rep, rep-represents the same, as representing the configuration
+--   represents-rep, rep-represents a state represents a published one exactly when it represents its configuration
 -- Assumes nothing.
 use Prim.Native.Nat.{ℕ}
 use mathlib.Core.List.{List, [], map}
@@ -14,7 +13,7 @@ use Rattle.semantics.specs.Terms as T
 use Rattle.semantics.specs.Solving.{solve}
 use Rattle.semantics.specs.Firing.{settle}
 use Rattle.semantics.specs.Variants.{Variant}
-use Rattle.semantics.specs.Published.{Published, normal}
+use Rattle.semantics.specs.Published.{Published, normal, Represents}
 use Rattle.semantics.proofs.Configurations.{Tm, con, var, Eqn, sub, Eqv, same, flip, Config, Inconsistent, Iso, Member}
 use Rattle.semantics.proofs.Configurations.{lift, liftAtom, liftEqn, confOf, Rep, hasFailed, isLive}
 use Rattle.semantics.proofs.Multisets.{pointwise-map, pointwise-refl, member-unmap, multiset-of-pointwise, pointwise-image}
@@ -62,11 +61,7 @@ solved-iso b es cs {σ} p =
     undo (con c) = same
     undo (var x) = rw sub-var (flip (solve-solution es p .follows (T.var x)))
 
--- what is left of a published state whose goal store is empty equals a state
-abbrev pub Represents : Published → State → Type 1
-Represents p s = Variant (normal p) s
-
--- then the state represents the published state as a configuration
+-- a state represents a published one exactly when it represents it as a configuration
 pub represents-rep : (p : Published) (s : State) → ScopedState s → Represents p s → Rep s (confP p)
 unfolding normal settle
 represents-rep p s scoped = go (solve (p .builtInStore) (λ t. t)) refl s scoped

@@ -6,12 +6,14 @@
 -- Assumes nothing.
 use Prim.Native.Nat.{ℕ, _<_}
 use mathlib.Core.List.{List, [], _∷_, _++_, map}
-use mathlib.Core.Option.{Option, none, some}
+use mathlib.Core.Option.{some}
 use mathlib.Core.Path.{_≡_}
-use Rattle.semantics.specs.Terms.{Term, con, var, Constraint, Equation, Rule, State, mapTerms, mapSides, alphabet}
+use lib.ListN.{getElem?}
+use Rattle.semantics.specs.Terms.{Term, con, var, Constraint, Equation, Rule, Program, State}
+use Rattle.semantics.specs.Terms.{mapTerms, mapSides, alphabet}
 use Rattle.semantics.specs.Solving.{solve}
 use Rattle.semantics.specs.Firing.{settle}
-use Rattle.semantics.specs.Variants.{Pointwise, SameMultiset}
+use Rattle.semantics.specs.Variants.{SameMultiset, Variant}
 
 -- what a goal store holds: user-defined constraints, and built-in ones, which are equations
 pub data Item : Type 0 where
@@ -141,3 +143,13 @@ pub data Emptied : Published → Published → Type 0 where
 -- paper's N): failed where it is false, and otherwise what the variables have become and the constraints
 unfoldable pub normal : Published → State
 normal p = settle (solve (p .builtInStore) (λ t. t)) 0 (map var (p .variables)) (p .userStore)
+
+-- a state of ours represents a published one whose goal store is empty: it equals what is left of that
+abbrev pub Represents : Published → State → Type 1
+Represents p s = Variant (normal p) s
+
+-- the transition relation of a program: one of the three steps
+pub data Goes (p : Program) : Published → Published → Type 0 where
+  solving : {a b : Published} → Solve a b → Goes p a b
+  introducing : {a b : Published} → Introduce a b → Goes p a b
+  simplifying : {a b : Published} (n : ℕ) (r : Rule) → getElem? (p .rules) n ≡ some r → Simplify r a b → Goes p a b
