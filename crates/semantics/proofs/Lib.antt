@@ -6,6 +6,7 @@ pub mod Atoms
 pub mod Closure
 pub mod Cores
 pub mod Isos
+pub mod Links
 pub mod Stepping
 pub mod Options
 pub mod Lifting
@@ -18,3 +19,6 @@ pub mod Choosing
 pub mod Removal
 pub mod Pairs
 pub mod Comparison
+pub mod Contexts
+pub mod Commute
+pub mod Peaks
