@@ -22,3 +22,10 @@ pub mod Comparison
 pub mod Contexts
 pub mod Commute
 pub mod Peaks
+pub mod Options
+pub mod Lifting
+pub mod SolveLaws
+pub mod PositionLaws
+pub mod MatchLaws
+pub mod MatchedTerms
+pub mod FireLaws
