@@ -19,6 +19,13 @@ pub mod Choosing
 pub mod Removal
 pub mod Pairs
 pub mod Comparison
+pub mod Weights
+pub mod Bound
+pub mod Entering
+pub mod Normal
+pub mod Isos
+pub mod Links
+pub mod Stepping
 pub mod Contexts
 pub mod Commute
 pub mod Peaks

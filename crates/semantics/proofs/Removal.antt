@@ -1,8 +1,9 @@
 -- The constraints at none of some positions: removing one more position takes one constraint out.
---   has-last, has-other      whether a number stands in a list with one more number behind it
---   without-none             nothing is removed at no positions
---   without-one              one more position, which was not removed: one constraint less
---   without-found            what stands among the rest stands at a position that is not removed
+--   has-last, has-other, has-front      whether a number stands in a list with one more number behind it
+--   without-none                        nothing is removed at no positions
+--   without-same                        the same positions remove the same
+--   without-one                         one more position, which was not removed: one constraint less
+--   without-found                       what stands among the rest stands at a position that is not removed
 -- Assumes nothing.
 use Prim.Native.Nat.{ℕ, zero, suc, _+_, _<_}
 use native.Mathlib.Omega.{arith}
@@ -27,6 +28,24 @@ has-last n (m ∷ l) = or-right (eqb n m) (has n (l ++ (n ∷ []))) (has-last n 
 pub has-other : (n m : ℕ) (l : List ℕ) → (n ≡ m → ⊥) → has n (l ++ (m ∷ [])) ≡ has n l
 has-other n m [] d = rw (eqb-differ n m d)
 has-other n m (k ∷ l) d = ap (eqb n k ||_) (has-other n m l d)
+
+-- a number behind a list or in front of it
+pub has-front : (n m : ℕ) (l : List ℕ) → has n (l ++ (m ∷ [])) ≡ has n (m ∷ l)
+has-front n m [] = refl
+has-front n m (k ∷ l) = rw (has-front n m l) (go (eqb n k) (eqb n m))
+  where
+    go : (a b : Bool) → (a || (b || has n l)) ≡ (b || (a || has n l))
+    go true true = refl
+    go true false = refl
+    go false true = refl
+    go false false = refl
+
+-- the same positions remove the same
+pub without-same :
+    (k : ℕ) (ps qs : List ℕ) (cs : List Constraint) → ((n : ℕ) → has n ps ≡ has n qs) → without k ps cs ≡ without k qs cs
+unfolding without
+without-same k ps qs [] e = refl
+without-same k ps qs (c ∷ cs) e = rw (e k, without-same (suc k) ps qs cs e)
 
 -- nothing is removed at no positions
 pub without-none : (k : ℕ) (cs : List Constraint) → without k [] cs ≡ cs
