@@ -28,3 +28,4 @@ pub mod Weights
 pub mod Bound
 pub mod Entering
 pub mod Normal
+pub mod Newman
