@@ -29,3 +29,4 @@ pub mod Bound
 pub mod Entering
 pub mod Normal
 pub mod Newman
+pub mod Longer
