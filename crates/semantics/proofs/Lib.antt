@@ -30,3 +30,4 @@ pub mod Entering
 pub mod Normal
 pub mod Newman
 pub mod Longer
+pub mod WellFormed
