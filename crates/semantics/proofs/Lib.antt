@@ -31,3 +31,4 @@ pub mod Normal
 pub mod Newman
 pub mod Longer
 pub mod WellFormed
+pub mod Filling

@@ -1,0 +1,180 @@
+-- A state with the constraints of the goal that have not entered yet put in: it fires as the state itself does.
+--   Reordered              two states that are equal but for the order of their constraints
+--   filled                 a state with waiting constraints put in
+--   filled-fires           a firing of the state is one of the filled state, and what it leads to is filled alike
+--   filled-enters          a constraint that enters was put in already
+-- Assumes nothing.
+use Prim.Native.Nat.{ℕ, zero, suc, _+_, _<_}
+use native.Mathlib.Omega.{arith}
+use mathlib.Core.List.{List, [], _∷_, _++_, map, map-append, append-assoc, append-nil}
+use mathlib.Core.Option.{Option, none, some}
+use mathlib.Core.Path.{_≡_, refl, sym, ap, ap₂, subst, subst₂, _∙_}
+use lib.ListN.{length, getD}
+use Rattle.text.specs.Lists.{bind}
+use Rattle.semantics.specs.Terms.{Term, Constraint, Rule, State, failed, live, mapTerms, mapSides, alphabet}
+use Rattle.semantics.specs.Terms as T
+use Rattle.semantics.specs.Matching.{Assignment, unassigned, matchAt}
+use Rattle.semantics.specs.Solving.{solve}
+use Rattle.semantics.specs.Firing.{without, instance, settle, fired, fireAt}
+use Rattle.semantics.specs.Derivations.{become, taken}
+use Rattle.semantics.specs.Variants.{Pointwise, empty, each, Inserted, here, SameMultiset, TermVariant, sameCon, partners}
+use Rattle.semantics.specs.Variants.{ConstraintVariant, Variant}
+use Rattle.semantics.proofs.Configurations.{TermBelow, All, also, Scoped}
+use Rattle.semantics.proofs.Configurations as C
+use Rattle.semantics.proofs.Options.{none-some, bind-some}
+use Rattle.semantics.proofs.Multisets.{pointwise-refl, multiset-mono, multiset-append, multiset-refl, multiset-back, multiset-swap}
+use Rattle.semantics.proofs.Multisets.{multiset-of-path, multiset-partner, multiset-put, multiset-map, inserted-map, inserted-right, all-of-members, all-member}
+use Rattle.semantics.proofs.SolveLaws.{solve-solution}
+use Rattle.semantics.proofs.MatchLaws.{matchAt-sound}
+use Rattle.semantics.proofs.MatchedTerms.{ConstraintBelow}
+use Rattle.semantics.proofs.Longer.{positions-within, matchAt-more, fired-more}
+
+-- every variable of a state is below its number
+abbrev pub ScopedState : State → Type 0
+ScopedState failed = Unit {0}
+ScopedState (live n b cs) = Scoped n b cs
+
+-- two states that are equal but for the order of their constraints
+pub data Reordered : State → State → Type 0 where
+  bothFailed : Reordered failed failed
+  bothLive : {n : ℕ} {b : List Term} {cs ds : List Constraint} → SameMultiset _≡_ cs ds → Reordered (live n b cs) (live n b ds)
+
+term-self : (t : Term) → TermVariant _≡_ t t
+term-self (T.con c) = sameCon
+term-self (T.var x) = partners refl
+
+constraint-self : (c d : Constraint) → c ≡ d → ConstraintVariant _≡_ c d
+constraint-self c d e = subst (ConstraintVariant _≡_ c) e (record { symbols = refl; terms = pointwise-refl term-self (c .terms) })
+
+-- they are variants of each other
+pub reordered-variant : {s t : State} → Reordered s t → Variant s t
+reordered-variant bothFailed = tt
+reordered-variant (bothLive {b} h) =
+    (_≡_, ((λ x y z p q. sym p ∙ q), λ x y z p q. p ∙ sym q), pointwise-refl term-self b, multiset-mono constraint-self h)
+
+-- and both are scoped if one is
+pub reordered-scoped : {s t : State} → Reordered s t → ScopedState s → ScopedState t
+reordered-scoped bothFailed k = tt
+reordered-scoped (bothLive {n} {ds} h) k = record {
+  bound = k .bound;
+  constraints = all-of-members ds (λ c i.
+      let (d, e, j) = multiset-partner i (multiset-back h) in
+      subst (λ x. All (TermBelow n) (x .terms)) (sym e) (all-member (k .constraints) j));
+}
+
+-- a state with waiting constraints put in, each with its variables replaced by what they have become
+abbrev pub filled : State → List Constraint → State
+filled failed waits = failed
+filled (live n b cs) waits = live n b (cs ++ map (mapTerms (become b)) waits)
+
+-- with nothing that waits it is the state
+pub filled-nil : (s : State) → filled s [] ≡ s
+filled-nil failed = refl
+filled-nil (live n b cs) = ap (live n b) (append-nil cs)
+
+-- a state has so many goal variables
+abbrev pub Wide : ℕ → State → Type 0
+Wide k failed = Unit {0}
+Wide k (live n b cs) = length b ≡ k
+
+-- an entry of a list
+entry-map : (σ : Term → Term) (b : List Term) (x : ℕ) (d e : Term) → x < length b → getD (map σ b) x d ≡ σ (getD b x e)
+entry-map σ [] x d e h = absurd (omega arith)
+entry-map σ (t ∷ b) zero d e h = refl
+entry-map σ (t ∷ b) (suc x) d e h = entry-map σ b x d e (omega arith)
+
+-- what a term has become, after a solution
+become-map :
+    (σ : Term → Term) (b : List Term) → ((c : ℕ) → σ (T.con c) ≡ T.con c)
+    → (t : Term) → TermBelow (length b) t → σ (become b t) ≡ become (map σ b) t
+unfolding become
+become-map σ b fixes (T.con c) h = fixes c
+become-map σ b fixes (T.var x) h = sym (entry-map σ b x (T.var x) (T.var x) h)
+
+-- the same for the terms of constraints
+become-terms :
+    (σ : Term → Term) (b : List Term) → ((c : ℕ) → σ (T.con c) ≡ T.con c)
+    → {ts : List Term} → All (TermBelow (length b)) ts → map σ (map (become b) ts) ≡ map (become (map σ b)) ts
+become-terms σ b fixes C.none = refl
+become-terms σ b fixes (also {a = t} h more) = ap₂ _∷_ (become-map σ b fixes t h) (become-terms σ b fixes more)
+
+become-all :
+    (σ : Term → Term) (b : List Term) → ((c : ℕ) → σ (T.con c) ≡ T.con c)
+    → {W : List Constraint} → All (ConstraintBelow (length b)) W
+    → map (mapTerms σ) (map (mapTerms (become b)) W) ≡ map (mapTerms (become (map σ b))) W
+unfolding mapTerms
+become-all σ b fixes C.none = refl
+become-all σ b fixes (also {a = c} h more) =
+    ap₂ _∷_ (λ i. record { symbol = c .symbol; terms = become-terms σ b fixes h i }) (become-all σ b fixes more)
+
+-- the middle of three parts goes to the end
+to-end : {A : Type 0} (a b c : List A) → SameMultiset _≡_ ((a ++ b) ++ c) ((a ++ c) ++ b)
+to-end a b c =
+    rw (append-assoc a b c, append-assoc a c b) (multiset-append (multiset-refl (λ x. refl) a) (multiset-swap b c))
+
+-- what settling leaves, filled
+settle-filled :
+    (o : Option (Term → Term)) (n : ℕ) (b : List Term) (left : List Constraint) (waits body : List Constraint)
+    → ((σ : Term → Term) → o ≡ some σ → (c : ℕ) → σ (T.con c) ≡ T.con c) → All (ConstraintBelow (length b)) waits
+    → Reordered (settle o n b ((left ++ map (mapTerms (become b)) waits) ++ body)) (filled (settle o n b (left ++ body)) waits)
+unfolding settle
+settle-filled none n b left waits body fixes h = bothFailed
+settle-filled (some σ) n b left waits body fixes h =
+    let more = map (mapTerms (become b)) waits in
+    let same : map (mapTerms σ) ((left ++ body) ++ more) ≡ map (mapTerms σ) (left ++ body) ++ map (mapTerms (become (map σ b))) waits =
+            map-append (mapTerms σ) (left ++ body) more ∙ ap (map (mapTerms σ) (left ++ body) ++_) (become-all σ b (fixes σ refl) h) in
+    bothLive (subst (SameMultiset _≡_ (map (mapTerms σ) ((left ++ more) ++ body))) same
+    (multiset-map (mapTerms σ) (mapTerms σ) (multiset-mono (λ c d e. ap (mapTerms σ) e) (to-end left more body))))
+
+-- a firing of a state is a firing of the filled state, and what it leads to is filled alike, but for the order
+pub filled-fires :
+    (k : ℕ) (r : Rule) (ps : List ℕ) (s t : State) (waits : List Constraint) → Wide k s → All (ConstraintBelow k) waits
+    → fireAt r ps s ≡ some t → (u : State) × (fireAt r ps (filled s waits) ≡ some u) × Reordered u (filled t waits)
+unfolding fireAt fired
+filled-fires k r ps failed t waits w h e = none-some refl e
+filled-fires k r ps (live n b cs) t waits w h e =
+    let (θ, m, f) = bind-some (matchAt (r .heads) ps cs [] unassigned) (λ θ. some (fired r ps θ n b cs)) e in
+    let d : fired r ps θ n b cs ≡ t = cc in
+    let within = positions-within cs (matchAt-sound (r .heads) ps cs [] unassigned m .stand) in
+    let more = map (mapTerms (become b)) waits in
+    let solved = solve (map (mapSides (instance n θ)) (r .equations)) (λ t. t) in
+    (fired r ps θ n b (cs ++ more), ap (λ o. bind o (λ θ. some (fired r ps θ n b (cs ++ more)))) (matchAt-more (r .heads) ps cs more [] unassigned m),
+    subst₂ Reordered (sym (fired-more r ps θ n b cs more within)) (ap (λ x. filled x waits) d)
+    (settle-filled solved (n + alphabet) b (without 0 ps cs) waits (map (mapTerms (instance n θ)) (r .body))
+    (λ σ q. solve-solution (map (mapSides (instance n θ)) (r .equations)) q .fixes) (subst (λ k. All (ConstraintBelow k) waits) (sym w) h)))
+
+-- a state remains as wide
+settle-wide :
+    (k : ℕ) (o : Option (Term → Term)) (n : ℕ) (b : List Term) (cs : List Constraint) → length b ≡ k → Wide k (settle o n b cs)
+unfolding settle
+settle-wide k none n b cs e = tt
+settle-wide k (some σ) n b cs e = length-map b ∙ e
+  where
+    length-map : (l : List Term) → length (map σ l) ≡ length l
+    length-map [] = refl
+    length-map (t ∷ l) = ap suc (length-map l)
+
+pub fires-wide : (k : ℕ) (r : Rule) (ps : List ℕ) (s t : State) → Wide k s → fireAt r ps s ≡ some t → Wide k t
+unfolding fireAt fired
+fires-wide k r ps failed t w e = none-some refl e
+fires-wide k r ps (live n b cs) t w e =
+    let (θ, m, f) = bind-some (matchAt (r .heads) ps cs [] unassigned) (λ θ. some (fired r ps θ n b cs)) e in
+    let d : fired r ps θ n b cs ≡ t = cc in
+    subst (Wide k) d (settle-wide k (solve (map (mapSides (instance n θ)) (r .equations)) (λ t. t)) (n + alphabet) b
+    (without 0 ps cs ++ map (mapTerms (instance n θ)) (r .body)) w)
+
+pub taken-wide : (k : ℕ) (c : Constraint) (s : State) → Wide k s → Wide k (taken c s)
+unfolding taken
+taken-wide k c failed w = tt
+taken-wide k c (live n b cs) w = w
+
+-- a constraint that enters was put in already
+pub filled-enters :
+    (c : Constraint) (s : State) {W U : List Constraint} → Inserted c W U → Reordered (filled s U) (filled (taken c s) W)
+unfolding taken
+filled-enters c failed i = bothFailed
+filled-enters c (live n b cs) {W} {U} i =
+    let more = map (mapTerms (become b)) W in
+    bothLive (subst (SameMultiset _≡_ (cs ++ map (mapTerms (become b)) U)) (sym (append-assoc cs (mapTerms (become b) c ∷ []) more))
+    (multiset-put refl (inserted-right cs (inserted-map (mapTerms (become b)) i)) (inserted-right cs here)
+    (multiset-refl (λ x. refl) (cs ++ more))))
