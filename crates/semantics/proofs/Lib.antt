@@ -32,3 +32,6 @@ pub mod Newman
 pub mod Longer
 pub mod WellFormed
 pub mod Filling
+pub mod Letters
+pub mod VariantLaws
+pub mod Represent
