@@ -19,7 +19,7 @@ use Rattle.semantics.specs.Firing.{without, instance, settle, fired, fir
 use Rattle.semantics.specs.Derivations.{become, taken}
 use Rattle.semantics.specs.Variants.{Pointwise, empty, each, Inserted, here, SameMultiset, TermVariant, sameCon, partners}
 use Rattle.semantics.specs.Variants.{ConstraintVariant, Variant}
-use Rattle.semantics.proofs.Configurations.{TermBelow, All, also, Scoped}
+use Rattle.semantics.proofs.Configurations.{TermBelow, All, also}
 use Rattle.semantics.proofs.Configurations as C
 use Rattle.semantics.proofs.Options.{none-some, bind-some}
 use Rattle.semantics.proofs.Multisets.{pointwise-refl, multiset-mono, multiset-append, multiset-refl, multiset-back, multiset-swap}
@@ -27,12 +27,8 @@ use Rattle.semantics.proofs.Multisets.{multiset-of-path, multiset-partn
 use Rattle.semantics.proofs.SolveLaws.{solve-solution}
 use Rattle.semantics.proofs.MatchLaws.{matchAt-sound}
 use Rattle.semantics.proofs.MatchedTerms.{ConstraintBelow}
+use Rattle.semantics.proofs.Represent.{ScopedState}
 use Rattle.semantics.proofs.Longer.{positions-within, matchAt-more, fired-more}
-
--- every variable of a state is below its number
-abbrev pub ScopedState : State → Type 0
-ScopedState failed = Unit {0}
-ScopedState (live n b cs) = Scoped n b cs
 
 -- two states that are equal but for the order of their constraints
 pub data Reordered : State → State → Type 0 where

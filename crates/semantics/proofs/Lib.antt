@@ -18,6 +18,9 @@ pub mod PositionLaws
 pub mod MatchLaws
 pub mod MatchedTerms
 pub mod FireLaws
+pub mod Letters
+pub mod VariantLaws
+pub mod Represent
 pub mod Bools
 pub mod Search
 pub mod Choosing
@@ -32,6 +35,3 @@ pub mod Newman
 pub mod Longer
 pub mod WellFormed
 pub mod Filling
-pub mod Letters
-pub mod VariantLaws
-pub mod Represent

@@ -1,9 +1,8 @@
 -- What well-formed programs and goals over them say of their terms.
---   every-all                   a test that all elements pass
 --   stands-member, member-stands     an element of a list, and its place
---   rule-lettered               a rule of a well-formed program has letters for variables
---   goal-below                  a goal's terms are below its number of variables
---   entered-scoped              all of a goal, entered, is a scoped state
+--   heads-below                      the heads of a well-formed program's rules are over letters
+--   goal-below                       a goal's terms are below its number of variables
+--   entered-scoped                   all of a goal, entered, is a scoped state
 -- Assumes nothing.
 use Prim.Native.Nat.{ℕ, zero, suc, _≤_}
 use native.Mathlib.Omega.{arith}
@@ -14,25 +13,18 @@ use mathlib.Core.Path.{_≡_, refl, subst}
 use lib.Dec.{ltb}
 use lib.ListN.{getElem?}
 use Rattle.text.specs.Lists.{every, tabled}
-use Rattle.semantics.specs.Terms.{Term, Constraint, Equation, Symbol, Rule, Program, Goal, State, live, weight, alphabet}
+use Rattle.semantics.specs.Terms.{Constraint, Equation, Symbol, Rule, Program, Goal, weight, alphabet}
 use Rattle.semantics.specs.Terms.{isDeclared, isBelow, isGoalOf, isOfRule, isRuleOf, isWellFormed}
 use Rattle.semantics.specs.Terms as T
 use Rattle.semantics.specs.Strategy.{entered}
-use Rattle.semantics.proofs.Configurations.{Member, first, later, TermBelow, All, also, Scoped}
+use Rattle.semantics.proofs.Configurations.{Member, first, later, TermBelow, All, also}
 use Rattle.semantics.proofs.Configurations as C
 use Rattle.semantics.proofs.Options.{none-some, isBelow-below}
 use Rattle.semantics.proofs.Bools.{and-true}
-use Rattle.semantics.proofs.Multisets.{all-mono, all-append}
-use Rattle.semantics.proofs.Weights.{every-at}
+use Rattle.semantics.proofs.Multisets.{all-mono, all-append, all-member}
 use Rattle.semantics.proofs.MatchedTerms.{ConstraintBelow, below-mono}
-use Rattle.semantics.proofs.FireLaws.{Lettered}
-
--- what a test that all elements pass says of each
-pub every-all : {A : Type 0} {P : A → Type 0} (test : A → Bool) → ((a : A) → test a ≡ true → P a) → (l : List A) → every test l ≡ true → All P l
-every-all test h [] e = C.none
-every-all test h (a ∷ l) e =
-    let (x, y) = and-true (test a) (every test l) e in
-    also (h a x) (every-all test h l y)
+use Rattle.semantics.proofs.Letters.{every-all}
+use Rattle.semantics.proofs.Represent.{ScopedState}
 
 -- what stands at a place of a list is an element, and an element stands at a place
 pub stands-member : {A : Type 0} (l : List A) (n : ℕ) {a : A} → getElem? l n ≡ some a → Member a l
@@ -44,49 +36,35 @@ pub member-stands : {A : Type 0} {l : List A} {a : A} → Member a l → (n : �
 member-stands first = (0, refl)
 member-stands (later i) = let (n, e) = member-stands i in (suc n, e)
 
--- all terms below a number
-terms-below : (n : ℕ) (l : List Term) → every (isBelow n) l ≡ true → All (TermBelow n) l
-terms-below n l e = every-all (isBelow n) (isBelow-below n) l e
+-- a constraint all of whose terms pass the test whether they are below a number, behind another test
+test-below : (n : ℕ) (test : Bool) (c : Constraint) → (test && every (isBelow n) (c .terms)) ≡ true → ConstraintBelow n c
+test-below n test c e =
+    all-mono (isBelow-below n) (every-all (isBelow n) (c .terms) (and-true test (every (isBelow n) (c .terms)) e .1))
 
--- the constraints of a rule are over letters
-ofRule-below : (symbols : List Symbol) (c : Constraint) → isOfRule symbols c ≡ true → ConstraintBelow alphabet c
-unfolding isOfRule
-ofRule-below symbols c e =
-    terms-below alphabet (c .terms) (and-true (isDeclared symbols c) (every (isBelow alphabet) (c .terms)) e .1)
-
-sides-below : (e : Equation) → (isBelow alphabet (e .left) && isBelow alphabet (e .right)) ≡ true → TermBelow alphabet (e .left) × TermBelow alphabet (e .right)
-sides-below e h =
-    let (x, y) = and-true (isBelow alphabet (e .left)) (isBelow alphabet (e .right)) h in
-    (isBelow-below alphabet (e .left) x, isBelow-below alphabet (e .right) y)
-
--- a rule over symbols has letters for variables
-pub ruleOf-lettered : (symbols : List Symbol) (r : Rule) → isRuleOf symbols r ≡ true → Lettered r
-unfolding isRuleOf
-ruleOf-lettered symbols r e =
+-- the heads of a rule over symbols are over letters
+ruleOf-heads : (symbols : List Symbol) (r : Rule) → isRuleOf symbols r ≡ true → All (ConstraintBelow alphabet) (r .heads)
+unfolding isRuleOf isOfRule
+ruleOf-heads symbols r e =
     let sides : Equation → Bool = λ e. isBelow alphabet (e .left) && isBelow alphabet (e .right) in
     let heads = every (isOfRule symbols) (r .heads) in
     let body = every (isOfRule symbols) (r .body) in
-    let over = and-true (heads && body && every sides (r .equations)) (ltb (weight symbols (r .body)) (weight symbols (r .heads))) e .0 in
-    let (ab, c) = and-true (heads && body) (every sides (r .equations)) over in
-    let (a, b) = and-true heads body ab in
-    record {
-      heads = every-all (isOfRule symbols) (ofRule-below symbols) (r .heads) a;
-      body = every-all (isOfRule symbols) (ofRule-below symbols) (r .body) b;
-      equations = every-all sides sides-below (r .equations) c;
-    }
+    let lower = ltb (weight symbols (r .body)) (weight symbols (r .heads)) in
+    let over = and-true (heads && body && every sides (r .equations)) lower e .0 in
+    let both = and-true (heads && body) (every sides (r .equations)) over .0 in
+    all-mono (λ c. test-below alphabet (isDeclared symbols c) c)
+    (every-all (isOfRule symbols) (r .heads) (and-true heads body both .0))
 
--- a rule of a well-formed program has letters for variables
-pub rule-lettered : (p : Program) (n : ℕ) (r : Rule) → isWellFormed p ≡ true → getElem? (p .rules) n ≡ some r → Lettered r
+-- so are those of a well-formed program's rules
+pub heads-below : (p : Program) (r : Rule) → isWellFormed p ≡ true → Member r (p .rules) → All (ConstraintBelow alphabet) (r .heads)
 unfolding isWellFormed
-rule-lettered p n r w e = ruleOf-lettered (p .symbols) r (every-at (isRuleOf (p .symbols)) (p .rules) n r w e)
+heads-below p r w i = ruleOf-heads (p .symbols) r (all-member (every-all (isRuleOf (p .symbols)) (p .rules) w) i)
 
 -- a goal's terms are below its number of variables
 pub goal-below : (p : Program) (g : Goal) → isGoalOf p g ≡ true → All (ConstraintBelow (g .variables)) (g .constraints)
 unfolding isGoalOf
 goal-below p g e =
-    every-all (λ c. isDeclared (p .symbols) c && every (isBelow (g .variables)) (c .terms))
-    (λ c h. terms-below (g .variables) (c .terms) (and-true (isDeclared (p .symbols) c) (every (isBelow (g .variables)) (c .terms)) h .1))
-    (g .constraints) e
+    all-mono (λ c. test-below (g .variables) (isDeclared (p .symbols) c) c)
+    (every-all (λ c. isDeclared (p .symbols) c && every (isBelow (g .variables)) (c .terms)) (g .constraints) e)
 
 -- the variables below a number are below it
 pub tabled-below : (n : ℕ) → All (TermBelow n) (tabled T.var n)
@@ -94,6 +72,7 @@ tabled-below zero = C.none
 tabled-below (suc n) =
     all-append (all-mono (λ t h. below-mono (omega arith) t h) (tabled-below n)) (also (omega arith) C.none)
 
--- all of a goal, entered
-pub entered-below : (g : Goal) → All (ConstraintBelow (g .variables)) (g .constraints) → Scoped (g .variables) (tabled T.var (g .variables)) (g .constraints)
-entered-below g h = record { bound = tabled-below (g .variables); constraints = h }
+-- all of a goal, entered, is scoped
+pub entered-scoped : (g : Goal) → All (ConstraintBelow (g .variables)) (g .constraints) → ScopedState (entered g)
+unfolding entered
+entered-scoped g h = record { bound = tabled-below (g .variables); constraints = h }
