@@ -5,12 +5,15 @@
 --   filled-enters          a constraint that enters was put in already
 -- Assumes nothing.
 use Prim.Native.Nat.{ℕ, zero, suc, _+_, _<_}
+use native.Mathlib.Nat.{add-zero, suc-add, add-suc}
+use native.Mathlib.Decide.{decLt}
 use native.Mathlib.Omega.{arith}
+use mathlib.Core.Bool.{Bool, true, false, cond}
 use mathlib.Core.List.{List, [], _∷_, _++_, map, map-append, append-assoc, append-nil}
 use mathlib.Core.Option.{Option, none, some}
 use mathlib.Core.Path.{_≡_, refl, sym, ap, ap₂, subst, subst₂, _∙_}
-use lib.ListN.{length, getD}
-use Rattle.text.specs.Lists.{bind}
+use lib.ListN.{length, getD, length-append}
+use Rattle.text.specs.Lists.{bind, every, has, tabled, upTo}
 use Rattle.semantics.specs.Terms.{Term, Constraint, Rule, State, failed, live, mapTerms, mapSides, alphabet}
 use Rattle.semantics.specs.Terms as T
 use Rattle.semantics.specs.Matching.{Assignment, unassigned, matchAt}
@@ -19,11 +22,13 @@ use Rattle.semantics.specs.Firing.{without, instance, settle, fired, fir
 use Rattle.semantics.specs.Derivations.{become, taken}
 use Rattle.semantics.specs.Variants.{Pointwise, empty, each, Inserted, here, SameMultiset, TermVariant, sameCon, partners}
 use Rattle.semantics.specs.Variants.{ConstraintVariant, Variant}
-use Rattle.semantics.proofs.Configurations.{TermBelow, All, also}
+use Rattle.semantics.proofs.Configurations.{Member, first, TermBelow, All, also}
 use Rattle.semantics.proofs.Configurations as C
 use Rattle.semantics.proofs.Options.{none-some, bind-some}
 use Rattle.semantics.proofs.Multisets.{pointwise-refl, multiset-mono, multiset-append, multiset-refl, multiset-back, multiset-swap}
 use Rattle.semantics.proofs.Multisets.{multiset-of-path, multiset-partner, multiset-put, multiset-map, inserted-map, inserted-right, all-of-members, all-member}
+use Rattle.semantics.proofs.Multisets.{member-append-left, member-append-right}
+use Rattle.semantics.proofs.Letters.{every-all}
 use Rattle.semantics.proofs.SolveLaws.{solve-solution}
 use Rattle.semantics.proofs.MatchLaws.{matchAt-sound}
 use Rattle.semantics.proofs.MatchedTerms.{ConstraintBelow}
@@ -174,3 +179,61 @@ filled-enters c (live n b cs) {W} {U} i =
     bothLive (subst (SameMultiset _≡_ (cs ++ map (mapTerms (become b)) U)) (sym (append-assoc cs (mapTerms (become b) c ∷ []) more))
     (multiset-put refl (inserted-right cs (inserted-map (mapTerms (become b)) i)) (inserted-right cs here)
     (multiset-refl (λ x. refl) (cs ++ more))))
+
+-- an entry of a list that is its own default, with one more behind the list
+own-default :
+    (l : List Term) (a d : Term) (i : ℕ) → getD l i d ≡ d → (i ≡ length l → a ≡ d) → getD (l ++ (a ∷ [])) i d ≡ d
+own-default [] a d zero e f = f refl
+own-default [] a d (suc i) e f = refl
+own-default (b ∷ l) a d zero e f = e
+own-default (b ∷ l) a d (suc i) e f = own-default l a d i e (λ q. f (ap suc q))
+
+-- a table is as long as it says
+pub tabled-length : (n : ℕ) → length (tabled T.var n) ≡ n
+tabled-length zero = refl
+tabled-length (suc n) = rw (length-append, tabled-length n) (omega arith)
+
+-- before any firing each variable has become itself
+tabled-own : (n x : ℕ) → getD (tabled T.var n) x (T.var x) ≡ T.var x
+tabled-own zero x = refl
+tabled-own (suc n) x =
+    own-default (tabled T.var n) (T.var n) (T.var x) x (tabled-own n x) (λ e. ap T.var (sym (tabled-length n) ∙ sym e))
+
+become-own : (n : ℕ) (t : Term) → become (tabled T.var n) t ≡ t
+unfolding become
+become-own n (T.con c) = refl
+become-own n (T.var x) = tabled-own n x
+
+-- a map that changes no element
+map-own : {A : Type 0} (f : A → A) → ((a : A) → f a ≡ a) → (l : List A) → map f l ≡ l
+map-own f h [] = refl
+map-own f h (a ∷ l) = ap₂ _∷_ (h a) (map-own f h l)
+
+-- so what is put in is as it stands in the goal
+pub filled-start : (n : ℕ) (cs : List Constraint) → filled (live n (tabled T.var n) []) cs ≡ live n (tabled T.var n) cs
+unfolding mapTerms
+filled-start n cs =
+    ap (live n (tabled T.var n)) (map-own (mapTerms (become (tabled T.var n))) own cs)
+  where
+    own : (c : Constraint) → mapTerms (become (tabled T.var n)) c ≡ c
+    own c = λ i. record { symbol = c .symbol; terms = map-own (become (tabled T.var n)) (become-own n) (c .terms) i }
+
+-- where all positions are removed nothing is left
+pub without-all-removed : (k : ℕ) (ps : List ℕ) (cs : List Constraint) → ((i : ℕ) → i < length cs → has (k + i) ps ≡ true) → without k ps cs ≡ []
+unfolding without
+without-all-removed k ps [] h = refl
+without-all-removed k ps (c ∷ cs) h =
+    let here′ : has k ps ≡ true = rw add-zero at (h 0 (omega arith)) in
+    rw here′ (without-all-removed (suc k) ps cs (λ i l. rw (suc-add, ← add-suc) (h (suc i) (omega arith))))
+
+-- a test that all numbers below n pass
+pub every-upTo : (test : ℕ → Bool) (n : ℕ) → every test (upTo n) ≡ true → (i : ℕ) → i < n → test i ≡ true
+every-upTo test n e i l = all-member (every-all test (upTo n) e) (upTo-member n i l)
+  where
+    upTo-member : (n i : ℕ) → i < n → Member i (upTo n)
+    upTo-member zero i l = absurd (omega arith)
+    upTo-member (suc n) i l = go (decLt i n) (upTo-member n i)
+      where
+        go : Dec (i < n) → (i < n → Member i (upTo n)) → Member i (upTo n ++ (n ∷ []))
+        go (yes h) more = member-append-left (n ∷ []) (more h)
+        go (no h) more = let e : n ≡ i = omega arith in member-append-right (upTo n) (subst (λ x. Member x (n ∷ [])) e first)

@@ -34,4 +34,6 @@ pub mod Normal
 pub mod Newman
 pub mod Longer
 pub mod WellFormed
+pub mod Firings
 pub mod Filling
+pub mod LateEntry

@@ -1,7 +1,8 @@
 -- Newman's lemma, up to an equivalence: steps that end, and whose forks can be joined up to an equivalence that steps respect, have
 -- one end up to it.
 --   Star, Normal              steps one after another; a state that takes none
---   Reducing                  what the lemma asks of states, steps, weight and equivalence
+--   Reducing                  what the lemma asks of steps, their weight and the equivalence
+--   Joins                     every fork is joined up to the equivalence
 --   star-follow               equivalent states take equivalent steps, one after another
 --   normal-exists             every state has an end
 --   newman                    two ends of one state are equivalent
@@ -32,8 +33,7 @@ pub record Joined {S : Type 0} (R : S → S → Type 0) (E : S → S → Type 1)
   pub rightSteps : Star R u right
   pub equal : E left right
 
--- what the lemma asks: steps R between the good states lower a weight, and whether one leads on is known; an equivalence E that
--- steps respect; and forks that are joined up to it
+-- steps R between good states lower a weight, and whether one leads on is known; and an equivalence E that steps respect
 pub record Reducing {S : Type 0} (Good : S → Type 0) (R : S → S → Type 0) (weight : S → ℕ) (E : S → S → Type 1) : Type 1 where
   pub keeps : (s t : S) → Good s → R s t → Good t
   pub falls : (s t : S) → R s t → weight t < weight s
@@ -42,7 +42,10 @@ pub record Reducing {S : Type 0} (Good : S → Type 0) (R : S → S → Type 0) 
   pub symmetric : (s t : S) → E s t → E t s
   pub transitive : (s t u : S) → E s t → E t u → E s u
   pub follows : (s t u : S) → Good s → Good t → E s t → R s u → (v : S) × R t v × E u v
-  pub joins : (s t u : S) → Good s → R s t → R s u → Joined R E t u
+
+-- every fork of a good state is joined
+abbrev pub Joins : {S : Type 0} → (S → Type 0) → (S → S → Type 0) → (S → S → Type 1) → Type 1
+Joins {S} Good R E = (s t u : S) → Good s → R s t → R s u → Joined R E t u
 
 module _ {S : Type 0} {Good : S → Type 0} {R : S → S → Type 0} {weight : S → ℕ} {E : S → S → Type 1} (H : Reducing Good R weight E) where
   -- steps from a good state lead to good states
@@ -85,12 +88,12 @@ module _ {S : Type 0} {Good : S → Type 0} {R : S → S → Type 0} {weight : S
   OneEnd s = (t u : S) → Good s → Star R s t → Star R s u → Normal R t → Normal R u → E t u
 
   -- so it is for a state if it is for what is one step on
-  one-end : (s : S) → ((t : S) → R s t → OneEnd t) → OneEnd s
-  one-end s more t u g here here p q = H .reflexive s
-  one-end s more t u g here (next {t = w} r k) p q = absurd (p w r)
-  one-end s more t u g (next {t = v} r k) here p q = absurd (q v r)
-  one-end s more t u g (next {t = v} r k) (next {t = w} r′ k′) p q =
-      let j = H .joins s v w g r r′ in
+  one-end : Joins Good R E → (s : S) → ((t : S) → R s t → OneEnd t) → OneEnd s
+  one-end joins s more t u g here here p q = H .reflexive s
+  one-end joins s more t u g here (next {t = w} r k) p q = absurd (p w r)
+  one-end joins s more t u g (next {t = v} r k) here p q = absurd (q v r)
+  one-end joins s more t u g (next {t = v} r k) (next {t = w} r′ k′) p q =
+      let j = joins s v w g r r′ in
       let good = H .keeps s v g r in
       let good′ = H .keeps s w g r′ in
       let (x, m, f) = normal-exists (j .left) in
@@ -102,10 +105,10 @@ module _ {S : Type 0} {Good : S → Type 0} {R : S → S → Type 0} {weight : S
       (H .transitive x y u d (more w r′ y u good′ (star-trans (j .rightSteps) m′) k′ f′ q))
 
   -- by the weight
-  unique : (n : ℕ) (s : S) → weight s ≤ n → OneEnd s
-  unique zero s l = one-end s (λ t r. absurd (omega (arith, H .falls s t r)))
-  unique (suc n) s l = one-end s (λ t r. unique n t (omega (arith, H .falls s t r)))
+  unique : Joins Good R E → (n : ℕ) (s : S) → weight s ≤ n → OneEnd s
+  unique joins zero s l = one-end joins s (λ t r. absurd (omega (arith, H .falls s t r)))
+  unique joins (suc n) s l = one-end joins s (λ t r. unique joins n t (omega (arith, H .falls s t r)))
 
   -- two ends of one state are equivalent
-  pub newman : (s t u : S) → Good s → Star R s t → Star R s u → Normal R t → Normal R u → E t u
-  newman s = unique (weight s) s (omega arith)
+  pub newman : Joins Good R E → (s t u : S) → Good s → Star R s t → Star R s u → Normal R t → Normal R u → E t u
+  newman joins s = unique joins (weight s) s (omega arith)
