@@ -37,3 +37,4 @@ pub mod WellFormed
 pub mod Firings
 pub mod Filling
 pub mod LateEntry
+pub mod Reface
