@@ -38,3 +38,10 @@ pub mod Firings
 pub mod Filling
 pub mod LateEntry
 pub mod Reface
+pub mod Places
+pub mod Pairings
+pub mod OverlapPositions
+pub mod Partners
+pub mod Listings
+pub mod Enumeration
+pub mod Verdicts
