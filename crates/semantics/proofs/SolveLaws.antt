@@ -7,18 +7,17 @@
 --   solve-within, solve-keeps                a term stays, or becomes one that has what all sides of the equations have
 -- Assumes nothing.
 use Prim.Native.Nat.{ℕ}
-use mathlib.Core.Bool.{Bool, true, false, cond}
+use mathlib.Core.Bool.{true, false, cond}
 use mathlib.Core.List.{List, [], _∷_, map}
-use mathlib.Core.Option.{Option, none, some}
+use mathlib.Core.Option.{none, some}
 use mathlib.Core.Path.{_≡_, refl, sym, ap, subst, _∙_}
 use lib.Dec.{leb, eqb}
-use Rattle.text.specs.Lists.{bind}
 use Rattle.semantics.specs.Terms.{Term, con, var, Equation}
 use Rattle.semantics.specs.Solving.{replace, unify, solve}
 use Rattle.semantics.proofs.Configurations.{Or, inl, inr, Member, first, later, Tm, Eqn, Eqv, given, same, flip, chain}
 use Rattle.semantics.proofs.Configurations.{lift, liftEqn}
 use Rattle.semantics.proofs.Configurations as C
-use Rattle.semantics.proofs.Options.{decide, true-false, none-some, bind-some, bind-none, cond-some, eqb-equal, equal-eqb}
+use Rattle.semantics.proofs.Options.{decide, none-some, bind-some, bind-none, cond-some, eqb-equal, equal-eqb}
 use Rattle.semantics.proofs.Lifting.{down, down-lift}
 use Rattle.semantics.proofs.Multisets.{member-map, member-unmap}
 
