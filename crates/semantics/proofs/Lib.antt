@@ -45,3 +45,4 @@ pub mod Partners
 pub mod Listings
 pub mod Enumeration
 pub mod Verdicts
+pub mod Critical
