@@ -1,5 +1,6 @@
 -- A fork of overlapping steps is its overlap in a context, so it is joined where the overlap is.
 --   plug-fire            firing in a context is the firing, in the context
+--   fire-rest            firing leaves the rest in any order
 --   Meets                steps from two configurations to equal ones
 --   meets-peak           a fork with all its terms for a face meets where it does with less of a face
 --   meets-around         a fork meets where a fork that it is an instance of does
@@ -9,11 +10,11 @@ use mathlib.Core.List.{List, [], _∷_, _++_, map, map-append}
 use mathlib.Core.Path.{_≡_, refl, sym, ap, subst, subst₂, _∙_}
 use Rattle.semantics.specs.Terms.{Rule}
 use Rattle.semantics.specs.Variants.{Pointwise, SameMultiset}
-use Rattle.semantics.proofs.Configurations.{Or, inl, Member, Tm, Atom, sub, subAtom, old, new, flat, Eqv}
+use Rattle.semantics.proofs.Configurations.{Or, inl, Member, Tm, Atom, sub, subAtom, old, new, flat, Eqv, same}
 use Rattle.semantics.proofs.Configurations.{Config, AtomRel, Iso, Same, iso, headsOf, bodyOf, eqsOf, fireC, Steps, Context, plug}
 use Rattle.semantics.proofs.Multisets.{pointwise-sym, pointwise-mono, pointwise-map-right, pointwise-append, pointwise-parts}
-use Rattle.semantics.proofs.Multisets.{multiset-append, multiset-of-pointwise, multiset-left}
-use Rattle.semantics.proofs.Atoms.{map-sub-sub, flat-sub}
+use Rattle.semantics.proofs.Multisets.{pointwise-refl, multiset-mono, multiset-append, multiset-of-pointwise, multiset-left}
+use Rattle.semantics.proofs.Atoms.{atom-refl, map-sub-sub, flat-sub}
 use Rattle.semantics.proofs.Links.{exchange, exchange-iso}
 use Rattle.semantics.proofs.Isos.{iso-refl, iso-sym, iso-trans, same-trans}
 use Rattle.semantics.proofs.Stepping.{fire-iso, steps-iso}
@@ -29,6 +30,15 @@ plug-fire K C r M L =
     rw flat-sub (exchange-iso (C .eqs) L (K .links) (C .face) (K .eqs) (K .store) (flat (headsOf r)) (flat M) (eqsOf r) (bodyOf r)
     (map (sub old) (map (sub new) (K .face))) (map (sub new) (K .face))
     (map-sub-sub exchange old (map (sub new) (K .face)) ∙ map-sub-sub (λ x. exchange (inl x)) new (K .face)))
+
+-- firing leaves the rest in any order
+pub fire-rest :
+    (r : Rule) (C : Config) (M : List (Atom (C .Var))) {L K : List (Atom (C .Var))} → SameMultiset _≡_ L K
+    → Iso (fireC r C M L) (fireC r C M K)
+unfolding iso-refl
+fire-rest r C M s =
+    fire-iso r (iso-refl C) (pointwise-refl (atom-refl (λ t. same)) M)
+    (multiset-mono (λ a b e. subst (AtomRel (Eqv (C .eqs)) a) e (atom-refl (λ t. same) a)) s)
 
 -- steps from two configurations to equal ones
 pub record Meets (rs : List Rule) (C D : Config) : Type 1 where

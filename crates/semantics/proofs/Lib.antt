@@ -46,3 +46,4 @@ pub mod Listings
 pub mod Enumeration
 pub mod Verdicts
 pub mod Critical
+pub mod FireOn
