@@ -47,3 +47,4 @@ pub mod Enumeration
 pub mod Verdicts
 pub mod Critical
 pub mod FireOn
+pub mod Sides
