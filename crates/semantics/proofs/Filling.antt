@@ -12,7 +12,7 @@ use mathlib.Core.Bool.{Bool, true, false, cond}
 use mathlib.Core.List.{List, [], _∷_, _++_, map, map-append, append-assoc, append-nil}
 use mathlib.Core.Option.{Option, none, some}
 use mathlib.Core.Path.{_≡_, refl, sym, ap, ap₂, subst, subst₂, _∙_}
-use lib.ListN.{length, getD, length-append}
+use lib.ListN.{length, getD, length-append, length-map}
 use Rattle.text.specs.Lists.{bind, every, has, tabled, upTo}
 use Rattle.semantics.specs.Terms.{Term, Constraint, Rule, State, failed, live, mapTerms, mapSides, alphabet}
 use Rattle.semantics.specs.Terms as T
@@ -149,11 +149,7 @@ settle-wide :
     (k : ℕ) (o : Option (Term → Term)) (n : ℕ) (b : List Term) (cs : List Constraint) → length b ≡ k → Wide k (settle o n b cs)
 unfolding settle
 settle-wide k none n b cs e = tt
-settle-wide k (some σ) n b cs e = length-map b ∙ e
-  where
-    length-map : (l : List Term) → length (map σ l) ≡ length l
-    length-map [] = refl
-    length-map (t ∷ l) = ap suc (length-map l)
+settle-wide k (some σ) n b cs e = length-map b σ ∙ e
 
 pub fires-wide : (k : ℕ) (r : Rule) (ps : List ℕ) (s t : State) → Wide k s → fireAt r ps s ≡ some t → Wide k t
 unfolding fireAt fired
@@ -194,7 +190,7 @@ tabled-length zero = refl
 tabled-length (suc n) = rw (length-append, tabled-length n) (omega arith)
 
 -- before any firing each variable has become itself
-tabled-own : (n x : ℕ) → getD (tabled T.var n) x (T.var x) ≡ T.var x
+pub tabled-own : (n x : ℕ) → getD (tabled T.var n) x (T.var x) ≡ T.var x
 tabled-own zero x = refl
 tabled-own (suc n) x =
     own-default (tabled T.var n) (T.var n) (T.var x) x (tabled-own n x) (λ e. ap T.var (sym (tabled-length n) ∙ sym e))

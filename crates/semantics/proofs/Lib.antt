@@ -48,3 +48,4 @@ pub mod Verdicts
 pub mod Critical
 pub mod FireOn
 pub mod Sides
+pub mod Peak
