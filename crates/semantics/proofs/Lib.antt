@@ -26,3 +26,4 @@ pub mod Listings
 pub mod Enumeration
 pub mod Verdicts
 pub mod Appearing
+pub mod JoinLaws
