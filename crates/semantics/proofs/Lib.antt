@@ -27,3 +27,4 @@ pub mod Enumeration
 pub mod Verdicts
 pub mod Appearing
 pub mod JoinLaws
+pub mod OverlapGoals
