@@ -49,3 +49,6 @@ pub mod Critical
 pub mod FireOn
 pub mod Sides
 pub mod Peak
+pub mod Appearing
+pub mod JoinLaws
+pub mod OverlapGoals
