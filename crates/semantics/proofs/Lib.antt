@@ -52,3 +52,4 @@ pub mod Peak
 pub mod Appearing
 pub mod JoinLaws
 pub mod OverlapGoals
+pub mod SideRuns
