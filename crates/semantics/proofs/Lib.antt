@@ -28,3 +28,4 @@ pub mod Verdicts
 pub mod Appearing
 pub mod JoinLaws
 pub mod OverlapGoals
+pub mod PeakOverlaps
