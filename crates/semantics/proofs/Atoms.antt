@@ -4,12 +4,12 @@
 --   atom-…                  atoms related term by term
 -- Assumes nothing.
 use mathlib.Core.List.{List, [], _∷_, _++_, map, map-append}
-use mathlib.Core.Path.{_≡_, refl, sym, ap, _∙_, subst}
+use mathlib.Core.Path.{_≡_, refl, sym, ap, _∙_}
 use Rattle.semantics.specs.Variants.{Pointwise, empty, each}
-use Rattle.semantics.proofs.Configurations.{Member, first, later}
-use Rattle.semantics.proofs.Configurations.{Tm, con, var, Atom, Eqn, sub, subAtom, subEqn, equal, flat, AtomRel}
+use Rattle.semantics.proofs.Configurations.{Member, first, later, Tm, con, var, Atom, Eqn, sub, subAtom, subEqn, equal}
+use Rattle.semantics.proofs.Configurations.{flat, AtomRel}
 use Rattle.semantics.proofs.Multisets.{pointwise-refl, pointwise-sym, pointwise-trans, pointwise-mono, pointwise-map}
-use Rattle.semantics.proofs.Multisets.{pointwise-append, pointwise-parts}
+use Rattle.semantics.proofs.Multisets.{pointwise-image, pointwise-map-right, pointwise-append, pointwise-parts}
 
 -- one substitution after another is one
 pub sub-sub : {X Y Z : Type 0} (f : Y → Tm Z) (g : X → Tm Y) (t : Tm X) → sub f (sub g t) ≡ sub (λ x. sub f (g x)) t
@@ -23,7 +23,8 @@ sub-var (var x) = refl
 
 -- the same on lists of terms, atoms and equations
 pub map-sub-sub :
-    {X Y Z : Type 0} (f : Y → Tm Z) (g : X → Tm Y) (l : List (Tm X)) → map (sub f) (map (sub g) l) ≡ map (sub (λ x. sub f (g x))) l
+    {X Y Z : Type 0} (f : Y → Tm Z) (g : X → Tm Y) (l : List (Tm X))
+    → map (sub f) (map (sub g) l) ≡ map (sub (λ x. sub f (g x))) l
 map-sub-sub f g [] = refl
 map-sub-sub f g (t ∷ l) = λ i. sub-sub f g t i ∷ map-sub-sub f g l i
 
@@ -31,7 +32,8 @@ pub map-sub-var : {X : Type 0} (l : List (Tm X)) → map (sub var) l ≡ l
 map-sub-var [] = refl
 map-sub-var (t ∷ l) = λ i. sub-var t i ∷ map-sub-var l i
 
-pub subAtom-sub : {X Y Z : Type 0} (f : Y → Tm Z) (g : X → Tm Y) (a : Atom X) → subAtom f (subAtom g a) ≡ subAtom (λ x. sub f (g x)) a
+pub subAtom-sub :
+    {X Y Z : Type 0} (f : Y → Tm Z) (g : X → Tm Y) (a : Atom X) → subAtom f (subAtom g a) ≡ subAtom (λ x. sub f (g x)) a
 subAtom-sub f g a = λ i. record { symbol = a .symbol; args = map-sub-sub f g (a .args) i }
 
 pub map-subAtom-sub :
@@ -105,6 +107,17 @@ pub atom-sub :
     {X Y Z W : Type 0} {R : Tm Z → Tm W → Type 0} (f : X → Tm Z) (g : Y → Tm W) {a : Atom X} {b : Atom Y}
     → AtomRel (λ s t. R (sub f s) (sub g t)) a b → AtomRel R (subAtom f a) (subAtom g b)
 atom-sub f g r = record { symbols = r .symbols; args = pointwise-map (sub f) (sub g) (r .args) }
+
+pub atom-sub-right :
+    {X Y W : Type 0} {R : Tm X → Tm W → Type 0} (g : Y → Tm W) {a : Atom X} {b : Atom Y}
+    → AtomRel (λ s t. R s (sub g t)) a b → AtomRel R a (subAtom g b)
+atom-sub-right g r = record { symbols = r .symbols; args = pointwise-map-right (sub g) (r .args) }
+
+-- an atom is related to what a substitution makes of it where every term is
+pub atom-image :
+    {X Y : Type 0} {R : Tm X → Tm Y → Type 0} (f : X → Tm Y)
+    → ((t : Tm X) → R t (sub f t)) → (a : Atom X) → AtomRel R a (subAtom f a)
+atom-image f h a = record { symbols = refl; args = pointwise-image (sub f) h (a .args) }
 
 -- the terms of related atoms are related
 pub flat-pointwise :

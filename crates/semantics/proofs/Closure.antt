@@ -5,10 +5,10 @@
 -- Assumes nothing.
 use mathlib.Core.List.{List, [], _∷_, _++_, map}
 use mathlib.Core.Path.{_≡_, refl, sym, _∙_, subst, subst₂}
-use Rattle.semantics.proofs.Configurations.{Or, inl, inr, Member, first, later}
-use Rattle.semantics.proofs.Configurations.{Tm, Eqn, sub, subEqn, Eqv, given, same, flip, chain}
+use Rattle.semantics.proofs.Configurations.{Or, inl, inr, Member, first, later, Tm, var, Eqn, sub, subEqn, Eqv, given}
+use Rattle.semantics.proofs.Configurations.{same, flip, chain}
 use Rattle.semantics.proofs.Multisets.{member-append, member-append-left, member-append-right, member-map, member-unmap}
-use Rattle.semantics.proofs.Atoms.{sub-sub}
+use Rattle.semantics.proofs.Atoms.{sub-sub, sub-var}
 
 -- equal terms are equivalent
 pub eqv-path : {X : Type 0} {E : List (Eqn X)} {s t : Tm X} → s ≡ t → Eqv E s t
@@ -85,6 +85,10 @@ one-more same = inl same
 one-more {e} (flip h) = byOne-flip {e = e} (one-more h)
 one-more {e} (chain h k) = byOne-chain {e = e} (one-more h) (one-more k)
 
+-- equations follow from themselves
+pub derives-var : {X : Type 0} (E : List (Eqn X)) → Derives E var E
+derives-var E e i = subst₂ (Eqv E) (sym (sub-var (e .left))) (sym (sub-var (e .right))) (given i)
+
 -- the equations of two lists follow
 pub derives-append :
     {X Y : Type 0} {D : List (Eqn Y)} {f : X → Tm Y} (E F : List (Eqn X)) → Derives D f E → Derives D f F → Derives D f (E ++ F)
@@ -108,3 +112,9 @@ pub derives-image :
     {X Y : Type 0} {D : List (Eqn Y)} (f : X → Tm Y) (E : List (Eqn X)) (F : List (Eqn Y))
     → map (subEqn f) E ≡ F → ((e : Eqn Y) → Member e F → Member e D) → Derives D f E
 derives-image f E F p d e i = given (d (subEqn f e) (subst (Member (subEqn f e)) p (member-map (subEqn f) i)))
+
+-- one substitution after another
+pub derives-comp :
+    {X Y Z : Type 0} {D : List (Eqn Y)} {G : List (Eqn Z)} (f : X → Tm Y) (g : Y → Tm Z) (E : List (Eqn X))
+    → Derives D f E → Derives G g D → Derives G (λ x. sub g (f x)) E
+derives-comp {G} f g E d k e i = subst₂ (Eqv G) (sub-sub g f (e .left)) (sub-sub g f (e .right)) (eqv-sub g k (d e i))

@@ -2,19 +2,18 @@
 --   core-refl, -sym, -trans     they compose
 --   core-add, -adds, -equal     equations added on both sides
 --   Ext, core-extend, ext-…     new variables on both sides
---   linked, core-linked         new variables, equations of theirs, and equations between them and old terms
 -- Assumes nothing.
 use Prim.Native.Nat.{ℕ}
-use mathlib.Core.List.{List, [], _∷_, _++_, map}
-use mathlib.Core.Path.{_≡_, refl, sym, ap, _∙_, subst, subst₂}
+use mathlib.Core.List.{List, _∷_, _++_, map}
+use mathlib.Core.Path.{_≡_, refl, sym, ap, _∙_, subst₂}
 use native.Mathlib.Omega.{arith}
 use Rattle.semantics.specs.Variants.{Pointwise, empty, each, SameMultiset}
-use Rattle.semantics.proofs.Configurations.{Or, inl, inr, Member, first, later, Tm, con, var, Eqn, sub, subEqn, old, new, equal}
+use Rattle.semantics.proofs.Configurations.{Or, inl, inr, first, later, Tm, con, var, Eqn, sub, subEqn, old, new, equal}
 use Rattle.semantics.proofs.Configurations.{Atom, subAtom, Eqv, given, same, flip, chain, AtomRel, Core}
-use Rattle.semantics.proofs.Multisets.{pointwise-refl, pointwise-mono, pointwise-map}
-use Rattle.semantics.proofs.Multisets.{multiset-refl, multiset-mono, multiset-map, member-map, member-unmap}
-use Rattle.semantics.proofs.Atoms.{sub-var, atom-refl, atom-mono, atom-sub}
-use Rattle.semantics.proofs.Closure.{eqv-mono, eqv-sub, eqv-path, one-more, derives-map}
+use Rattle.semantics.proofs.Multisets.{pointwise-refl, pointwise-mono, pointwise-map, multiset-refl, multiset-mono}
+use Rattle.semantics.proofs.Multisets.{multiset-map, member-map, member-unmap}
+use Rattle.semantics.proofs.Atoms.{atom-refl, atom-mono, atom-sub}
+use Rattle.semantics.proofs.Closure.{eqv-mono, eqv-sub, eqv-path, one-more, derives-map, derives-var}
 
 -- equivalence itself
 pub core-refl : {X : Type 0} (E : List (Eqn X)) → Core E E (Eqv E)
@@ -35,8 +34,8 @@ core-sym k = record {
 
 -- one after another
 pub core-trans :
-    {X Y Z : Type 0} {E : List (Eqn X)} {D : List (Eqn Y)} {F : List (Eqn Z)} {R : Tm X → Tm Y → Type 0} {S : Tm Y → Tm Z → Type 0}
-    → Core E D R → Core D F S → Core E F (λ s u. (t : Tm Y) × R s t × S t u)
+    {X Y Z : Type 0} {E : List (Eqn X)} {D : List (Eqn Y)} {F : List (Eqn Z)} {R : Tm X → Tm Y → Type 0}
+    {S : Tm Y → Tm Z → Type 0} → Core E D R → Core D F S → Core E F (λ s u. (t : Tm Y) × R s t × S t u)
 core-trans k l = record {
   fixes = λ c. (con c, k .fixes c, l .fixes c);
   respects = λ r q h. l .respects (r .2) (q .2) (k .respects (r .1) (q .1) h);
@@ -80,7 +79,7 @@ core-adds (each p ps) k = core-add (p .0) (p .1) (core-adds ps k)
 -- the equations between related lists are between related terms
 pub equal-sides :
     {X Y : Type 0} {R : Tm X → Tm Y → Type 0} {ss ts : List (Tm X)} {us vs : List (Tm Y)}
-    → Pointwise R ss us → Pointwise R ts vs → Pointwise (λ e d. R (e .left) (d .left) × R (e .right) (d .right)) (equal ss ts) (equal us vs)
+    → Pointwise R ss us → Pointwise R ts vs → Pointwise (Sides R) (equal ss ts) (equal us vs)
 equal-sides empty q = empty
 equal-sides (each r p) empty = empty
 equal-sides (each r p) (each s q) = each (r, s) (equal-sides p q)
@@ -107,14 +106,16 @@ back-old Z (var x) = refl
 
 -- equivalent terms are equivalent as old terms, and conversely
 pub eqv-old :
-    {X : Type 0} (Z : Type 0) {E : List (Eqn X)} {s t : Tm X} → Eqv E s t → Eqv (map (subEqn (old {Z = Z})) E) (sub old s) (sub old t)
+    {X : Type 0} (Z : Type 0) {E : List (Eqn X)} {s t : Tm X}
+    → Eqv E s t → Eqv (map (subEqn (old {Z = Z})) E) (sub old s) (sub old t)
 eqv-old Z h = eqv-sub old (λ e i. given (member-map (subEqn old) i)) h
 
 pub eqv-unold :
-    {X : Type 0} (Z : Type 0) {E : List (Eqn X)} (s t : Tm X) → Eqv (map (subEqn (old {Z = Z})) E) (sub old s) (sub old t) → Eqv E s t
+    {X : Type 0} (Z : Type 0) {E : List (Eqn X)} (s t : Tm X)
+    → Eqv (map (subEqn (old {Z = Z})) E) (sub old s) (sub old t) → Eqv E s t
 eqv-unold Z {E} s t h =
     subst₂ (Eqv E) (back-old Z s) (back-old Z t)
-    (eqv-sub back (derives-map back old E (λ e i. subst₂ (Eqv E) (sym (sub-var (e .left))) (sym (sub-var (e .right))) (given i))) h)
+    (eqv-sub back (derives-map back old E (derives-var E)) h)
 
 -- no old term is a new variable
 old-new : {X Z : Type 0} (s : Tm X) (z : Z) → sub old s ≡ new z → ⊥
@@ -130,9 +131,10 @@ new-alone :
     {X Z : Type 0} (E : List (Eqn X)) {a b : Tm (Or X Z)} (z : Z) → Eqv (map (subEqn old) E) a b
     → (a ≡ new z → b ≡ new z) × (b ≡ new z → a ≡ new z)
 new-alone E z (given i) =
-    let h = member-unmap (subEqn old) E i in
-    (λ p. absurd (old-new (h .0 .left) z (sym (ap (λ x. x .left) (h .2)) ∙ p)),
-    λ p. absurd (old-new (h .0 .right) z (sym (ap (λ x. x .right) (h .2)) ∙ p)))
+    let h = member-unmap (subEqn old) E i in (
+      λ p. absurd (old-new (h .0 .left) z (sym (ap (λ x. x .left) (h .2)) ∙ p)),
+      λ p. absurd (old-new (h .0 .right) z (sym (ap (λ x. x .right) (h .2)) ∙ p)),
+    )
 new-alone E z same = (λ p. p, λ p. p)
 new-alone E z (flip h) = let k = new-alone E z h in (k .1, k .0)
 new-alone E z (chain h k) =
@@ -202,15 +204,3 @@ pub ext-new-eqns :
     → Pointwise (Sides (Ext Z R)) (map (subEqn new) l) (map (subEqn new) l)
 ext-new-eqns h l =
     pointwise-map (subEqn new) (subEqn new) (pointwise-refl (λ e. (ext-new h (e .left), ext-new h (e .right))) l)
-
--- the equations of a configuration that is extended by new variables, as a firing and a context do it: new terms are equated
--- with old ones, and there are equations of new terms
-abbrev pub linked : {X Z : Type 0} → List (Tm Z) → List (Tm X) → List (Eqn Z) → List (Eqn X) → List (Eqn (Or X Z))
-linked ns os F E = equal (map (sub new) ns) (map (sub old) os) ++ (map (subEqn new) F ++ map (subEqn old) E)
-
--- such an extension on both sides
-pub core-linked :
-    {X Y Z : Type 0} {E : List (Eqn X)} {D : List (Eqn Y)} {R : Tm X → Tm Y → Type 0} {l : List (Tm X)} {m : List (Tm Y)}
-    (ns : List (Tm Z)) (F : List (Eqn Z)) → Pointwise R l m → Core E D R → Core (linked ns l F E) (linked ns m F D) (Ext Z R)
-core-linked {Z} ns F p k =
-    core-equal (ext-news (k .fixes) ns) (ext-old Z p) (core-adds (ext-new-eqns (k .fixes) F) (core-extend Z k))

@@ -5,19 +5,20 @@
 --   iso-of-maps                equality by substitutions both ways
 -- Assumes nothing.
 use Prim.Native.Nat.{ℕ}
-use mathlib.Core.List.{List, [], _∷_, _++_, map}
-use mathlib.Core.Path.{_≡_, refl, sym, subst, subst₂}
+use mathlib.Core.List.{List, map}
+use mathlib.Core.Path.{_≡_, subst}
 use Rattle.semantics.specs.Variants.{Pointwise, SameMultiset}
-use Rattle.semantics.proofs.Configurations.{Member, Tm, con, var, Atom, Eqn, sub, Eqv, given, same, flip, chain}
-use Rattle.semantics.proofs.Configurations.{Config, Inconsistent, AtomRel, Core, Iso, Same, iso, bothFail}
-use Rattle.semantics.proofs.Multisets.{pointwise-refl, pointwise-sym, pointwise-trans}
-use Rattle.semantics.proofs.Multisets.{multiset-refl, multiset-sym, multiset-trans, multiset-mono}
-use Rattle.semantics.proofs.Atoms.{atom-refl, atom-sym, atom-trans}
-use Rattle.semantics.proofs.Closure.{eqv-sub}
+use Rattle.semantics.proofs.Configurations.{Member, Tm, con, Eqn, sub, subAtom, Eqv, same, flip, chain, Config}
+use Rattle.semantics.proofs.Configurations.{Inconsistent, AtomRel, Core, Iso, Same, iso, bothFail}
+use Rattle.semantics.proofs.Multisets.{pointwise-refl, pointwise-sym, pointwise-trans, pointwise-image, multiset-refl}
+use Rattle.semantics.proofs.Multisets.{multiset-sym, multiset-trans, multiset-mono, multiset-right}
+use Rattle.semantics.proofs.Multisets.{multiset-of-pointwise}
+use Rattle.semantics.proofs.Atoms.{atom-refl, atom-sym, atom-trans, atom-image}
+use Rattle.semantics.proofs.Closure.{eqv-sub, eqv-path}
 use Rattle.semantics.proofs.Cores.{core-refl, core-sym, core-trans}
 
 -- a configuration equals itself
-pub iso-refl : (C : Config) → Iso C C
+unfoldable pub iso-refl : (C : Config) → Iso C C
 iso-refl C = record {
   R = Eqv (C .eqs);
   core = core-refl (C .eqs);
@@ -26,7 +27,7 @@ iso-refl C = record {
 }
 
 -- the other way round
-pub iso-sym : {C D : Config} → Iso C D → Iso D C
+unfoldable pub iso-sym : {C D : Config} → Iso C D → Iso D C
 iso-sym I = record {
   R = λ u s. I .R s u;
   core = core-sym (I .core);
@@ -35,7 +36,7 @@ iso-sym I = record {
 }
 
 -- one after another
-pub iso-trans : {C D B : Config} → Iso C D → Iso D B → Iso C B
+unfoldable pub iso-trans : {C D B : Config} → Iso C D → Iso D B → Iso C B
 iso-trans {D} I J = record {
   R = λ s u. (t : Tm (D .Var)) × I .R s t × J .R t u;
   core = core-trans (I .core) (J .core);
@@ -88,7 +89,7 @@ core-of-maps f g used h d k undo = record {
 }
 
 -- equality by substitutions
-pub iso-of-maps :
+unfoldable pub iso-of-maps :
     (C D : Config) (f : C .Var → Tm (D .Var)) (g : D .Var → Tm (C .Var)) (used : Tm (C .Var) → Type 0)
     → ((c : ℕ) → used (con c))
     → ((e : Eqn (C .Var)) → Member e (C .eqs) → Eqv (D .eqs) (sub f (e .left)) (sub f (e .right)))
@@ -103,3 +104,16 @@ iso-of-maps C D f g used h d k undo faces stores = record {
   faces = faces;
   stores = stores;
 }
+
+-- equality by substitutions that undo each other and make the faces equal and the stores equal multisets
+pub iso-of-images :
+    (C D : Config) (f : C .Var → Tm (D .Var)) (g : D .Var → Tm (C .Var))
+    → ((e : Eqn (C .Var)) → Member e (C .eqs) → Eqv (D .eqs) (sub f (e .left)) (sub f (e .right)))
+    → ((e : Eqn (D .Var)) → Member e (D .eqs) → Eqv (C .eqs) (sub g (e .left)) (sub g (e .right)))
+    → ((t : Tm (C .Var)) → sub g (sub f t) ≡ t)
+    → map (sub f) (C .face) ≡ D .face → SameMultiset _≡_ (map (subAtom f) (C .store)) (D .store) → Iso C D
+iso-of-images C D f g d k undo faces stores =
+    iso-of-maps C D f g (λ t. Unit {0}) (λ c. tt) d k (λ t u. eqv-path (undo t))
+    (subst (Pointwise (λ u v. Unit {0} × Eqv (D .eqs) (sub f u) v) (C .face)) faces
+    (pointwise-image (sub f) (λ t. (tt, same)) (C .face)))
+    (multiset-right (multiset-of-pointwise (pointwise-image (subAtom f) (atom-image f (λ t. (tt, same))) (C .store))) stores)

@@ -7,6 +7,11 @@ pub mod Closure
 pub mod Cores
 pub mod Isos
 pub mod Stepping
+pub mod Links
+pub mod Stepping
+pub mod Contexts
+pub mod Commute
+pub mod Peaks
 pub mod Options
 pub mod Lifting
 pub mod SolveLaws
@@ -29,3 +34,8 @@ pub mod Appearing
 pub mod JoinLaws
 pub mod OverlapGoals
 pub mod PeakOverlaps
+pub mod MatchedTerms
+pub mod FireLaws
+pub mod Letters
+pub mod VariantLaws
+pub mod Represent

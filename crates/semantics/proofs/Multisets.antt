@@ -5,8 +5,8 @@
 --   multiset-split, -pick   the partners of a part, and of a chosen list in its order
 --   member-…, all-…         the elements of a list
 -- Assumes nothing.
-use Prim.Native.Nat.{ℕ, suc}
-use mathlib.Core.List.{List, [], _∷_, _++_, map, append-nil}
+use Prim.Native.Nat.{suc}
+use mathlib.Core.List.{List, [], _∷_, _++_, map, append-nil, append-assoc, map-append}
 use mathlib.Core.Path.{_≡_, refl, sym, ap, _∙_, subst}
 use lib.ListN.{length}
 use Rattle.semantics.specs.Variants.{Pointwise, empty, each, Inserted, here, there, SameMultiset, done, put}
@@ -16,6 +16,12 @@ use Rattle.semantics.proofs.Configurations.{Or, inl, inr, Member, first
 pub pointwise-refl : {A : Type 0} {R : A → A → Type 0} → ((a : A) → R a a) → (l : List A) → Pointwise R l l
 pointwise-refl h [] = empty
 pointwise-refl h (x ∷ l) = each (h x) (pointwise-refl h l)
+
+-- a list is related to its image where every element is related to its image
+pub pointwise-image :
+    {A B : Type 0} {R : A → B → Type 0} (f : A → B) → ((a : A) → R a (f a)) → (l : List A) → Pointwise R l (map f l)
+pointwise-image f h [] = empty
+pointwise-image f h (x ∷ l) = each (h x) (pointwise-image f h l)
 
 -- the same lists the other way round
 pub pointwise-sym : {A B : Type 0} {R : A → B → Type 0} {l : List A} {m : List B} → Pointwise R l m → Pointwise (λ b a. R a b) m l
@@ -42,6 +48,12 @@ pub pointwise-map :
     → Pointwise (λ a b. R (f a) (g b)) l m → Pointwise R (map f l) (map g m)
 pointwise-map f g empty = empty
 pointwise-map f g (each r p) = each r (pointwise-map f g p)
+
+pub pointwise-map-right :
+    {A B D : Type 0} {R : A → D → Type 0} (g : B → D) {l : List A} {m : List B}
+    → Pointwise (λ a b. R a (g b)) l m → Pointwise R l (map g m)
+pointwise-map-right g empty = empty
+pointwise-map-right g (each r p) = each r (pointwise-map-right g p)
 
 -- and back
 pub pointwise-unmap :
@@ -307,11 +319,13 @@ multiset-partner (later j) (put r i s) = let h = multiset-partner j s in (h .0, 
 
 -- a reordered list on the left, on the right, and reordered lists among themselves
 pub multiset-left :
-    {A B : Type 0} {R : A → B → Type 0} {k l : List A} {m : List B} → SameMultiset _≡_ k l → SameMultiset R l m → SameMultiset R k m
+    {A B : Type 0} {R : A → B → Type 0} {k l : List A} {m : List B}
+    → SameMultiset _≡_ k l → SameMultiset R l m → SameMultiset R k m
 multiset-left {R} p s = multiset-mono (λ a b h. subst (λ x. R x b) (sym (h .1)) (h .2)) (multiset-trans p s)
 
 pub multiset-right :
-    {A B : Type 0} {R : A → B → Type 0} {l : List A} {m n : List B} → SameMultiset R l m → SameMultiset _≡_ m n → SameMultiset R l n
+    {A B : Type 0} {R : A → B → Type 0} {l : List A} {m n : List B}
+    → SameMultiset R l m → SameMultiset _≡_ m n → SameMultiset R l n
 multiset-right {R} s p = multiset-mono (λ a b h. subst (R a) (h .2) (h .1)) (multiset-trans s p)
 
 pub multiset-back : {A : Type 0} {l m : List A} → SameMultiset _≡_ l m → SameMultiset _≡_ m l
@@ -339,3 +353,11 @@ multiset-pick {A} {B} {R} {l} {n} M L s p = chosen M (multiset-left (multiset-ba
     chosen (x ∷ M) (put {b = y} r i t) =
         let h = chosen M t in
         (y ∷ h .0, h .1, multiset-put refl i here (h .2), each r (h .3), h .4)
+
+-- the image of a list in two parts, and more behind it
+pub multiset-parts :
+    {A B : Type 0} (f : A → B) {l : List A} (M L : List A) (k : List B)
+    → SameMultiset _≡_ l (M ++ L) → SameMultiset _≡_ (map f l ++ k) (map f M ++ (map f L ++ k))
+multiset-parts f {l} M L k p =
+    subst (SameMultiset _≡_ (map f l ++ k)) (ap (λ n. n ++ k) (map-append f M L) ∙ append-assoc (map f M) (map f L) k)
+    (multiset-append (multiset-map f f (multiset-mono (λ a b e. ap f e) p)) (multiset-refl (λ b. refl) k))

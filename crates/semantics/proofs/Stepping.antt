@@ -5,19 +5,20 @@
 -- Assumes nothing.
 use Prim.Native.Nat.{ℕ}
 use mathlib.Core.Bool.{Bool, true, false, cond}
-use mathlib.Core.List.{List, [], _∷_, _++_, map}
-use mathlib.Core.Path.{_≡_, refl, sym, ap, subst}
+use mathlib.Core.List.{List, [], _∷_, map}
+use mathlib.Core.Path.{_≡_, sym, subst}
 use lib.Dec.{T, eqb, eqb→eq, eqb-refl}
 use Rattle.semantics.specs.Terms.{Rule}
 use Rattle.semantics.specs.Variants.{Pointwise, empty, each, SameMultiset}
-use Rattle.semantics.proofs.Configurations.{Or, inl, inr, Member, first, later, Tm, con, var, Atom, Eqn, sub, subAtom, old, new, flat}
-use Rattle.semantics.proofs.Configurations.{Eqv, given, same, flip, chain, Config, AtomRel, Core, Iso}
-use Rattle.semantics.proofs.Configurations.{headsOf, bodyOf, eqsOf, Fits, fireC, Step, step, Steps, stay, go}
-use Rattle.semantics.proofs.Multisets.{pointwise-trans, pointwise-mono, pointwise-member}
+use Rattle.semantics.proofs.Configurations.{Or, inl, inr, Member, later, Tm, con, var, Atom, Eqn, sub, subAtom, flat}
+use Rattle.semantics.proofs.Configurations.{Eqv, flip, chain, Config, AtomRel, Core, Iso, headsOf, bodyOf, eqsOf, Fits}
+use Rattle.semantics.proofs.Configurations.{fireC, Step, step, Steps, stay, go}
+use Rattle.semantics.proofs.Multisets.{pointwise-trans, pointwise-mono, pointwise-member, pointwise-map-right}
 use Rattle.semantics.proofs.Multisets.{multiset-append, multiset-pick, member-cons}
-use Rattle.semantics.proofs.Atoms.{atom-trans, flat-pointwise, unflat-pointwise}
-use Rattle.semantics.proofs.Cores.{Ext, core-linked, ext-old, ext-old-atoms, ext-new-atoms}
-use Rattle.semantics.proofs.Isos.{iso-trans}
+use Rattle.semantics.proofs.Atoms.{sub-sub, atom-trans, flat-pointwise, unflat-pointwise}
+use Rattle.semantics.proofs.Closure.{eqv-sub}
+use Rattle.semantics.proofs.Cores.{Ext, ext-old, ext-old-atoms, ext-new-atoms}
+use Rattle.semantics.proofs.Links.{core-linked}
 
 -- what stands where x first stands
 lookup : {Y : Type 0} → ℕ → List (Tm ℕ) → List (Tm Y) → Tm Y
@@ -73,6 +74,24 @@ pub fits-iso :
     (I : Iso C D) → Fits (C .eqs) hs M → Pointwise (AtomRel (I .R)) M N → Fits (D .eqs) hs N
 fits-iso I f p = fits-core (I .core) f p
 
+-- heads that fit atoms fit them under a substitution under which the equations follow
+pub fits-sub :
+    {X Y : Type 0} {E : List (Eqn X)} {D : List (Eqn Y)} {hs : List (Atom ℕ)} {M : List (Atom X)} (f : X → Tm Y)
+    → ((e : Eqn X) → Member e E → Eqv D (sub f (e .left)) (sub f (e .right))) → Fits E hs M → Fits D hs (map (subAtom f) M)
+fits-sub {X} {E} {D} f d k = record {
+  θ = λ x. sub f (k .θ x);
+  fits = pointwise-map-right (subAtom f) (pointwise-mono moved (k .fits));
+}
+  where
+    moved :
+        (h : Atom ℕ) (m : Atom X) → AtomRel (λ s t. Eqv E (sub (k .θ) s) t) h m
+        → AtomRel (λ s t. Eqv D (sub (λ x. sub f (k .θ x)) s) t) h (subAtom f m)
+    moved h m r = record {
+      symbols = r .symbols;
+      args = pointwise-map-right (sub f)
+          (pointwise-mono (λ s t q. subst (λ u. Eqv D u (sub f t)) (sub-sub f (k .θ) s) (eqv-sub f d q)) (r .args));
+    }
+
 -- firing on partners gives equal configurations
 pub fire-iso :
     {C D : Config} (r : Rule) {M L : List (Atom (C .Var))} {N K : List (Atom (D .Var))} (I : Iso C D)
@@ -99,3 +118,11 @@ steps-iso I (go s t) =
     let h = step-iso I s in
     let k = steps-iso (h .2) t in
     (k .0, go (h .1) (k .1), k .2)
+
+-- one step; steps after steps
+pub steps-one : {rs : List Rule} {C D : Config} → Step rs C D → Steps rs C D
+steps-one s = go s stay
+
+pub steps-trans : {rs : List Rule} {C D B : Config} → Steps rs C D → Steps rs D B → Steps rs C B
+steps-trans stay t = t
+steps-trans (go s t) u = go s (steps-trans t u)
