@@ -53,9 +53,13 @@ unfolding become
 become-itself n (con c) = refl
 become-itself n (var x) = tabled-entry var n x
 
-becomes-itself : (n : ℕ) (ts : List Term) → map (become (tabled var n)) ts ≡ ts
-becomes-itself n [] = refl
-becomes-itself n (t ∷ ts) = rw (become-itself n t, becomes-itself n ts)
+terms-themselves : (n : ℕ) (ts : List Term) → map (become (tabled var n)) ts ≡ ts
+terms-themselves n [] = refl
+terms-themselves n (t ∷ ts) = rw (become-itself n t, terms-themselves n ts)
+
+pub constraint-itself : (n : ℕ) (c : Constraint) → mapTerms (become (tabled var n)) c ≡ c
+unfolding mapTerms
+constraint-itself n c = rw (terms-themselves n (c .terms))
 
 -- the numbers below n, the last first
 abbrev downFrom : ℕ → List ℕ
@@ -95,10 +99,10 @@ arrivedAt g n = record {
 
 -- the next constraint enters
 entering-next : (g : Goal) (n : ℕ) → n < length (g .constraints) → entering g n (arrivedAt g n) ≡ arrivedAt g (suc n)
-unfolding entering taken mapTerms
+unfolding entering taken
 entering-next g n l =
     let t = taking (g .constraints) n l in
-    rw (downFrom-lacks n n (omega arith), t .1, becomes-itself (g .variables) (t .0 .terms), t .2)
+    rw (downFrom-lacks n n (omega arith), t .1, constraint-itself (g .variables) (t .0), t .2)
 
 -- the first n constraints enter
 enters-first :

@@ -27,3 +27,4 @@ pub mod PositionLaws
 pub mod MatchLaws
 pub mod MatchedTerms
 pub mod FireLaws
+pub mod Reordering
