@@ -14,7 +14,7 @@ use lib.Dec.{eqb}
 use lib.ListN.{length, getD, getElem?, take, length-append}
 use lib.Seq.{take-length}
 use Rattle.text.specs.Lists.{every, has, tabled, upTo}
-use Rattle.semantics.specs.Terms.{Term, con, var, Program, Goal, live, mapTerms}
+use Rattle.semantics.specs.Terms.{Term, con, var, Constraint, Program, Goal, live, mapTerms}
 use Rattle.semantics.specs.Derivations.{Event, enter, Progress, become, taken, entering, follow, followAll, start}
 use Rattle.semantics.specs.Derivations.{allEntered}
 use Rattle.semantics.specs.Strategy.{entered}
@@ -29,7 +29,7 @@ followAll-append p g [] fs d = refl
 followAll-append p g (e ∷ es) fs d = followAll-append p g es fs (follow p g e d)
 
 -- a table is as long as it says
-tabled-length {ℓ} : {A : Type ℓ} (f : ℕ → A) (n : ℕ) → length (tabled f n) ≡ n
+pub tabled-length {ℓ} : {A : Type ℓ} (f : ℕ → A) (n : ℕ) → length (tabled f n) ≡ n
 tabled-length f zero = refl
 tabled-length f (suc n) = rw (length-append, tabled-length f n) (omega arith)
 

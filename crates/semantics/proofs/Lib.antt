@@ -28,3 +28,4 @@ pub mod MatchLaws
 pub mod MatchedTerms
 pub mod FireLaws
 pub mod Reordering
+pub mod LateEntry
