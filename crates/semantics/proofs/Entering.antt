@@ -1,6 +1,7 @@
 -- All constraints of a goal enter in order, before any rule fires.
 --   followAll-append      events one behind the other
 --   enters                the events by which the first constraints of a goal enter, in order
+--   every-below, every-upTo      a test of all numbers below n
 --   enters-all            they lead to the state that the strategy starts from, with no firing
 -- Assumes nothing.
 use Prim.Native.Nat.{ℕ, zero, suc, _<_, _≤_}
@@ -18,7 +19,8 @@ use Rattle.semantics.specs.Terms.{Term, con, var, Constraint, Program, G
 use Rattle.semantics.specs.Derivations.{Event, enter, Progress, become, taken, entering, follow, followAll, start}
 use Rattle.semantics.specs.Derivations.{allEntered}
 use Rattle.semantics.specs.Strategy.{entered}
-use Rattle.semantics.proofs.Bools.{eqb-same, eqb-differ, and-true, or-right}
+use Rattle.semantics.proofs.Options.{apart-eqb}
+use Rattle.semantics.proofs.Bools.{eqb-same, and-true, or-right}
 
 -- events one behind the other
 pub followAll-append :
@@ -76,7 +78,7 @@ downFrom-has (suc n) i l = go (decLt i n) (downFrom-has n i)
 
 downFrom-lacks : (n i : ℕ) → n ≤ i → has i (downFrom n) ≡ false
 downFrom-lacks zero i l = refl
-downFrom-lacks (suc n) i l = rw (eqb-differ i n (λ e. omega arith)) (downFrom-lacks n i (omega arith))
+downFrom-lacks (suc n) i l = rw (apart-eqb {m = i} {n = n} (λ e. omega arith)) (downFrom-lacks n i (omega arith))
 
 -- the constraint of a number, and those before it
 taking {ℓ} :
@@ -124,6 +126,25 @@ every-last test (m ∷ l) n e t =
 every-below : (test : ℕ → Bool) (n : ℕ) → ((i : ℕ) → i < n → test i ≡ true) → every test (upTo n) ≡ true
 every-below test zero h = refl
 every-below test (suc n) h = every-last test (upTo n) n (every-below test n (λ i l. h i (omega arith))) (h n (omega arith))
+
+-- and taken apart
+every-parts : (test : ℕ → Bool) (l : List ℕ) (n : ℕ) → every test (l ++ (n ∷ [])) ≡ true → (every test l ≡ true) × (test n ≡ true)
+every-parts test [] n e = (refl, and-true (test n) true e .0)
+every-parts test (m ∷ l) n e =
+    let u = and-true (test m) (every test (l ++ (n ∷ []))) e in
+    let v = every-parts test l n (u .1) in
+    (rw (u .0) (v .0), v .1)
+
+-- a number below n, where all numbers below n pass a test
+pub every-upTo : (test : ℕ → Bool) (n i : ℕ) → every test (upTo n) ≡ true → i < n → test i ≡ true
+every-upTo test zero i e l = absurd (omega arith)
+every-upTo test (suc n) i e l = go (decLt i n) (every-parts test (upTo n) n e) (every-upTo test n i)
+  where
+    go :
+        Dec (i < n) → (every test (upTo n) ≡ true) × (test n ≡ true) → (every test (upTo n) ≡ true → i < n → test i ≡ true)
+        → test i ≡ true
+    go (yes h) u more = more (u .0) h
+    go (no h) u more = let q : i ≡ n = omega arith in rw q (u .1)
 
 -- all constraints of a goal enter
 pub enters-all :

@@ -6,14 +6,13 @@
 -- Assumes nothing.
 use Prim.Native.Nat.{ℕ, zero, suc, _+_, _<_}
 use native.Mathlib.Omega.{arith}
-use native.Mathlib.Decide.{decLt}
 use mathlib.Core.Bool.{Bool, true, false, cond, _&&_}
 use mathlib.Core.List.{List, [], _∷_, _++_, map, append-assoc, append-nil}
 use mathlib.Core.Option.{Option, none, some}
-use mathlib.Core.Path.{_≡_, refl, sym, _∙_, ap}
+use mathlib.Core.Path.{_≡_, refl, sym, _∙_}
 use lib.ListN.{length, getD, getElem?, length-map}
-use Rattle.text.specs.Lists.{onward, every, has, tabled, upTo}
-use Rattle.semantics.specs.Terms.{Term, con, var, Constraint, Equation, Rule, Program, Goal, State, failed, live}
+use Rattle.text.specs.Lists.{onward, every, has, tabled}
+use Rattle.semantics.specs.Terms.{Term, con, var, Constraint, Rule, Program, Goal, State, failed, live}
 use Rattle.semantics.specs.Terms.{mapTerms, mapSides, alphabet, isBelow, isDeclared, isGoalOf}
 use Rattle.semantics.specs.Matching.{Assignment, unassigned, matchAt}
 use Rattle.semantics.specs.Solving.{solve}
@@ -21,18 +20,19 @@ use Rattle.semantics.specs.Firing.{without, instance, settle, fired, fir
 use Rattle.semantics.specs.Derivations.{Event, enter, fire, Progress, become, taken, entering, firing, follow, followAll}
 use Rattle.semantics.specs.Derivations.{start, derive, NoRuleFits, allEntered, Finished, byFailure, byRest}
 use Rattle.semantics.specs.Strategy.{entered}
-use Rattle.semantics.specs.Variants.{Inserted, here, SameMultiset, put, Variant}
+use Rattle.semantics.specs.Variants.{Inserted, SameMultiset, put, Variant}
 use Rattle.semantics.proofs.Configurations.{TermBelow, All, also}
 use Rattle.semantics.proofs.Configurations as C
-use Rattle.semantics.proofs.Multisets.{inserted-map, multiset-refl, multiset-append, multiset-back}
+use Rattle.semantics.proofs.Multisets.{inserted-map, multiset-refl, multiset-append}
 use Rattle.semantics.proofs.Options.{isBelow-below}
 use Rattle.semantics.proofs.MatchedTerms.{ConstraintBelow, without-all}
-use Rattle.semantics.proofs.Bools.{some-not-none, bind-some, and-true}
-use Rattle.semantics.proofs.Removal.{without-none}
+use Rattle.semantics.proofs.Options.{none-some, bind-some}
+use Rattle.semantics.proofs.Bools.{and-true}
+use Rattle.semantics.proofs.Removal.{without-none, without-every}
 use Rattle.semantics.proofs.Bound.{waiting, waiting-enters}
-use Rattle.semantics.proofs.Entering.{tabled-length, constraint-itself}
+use Rattle.semantics.proofs.Entering.{tabled-length, constraint-itself, every-upTo}
 use Rattle.semantics.proofs.Normal.{Reach, arrived, fires}
-use Rattle.semantics.proofs.Reordering.{Reordered, bothFailed, reordered, reordered-refl, reordered-sym, reordered-trans}
+use Rattle.semantics.proofs.Reordering.{Reordered, bothFailed, reordered, reordered-refl, reordered-trans}
 use Rattle.semantics.proofs.Reordering.{withMore, Follows, fire-moves, reordered-variant, reordered-rests}
 
 -- constraints of a goal as they would enter
@@ -58,10 +58,13 @@ sized-settled n (some σ) next bound cs e = length-map bound σ ∙ e
 
 sized-fired : (n : ℕ) (r : Rule) (ps : List ℕ) (s t : State) → fireAt r ps s ≡ some t → Sized n s → Sized n t
 unfolding fireAt fired
-sized-fired n r ps failed t e z = some-not-none none e refl
-sized-fired n r ps (live next bound cs) t e z = go (bind-some (matchAt (r .heads) ps cs [] unassigned) (λ θ. some (fired r ps θ next bound cs)) e)
+sized-fired n r ps failed t e z = none-some refl e
+sized-fired n r ps (live next bound cs) t e z =
+    go (bind-some (matchAt (r .heads) ps cs [] unassigned) (λ θ. some (fired r ps θ next bound cs)) e)
   where
-    go : (θ : Assignment) × (matchAt (r .heads) ps cs [] unassigned ≡ some θ) × (some (fired r ps θ next bound cs) ≡ some t) → Sized n t
+    go :
+        (θ : Assignment) × (matchAt (r .heads) ps cs [] unassigned ≡ some θ) × (some (fired r ps θ next bound cs) ≡ some t)
+        → Sized n t
     go (θ, m, q) =
         let p : fired r ps θ next bound cs ≡ t = cc in
         rw p at (sized-settled n (solve (map (mapSides (instance next θ)) (r .equations)) (λ t. t)) (next + alphabet) bound
@@ -92,7 +95,8 @@ terms-follow :
 terms-follow σ f bound C.none = refl
 terms-follow σ f bound (also {a = t} h hs) = rw (become-follows σ f bound t h, terms-follow σ f bound hs)
 
-entrants-follow : (bound : List Term) {ws : List Constraint} → All (ConstraintBelow (length bound)) ws → Follows (entrants ws) bound
+entrants-follow :
+    (bound : List Term) {ws : List Constraint} → All (ConstraintBelow (length bound)) ws → Follows (entrants ws) bound
 unfolding mapTerms
 entrants-follow bound C.none σ f = refl
 entrants-follow bound (also {a = c} h hs) σ f = rw (terms-follow σ f bound h, entrants-follow bound hs σ f)
@@ -154,7 +158,8 @@ late-entering p g n d h = go (has n (d .entered)) refl (getElem? (g .constraints
       reached = h .reached;
       reach = h .reach;
       same = reordered-trans
-          (whole-entered c (waiting g d) (without 0 (n ∷ d .entered) (g .constraints)) (d .state) (waiting-enters g (d .entered) n c f s))
+          (whole-entered c (waiting g d) (without 0 (n ∷ d .entered) (g .constraints)) (d .state)
+            (waiting-enters g (d .entered) n c f s))
           (h .same);
       sized = sized-taken (g .variables) c (d .state) (h .sized);
     }
@@ -171,7 +176,7 @@ whole-fires :
     → fireAt r ps s ≡ some t → Reordered (withMore (entrants ws) s) u
     → (qs : List ℕ) × (v : State) × (fireAt r qs u ≡ some v) × Reordered (withMore (entrants ws) t) v
 unfolding withMore fireAt
-whole-fires n ws below r ps failed t u z e h = some-not-none none e refl
+whole-fires n ws below r ps failed t u z e h = none-some refl e
 whole-fires n ws below r ps (live next bound cs) t u z e h = go (reordered-live h)
   where
     go :
@@ -201,8 +206,9 @@ late-firing p g n ps d below h = go (getElem? (p .rules) n) refl
         → Late p g (onward o d (λ s. record { state = s; entered = d .entered; firings = suc (d .firings) }))
     fires-or-not r e none f = h
     fires-or-not r e (some t) f =
+        let rest = without-all 0 (d .entered) below in
         step r e t f
-        (whole-fires (g .variables) (waiting g d) (without-all 0 (d .entered) below) r ps (d .state) t (h .reached) (h .sized) f (h .same))
+        (whole-fires (g .variables) (waiting g d) rest r ps (d .state) t (h .reached) (h .sized) f (h .same))
     go :
         (o : Option Rule) → getElem? (p .rules) n ≡ o
         → Late p g
@@ -247,31 +253,11 @@ pub late-entry : (p : Program) (g : Goal) → isGoalOf p g ≡ true → (es : Li
 unfolding derive
 late-entry p g e es = late-all p g es (start g) (goal-below p g e) (late-start p g)
 
--- a test that all numbers of a list with one more pass
-every-last : (test : ℕ → Bool) (l : List ℕ) (n : ℕ) → every test (l ++ (n ∷ [])) ≡ true → (every test l ≡ true) × (test n ≡ true)
-every-last test [] n e = (refl, and-true (test n) true e .0)
-every-last test (m ∷ l) n e =
-    let u = and-true (test m) (every test (l ++ (n ∷ []))) e in
-    let v = every-last test l n (u .1) in
-    (rw (u .0) (v .0), v .1)
-
--- a test that all numbers below n pass
-every-upTo : (test : ℕ → Bool) (n i : ℕ) → every test (upTo n) ≡ true → i < n → test i ≡ true
-every-upTo test zero i e l = absurd (omega arith)
-every-upTo test (suc n) i e l = go (decLt i n) (every-last test (upTo n) n e) (every-upTo test n i)
-  where
-    go :
-        Dec (i < n) → (every test (upTo n) ≡ true) × (test n ≡ true) → (every test (upTo n) ≡ true → i < n → test i ≡ true)
-        → test i ≡ true
-    go (yes h) u more = more (u .0) h
-    go (no h) u more = let q : i ≡ n = omega arith in rw q (u .1)
-
--- nothing is left where all positions are removed
-without-every :
-    (k : ℕ) (ps : List ℕ) (cs : List Constraint) → ((i : ℕ) → i < k + length cs → has i ps ≡ true) → without k ps cs ≡ []
-unfolding without
-without-every k ps [] f = refl
-without-every k ps (c ∷ cs) f = rw (f k (omega arith)) (without-every (suc k) ps cs (λ i l. f i (omega arith)))
+-- in particular it is a variant of what is reached
+pub late-entry-variant :
+    (p : Program) (g : Goal) → isGoalOf p g ≡ true → (es : List Event)
+    → (u : State) × Reach (p .rules) (derive p g es .firings) (entered g) u × Variant (whole g (derive p g es)) u
+late-entry-variant p g e es = let h = late-entry p g e es in (h .reached, h .reach, reordered-variant (h .same))
 
 -- in the end of a finished derivation nothing waits that could change it, and no rule fits
 finished-whole : (p : Program) (g : Goal) (d : Progress) → Finished p g d → (whole g d ≡ d .state) × NoRuleFits p (d .state)

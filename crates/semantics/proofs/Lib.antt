@@ -4,6 +4,7 @@ pub mod Multisets
 pub mod Atoms
 pub mod Closure
 pub mod Cores
+pub mod Options
 pub mod Bools
 pub mod Search
 pub mod Choosing
@@ -20,7 +21,6 @@ pub mod Stepping
 pub mod Contexts
 pub mod Commute
 pub mod Peaks
-pub mod Options
 pub mod Lifting
 pub mod SolveLaws
 pub mod PositionLaws

@@ -12,7 +12,7 @@ use mathlib.Core.List.{List, [], _∷_, _++_, map, map-append, append-assoc, app
 use mathlib.Core.Option.{Option, none, some}
 use mathlib.Core.Path.{_≡_, refl, sym, _∙_, ap, subst}
 use lib.ListN.{getElem?}
-use Rattle.text.specs.Lists.{has, bind}
+use Rattle.text.specs.Lists.{has}
 use Rattle.semantics.specs.Terms.{Term, con, var, Constraint, Equation, Rule, Program, State, failed, live}
 use Rattle.semantics.specs.Terms.{mapTerms, mapSides, alphabet}
 use Rattle.semantics.specs.Matching.{Assignment, unassigned, matchConstraint, matchAt}
@@ -22,7 +22,8 @@ use Rattle.semantics.specs.Derivations.{NoRuleFits}
 use Rattle.semantics.specs.Variants.{TermVariant, sameCon, partners, ConstraintVariant, Inserted, SameMultiset, Variant}
 use Rattle.semantics.proofs.Multisets.{pointwise-refl, inserted-left, multiset-take, multiset-refl, multiset-mono}
 use Rattle.semantics.proofs.Multisets.{multiset-map, multiset-append, multiset-swap, multiset-right, multiset-back}
-use Rattle.semantics.proofs.Bools.{some-not-none, none-unless, bind-some}
+use Rattle.semantics.proofs.Options.{none-some, bind-some}
+use Rattle.semantics.proofs.Bools.{none-unless}
 use Rattle.semantics.proofs.SolveLaws.{solve-solution}
 use Rattle.semantics.proofs.Removal.{Among, without-none, without-one, without-found}
 use Rattle.semantics.proofs.Search.{FirstFits, matchAt-cons, matchAt-join}
@@ -52,7 +53,8 @@ term-itself (con c) = sameCon
 term-itself (var x) = partners refl
 
 constraint-itself : (c d : Constraint) → c ≡ d → ConstraintVariant _≡_ c d
-constraint-itself c d e = subst (ConstraintVariant _≡_ c) e (record { symbols = refl; terms = pointwise-refl term-itself (c .terms) })
+constraint-itself c d e =
+    subst (ConstraintVariant _≡_ c) e (record { symbols = refl; terms = pointwise-refl term-itself (c .terms) })
 
 -- reordered states are variants of each other
 pub reordered-variant : {s t : State} → Reordered s t → Variant s t
@@ -77,7 +79,9 @@ moved c k l taken ds i m = go (multiset-take i m)
     found d n e a s =
         let q : a .position ≡ a .at = omega (arith, a .counted) in
         record { at = a .at; stands = rw e (a .stands); free = rw q at (a .free); left = rw (a .rest, q) at s }
-    go : (d : Constraint) × (n : List Constraint) × (c ≡ d) × Inserted d n (without 0 taken ds) × SameMultiset _≡_ k n → Moved c k taken ds
+    go :
+        (d : Constraint) × (n : List Constraint) × (c ≡ d) × Inserted d n (without 0 taken ds) × SameMultiset _≡_ k n
+        → Moved c k taken ds
     go (d, n, e, j, s) = found d n e (without-found 0 taken ds d n (without 0 taken ds) refl j) s
 
 -- what a match becomes in a reordered list: positions, the same assignment, and the others that are left
@@ -86,8 +90,9 @@ Moves hs ds taken θ end rest =
     (qs : List ℕ) × (matchAt hs qs ds taken θ ≡ some end) × SameMultiset _≡_ rest (without 0 (taken ++ qs) ds)
 
 moves-join :
-    (h : Constraint) (hs ds : List Constraint) (taken : List ℕ) (θ next end : Assignment) (c : Constraint) (k rest : List Constraint)
-    → matchConstraint h c θ ≡ some next → (m : Moved c k taken ds) → Moves hs ds (taken ++ (m .at ∷ [])) next end rest
+    (h : Constraint) (hs ds : List Constraint) (taken : List ℕ) (θ next end : Assignment) (c : Constraint)
+    (k rest : List Constraint) → matchConstraint h c θ ≡ some next → (m : Moved c k taken ds)
+    → Moves hs ds (taken ++ (m .at ∷ [])) next end rest
     → Moves (h ∷ hs) ds taken θ end rest
 moves-join h hs ds taken θ next end c k rest f m (qs, e, s) =
     (m .at ∷ qs,
@@ -102,8 +107,8 @@ pub matchAt-moves :
     → Moves hs ds taken θ end (without 0 (chosen ++ ps) cs ++ ws)
 unfolding matchAt
 matchAt-moves [] [] cs ds ws chosen taken θ end e m = ([], e, rw (append-nil chosen, append-nil taken) m)
-matchAt-moves [] (p ∷ ps) cs ds ws chosen taken θ end e m = some-not-none none e refl
-matchAt-moves (h ∷ hs) [] cs ds ws chosen taken θ end e m = some-not-none none e refl
+matchAt-moves [] (p ∷ ps) cs ds ws chosen taken θ end e m = none-some refl e
+matchAt-moves (h ∷ hs) [] cs ds ws chosen taken θ end e m = none-some refl e
 matchAt-moves (h ∷ hs) (p ∷ ps) cs ds ws chosen taken θ end e m =
     go (matchAt-cons h hs p ps cs chosen θ end e) (matchAt-moves hs ps cs ds ws)
   where
@@ -115,8 +120,9 @@ matchAt-moves (h ∷ hs) (p ∷ ps) cs ds ws chosen taken θ end e m =
         → Moves (h ∷ hs) ds taken θ end (without 0 (chosen ++ p ∷ ps) cs ++ ws)
     go f more =
         let i = without-one 0 chosen cs p p (f .constraint) (omega arith) (f .stands) (f .free) in
-        let n = moved (f .constraint) (without 0 (chosen ++ (p ∷ [])) cs ++ ws) (without 0 chosen cs ++ ws) taken ds (inserted-left ws i) m in
-        moves-join h hs ds taken θ (f .next) end (f .constraint) (without 0 (chosen ++ (p ∷ [])) cs ++ ws)
+        let left = without 0 (chosen ++ (p ∷ [])) cs ++ ws in
+        let n = moved (f .constraint) left (without 0 chosen cs ++ ws) taken ds (inserted-left ws i) m in
+        moves-join h hs ds taken θ (f .next) end (f .constraint) left
         (without 0 (chosen ++ p ∷ ps) cs ++ ws) (f .fits) n
         (rw append-assoc at (more (chosen ++ (p ∷ [])) (taken ++ (n .at ∷ [])) (f .next) end (f .rest) (n .left)))
 
@@ -148,7 +154,8 @@ unfolding withMore settle
 settle-moves more bound f es next cs ds m = go (solve es (λ t. t)) refl
   where
     go :
-        (o : Option (Term → Term)) → solve es (λ t. t) ≡ o → Reordered (withMore more (settle o next bound cs)) (settle o next bound ds)
+        (o : Option (Term → Term)) → solve es (λ t. t) ≡ o
+        → Reordered (withMore more (settle o next bound cs)) (settle o next bound ds)
     go none e = bothFailed
     go (some σ) e =
         let n : SameMultiset _≡_ (map (mapTerms σ) (cs ++ more bound)) (map (mapTerms σ) ds) =
@@ -157,8 +164,8 @@ settle-moves more bound f es next cs ds m = go (solve es (λ t. t)) refl
 
 -- a rule that fires in a state fires in one with more constraints, in any order
 pub fire-moves :
-    (more : List Term → List Constraint) (r : Rule) (ps : List ℕ) (next : ℕ) (bound : List Term) (cs ds : List Constraint) (t : State)
-    → Follows more bound → fireAt r ps (live next bound cs) ≡ some t → SameMultiset _≡_ (cs ++ more bound) ds
+    (more : List Term → List Constraint) (r : Rule) (ps : List ℕ) (next : ℕ) (bound : List Term) (cs ds : List Constraint)
+    (t : State) → Follows more bound → fireAt r ps (live next bound cs) ≡ some t → SameMultiset _≡_ (cs ++ more bound) ds
     → (qs : List ℕ) × (u : State) × (fireAt r qs (live next bound ds) ≡ some u) × Reordered (withMore more t) u
 unfolding fireAt fired
 fire-moves more r ps next bound cs ds t f e m =
@@ -167,7 +174,8 @@ fire-moves more r ps next bound cs ds t f e m =
     go :
         (θ : Assignment) × (matchAt (r .heads) ps cs [] unassigned ≡ some θ) × (some (fired r ps θ next bound cs) ≡ some t)
         → (qs : List ℕ) × (u : State) × (fireAt r qs (live next bound ds) ≡ some u) × Reordered (withMore more t) u
-    go (θ, a, b) = moves (matchAt-moves (r .heads) ps cs ds (more bound) [] [] unassigned θ a (rw (without-none 0 cs, without-none 0 ds) m))
+    go (θ, a, b) =
+        moves (matchAt-moves (r .heads) ps cs ds (more bound) [] [] unassigned θ a (rw (without-none 0 cs, without-none 0 ds) m))
       where
         body : List Constraint
         body = map (mapTerms (instance next θ)) (r .body)
@@ -193,7 +201,7 @@ pub reordered-fires :
     (r : Rule) (ps : List ℕ) {s t : State} → Reordered s t → (u : State) → fireAt r ps s ≡ some u
     → (qs : List ℕ) × (v : State) × (fireAt r qs t ≡ some v) × Reordered u v
 unfolding fireAt
-reordered-fires r ps bothFailed u e = some-not-none none e refl
+reordered-fires r ps bothFailed u e = none-some refl e
 reordered-fires r ps (reordered {next = next} {bound = bound} {cs = cs} {ds = ds} m) u e =
     rw (withMore-none u) at
     (fire-moves (λ b. []) r ps next bound cs ds u (λ σ f. refl) e (rw (append-nil cs) m))
@@ -205,4 +213,4 @@ reordered-rests p {s} {t} h f = λ n r ps e. none-unless (fireAt r ps t) (fires 
     fires : (n : ℕ) (r : Rule) (ps : List ℕ) → getElem? (p .rules) n ≡ some r → (v : State) → fireAt r ps t ≡ some v → ⊥
     fires n r ps e v q =
         let g = reordered-fires r ps (reordered-sym h) v q in
-        some-not-none (fireAt r (g .0) s) (g .2) (f n r (g .0) e)
+        none-some (f n r (g .0) e) (g .2)
