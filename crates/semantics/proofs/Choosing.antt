@@ -145,6 +145,7 @@ advance-rests p (live next bound cs) e n r ps q = rw (choose-complete (p .rules)
     go none t e = t
     go (some c) t e = none-some e refl
 
+-- and where no rule fits it rests
 pub rests-advance : (p : Program) (s : State) → NoRuleFits p s → advance (p .rules) s ≡ none
 rests-advance p s f = none-unless (advance (p .rules) s) fires
   where

@@ -1,8 +1,10 @@
 -- All constraints of a goal enter in order, before any rule fires.
---   followAll-append      events one behind the other
---   enters                the events by which the first constraints of a goal enter, in order
---   every-below, every-upTo      a test of all numbers below n
---   enters-all            they lead to the state that the strategy starts from, with no firing
+--   followAll-append           events one behind the other
+--   constraint-itself          before any firing each constraint would enter as it is
+--   every-below, every-upTo    a test of all numbers below n
+--   enters                     the events by which the first constraints of a goal enter, in order
+--   arrivedAt                  how far they lead
+--   enters-all                 all of them lead to the state that the strategy starts from, with no firing
 -- Assumes nothing.
 use Prim.Native.Nat.{ℕ, zero, suc, _<_, _≤_}
 use native.Mathlib.Omega.{arith}
@@ -55,10 +57,12 @@ unfolding become
 become-itself n (con c) = refl
 become-itself n (var x) = tabled-entry var n x
 
+-- the same for lists of terms
 terms-themselves : (n : ℕ) (ts : List Term) → map (become (tabled var n)) ts ≡ ts
 terms-themselves n [] = refl
 terms-themselves n (t ∷ ts) = rw (become-itself n t, terms-themselves n ts)
 
+-- the same for constraints
 pub constraint-itself : (n : ℕ) (c : Constraint) → mapTerms (become (tabled var n)) c ≡ c
 unfolding mapTerms
 constraint-itself n c = rw (terms-themselves n (c .terms))
@@ -68,6 +72,7 @@ abbrev downFrom : ℕ → List ℕ
 downFrom zero = []
 downFrom (suc n) = n ∷ downFrom n
 
+-- they are in the list
 downFrom-has : (n i : ℕ) → i < n → has i (downFrom n) ≡ true
 downFrom-has zero i l = absurd (omega arith)
 downFrom-has (suc n) i l = go (decLt i n) (downFrom-has n i)
@@ -76,6 +81,7 @@ downFrom-has (suc n) i l = go (decLt i n) (downFrom-has n i)
     go (yes h) more = or-right (eqb i n) (has i (downFrom n)) (more h)
     go (no h) more = let e : i ≡ n = omega arith in rw (e, eqb-same n)
 
+-- and no others are
 downFrom-lacks : (n i : ℕ) → n ≤ i → has i (downFrom n) ≡ false
 downFrom-lacks zero i l = refl
 downFrom-lacks (suc n) i l = rw (apart-eqb {m = i} {n = n} (λ e. omega arith)) (downFrom-lacks n i (omega arith))

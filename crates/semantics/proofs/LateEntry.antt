@@ -48,7 +48,7 @@ abbrev Sized : ℕ → State → Type 0
 Sized n failed = Unit {0}
 Sized n (live next bound cs) = length bound ≡ n
 
--- firing keeps that
+-- settling keeps that
 sized-settled :
     (n : ℕ) (o : Option (Term → Term)) (next : ℕ) (bound : List Term) (cs : List Constraint) → length bound ≡ n
     → Sized n (settle o next bound cs)
@@ -56,6 +56,7 @@ unfolding settle
 sized-settled n none next bound cs e = tt
 sized-settled n (some σ) next bound cs e = length-map bound σ ∙ e
 
+-- so does a firing
 sized-fired : (n : ℕ) (r : Rule) (ps : List ℕ) (s t : State) → fireAt r ps s ≡ some t → Sized n s → Sized n t
 unfolding fireAt fired
 sized-fired n r ps failed t e z = none-some refl e
@@ -70,6 +71,7 @@ sized-fired n r ps (live next bound cs) t e z =
         rw p at (sized-settled n (solve (map (mapSides (instance next θ)) (r .equations)) (λ t. t)) (next + alphabet) bound
           (without 0 ps cs ++ map (mapTerms (instance next θ)) (r .body)) z)
 
+-- and an entry
 sized-taken : (n : ℕ) (c : Constraint) (s : State) → Sized n s → Sized n (taken c s)
 unfolding taken
 sized-taken n c failed z = tt
@@ -89,12 +91,14 @@ unfolding become
 become-follows σ f bound (con c) h = sym (f c)
 become-follows σ f bound (var x) h = getD-image σ bound x (var x) (var x) h
 
+-- the same for lists of terms
 terms-follow :
     (σ : Term → Term) → ((c : ℕ) → σ (con c) ≡ con c) → (bound : List Term) {ts : List Term} → All (TermBelow (length bound)) ts
     → map (become (map σ bound)) ts ≡ map σ (map (become bound) ts)
 terms-follow σ f bound C.none = refl
 terms-follow σ f bound (also {a = t} h hs) = rw (become-follows σ f bound t h, terms-follow σ f bound hs)
 
+-- the same for the constraints that wait
 entrants-follow :
     (bound : List Term) {ws : List Constraint} → All (ConstraintBelow (length bound)) ws → Follows (entrants ws) bound
 unfolding mapTerms
@@ -143,7 +147,7 @@ whole-entered c ws vs (live next bound cs) i = reordered behind
         rw append-assoc (multiset-append (multiset-refl (λ d. refl) cs)
         (put refl (inserted-map (mapTerms (become bound)) i) (multiset-refl (λ d. refl) (entrants vs bound))))
 
--- each event keeps where the derivation stands
+-- each event keeps where the derivation stands: an entry
 late-entering : (p : Program) (g : Goal) (n : ℕ) (d : Progress) → Late p g d → Late p g (entering g n d)
 unfolding entering
 late-entering p g n d h = go (has n (d .entered)) refl (getElem? (g .constraints) n) refl
@@ -185,6 +189,7 @@ whole-fires n ws below r ps (live next bound cs) t u z e h = go (reordered-live 
     go (ds, q, m) =
         rw q (fire-moves (entrants ws) r ps next bound cs ds t (entrants-follow bound (rw (← z) at below)) e m)
 
+-- a firing
 late-firing :
     (p : Program) (g : Goal) (n : ℕ) (ps : List ℕ) (d : Progress) → All (ConstraintBelow (g .variables)) (g .constraints)
     → Late p g d → Late p g (firing p n ps d)
@@ -218,6 +223,7 @@ late-firing p g n ps d below h = go (getElem? (p .rules) n) refl
     go none e = h
     go (some r) e = fires-or-not r e (fireAt r ps (d .state)) refl
 
+-- all events
 late-all :
     (p : Program) (g : Goal) (es : List Event) (d : Progress) → All (ConstraintBelow (g .variables)) (g .constraints)
     → Late p g d → Late p g (followAll p g es d)
@@ -233,6 +239,7 @@ every-below n (t ∷ ts) e =
     let u = and-true (isBelow n t) (every (isBelow n) ts) e in
     also (isBelow-below n t (u .0)) (every-below n ts (u .1))
 
+-- and so are those of all its constraints
 pub goal-below : (p : Program) (g : Goal) → isGoalOf p g ≡ true → All (ConstraintBelow (g .variables)) (g .constraints)
 unfolding isGoalOf
 goal-below p g e = go (g .constraints) e

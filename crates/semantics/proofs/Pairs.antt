@@ -44,6 +44,7 @@ paired-new : (x y : ℕ) (ps : List Pair) → Paired (record { left = x; right =
 unfolding arePartners
 paired-new x y ps = rw (eqb-same x, eqb-same y)
 
+-- the pairs of a list are in it with one more
 paired-old : (p : Pair) (ps : List Pair) → Inside (Paired ps) (Paired (p ∷ ps))
 unfolding arePartners
 paired-old p ps a b e = or-right (eqb a (p .left) && eqb b (p .right)) (arePartners a b ps) e
@@ -88,9 +89,11 @@ pub record Grown (ps qs : List Pair) : Type 0 where
   pub holds : Inside (Paired ps) (Paired qs)
   pub oneToOne : OneToOne (Paired ps) → OneToOne (Paired qs)
 
+-- a list of pairs holds itself
 pub grown-same : (ps : List Pair) → Grown ps ps
 grown-same ps = record { holds = λ x y h. h; oneToOne = λ o. o }
 
+-- one grown list after another
 pub grown-chain : {ps qs rs : List Pair} → Grown ps qs → Grown qs rs → Grown ps rs
 grown-chain g h = record { holds = λ x y p. h .holds x y (g .holds x y p); oneToOne = λ o. h .oneToOne (g .oneToOne o) }
 
@@ -129,10 +132,12 @@ term-inside : {ρ σ : ℕ → ℕ → Type 0} → Inside ρ σ → {s t : Term}
 term-inside i sameCon = sameCon
 term-inside i (partners {x = x} {y = y} r) = partners (i x y r)
 
+-- the same for lists of terms
 pub terms-inside :
     {ρ σ : ℕ → ℕ → Type 0} → Inside ρ σ → {ss ts : List Term} → Pointwise (TermVariant ρ) ss ts → Pointwise (TermVariant σ) ss ts
 terms-inside i h = pointwise-mono (λ s t r. term-inside i r) h
 
+-- the same for constraints
 pub constraint-inside :
     {ρ σ : ℕ → ℕ → Type 0} → Inside ρ σ → {c d : Constraint} → ConstraintVariant ρ c d → ConstraintVariant σ c d
 constraint-inside i v = record { symbols = v .symbols; terms = terms-inside i (v .terms) }

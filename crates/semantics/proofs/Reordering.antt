@@ -35,23 +35,27 @@ pub data Reordered : State → State → Type 0 where
       {next : ℕ} {bound : List Term} {cs ds : List Constraint} → SameMultiset _≡_ cs ds
       → Reordered (live next bound cs) (live next bound ds)
 
+-- a state is a reordering of itself
 pub reordered-refl : (s : State) → Reordered s s
 reordered-refl failed = bothFailed
 reordered-refl (live next bound cs) = reordered (multiset-refl (λ c. refl) cs)
 
+-- the other way round
 pub reordered-sym : {s t : State} → Reordered s t → Reordered t s
 reordered-sym bothFailed = bothFailed
 reordered-sym (reordered m) = reordered (multiset-back m)
 
+-- one reordering after another
 pub reordered-trans : {s t u : State} → Reordered s t → Reordered t u → Reordered s u
 reordered-trans bothFailed bothFailed = bothFailed
 reordered-trans (reordered m) (reordered n) = reordered (multiset-right m n)
 
--- a term is its own variant, and so is a constraint
+-- a term is its own variant
 term-itself : (t : Term) → TermVariant _≡_ t t
 term-itself (con c) = sameCon
 term-itself (var x) = partners refl
 
+-- the same for constraints
 constraint-itself : (c d : Constraint) → c ≡ d → ConstraintVariant _≡_ c d
 constraint-itself c d e =
     subst (ConstraintVariant _≡_ c) e (record { symbols = refl; terms = pointwise-refl term-itself (c .terms) })
@@ -89,6 +93,7 @@ abbrev Moves : List Constraint → List Constraint → List ℕ → Assignment �
 Moves hs ds taken θ end rest =
     (qs : List ℕ) × (matchAt hs qs ds taken θ ≡ some end) × SameMultiset _≡_ rest (without 0 (taken ++ qs) ds)
 
+-- the first head and the others
 moves-join :
     (h : Constraint) (hs ds : List Constraint) (taken : List ℕ) (θ next end : Assignment) (c : Constraint)
     (k rest : List Constraint) → matchConstraint h c θ ≡ some next → (m : Moved c k taken ds)

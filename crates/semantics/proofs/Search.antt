@@ -75,6 +75,7 @@ pub record FirstAt {A : Type 0} (p : ℕ) (cs : List Constraint) (try : ℕ → 
   pub answers : try (p + at) constraint ≡ some a
   pub earlier : (i : ℕ) (c : Constraint) → i < at → getElem? cs i ≡ some c → try (p + i) c ≡ none
 
+-- the first answer over a list comes from some element of it
 pub firstIn-some :
     {A : Type 0} (p : ℕ) (cs : List Constraint) (try : ℕ → Constraint → Option A) (a : A)
     → firstIn p cs try ≡ some a → FirstAt p cs try a
@@ -151,6 +152,7 @@ find-refutes (h ∷ hs) cs chosen θ e (p ∷ ps) end m =
             sym (attempt-goes-on h hs p ps cs chosen θ end f) ∙ (rw zero-add at n) in
     find-refutes hs cs (chosen ++ (p ∷ [])) (f .next) nothing ps end (f .rest)
 
+-- so the heads match at no positions
 pub find-complete :
     (hs : List Constraint) (cs : List Constraint) (chosen : List ℕ) (θ : Assignment) → find hs cs chosen θ ≡ none
     → (ps : List ℕ) → matchAt hs ps cs chosen θ ≡ none

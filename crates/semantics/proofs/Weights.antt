@@ -33,6 +33,7 @@ pub weight-cons :
 unfolding weight
 weight-cons symbols c cs = refl
 
+-- no constraints weigh nothing
 pub weight-nil : (symbols : List Symbol) → weight symbols [] ≡ 0
 unfolding weight
 weight-nil symbols = refl
