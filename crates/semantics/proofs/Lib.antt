@@ -5,6 +5,17 @@ pub mod Multisets
 pub mod Atoms
 pub mod Closure
 pub mod Cores
+pub mod Options
+pub mod Bools
+pub mod Search
+pub mod Choosing
+pub mod Removal
+pub mod Pairs
+pub mod Comparison
+pub mod Weights
+pub mod Bound
+pub mod Entering
+pub mod Normal
 pub mod Isos
 pub mod Stepping
 pub mod Links
@@ -12,7 +23,6 @@ pub mod Stepping
 pub mod Contexts
 pub mod Commute
 pub mod Peaks
-pub mod Options
 pub mod Lifting
 pub mod SolveLaws
 pub mod PositionLaws
@@ -39,3 +49,5 @@ pub mod FireLaws
 pub mod Letters
 pub mod VariantLaws
 pub mod Represent
+pub mod Reordering
+pub mod LateEntry

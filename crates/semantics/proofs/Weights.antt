@@ -1,0 +1,147 @@
+-- Every firing of a well-formed program lowers the weight of the state.
+--   weight-append, weight-inserted      the weight of lists of constraints
+--   matchAt-weight                      the constraints at matched positions weigh what the heads do
+--   rule-lowers                         a well-formed program's rule has heads that weigh more than its body
+--   stateWeight                         the weight of a state; a failed state has none
+--   fireAt-lighter                      a firing lowers it
+-- Assumes nothing.
+use Prim.Native.Nat.{ℕ, zero, suc, _+_, _<_, _≤_}
+use native.Mathlib.Nat.{zero-add, add-assoc}
+use native.Mathlib.Omega.{arith}
+use mathlib.Core.Bool.{Bool, true, _&&_}
+use mathlib.Core.List.{List, [], _∷_, _++_, map, append-assoc, append-nil}
+use mathlib.Core.Option.{Option, none, some}
+use mathlib.Core.Path.{_≡_, refl, ap}
+use lib.Dec.{eqb, ltb, ltb→lt}
+use lib.ListN.{getElem?}
+use Rattle.text.specs.Lists.{every}
+use Rattle.semantics.specs.Terms.{Term, Constraint, Symbol, Rule, Program, State, failed, live, mapTerms, mapSides}
+use Rattle.semantics.specs.Terms.{symbolAt, weight, isOfRule, isBelow, alphabet, isRuleOf, isWellFormed}
+use Rattle.semantics.specs.Matching.{Assignment, unassigned, matchConstraint, matchAt}
+use Rattle.semantics.specs.Solving.{solve}
+use Rattle.semantics.specs.Firing.{without, instance, settle, fired, fireAt}
+use Rattle.semantics.specs.Variants.{Inserted, here, there}
+use Rattle.semantics.proofs.Options.{true-T, eqb-equal, none-some, bind-some, cond-some}
+use Rattle.semantics.proofs.Bools.{and-true}
+use Rattle.semantics.proofs.Removal.{without-none, without-one}
+use Rattle.semantics.proofs.Search.{matchAt-cons}
+
+-- the weight of a list by its first constraint, and of none
+pub weight-cons :
+    (symbols : List Symbol) (c : Constraint) (cs : List Constraint)
+    → weight symbols (c ∷ cs) ≡ symbolAt symbols (c .symbol) .weight + weight symbols cs
+unfolding weight
+weight-cons symbols c cs = refl
+
+-- no constraints weigh nothing
+pub weight-nil : (symbols : List Symbol) → weight symbols [] ≡ 0
+unfolding weight
+weight-nil symbols = refl
+
+-- the weight of two lists, one behind the other
+pub weight-append :
+    (symbols : List Symbol) (cs ds : List Constraint) → weight symbols (cs ++ ds) ≡ weight symbols cs + weight symbols ds
+unfolding weight
+weight-append symbols [] ds = rw zero-add
+weight-append symbols (c ∷ cs) ds = rw (add-assoc) (ap (symbolAt symbols (c .symbol) .weight +_) (weight-append symbols cs ds))
+
+-- the weight with one more constraint
+pub weight-inserted :
+    (symbols : List Symbol) {c : Constraint} {cs ds : List Constraint} → Inserted c cs ds
+    → weight symbols ds ≡ symbolAt symbols (c .symbol) .weight + weight symbols cs
+unfolding weight
+weight-inserted symbols here = refl
+weight-inserted symbols (there i) = omega (arith, weight-inserted symbols i)
+
+-- replacing terms keeps the weight
+pub weight-map :
+    (symbols : List Symbol) (f : Term → Term) (cs : List Constraint) → weight symbols (map (mapTerms f) cs) ≡ weight symbols cs
+unfolding weight mapTerms
+weight-map symbols f [] = refl
+weight-map symbols f (c ∷ cs) = ap (symbolAt symbols (c .symbol) .weight +_) (weight-map symbols f cs)
+
+-- a head fits only a constraint of its own symbol
+pub matchConstraint-symbol :
+    (h c : Constraint) (θ end : Assignment) → matchConstraint h c θ ≡ some end → h .symbol ≡ c .symbol
+unfolding matchConstraint
+matchConstraint-symbol h c θ end e =
+    eqb-equal (cond-some (eqb (h .symbol) (c .symbol)) e .0)
+
+-- the constraints at matched positions weigh what the heads do
+pub matchAt-weight :
+    (symbols : List Symbol) (hs : List Constraint) (ps : List ℕ) (cs : List Constraint) (chosen : List ℕ) (θ end : Assignment)
+    → matchAt hs ps cs chosen θ ≡ some end
+    → weight symbols (without 0 chosen cs) ≡ weight symbols hs + weight symbols (without 0 (chosen ++ ps) cs)
+unfolding matchAt
+matchAt-weight symbols [] [] cs chosen θ end e = rw (append-nil, weight-nil, zero-add)
+matchAt-weight symbols [] (p ∷ ps) cs chosen θ end e = none-some refl e
+matchAt-weight symbols (h ∷ hs) [] cs chosen θ end e = none-some refl e
+matchAt-weight symbols (h ∷ hs) (p ∷ ps) cs chosen θ end e =
+    let f = matchAt-cons h hs p ps cs chosen θ end e in
+    let i = without-one 0 chosen cs p p (f .constraint) (omega arith) (f .stands) (f .free) in
+    let m = matchAt-weight symbols hs ps cs (chosen ++ (p ∷ [])) (f .next) end (f .rest) in
+    let s = matchConstraint-symbol h (f .constraint) θ (f .next) (f .fits) in
+    let w = rw (← s) at (weight-inserted symbols i) in
+    let a = rw append-assoc at m in
+    omega (arith, w, a, weight-cons symbols h hs)
+
+-- an element of a list that passes a test throughout
+pub every-at {ℓ} :
+    {A : Type ℓ} (test : A → Bool) (l : List A) (n : ℕ) (a : A) → every test l ≡ true → getElem? l n ≡ some a
+    → test a ≡ true
+every-at test [] n a e s = none-some refl s
+every-at test (b ∷ l) zero a e s = let q : b ≡ a = cc in rw (← q) (and-true (test b) (every test l) e .0)
+every-at test (b ∷ l) (suc n) a e s = every-at test l n a (and-true (test b) (every test l) e .1) s
+
+-- a rule of a well-formed program has heads that weigh more than its body
+pub rule-lowers :
+    (p : Program) (n : ℕ) (r : Rule) → isWellFormed p ≡ true → getElem? (p .rules) n ≡ some r
+    → weight (p .symbols) (r .body) < weight (p .symbols) (r .heads)
+unfolding isWellFormed isRuleOf
+rule-lowers p n r w s =
+    let e = every-at (isRuleOf (p .symbols)) (p .rules) n r w s in
+    let over = every (isOfRule (p .symbols)) (r .heads) && every (isOfRule (p .symbols)) (r .body)
+            && every (λ q. isBelow alphabet (q .left) && isBelow alphabet (q .right)) (r .equations) in
+    let heavy = ltb (weight (p .symbols) (r .body)) (weight (p .symbols) (r .heads)) in
+    ltb→lt (weight (p .symbols) (r .body)) (weight (p .symbols) (r .heads)) (true-T {b = heavy} (and-true over heavy e .1))
+
+-- the weight of a state; a failed one has none
+unfoldable pub stateWeight : List Symbol → State → ℕ
+stateWeight symbols failed = 0
+stateWeight symbols (live next bound cs) = weight symbols cs
+
+-- what settling leaves weighs no more than what was settled
+settle-weight :
+    (symbols : List Symbol) (o : Option (Term → Term)) (next : ℕ) (bound : List Term) (cs : List Constraint)
+    → stateWeight symbols (settle o next bound cs) ≤ weight symbols cs
+unfolding settle stateWeight
+settle-weight symbols none next bound cs = omega arith
+settle-weight symbols (some σ) next bound cs = rw weight-map (omega arith)
+
+-- firing a rule whose heads match, and weigh more than its body
+fired-lighter :
+    (symbols : List Symbol) (r : Rule) (ps : List ℕ) (θ : Assignment) (next : ℕ) (bound : List Term) (cs : List Constraint)
+    → weight symbols (r .body) < weight symbols (r .heads) → matchAt (r .heads) ps cs [] unassigned ≡ some θ
+    → stateWeight symbols (fired r ps θ next bound cs) < weight symbols cs
+unfolding fired
+fired-lighter symbols r ps θ next bound cs l m =
+    let body = map (mapTerms (instance next θ)) (r .body) in
+    let o = solve (map (mapSides (instance next θ)) (r .equations)) (λ t. t) in
+    omega (
+      arith,
+      l,
+      rw without-none at (matchAt-weight symbols (r .heads) ps cs [] unassigned θ m),
+      settle-weight symbols o (next + alphabet) bound (without 0 ps cs ++ body),
+      weight-append symbols (without 0 ps cs) body,
+      weight-map symbols (instance next θ) (r .body))
+
+-- a firing of a well-formed program's rule lowers the weight of the state
+pub fireAt-lighter :
+    (p : Program) (n : ℕ) (r : Rule) (ps : List ℕ) (s t : State) → isWellFormed p ≡ true → getElem? (p .rules) n ≡ some r
+    → fireAt r ps s ≡ some t → stateWeight (p .symbols) t < stateWeight (p .symbols) s
+unfolding fireAt stateWeight
+fireAt-lighter p n r ps failed t w e f = none-some refl f
+fireAt-lighter p n r ps (live next bound cs) t w e f =
+    let u = bind-some (matchAt (r .heads) ps cs [] unassigned) (λ θ. some (fired r ps θ next bound cs)) f in
+    let q : fired r ps (u .0) next bound cs ≡ t = cc (u .2) in
+    rw q at (fired-lighter (p .symbols) r ps (u .0) next bound cs (rule-lowers p n r w e) (u .1))
