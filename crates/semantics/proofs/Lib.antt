@@ -19,7 +19,6 @@ pub mod Normal
 pub mod Isos
 pub mod Stepping
 pub mod Links
-pub mod Stepping
 pub mod Contexts
 pub mod Commute
 pub mod Peaks
@@ -27,12 +26,6 @@ pub mod Lifting
 pub mod SolveLaws
 pub mod PositionLaws
 pub mod MatchLaws
-pub mod Bools
-pub mod Search
-pub mod Choosing
-pub mod Removal
-pub mod Pairs
-pub mod Comparison
 pub mod Places
 pub mod Pairings
 pub mod OverlapPositions
