@@ -5,19 +5,19 @@
 --   member-overlaps                                 each overlap of rules i ≤ j is listed
 --   Listed, overlaps-member                         and nothing else
 -- Assumes nothing.
-use Prim.Native.Nat.{ℕ, zero, suc, _+_, _≤_, _<_}
+use Prim.Native.Nat.{ℕ, zero, suc, _+_, _≤_}
 use native.Mathlib.Omega.{arith}
-use mathlib.Core.Bool.{Bool, true, false, cond}
+use mathlib.Core.Bool.{true, cond}
 use mathlib.Core.List.{List, [], _∷_, _++_, map}
-use mathlib.Core.Option.{Option, none, some}
+use mathlib.Core.Option.{none, some}
 use mathlib.Core.Path.{_≡_, refl, sym, ap, subst, subst₂, _∙_}
 use lib.ListN.{length, getElem?}
-use Rattle.text.specs.Lists.{bind, gather, answers, upTo}
-use Rattle.semantics.specs.Terms.{Term, Constraint, Equation, Rule, Program, mapTerms}
+use Rattle.text.specs.Lists.{bind, gather, upTo}
+use Rattle.semantics.specs.Terms.{Term, Equation, Rule, Program, mapTerms}
 use Rattle.semantics.specs.Solving.{solve}
 use Rattle.semantics.specs.Overlaps.{partnerLists, isPairing, pairings, Numbered, Overlap, apart, joinEquations}
 use Rattle.semantics.specs.Overlaps.{unjoinedHeads, goalOf, overlapOf, numberedFrom, overlapsOf, overlapsAmong, overlaps}
-use Rattle.semantics.proofs.Configurations.{Or, inl, inr, Member, first, later, All, also}
+use Rattle.semantics.proofs.Configurations.{Or, inl, inr, Member, first, All, also}
 use Rattle.semantics.proofs.Configurations as C
 use Rattle.semantics.proofs.Options.{none-some, bind-some, cond-some}
 use Rattle.semantics.proofs.Multisets.{member-cons, member-nil, member-append, member-append-left, member-append-right}

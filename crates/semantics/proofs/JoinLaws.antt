@@ -4,11 +4,11 @@
 --   join-complete            heads that something makes equal where they are joined have equations, which it makes hold
 --   agreed-joined            the same from equal elements of two lists, which are the heads under a replacement
 -- Assumes nothing.
-use Prim.Native.Nat.{ℕ, zero, suc, _+_, _≤_, _<_}
+use Prim.Native.Nat.{ℕ, zero, suc, _+_, _≤_}
 use native.Mathlib.Omega.{arith}
-use mathlib.Core.Bool.{Bool, true, false, cond, not, _&&_, _||_}
+use mathlib.Core.Bool.{true}
 use mathlib.Core.List.{List, [], _∷_, _++_, map}
-use mathlib.Core.Option.{Option, some}
+use mathlib.Core.Option.{some}
 use mathlib.Core.Path.{_≡_, refl, sym, ap, subst, _∙_}
 use lib.Dec.{eqb}
 use lib.ListN.{length, getElem?}
@@ -16,17 +16,15 @@ use Rattle.text.specs.Lists.{bind, has, placeFrom}
 use Rattle.semantics.specs.Terms.{Term, Constraint, Equation, mapTerms}
 use Rattle.semantics.specs.Overlaps.{isOneToOne, equateTerms, equate, joinEquations}
 use Rattle.semantics.specs.Variants.{Pointwise, empty, each}
-use Rattle.semantics.proofs.Configurations.{Or, inl, inr, Member, first, later, All, none, also}
-use Rattle.semantics.proofs.Options.{decide, true-false, none-some, bind-some, cond-some, eqb-equal, equal-eqb, apart-eqb}
-use Rattle.semantics.proofs.Bools.{and-true, or-cases}
+use Rattle.semantics.proofs.Configurations.{Or, inl, inr, Member, first, later, All}
+use Rattle.semantics.proofs.Options.{none-some, bind-some, cond-some, eqb-equal, equal-eqb}
 use Rattle.semantics.proofs.Multisets.{member-nil, member-cons, member-append, member-append-left, member-append-right}
 use Rattle.semantics.proofs.Multisets.{pointwise-mono, all-member}
 use Rattle.semantics.proofs.MatchLaws.{ConstraintRel}
-use Rattle.semantics.proofs.Places.{some-equal, not-true, placeFrom-hit, placeFrom-miss, getElem-map, getElem-at}
-use Rattle.semantics.proofs.Places.{getElem-below, place-stands, has-at}
+use Rattle.semantics.proofs.Places.{some-equal, getElem-map, getElem-at}
+use Rattle.semantics.proofs.Places.{getElem-below, place-stands, has-at, pointwise-get}
 use Rattle.semantics.proofs.Listings.{at-member}
-use Rattle.semantics.proofs.Pairings.{Agreed}
-use Rattle.semantics.proofs.Partners.{agreed-of, pointwise-get}
+use Rattle.semantics.proofs.Pairings.{Agreed, agreed-of, agreed-at, once-place}
 
 -- a function on terms makes all equations hold
 abbrev pub Holds : (Term → Term) → List Equation → Type 0
@@ -175,31 +173,6 @@ join-complete f (h ∷ hs) (suc d ∷ ds) gs j =
         → f (e .left) ≡ f (e .right)
     go es more one two e (inl i) = one e i
     go es more one two e (inr i) = two e i
-
--- a partner other than 0 stands once
-pub once-place :
-    (ds : List ℕ) (k d : ℕ) → isOneToOne ds ≡ true → getElem? ds k ≡ some (suc d) → placeFrom (eqb (suc d)) 0 ds ≡ k
-unfolding isOneToOne
-once-place [] k d u e = none-some refl e
-once-place (c ∷ ds) zero d u e = placeFrom-hit (eqb (suc d)) 0 ds (equal-eqb {m = suc d} {n = c} (sym (some-equal e)))
-once-place (c ∷ ds) (suc k) d u e =
-    let (v, w) = and-true (eqb c 0 || not (has c ds)) (isOneToOne ds) u in
-    placeFrom-miss (eqb (suc d)) 0 ds (apart-eqb {m = suc d} {n = c} (λ z. twice z (or-cases (eqb c 0) (not (has c ds)) v)))
-    ∙ ap suc (once-place ds k d w e)
-  where
-    twice : suc d ≡ c → Or (eqb c 0 ≡ true) (not (has c ds) ≡ true) → ⊥
-    twice z (inl p) = let q : c ≡ 0 = eqb-equal p in omega arith
-    twice z (inr p) = true-false (has-at c ds k (e ∙ ap some z)) (not-true (has c ds) p)
-
--- joined elements are equal, by their numbers
-pub agreed-at :
-    {A : Type 0} (n : ℕ) (xs ys : List A) (ds : List ℕ) → Agreed n xs ys ds → (m k : ℕ) {y : A} → m ≡ n + k
-    → getElem? ys k ≡ some y → has m ds ≡ true → getElem? xs (placeFrom (eqb m) 0 ds) ≡ some y
-agreed-at n xs [] ds a m k e s h = none-some refl s
-agreed-at n xs (y ∷ ys) ds a m zero e s h =
-    let z : n ≡ m = omega arith in
-    subst (λ i. getElem? xs (placeFrom (eqb i) 0 ds) ≡ some y) z (a .0 (subst (λ i. has i ds ≡ true) (sym z) h)) ∙ s
-agreed-at n xs (y ∷ ys) ds a m (suc k) e s h = agreed-at (suc n) xs ys ds (a .1) m k (omega arith) s h
 
 -- heads that f makes the elements of two lists, which are equal where they are joined, become equal where they are joined
 pub agreed-joined :

@@ -1,38 +1,41 @@
 -- The goal of an overlap (document 000): both of its rules fit in it, each on its own side.
 --   overlapOrder, goalTerm            the goal's variables, in order; a term of the rules, as it stands in the goal
+--   goalValue                         what a goal variable stands for, under a replacement of the rules' variables
 --   goal-constraints, goal-agreed     the goal's constraints; joined heads are equal in it
 --   first-stands, second-stands       where the heads of the two rules stand in it
 --   first-fits, second-fits           both rules fit there
 --   first-fires, second-fires         so both sides fire
 --   overlap-goal                      it is a goal over the program's symbols
 -- Assumes nothing.
-use Prim.Native.Nat.{ℕ, zero, suc, _+_, _≤_, _<_}
+use Prim.Native.Nat.{ℕ, suc}
 use native.Mathlib.Omega.{arith}
 use mathlib.Core.Bool.{Bool, true, false, cond, _&&_}
 use mathlib.Core.List.{List, [], _∷_, _++_, map, map-map, map-append}
-use mathlib.Core.Option.{Option, some}
-use mathlib.Core.Path.{_≡_, refl, sym, ap, ap₂, subst, subst₂, _∙_}
-use lib.Dec.{eqb, ltb}
-use lib.ListN.{length, getElem?, length-map}
-use Rattle.text.specs.Lists.{bind, every, has, tabled, upTo}
-use Rattle.semantics.specs.Terms.{Term, con, var, Constraint, Symbol, Rule, Program, Goal, State, mapTerms}
-use Rattle.semantics.specs.Terms.{symbolAt, isDeclared, isBelow, isGoalOf, alphabet, isOfRule, isRuleOf, isWellFormed, weight}
+use mathlib.Core.Option.{some}
+use mathlib.Core.Path.{_≡_, refl, sym, ap, subst, subst₂, _∙_}
+use lib.Dec.{ltb}
+use lib.ListN.{length, getD, getElem?, length-map}
+use Rattle.text.specs.Lists.{every, has, tabled, upTo}
+use Rattle.semantics.specs.Terms.{Term, con, var, Constraint, Symbol, Rule, Program, State, mapTerms}
+use Rattle.semantics.specs.Terms.{isDeclared, isBelow, isGoalOf, alphabet, isOfRule, isRuleOf, isWellFormed, weight}
 use Rattle.semantics.specs.Matching.{Assignment, unassigned, matchAt}
 use Rattle.semantics.specs.Firing.{fired, fireAt}
 use Rattle.semantics.specs.Strategy.{entered}
 use Rattle.semantics.specs.Overlaps.{apart, unjoinedHeads, secondPositions, appearing, numbered, goalOf}
 use Rattle.semantics.specs.Overlaps.{Numbered, Overlap}
 use Rattle.semantics.specs.Variants.{Pointwise, empty, each}
-use Rattle.semantics.proofs.Configurations.{Member, first, later, All, none, also, TermBelow}
+use Rattle.semantics.proofs.Configurations.{All, none, also, TermBelow}
 use Rattle.semantics.proofs.Options.{none-some, below-isBelow, isBelow-below}
 use Rattle.semantics.proofs.Bools.{and-true}
-use Rattle.semantics.proofs.Multisets.{all-member, all-of-members, all-mono, all-append, all-map}
-use Rattle.semantics.proofs.SolveLaws.{Solution, solve-solution}
-use Rattle.semantics.proofs.PositionLaws.{Stands, Fresh}
+use Rattle.semantics.proofs.Multisets.{all-mono, all-append}
+use Rattle.semantics.proofs.SolveLaws.{solve-solution}
+use Rattle.semantics.proofs.PositionLaws.{Stands}
 use Rattle.semantics.proofs.MatchLaws.{ConstraintRel, instantiate, Agrees, matchAt-complete}
 use Rattle.semantics.proofs.Pairings.{leftover, Agreed, leftover-map, unjoined-leftover}
 use Rattle.semantics.proofs.OverlapPositions.{first-stand, first-fresh, second-stand, second-fresh}
-use Rattle.semantics.proofs.Listings.{at-member, all-every, every-all}
+use Rattle.semantics.proofs.Listings.{all-every}
+use Rattle.semantics.proofs.Letters.{every-all}
+use Rattle.semantics.proofs.Weights.{every-at}
 use Rattle.semantics.proofs.Enumeration.{OverlapParts}
 use Rattle.semantics.proofs.Appearing.{goal-scoped}
 use Rattle.semantics.proofs.JoinLaws.{Holds, join-agreed}
@@ -91,6 +94,10 @@ module _ {i j : Numbered} {ds : List ℕ} {o : Overlap} (parts : OverlapParts i 
   -- a term of the two rules, as it stands in the goal
   abbrev pub goalTerm : Term → Term
   goalTerm t = numbered overlapOrder (parts .solution t)
+
+  -- what a goal variable stands for, under a replacement of the rules' variables
+  abbrev pub goalValue : (ℕ → Term) → ℕ → Term
+  goalValue θ v = θ (getD overlapOrder v 0)
 
   -- the heads of the first rule, and of the second, in the goal
   abbrev pub goalFirst : List Constraint
@@ -235,7 +242,7 @@ pub wellFormed-heads :
     → All (λ c. isDeclared (p .symbols) c ≡ true) (r .heads) × All (λ c. All (TermBelow alphabet) (c .terms)) (r .heads)
 unfolding isWellFormed isRuleOf isOfRule
 wellFormed-heads p n {r} w e =
-    let rule = all-member (every-all (isRuleOf (p .symbols)) (p .rules) w) (at-member (p .rules) n e) in
+    let rule = every-at (isRuleOf (p .symbols)) (p .rules) n r w e in
     let heads = every-all (isOfRule (p .symbols)) (r .heads) (first-of (every (isOfRule (p .symbols)) (r .heads))
         (every (isOfRule (p .symbols)) (r .body))
         (every (λ e. isBelow alphabet (e .left) && isBelow alphabet (e .right)) (r .equations))

@@ -5,26 +5,25 @@
 --   overlap-exists                         joined heads that a replacement makes equal have an overlap
 --   goal-matched, first-matched, second-matched      its goal, and each side of it, is what is matched, under the replacement
 -- Assumes nothing.
-use Prim.Native.Nat.{ℕ, zero, suc, _+_, _-_, _≤_, _<_}
+use Prim.Native.Nat.{ℕ, suc, _+_, _-_, _≤_}
 use native.Mathlib.Omega.{arith}
-use mathlib.Core.Bool.{Bool, true, false, cond}
+use mathlib.Core.Bool.{true, cond}
 use mathlib.Core.List.{List, [], _∷_, _++_, map, map-append}
 use mathlib.Core.Option.{Option, none, some}
-use mathlib.Core.Path.{_≡_, refl, sym, ap, subst, subst₂, _∙_}
+use mathlib.Core.Path.{_≡_, refl, sym, ap, subst, _∙_}
 use lib.Dec.{ltb}
-use lib.ListN.{length, getD, length-map}
-use Rattle.text.specs.Lists.{onward, bind}
+use lib.ListN.{length, length-map}
+use Rattle.text.specs.Lists.{onward}
 use Rattle.semantics.specs.Terms.{Term, con, var, Constraint, Equation, mapTerms, alphabet}
 use Rattle.semantics.specs.Matching.{Assignment}
 use Rattle.semantics.specs.Solving.{solve}
-use Rattle.semantics.specs.Overlaps.{isOneToOne, apart, joinEquations, unjoinedHeads, goalOf, Numbered, Overlap, overlapOf}
+use Rattle.semantics.specs.Overlaps.{isOneToOne, apart, unjoinedHeads, goalOf, Numbered, Overlap, overlapOf}
 use Rattle.semantics.specs.Variants.{Pointwise, empty, each}
 use Rattle.semantics.proofs.Configurations.{Member, All, also, TermBelow, Tm, Eqn, Eqv, sub, lift, liftEqn}
 use Rattle.semantics.proofs.Configurations as C
 use Rattle.semantics.proofs.Closure.{eqv-path, eqv-nil, eqv-sub}
 use Rattle.semantics.proofs.Lifting.{down, down-lift}
-use Rattle.semantics.proofs.Multisets.{member-unmap, pointwise-mono, pointwise-refl, pointwise-length, pointwise-parts}
-use Rattle.semantics.proofs.Multisets.{pointwise-path}
+use Rattle.semantics.proofs.Multisets.{member-unmap, pointwise-mono, pointwise-length}
 use Rattle.semantics.proofs.SolveLaws.{Solution, solve-solution, solve-clash}
 use Rattle.semantics.proofs.MatchLaws.{TermFits, ConstraintRel, instantiate}
 use Rattle.semantics.proofs.Places.{leb-true, leb-false}
@@ -32,7 +31,7 @@ use Rattle.semantics.proofs.Pairings.{leftover, Agreed, join-pointwise,
 use Rattle.semantics.proofs.Enumeration.{OverlapParts}
 use Rattle.semantics.proofs.Appearing.{goal-instance}
 use Rattle.semantics.proofs.JoinLaws.{Holds, join-complete, agreed-joined}
-use Rattle.semantics.proofs.OverlapGoals.{secondHeads, overlapOrder, goalTerm, goalFirst, goalSecond, goal-constraints}
+use Rattle.semantics.proofs.OverlapGoals.{secondHeads, goalTerm, goalValue, goalFirst, goalSecond, goal-constraints}
 use Rattle.semantics.proofs.OverlapGoals.{goal-agreed, mapTerms-twice}
 
 -- what an assignment replaces a variable by; what it leaves open is a constant
@@ -188,13 +187,13 @@ module _
   where
   -- the goal is what is matched, with each of its variables replaced by what it stands for
   pub goal-matched :
-      map (mapTerms (instantiate (λ v. θ (getD (overlapOrder parts) v 0)))) (o .goal .constraints) ≡ M ++ leftover 1 N ds
+      map (mapTerms (instantiate (goalValue parts θ))) (o .goal .constraints) ≡ M ++ leftover 1 N ds
   goal-matched =
       let hs = i .rule .heads in
       let gs = secondHeads j in
       let σ = parts .solution in
       let rest = unjoinedHeads 1 gs ds in
-      ap (λ x. map (mapTerms (instantiate (λ v. θ (getD (overlapOrder parts) v 0)))) (x .goal .constraints)) (parts .made)
+      ap (λ x. map (mapTerms (instantiate (goalValue parts θ))) (x .goal .constraints)) (parts .made)
       ∙ goal-instance θ (map (mapTerms σ) (hs ++ rest)) ∙ mapTerms-twice (instantiate θ) σ (hs ++ rest)
       ∙ (λ k. map (mapTerms (λ t. same t k)) (hs ++ rest)) ∙ map-append (mapTerms (instantiate θ)) hs rest
       ∙ (λ k. instance-image (instantiate θ) p k ++ map (mapTerms (instantiate θ)) (unjoined-leftover 1 gs ds k))
@@ -203,25 +202,25 @@ module _
 
   -- so are the heads of the first rule in the goal, and what is left of the second's
   goal-sides :
-      (map (mapTerms (instantiate (λ v. θ (getD (overlapOrder parts) v 0)))) (goalFirst parts) ≡ M)
-      × (map (mapTerms (instantiate (λ v. θ (getD (overlapOrder parts) v 0)))) (leftover 1 (goalSecond parts) ds)
+      (map (mapTerms (instantiate (goalValue parts θ))) (goalFirst parts) ≡ M)
+      × (map (mapTerms (instantiate (goalValue parts θ))) (leftover 1 (goalSecond parts) ds)
         ≡ leftover 1 N ds)
   goal-sides =
-      let f = mapTerms (instantiate (λ v. θ (getD (overlapOrder parts) v 0))) in
+      let f = mapTerms (instantiate (goalValue parts θ)) in
       parts-equal (map f (goalFirst parts)) M
       (length-map (goalFirst parts) f ∙ length-map (i .rule .heads) (mapTerms (goalTerm parts)) ∙ pointwise-length p)
       (sym (map-append f (goalFirst parts) (leftover 1 (goalSecond parts) ds)) ∙ sym (ap (map f) (goal-constraints parts))
       ∙ goal-matched)
 
-  pub first-matched : map (mapTerms (instantiate (λ v. θ (getD (overlapOrder parts) v 0)))) (goalFirst parts) ≡ M
+  pub first-matched : map (mapTerms (instantiate (goalValue parts θ))) (goalFirst parts) ≡ M
   first-matched = goal-sides .0
 
   -- and all heads of the second
   pub second-matched :
       length ds ≡ length (i .rule .heads) → Agreed 1 M N ds
-      → map (mapTerms (instantiate (λ v. θ (getD (overlapOrder parts) v 0)))) (goalSecond parts) ≡ N
+      → map (mapTerms (instantiate (goalValue parts θ))) (goalSecond parts) ≡ N
   second-matched l a =
-      let f = mapTerms (instantiate (λ v. θ (getD (overlapOrder parts) v 0))) in
+      let f = mapTerms (instantiate (goalValue parts θ)) in
       pointwise-image f
       (join-pointwise 1 (goalSecond parts) N ds (image-pointwise f (goalFirst parts) (goal-sides .0))
       (image-pointwise f (leftover 1 (goalSecond parts) ds) (goal-sides .1)) (goal-agreed parts l) a
