@@ -33,16 +33,6 @@ pub mod Entering
 pub mod Normal
 pub mod Reordering
 pub mod LateEntry
-pub mod Isos
-pub mod Stepping
-pub mod Links
-pub mod Contexts
-pub mod Commute
-pub mod Peaks
-pub mod Lifting
-pub mod SolveLaws
-pub mod PositionLaws
-pub mod MatchLaws
 pub mod Places
 pub mod Pairings
 pub mod OverlapPositions

@@ -12,8 +12,9 @@ use mathlib.Core.Path.{_≡_, refl, sym, ap, ap₂, subst, subst₂, _∙_}
 use lib.Dec.{eqb}
 use lib.ListN.{length, getD, length-map}
 use Rattle.text.specs.Lists.{every, tabled}
-use Rattle.semantics.specs.Terms.{Term, Constraint, Rule, Program, isWellFormed}
+use Rattle.semantics.specs.Terms.{Term, Constraint, Rule, Program, mapTerms, isWellFormed}
 use Rattle.semantics.specs.Terms as T
+use Rattle.semantics.specs.Derivations.{become}
 use Rattle.semantics.specs.Overlaps.{Overlap, overlaps}
 use Rattle.semantics.specs.Variants.{Pointwise, SameMultiset}
 use Rattle.semantics.specs.Verdict.{isJoinable}
@@ -29,7 +30,7 @@ use Rattle.semantics.proofs.MatchLaws.{ConstraintRel, instantiate}
 use Rattle.semantics.proofs.MatchedTerms.{ConstraintBelow}
 use Rattle.semantics.proofs.Pairings.{leftover, alone, Agreed, join-pointwise, alone-pointwise, leftover-map, alone-map, agreed-map}
 use Rattle.semantics.proofs.Enumeration.{Listed, overlaps-member}
-use Rattle.semantics.proofs.Filling.{tabled-length, tabled-own}
+use Rattle.semantics.proofs.Entering.{tabled-length, constraint-itself}
 use Rattle.semantics.proofs.Reface.{entry}
 use Rattle.semantics.proofs.Critical.{Meets, atomsOf, meets-peak, meets-around}
 use Rattle.semantics.proofs.FireOn.{lift-multiset}
@@ -49,23 +50,29 @@ entry-list [] x d h = absurd (omega arith)
 entry-list (t ∷ l) zero d h = refl
 entry-list (t ∷ l) (suc x) d h = entry-list l x d (omega arith)
 
-entry-tabled : (k x : ℕ) → x < k → entry (map lift (tabled T.var k)) x ≡ var x
-entry-tabled k x h =
-    entry-list (tabled T.var k) x (T.var x) (subst (λ n. x < n) (sym (tabled-length k)) h) ∙ ap lift (tabled-own k x)
+-- a term over a goal's variables, by the face that lists them, is what it has become
+entry-become :
+    (k : ℕ) (t : Term) → TermBelow k t → sub (entry (map lift (tabled T.var k))) (lift t) ≡ lift (become (tabled T.var k) t)
+unfolding become
+entry-become k (T.con c) h = refl
+entry-become k (T.var x) h =
+    entry-list (tabled T.var k) x (T.var x) (subst (λ n. x < n) (sym (tabled-length T.var k)) h)
 
 -- the terms of constraints over a goal's variables are those of the face that lists them
 face-terms :
     (k : ℕ) {cs : List Constraint} → All (ConstraintBelow k) cs
     → map (sub (entry (map lift (tabled T.var k)))) (flat (map liftAtom cs)) ≡ flat (map liftAtom cs)
+unfolding mapTerms
 face-terms k C.none = refl
 face-terms k (also {a = c} {l = cs} h more) =
     map-append (sub (entry (map lift (tabled T.var k)))) (map lift (c .terms)) (flat (map liftAtom cs))
-    ∙ ap₂ _++_ (terms h) (face-terms k more)
+    ∙ ap₂ _++_ (terms h ∙ ap (λ (d : Constraint). map lift (d .terms)) (constraint-itself k c)) (face-terms k more)
   where
-    terms : {ts : List Term} → All (TermBelow k) ts → map (sub (entry (map lift (tabled T.var k)))) (map lift ts) ≡ map lift ts
+    terms :
+        {ts : List Term} → All (TermBelow k) ts
+        → map (sub (entry (map lift (tabled T.var k)))) (map lift ts) ≡ map lift (map (become (tabled T.var k)) ts)
     terms C.none = refl
-    terms (also {a = T.con c} h more) = ap (con c ∷_) (terms more)
-    terms (also {a = T.var x} h more) = ap₂ _∷_ (entry-tabled k x h) (terms more)
+    terms (also {a = t} h more) = ap₂ _∷_ (entry-become k t h) (terms more)
 
 -- constraints that a replacement makes others are atoms that it makes others
 instance-atoms :
