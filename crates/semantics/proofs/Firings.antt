@@ -2,24 +2,30 @@
 --   Fires                       a firing of a rule of a list
 --   star-reach, reach-star      firings one after the other, with and without their number
 --   normal-rests, rests-normal  no firing leads on exactly where no rule fits
+--   entered-scoped              all of a goal, entered, is a scoped state
 --   fires-…                     a firing keeps states scoped, lowers the weight, and is followed by equal states
 --   reducing                    what Newman's lemma asks of firings
 -- Assumes nothing.
-use Prim.Native.Nat.{ℕ, suc, _<_}
+use Prim.Native.Nat.{ℕ, zero, suc, _<_}
+use native.Mathlib.Omega.{arith}
 use mathlib.Core.Bool.{true}
-use mathlib.Core.List.{List}
+use mathlib.Core.List.{List, [], _∷_, _++_}
 use mathlib.Core.Option.{Option, none, some}
 use mathlib.Core.Path.{_≡_, refl}
 use lib.ListN.{getElem?}
-use Rattle.semantics.specs.Terms.{Rule, Program, State, isWellFormed}
+use Rattle.text.specs.Lists.{tabled}
+use Rattle.semantics.specs.Terms.{Rule, Program, Goal, State, isWellFormed}
+use Rattle.semantics.specs.Terms as T
 use Rattle.semantics.specs.Firing.{fireAt}
 use Rattle.semantics.specs.Derivations.{NoRuleFits}
-use Rattle.semantics.specs.Strategy.{advance}
+use Rattle.semantics.specs.Strategy.{advance, entered}
 use Rattle.semantics.specs.Variants.{Variant}
-use Rattle.semantics.proofs.Configurations.{Or, inl, inr, Member}
+use Rattle.semantics.proofs.Configurations.{Or, inl, inr, Member, TermBelow, All, also}
+use Rattle.semantics.proofs.Configurations as C
 use Rattle.semantics.proofs.Options.{none-some}
 use Rattle.semantics.proofs.Bools.{none-unless}
-use Rattle.semantics.proofs.Multisets.{all-member}
+use Rattle.semantics.proofs.Multisets.{all-member, all-mono, all-append}
+use Rattle.semantics.proofs.MatchedTerms.{ConstraintBelow, below-mono}
 use Rattle.semantics.proofs.Choosing.{advance-fires, advance-rests}
 use Rattle.semantics.proofs.Weights.{stateWeight, fireAt-lighter}
 use Rattle.semantics.proofs.Normal as N
@@ -27,7 +33,7 @@ use Rattle.semantics.proofs.Letters.{program-lettered}
 use Rattle.semantics.proofs.VariantLaws.{variant-refl, variant-sym, variant-trans}
 use Rattle.semantics.proofs.Represent.{ScopedState, Reach, arrived, fires, fireAt-scoped, variant-fires}
 use Rattle.semantics.proofs.Newman.{Star, here, next, Normal, Reducing}
-use Rattle.semantics.proofs.WellFormed.{stands-member, member-stands}
+use Rattle.semantics.proofs.Listings.{at-member, member-at}
 
 -- a firing of a rule of a list
 pub record Fires (rs : List Rule) (s t : State) : Type 0 where
@@ -39,7 +45,7 @@ pub record Fires (rs : List Rule) (s t : State) : Type 0 where
 -- the firing of the rule of a number
 pub fires-at :
     (rs : List Rule) (k : ℕ) (r : Rule) (ps : List ℕ) {s t : State} → getElem? rs k ≡ some r → fireAt r ps s ≡ some t → Fires rs s t
-fires-at rs k r ps e f = record { rule = r; positions = ps; among = stands-member rs k e; fires = f }
+fires-at rs k r ps e f = record { rule = r; positions = ps; among = at-member rs k e; fires = f }
 
 -- firings one after the other
 pub reach-star : {rs : List Rule} {s t : State} → Reach rs s t → Star (Fires rs) s t
@@ -61,7 +67,7 @@ normal-rests p s h k r ps e = none-unless (fireAt r ps s) (λ t f. h t (fires-at
 
 pub rests-normal : (p : Program) (s : State) → NoRuleFits p s → Normal (Fires (p .rules)) s
 rests-normal p s h t f =
-    let (k, e) = member-stands (f .among) in
+    let (k, e) = member-at (f .among) in
     none-some (h k (f .rule) (f .positions) e) (f .fires)
 
 -- the strategy knows which it is
@@ -74,6 +80,17 @@ fires-known p s = go (advance (p .rules) s) refl
         let (k, r, ps, a, f) = advance-fires (p .rules) s t e in
         inr (t, fires-at (p .rules) k r ps a f)
 
+-- the variables below a number are below it
+tabled-below : (n : ℕ) → All (TermBelow n) (tabled T.var n)
+tabled-below zero = C.none
+tabled-below (suc n) =
+    all-append (all-mono (λ t h. below-mono (omega arith) t h) (tabled-below n)) (also (omega arith) C.none)
+
+-- all of a goal, entered, is scoped
+pub entered-scoped : (g : Goal) → All (ConstraintBelow (g .variables)) (g .constraints) → ScopedState (entered g)
+unfolding entered
+entered-scoped g h = record { bound = tabled-below (g .variables); constraints = h }
+
 module _ (p : Program) (w : isWellFormed p ≡ true) where
   -- a firing keeps every variable below the state's number
   pub fires-scoped : (s t : State) → ScopedState s → Fires (p .rules) s t → ScopedState t
@@ -82,7 +99,7 @@ module _ (p : Program) (w : isWellFormed p ≡ true) where
   -- it lowers the weight
   pub fires-lighter : (s t : State) → Fires (p .rules) s t → stateWeight (p .symbols) t < stateWeight (p .symbols) s
   fires-lighter s t f =
-      let (k, e) = member-stands (f .among) in
+      let (k, e) = member-at (f .among) in
       fireAt-lighter p k (f .rule) (f .positions) s t w e (f .fires)
 
   -- equal states fire alike

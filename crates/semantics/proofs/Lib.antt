@@ -45,11 +45,10 @@ pub mod JoinLaws
 pub mod OverlapGoals
 pub mod PeakOverlaps
 pub mod Newman
-pub mod WellFormed
 pub mod Firings
 pub mod Reface
 pub mod Critical
 pub mod FireOn
 pub mod Sides
-pub mod Peak
+pub mod Forks
 pub mod SideRuns

@@ -34,8 +34,8 @@ use Rattle.semantics.proofs.Pairings.{leftover, alone, Agreed, join-uni
 use Rattle.semantics.proofs.OverlapPositions.{first-stand, first-fresh, second-stand, second-fresh}
 use Rattle.semantics.proofs.Enumeration.{IsPairing, pairings-member, Listed, overlaps-member}
 use Rattle.semantics.proofs.Newman.{Star, Joined}
-use Rattle.semantics.proofs.Firings.{Fires, counted-star}
-use Rattle.semantics.proofs.WellFormed.{stands-member, entered-scoped}
+use Rattle.semantics.proofs.Firings.{Fires, counted-star, entered-scoped}
+use Rattle.semantics.proofs.Listings.{at-member}
 use Rattle.semantics.proofs.Critical.{Meets}
 use Rattle.semantics.proofs.FireOn.{fire-on, joined-meets}
 
@@ -99,7 +99,7 @@ module _ (p : Program) (w : isWellFormed p ≡ true) (o : Overlap) (listed : Lis
       let others = leftover 1 (G .secondOnes) (o .partners) in
       fire-on (o .first .rule) (upTo (length (o .first .rule .heads))) (o .goal .variables) (tabled T.var (o .goal .variables))
       (o .goal .constraints) ones others (G .firstUnder)
-      (all-member (program-lettered p w) (stands-member (p .rules) (o .first .number) (listed .firstRule))) goal-scoped (G .firstHeads)
+      (all-member (program-lettered p w) (at-member (p .rules) (o .first .number) (listed .firstRule))) goal-scoped (G .firstHeads)
       (subst₂ (λ cs n. Pointwise (Stands cs) (upTo n) ones) (sym (G .whole)) (sym first-length) (first-stand ones others))
       (first-fresh (length (o .first .rule .heads))) (multiset-of-path (G .whole))
 
@@ -120,7 +120,7 @@ module _ (p : Program) (w : isWellFormed p ≡ true) (o : Overlap) (listed : Lis
       let once : isOneToOne ds ≡ true = and-true (isOneToOne ds) (not (every (eqb 0) ds)) (paired .pairs) .0 in
       fire-on (o .second .rule) (secondPositions 1 (length (o .first .rule .heads)) (length (o .second .rule .heads)) ds)
       (o .goal .variables) (tabled T.var (o .goal .variables)) (o .goal .constraints) twos (alone ones ds) (G .secondUnder)
-      (all-member (program-lettered p w) (stands-member (p .rules) (o .second .number) (listed .secondRule))) goal-scoped
+      (all-member (program-lettered p w) (at-member (p .rules) (o .second .number) (listed .secondRule))) goal-scoped
       (G .secondHeads)
       (subst₃ (λ cs m n. Pointwise (Stands cs) (secondPositions 1 m n ds) twos) (sym (G .whole)) (sym first-length) (sym second-length)
       (second-stand ones twos ds (G .agreed)))

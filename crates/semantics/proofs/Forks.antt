@@ -1,7 +1,8 @@
--- Local confluence: where all overlaps of a well-formed program join, whatever two firings of one state lead to is joined.
+-- Forks of a state as a configuration: two firings on different constraints meet, and so do two on an instance of an overlap that
+-- joins.
+--   disjoint-meet         two firings on different constraints meet
 --   Instance              two matched lists of constraints are an instance of an overlap of the two rules
 --   overlapping-meet      then the two firings meet if the overlap joins
---   disjoint-meet         two firings on different constraints meet
 -- Assumes nothing.
 use Prim.Native.Nat.{ℕ, zero, suc, _+_, _≤_, _<_}
 use native.Mathlib.Omega.{arith}
