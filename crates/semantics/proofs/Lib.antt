@@ -52,3 +52,4 @@ pub mod FireOn
 pub mod Sides
 pub mod Forks
 pub mod SideRuns
+pub mod Peak
