@@ -5,7 +5,8 @@
 --   first-stands, second-stands       where the heads of the two rules stand in it
 --   first-fits, second-fits           both rules fit there
 --   first-fires, second-fires         so both sides fire
---   overlap-goal                      it is a goal over the program's symbols
+--   overlap-goal, listed-goal         it is a goal over the program's symbols
+--   first-end, second-end             the ends of the two sides of an overlap of a program
 -- Assumes nothing.
 use Prim.Native.Nat.{ℕ, suc}
 use native.Mathlib.Omega.{arith}
@@ -16,13 +17,13 @@ use mathlib.Core.Path.{_≡_, refl, sym, ap, subst, subst₂, _∙_}
 use lib.Dec.{ltb}
 use lib.ListN.{length, getD, getElem?, length-map}
 use Rattle.text.specs.Lists.{every, has, tabled, upTo}
-use Rattle.semantics.specs.Terms.{Term, con, var, Constraint, Symbol, Rule, Program, State, mapTerms}
+use Rattle.semantics.specs.Terms.{Term, con, var, Constraint, Symbol, Rule, Program, Goal, State, mapTerms}
 use Rattle.semantics.specs.Terms.{isDeclared, isBelow, isGoalOf, alphabet, isOfRule, isRuleOf, isWellFormed, weight}
 use Rattle.semantics.specs.Matching.{Assignment, unassigned, matchAt}
 use Rattle.semantics.specs.Firing.{fired, fireAt}
-use Rattle.semantics.specs.Strategy.{entered}
+use Rattle.semantics.specs.Strategy.{entered, normalise}
 use Rattle.semantics.specs.Overlaps.{apart, unjoinedHeads, secondPositions, appearing, numbered, goalOf}
-use Rattle.semantics.specs.Overlaps.{Numbered, Overlap}
+use Rattle.semantics.specs.Overlaps.{Numbered, Overlap, sideEnd, firstEnd, secondEnd}
 use Rattle.semantics.specs.Variants.{Pointwise, empty, each}
 use Rattle.semantics.proofs.Configurations.{All, none, also, TermBelow}
 use Rattle.semantics.proofs.Options.{none-some, below-isBelow, isBelow-below}
@@ -36,7 +37,7 @@ use Rattle.semantics.proofs.OverlapPositions.{first-stand, first-fresh,
 use Rattle.semantics.proofs.Listings.{all-every}
 use Rattle.semantics.proofs.Letters.{every-all}
 use Rattle.semantics.proofs.Weights.{every-at}
-use Rattle.semantics.proofs.Enumeration.{OverlapParts}
+use Rattle.semantics.proofs.Enumeration.{OverlapParts, overlap-parts, Listed, pairings-member}
 use Rattle.semantics.proofs.Appearing.{goal-scoped}
 use Rattle.semantics.proofs.JoinLaws.{Holds, join-agreed}
 
@@ -254,3 +255,41 @@ wellFormed-heads p n {r} w e =
   where
     first-of : (a b c d : Bool) → (a && b && c && d) ≡ true → a ≡ true
     first-of a b c d h = and-true a b (and-true (a && b) c (and-true (a && b && c) d h .0) .0) .0
+
+-- an overlap of a well-formed program has a goal of the program
+pub listed-goal : (p : Program) {o : Overlap} → isWellFormed p ≡ true → Listed p o → isGoalOf p (o .goal) ≡ true
+listed-goal p {o} w l =
+    overlap-goal (overlap-parts (o .first) (o .second) (o .partners) (l .made)) p
+    (wellFormed-heads p (o .first .number) w (l .firstRule) .0) (wellFormed-heads p (o .second .number) w (l .secondRule) .0)
+
+-- the end of a side that fires is what the strategy makes of the state after its firing
+side-end :
+    (p : Program) (g : Goal) (r : Rule) (ps : List ℕ) {s : State} → fireAt r ps (entered g) ≡ some s
+    → sideEnd p g r ps ≡ normalise (weight (p .symbols) (g .constraints)) (p .rules) s 1
+unfolding sideEnd
+side-end p g r ps e = rw e
+
+-- so both sides of an overlap of a program fire, and end so
+pub first-end :
+    (p : Program) {o : Overlap} → Listed p o
+    → (s : State) × (fireAt (o .first .rule) (upTo (length (o .first .rule .heads))) (entered (o .goal)) ≡ some s)
+      × (firstEnd p o ≡ normalise (weight (p .symbols) (o .goal .constraints)) (p .rules) s 1)
+unfolding firstEnd
+first-end p {o} l =
+    let (s, e) = first-fires (overlap-parts (o .first) (o .second) (o .partners) (l .made)) in
+    (s, e, side-end p (o .goal) (o .first .rule) (upTo (length (o .first .rule .heads))) e)
+
+pub second-end :
+    (p : Program) {o : Overlap} → Listed p o
+    → (s : State)
+      × (fireAt (o .second .rule)
+        (secondPositions 1 (length (o .first .rule .heads)) (length (o .second .rule .heads)) (o .partners)) (entered (o .goal))
+        ≡ some s)
+      × (secondEnd p o ≡ normalise (weight (p .symbols) (o .goal .constraints)) (p .rules) s 1)
+unfolding secondEnd
+second-end p {o} l =
+    let m = length (o .first .rule .heads) in
+    let n = length (o .second .rule .heads) in
+    let (s, e) = second-fires (overlap-parts (o .first) (o .second) (o .partners) (l .made))
+        (pairings-member m n (o .partners) (l .paired) .long) in
+    (s, e, side-end p (o .goal) (o .second .rule) (secondPositions 1 m n (o .partners)) e)

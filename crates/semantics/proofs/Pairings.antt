@@ -52,6 +52,7 @@ rest n [] ds = []
 rest n (x ∷ xs) [] = []
 rest n (x ∷ xs) (d ∷ ds) = cond (keeps n d) (x ∷ rest n xs ds) (rest n xs ds)
 
+-- number 1 keeps everything
 keeps-one : (d : ℕ) → keeps 1 d ≡ true
 keeps-one zero = refl
 keeps-one (suc d) = rw (apart-eqb {m = suc d} {n = 0} (λ e. omega arith), leb-true 1 (suc d) (omega arith))

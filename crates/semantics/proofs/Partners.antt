@@ -27,7 +27,8 @@ use Rattle.semantics.proofs.PositionLaws.{Stands, Fresh, without-taken}
 use Rattle.semantics.proofs.Multisets.{multiset-refl, multiset-right, multiset-back, multiset-append, pointwise-append}
 use Rattle.semantics.proofs.Multisets.{pointwise-length}
 use Rattle.semantics.proofs.Places.{false-unless, some-equal, getElem-below, place-stands}
-use Rattle.semantics.proofs.Places.{has-at, Distinct, distinct-fresh, fresh-distinct, distinct-append, place-unique, pointwise-get, pointwise-get-back}
+use Rattle.semantics.proofs.Places.{has-at, Distinct, distinct-fresh, fresh-distinct, distinct-append, place-unique}
+use Rattle.semantics.proofs.Places.{pointwise-get, pointwise-get-back}
 use Rattle.semantics.proofs.Pairings.{leftover, alone, Agreed, join-union, leftover-pointwise, agreed-of}
 
 -- one position's place in a list, from 1; 0 where it does not stand there

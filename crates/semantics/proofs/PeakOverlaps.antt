@@ -1,9 +1,9 @@
 -- Two rules that fit and share a constraint have an overlap (document 000), of whose goal the constraints that they match are an
 -- instance.
 --   merged, merged-first, merged-second    one replacement for the variables of both rules
---   holds-solves, solution-instance        equations that hold under a replacement have a solution, which changes nothing under it
+--   holds-solves, solution-instance        equations that hold under a replacement have a solution, which it does not see
 --   overlap-exists                         joined heads that a replacement makes equal have an overlap
---   goal-matched, first-matched, second-matched      its goal, and each side of it, is what is matched, under the replacement
+--   goal-matched, first-, second-matched   its goal, and each side of it, is what is matched, under the replacement
 -- Assumes nothing.
 use Prim.Native.Nat.{ℕ, suc, _+_, _-_, _≤_}
 use native.Mathlib.Omega.{arith}
@@ -118,7 +118,7 @@ holds-solves θ es h = go (solve es (λ t. t)) refl
     go none e = let (a, b, d, v) = solve-clash es e in absurd (clash a b (holds-equal θ es h v) d)
     go (some σ) e = (σ, e)
 
--- and the solution changes nothing under the replacement
+-- and the replacement does not see the solution: a term and what it becomes are equal under it
 pub solution-instance :
     (θ : ℕ → Term) (es : List Equation) {σ : Term → Term} → Holds (instantiate θ) es → Solution es σ
     → (t : Term) → instantiate θ (σ t) ≡ instantiate θ t
@@ -142,8 +142,10 @@ overlap-exists i j ds θ u b p q a =
     let bound = subst (λ n. All (λ d. d ≤ n) ds) (sym (length-map (j .rule .heads) (mapTerms apart))) b in
     let (es, e, h) = join-complete (instantiate θ) hs ds gs (agreed-joined (instantiate θ) ds u bound p q a) in
     let (σ, s) = holds-solves θ es h in
-    (record { first = i; second = j; partners = ds; goal = goalOf (map (mapTerms σ) (hs ++ unjoinedHeads 1 gs ds)) }, rw (e, s),
-    (record { equations = es; solution = σ; joined = e; solved = s; made = refl }, solution-instance θ es h (solve-solution es s)))
+    (record { first = i; second = j; partners = ds; goal = goalOf (map (mapTerms σ) (hs ++ unjoinedHeads 1 gs ds)) },
+    rw (e, s),
+    (record { equations = es; solution = σ; joined = e; solved = s; made = refl },
+    solution-instance θ es h (solve-solution es s)))
 
 -- an image, element by element
 image-pointwise : {A B : Type 0} (f : A → B) (l : List A) {m : List B} → map f l ≡ m → Pointwise (λ a b. f a ≡ b) l m
