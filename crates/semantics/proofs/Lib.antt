@@ -53,3 +53,4 @@ pub mod Sides
 pub mod Forks
 pub mod SideRuns
 pub mod Peak
+pub mod Exactness
