@@ -34,7 +34,7 @@ use Rattle.semantics.proofs.OverlapGoals.{listed-goal, first-end, secon
 use Rattle.semantics.proofs.Newman.{newman}
 use Rattle.semantics.proofs.Firings.{counted-star, rests-normal, entered-scoped, reducing}
 use Rattle.semantics.proofs.Peak.{peak-joined}
-use Rattle.semantics.proofs.SideRuns.{sideEvents, side-finished}
+use Rattle.semantics.proofs.SideRuns.{SideRun, side-run}
 
 -- all overlaps of a program join
 abbrev pub AllJoin : Program → Type 0
@@ -45,15 +45,6 @@ abbrev pub Confluent : Program → Type 1
 Confluent p =
     (g : Goal) → isGoalOf p g ≡ true → (es fs : List Event) → Finished p g (derive p g es) → Finished p g (derive p g fs)
     → Variant (derive p g es .state) (derive p g fs .state)
-
--- a side of an overlap as a derivation of its goal g: all constraints enter in order, the side's own rule fires, and the strategy
--- follows; it is finished, in the side's end and with its firings
-pub record SideRun (p : Program) (g : Goal) (k : ℕ) (r : Rule) (ps : List ℕ) (end : Final) : Type 0 where
-  pub after : State
-  pub fires : fireAt r ps (entered g) ≡ some after
-  pub finished : Finished p g (derive p g (sideEvents p g k ps after))
-  pub state : derive p g (sideEvents p g k ps after) .state ≡ end .state
-  pub firings : derive p g (sideEvents p g k ps after) .firings ≡ end .firings
 
 module _ (p : Program) (w : isWellFormed p ≡ true) where
   -- where all overlaps join, finished derivations of a goal end in equal states
@@ -67,31 +58,23 @@ module _ (p : Program) (w : isWellFormed p ≡ true) where
           (counted-star h) (counted-star k) (rests-normal p t rests) (rests-normal p u stops) in
       variant-trans one t two (reordered-variant s) (variant-trans t u two ends (variant-sym two u (reordered-variant q)))
 
-  -- the side of a rule that fires on a goal, as a derivation
-  side-run :
-      (g : Goal) (k : ℕ) (r : Rule) (ps : List ℕ) (s : State) → getElem? (p .rules) k ≡ some r → fireAt r ps (entered g) ≡ some s
-      → SideRun p g k r ps (sideEnd p g r ps)
-  side-run g k r ps s e f =
-      let (done, state, count) = side-finished p w g k r ps s e f in
-      record { after = s; fires = f; finished = done; state = state; firings = count }
-
   module _ (o : Overlap) (listed : Listed p o) where
-    -- the two sides of an overlap
+    -- the two sides of an overlap, as finished derivations of its goal
     pub first-run :
         SideRun p (o .goal) (o .first .number) (o .first .rule) (upTo (length (o .first .rule .heads))) (firstEnd p o)
-    unfolding firstEnd
     first-run =
-        let (s, e, end) = first-end p listed in
-        side-run (o .goal) (o .first .number) (o .first .rule) (upTo (length (o .first .rule .heads))) s (listed .firstRule) e
+        let (s, fits, ends) = first-end p listed in
+        side-run p w (o .goal) (o .first .number) (o .first .rule) (upTo (length (o .first .rule .heads))) s (firstEnd p o)
+        (listed .firstRule) fits ends
 
     pub second-run :
         SideRun p (o .goal) (o .second .number) (o .second .rule)
         (secondPositions 1 (length (o .first .rule .heads)) (length (o .second .rule .heads)) (o .partners)) (secondEnd p o)
-    unfolding secondEnd
     second-run =
-        let (s, e, end) = second-end p listed in
-        side-run (o .goal) (o .second .number) (o .second .rule)
-        (secondPositions 1 (length (o .first .rule .heads)) (length (o .second .rule .heads)) (o .partners)) s (listed .secondRule) e
+        let (s, fits, ends) = second-end p listed in
+        side-run p w (o .goal) (o .second .number) (o .second .rule)
+        (secondPositions 1 (length (o .first .rule .heads)) (length (o .second .rule .heads)) (o .partners)) s (secondEnd p o)
+        (listed .secondRule) fits ends
 
     -- an overlap whose ends are equal joins
     equal-joins : Variant (firstEnd p o .state) (secondEnd p o .state) → isJoinable p o ≡ true
@@ -104,11 +87,6 @@ module _ (p : Program) (w : isWellFormed p ≡ true) where
         equal-joins (subst₂ Variant (first-run .state) (second-run .state)
         (h (o .goal) (listed-goal p w listed) _ _ (first-run .finished) (second-run .finished)))
 
-    -- where an overlap does not join, its goal is one of the program, and the ends of its sides are not equal
-    pub unjoined-runs :
-        isJoinable p o ≡ false → (isGoalOf p (o .goal) ≡ true) × (Variant (firstEnd p o .state) (secondEnd p o .state) → ⊥)
-    unjoined-runs e = (listed-goal p w listed, λ v. true-false (equal-joins v) e)
-
   -- where finished derivations of a goal end in equal states, all overlaps join
   pub confluent-joins : Confluent p → AllJoin p
   confluent-joins h o i = confluent-join o (overlaps-member p i) h
@@ -116,3 +94,16 @@ module _ (p : Program) (w : isWellFormed p ≡ true) where
   -- so the two are the same
   pub exactness : AllJoin p ↔ Confluent p
   exactness = (joins-confluent, confluent-joins)
+
+  -- an overlap that does not join: its goal is one of the program, its two sides are finished derivations of it, and their ends are
+  -- not equal
+  pub unjoined-runs :
+      (o : Overlap) → Member o (overlaps p) → isJoinable p o ≡ false
+      → (isGoalOf p (o .goal) ≡ true)
+      × SideRun p (o .goal) (o .first .number) (o .first .rule) (upTo (length (o .first .rule .heads))) (firstEnd p o)
+      × SideRun p (o .goal) (o .second .number) (o .second .rule)
+        (secondPositions 1 (length (o .first .rule .heads)) (length (o .second .rule .heads)) (o .partners)) (secondEnd p o)
+      × (Variant (firstEnd p o .state) (secondEnd p o .state) → ⊥)
+  unjoined-runs o i e =
+      let listed = overlaps-member p i in
+      (listed-goal p w listed, first-run o listed, second-run o listed, λ v. true-false (equal-joins o listed v) e)

@@ -1,6 +1,6 @@
 -- Firing at positions, by the constraints that stand there and those that are left, in any order.
 --   FiredAt, fired-at      what a firing has matched, and what its state represents
---   fire-on                a rule whose heads are the constraints at positions fires there
+--   fired-on               what it represents, by what stands at the positions and the rest
 --   rep-agree              configurations that equal states represent are the same
 --   rep-joined, joined-meets     forks of states and of what they represent are joined alike
 -- Assumes nothing.
@@ -60,23 +60,13 @@ fired-at r ps n b cs {s} letters scoped p =
           (fire-represents r n b cs ps θ F letters)) (fire-rest r (confOf b cs) (map liftAtom (found .matched)) (lift-multiset h));
     }
 
--- a rule whose heads are the constraints at positions, under a replacement of its variables, fires there
-pub fire-on :
-    (r : Rule) (ps : List ℕ) (n : ℕ) (b : List Term) (cs M L : List Constraint) (ϑ : ℕ → Term) → Lettered r → Scoped n b cs
-    → Pointwise (ConstraintRel (λ s t. instantiate ϑ s ≡ t)) (r .heads) M → Pointwise (Stands cs) ps M → Fresh [] ps
-    → SameMultiset _≡_ cs (M ++ L)
-    → (s : State) × (fireAt r ps (live n b cs) ≡ some s) × Rep s (fireC r (confOf b cs) (map liftAtom M) (map liftAtom L))
-unfolding fireAt unassigned
-fire-on r ps n b cs M L ϑ letters scoped heads stand fresh split =
-    let none-yet : (x : ℕ) (t : Term) → unassigned x ≡ some t → t ≡ ϑ x = λ x t p. none-some refl p in
-    let (θ, m, agrees) = matchAt-complete ϑ cs [] unassigned none-yet stand fresh heads in
-    let fires : fireAt r ps (live n b cs) ≡ some (fired r ps θ n b cs) = ap (λ o. bind o (λ θ. some (fired r ps θ n b cs))) m in
-    let F = fired-at r ps n b cs letters scoped fires in
-    let left : SameMultiset _≡_ (without 0 ps cs) L =
-            multiset-cancel M (multiset-right (multiset-back (without-taken cs ps fresh stand)) split) in
-    (fired r ps θ n b cs, fires,
-    subst (λ N. Rep (fired r ps θ n b cs) (fireC r (confOf b cs) (map liftAtom N) (map liftAtom L)))
-    (stands-same cs (F .match .stand) stand) (F .represents L left))
+-- where M stands at the positions and L is the rest, the state represents the configuration after firing on M
+pub fired-on :
+    {r : Rule} {ps : List ℕ} {b : List Term} {cs : List Constraint} {s : State} → FiredAt r ps b cs s → (M L : List Constraint)
+    → Pointwise (Stands cs) ps M → SameMultiset _≡_ cs (M ++ L) → Rep s (fireC r (confOf b cs) (map liftAtom M) (map liftAtom L))
+fired-on {r} {ps} {b} {cs} {s} F M L stand split =
+    subst (λ N. Rep s (fireC r (confOf b cs) (map liftAtom N) (map liftAtom L))) (stands-same cs (F .match .stand) stand)
+    (F .represents L (multiset-cancel M (multiset-right (multiset-back (without-taken cs ps (F .match .fresh) stand)) split)))
 
 -- configurations that one state represents are the same
 rep-both : {s : State} {C D : Config} → Rep s C → Rep s D → Same C D

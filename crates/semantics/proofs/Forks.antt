@@ -1,8 +1,8 @@
 -- Forks of a state as a configuration: two firings on different constraints meet, and so do two on an instance of an overlap that
 -- joins.
 --   disjoint-meet         two firings on different constraints meet
---   Instance              two matched lists of constraints are an instance of an overlap of the two rules
---   overlapping-meet      then the two firings meet if the overlap joins
+--   face-terms            the terms of a goal's constraints are those of the face that lists its variables
+--   overlapping-meet      two firings on an instance of an overlap that joins meet
 -- Assumes nothing.
 use Prim.Native.Nat.{ℕ, zero, suc, _+_, _≤_, _<_}
 use native.Mathlib.Omega.{arith}
@@ -29,13 +29,15 @@ use Rattle.semantics.proofs.Commute.{commute}
 use Rattle.semantics.proofs.Peaks.{peakOf}
 use Rattle.semantics.proofs.MatchLaws.{ConstraintRel, instantiate}
 use Rattle.semantics.proofs.MatchedTerms.{ConstraintBelow}
-use Rattle.semantics.proofs.Pairings.{leftover, alone, Agreed, join-pointwise, alone-pointwise, leftover-map, alone-map, agreed-map}
+use Rattle.semantics.proofs.Pairings.{leftover, alone, Agreed, join-pointwise, leftover-pointwise, alone-pointwise}
+use Rattle.semantics.proofs.Pairings.{leftover-map, alone-map, agreed-map}
 use Rattle.semantics.proofs.Enumeration.{Listed, overlaps-member}
 use Rattle.semantics.proofs.Entering.{tabled-length, constraint-itself}
 use Rattle.semantics.proofs.Reface.{entry}
 use Rattle.semantics.proofs.Critical.{Meets, atomsOf, meets-peak, meets-around}
 use Rattle.semantics.proofs.FireOn.{lift-multiset}
-use Rattle.semantics.proofs.Sides.{OverlapGoal, sides-meet}
+use Rattle.semantics.proofs.OverlapGoals.{goalFirst, goalSecond, goal-constraints, goal-agreed, overlap-scoped}
+use Rattle.semantics.proofs.Sides.{PartsOf, sides-meet}
 
 -- two firings on different constraints meet
 pub disjoint-meet :
@@ -118,37 +120,33 @@ others-related ds M N X Y a b e R p q =
     long : length (map liftAtom N) ≡ length (map (subAtom (old {Z = ℕ})) (map liftAtom Y))
     long = length-map N liftAtom ∙ e ∙ sym (length-map (map liftAtom Y) (subAtom old) ∙ length-map Y liftAtom)
 
--- two lists of constraints are an instance of an overlap: under a replacement of the goal's variables its constraints are the first
--- list and what is left of the second
-pub record Instance (o : Overlap) (G : OverlapGoal o) (M N : List Constraint) : Type 0 where
-  pub under : ℕ → Term
-  pub firstOnes : Pointwise (ConstraintRel (λ s t. instantiate under s ≡ t)) (G .firstOnes) M
-  pub otherOnes :
-      Pointwise (ConstraintRel (λ s t. instantiate under s ≡ t)) (leftover 1 (G .secondOnes) (o .partners)) (leftover 1 N (o .partners))
-
--- two firings on an instance of an overlap that joins meet
+-- two firings meet on constraints that are an instance of an overlap that joins: under a replacement of the goal's variables, the
+-- heads of the two rules in its goal are what is matched
 pub overlapping-meet :
-    (p : Program) → isWellFormed p ≡ true → (o : Overlap) (G : OverlapGoal o) → Listed p o → isJoinable p o ≡ true
-    → (b : List Term) (cs M N rest : List Constraint) → Instance o G M N → Agreed 1 M N (o .partners)
-    → length N ≡ length (o .second .rule .heads) → SameMultiset _≡_ cs ((M ++ leftover 1 N (o .partners)) ++ rest)
+    (p : Program) → isWellFormed p ≡ true → (o : Overlap) (parts : PartsOf o) → Listed p o → isJoinable p o ≡ true
+    → (b : List Term) (cs M N rest : List Constraint) (under : ℕ → Term)
+    → Pointwise (ConstraintRel (λ s t. instantiate under s ≡ t)) (goalFirst parts) M
+    → Pointwise (ConstraintRel (λ s t. instantiate under s ≡ t)) (goalSecond parts) N
+    → length (o .partners) ≡ length (o .first .rule .heads) → Agreed 1 M N (o .partners)
+    → SameMultiset _≡_ cs ((M ++ leftover 1 N (o .partners)) ++ rest)
     → Meets (p .rules)
       (fireC (o .first .rule) (confOf b cs) (map liftAtom M) (map liftAtom (leftover 1 N (o .partners) ++ rest)))
       (fireC (o .second .rule) (confOf b cs) (map liftAtom N) (map liftAtom (alone M (o .partners) ++ rest)))
-overlapping-meet p w o G listed joins b cs M N rest I a e whole =
+overlapping-meet p w o parts listed joins b cs M N rest under first second long a whole =
     meets-around r q (map liftAtom X) (map liftAtom U) (map liftAtom Y) (map liftAtom (alone X ds)) (confOf b cs)
     (map liftAtom M) (map liftAtom W) (map liftAtom N) (map liftAtom (alone M ds)) (map liftAtom rest)
-    (map liftAtom (W ++ rest)) (map liftAtom (alone M ds ++ rest)) (λ x. lift (I .under x))
-    (instance-atoms (I .under) (I .firstOnes)) (instance-atoms (I .under) (I .otherOnes))
+    (map liftAtom (W ++ rest)) (map liftAtom (alone M ds ++ rest)) (λ x. lift (under x))
+    (instance-atoms under first) (instance-atoms under (leftover-pointwise 1 ds second))
     (subst (SameMultiset _≡_ (map liftAtom cs)) (map-append liftAtom (M ++ W) rest ∙ ap (_++ map liftAtom rest) (map-append liftAtom M W))
     (lift-multiset whole))
     (multiset-of-path (map-append liftAtom W rest)) (multiset-of-path (map-append liftAtom (alone M ds) rest))
-    (λ R. others-related ds M N X Y a (G .agreed) (e ∙ pointwise-length (G .secondHeads)) (AtomRel R))
+    (λ R. others-related ds M N X Y a (goal-agreed parts long) (sym (pointwise-length second)) (AtomRel R))
     (subst (λ S. Meets (p .rules) (fireC r (peakOf S []) (map liftAtom X) (map liftAtom U))
     (fireC q (peakOf S []) (map liftAtom Y) (map liftAtom (alone X ds))))
-    (ap (map liftAtom) (G .whole) ∙ map-append liftAtom X U)
+    (ap (map liftAtom) (goal-constraints parts) ∙ map-append liftAtom X U)
     (meets-peak r q (map lift (tabled T.var (o .goal .variables))) (map liftAtom (o .goal .constraints)) (map liftAtom X)
-    (map liftAtom U) (map liftAtom Y) (map liftAtom (alone X ds)) (face-terms (o .goal .variables) (G .below))
-    (sides-meet p w o listed G joins)))
+    (map liftAtom U) (map liftAtom Y) (map liftAtom (alone X ds)) (face-terms (o .goal .variables) (overlap-scoped parts))
+    (sides-meet p w o listed parts joins)))
   where
     r : Rule
     r = o .first .rule
@@ -157,9 +155,9 @@ overlapping-meet p w o G listed joins b cs M N rest I a e whole =
     ds : List ℕ
     ds = o .partners
     X : List Constraint
-    X = G .firstOnes
+    X = goalFirst parts
     Y : List Constraint
-    Y = G .secondOnes
+    Y = goalSecond parts
     U : List Constraint
     U = leftover 1 Y ds
     W : List Constraint

@@ -1,8 +1,7 @@
 -- Local confluence: where all overlaps of a well-formed program join, whatever two firings lead a state to is joined.
---   overlapGoalOf          what an overlap's goal says, from what the overlap was made from
---   matched-meet           two firings that share constraints meet where their overlap joins
---   peak-meets             two firings of one state, the first rule not behind the second, meet
---   peak-joined            two firings of one state are joined
+--   matched-meet, made-meet      two firings on an instance of an overlap meet
+--   shared-meet, apart-meet      two firings of one state, the first rule not behind the second, meet
+--   peak-joined                  two firings of one state are joined
 -- Assumes nothing.
 use Prim.Native.Nat.{ℕ, _≤_, _<_}
 use native.Mathlib.Omega.{arith}
@@ -32,45 +31,15 @@ use Rattle.semantics.proofs.Partners.{partnersOf, partners-length, part
 use Rattle.semantics.proofs.Partners.{partners-whole, partners-first, partners-second, partners-cases}
 use Rattle.semantics.proofs.Listings.{at-member, member-at}
 use Rattle.semantics.proofs.Enumeration.{OverlapParts, member-pairings, member-overlaps, overlaps-member, Listed}
-use Rattle.semantics.proofs.OverlapGoals.{secondHeads, goalValue, goalTerm, goalFirst, goalSecond, goal-fixes, goal-constraints}
-use Rattle.semantics.proofs.OverlapGoals.{goal-agreed, overlap-scoped, heads-instance, mapTerms-twice, wellFormed-heads}
+use Rattle.semantics.proofs.OverlapGoals.{secondHeads, goalValue, goalFirst, goalSecond, heads-instance, wellFormed-heads}
 use Rattle.semantics.proofs.PeakOverlaps.{valueOf, merged, merged-first, merged-second, overlap-exists}
 use Rattle.semantics.proofs.PeakOverlaps.{first-matched, second-matched}
 use Rattle.semantics.proofs.Newman.{Joined, Joins}
 use Rattle.semantics.proofs.Firings.{Fires}
 use Rattle.semantics.proofs.Critical.{Meets}
 use Rattle.semantics.proofs.FireOn.{FiredAt, fired-at, rep-joined}
-use Rattle.semantics.proofs.Sides.{OverlapGoal}
-use Rattle.semantics.proofs.Forks.{disjoint-meet, Instance, overlapping-meet}
-
--- what an overlap was made from, by its own fields
-abbrev pub PartsOf : Overlap → Type 0
-PartsOf o = OverlapParts (o .first) (o .second) (o .partners) o
-
--- what an overlap's goal says
-pub overlapGoalOf : (o : Overlap) → PartsOf o → length (o .partners) ≡ length (o .first .rule .heads) → OverlapGoal o
-unfolding apart
-overlapGoalOf o parts long = record {
-  firstOnes = goalFirst parts;
-  secondOnes = goalSecond parts;
-  whole = goal-constraints parts;
-  agreed = goal-agreed parts long;
-  below = overlap-scoped parts;
-  firstUnder = λ x. goalTerm parts (T.var x);
-  secondUnder = λ x. goalTerm parts (apart (T.var x));
-  firstHeads = heads-instance (λ x. goalTerm parts (T.var x)) (goalTerm parts) first (o .first .rule .heads);
-  secondHeads =
-      subst (Pointwise (ConstraintRel (λ s t. instantiate (λ x. goalTerm parts (apart (T.var x))) s ≡ t)) (o .second .rule .heads))
-      (sym (mapTerms-twice (goalTerm parts) apart (o .second .rule .heads)))
-      (heads-instance (λ x. goalTerm parts (apart (T.var x))) (λ t. goalTerm parts (apart t)) second (o .second .rule .heads));
-}
-  where
-    first : (t : Term) → instantiate (λ x. goalTerm parts (T.var x)) t ≡ goalTerm parts t
-    first (T.con c) = sym (goal-fixes parts c)
-    first (T.var x) = refl
-    second : (t : Term) → instantiate (λ x. goalTerm parts (apart (T.var x))) t ≡ goalTerm parts (apart t)
-    second (T.con c) = sym (goal-fixes parts c)
-    second (T.var x) = refl
+use Rattle.semantics.proofs.Sides.{PartsOf}
+use Rattle.semantics.proofs.Forks.{disjoint-meet, overlapping-meet}
 
 -- constraints that a replacement makes others, one by one
 image-instance :
@@ -80,28 +49,23 @@ image-instance ϑ l e =
     subst (Pointwise (ConstraintRel (λ s t. instantiate ϑ s ≡ t)) l) e (heads-instance ϑ (instantiate ϑ) (λ t. refl) l)
 
 module _ (p : Program) (w : isWellFormed p ≡ true) (all : (o : Overlap) → Member o (overlaps p) → isJoinable p o ≡ true) where
-  -- two firings on constraints that a replacement makes an overlap's goal meet
+  -- two firings meet on constraints that the heads of an overlap's two rules are, under a replacement that its solution agrees with
   matched-meet :
       (o : Overlap) (parts : PartsOf o) → Member o (overlaps p) → (θ : ℕ → Term)
       → ((t : Term) → instantiate θ (parts .solution t) ≡ instantiate θ t)
       → (b : List Term) (cs M N rest : List Constraint)
       → Pointwise (ConstraintRel (λ s t. instantiate θ s ≡ t)) (o .first .rule .heads) M
       → Pointwise (ConstraintRel (λ s t. instantiate θ s ≡ t)) (secondHeads (o .second)) N
-      → length N ≡ length (o .second .rule .heads) → length (o .partners) ≡ length (o .first .rule .heads)
-      → Agreed 1 M N (o .partners) → SameMultiset _≡_ cs ((M ++ leftover 1 N (o .partners)) ++ rest)
+      → length (o .partners) ≡ length (o .first .rule .heads) → Agreed 1 M N (o .partners)
+      → SameMultiset _≡_ cs ((M ++ leftover 1 N (o .partners)) ++ rest)
       → Meets (p .rules)
         (fireC (o .first .rule) (confOf b cs) (map liftAtom M) (map liftAtom (leftover 1 N (o .partners) ++ rest)))
         (fireC (o .second .rule) (confOf b cs) (map liftAtom N) (map liftAtom (alone M (o .partners) ++ rest)))
-  unfolding overlapGoalOf
-  matched-meet o parts i θ same b cs M N rest m n e long a whole =
+  matched-meet o parts i θ same b cs M N rest m n long a whole =
       let under = goalValue parts θ in
-      overlapping-meet p w o (overlapGoalOf o parts long) (overlaps-member p i) (all o i) b cs M N rest
-      (record {
-        under = under;
-        firstOnes = image-instance under (goalFirst parts) (first-matched parts θ same m n);
-        otherOnes =
-            leftover-pointwise 1 (o .partners) (image-instance under (goalSecond parts) (second-matched parts θ same m n long a));
-      }) a e whole
+      overlapping-meet p w o parts (overlaps-member p i) (all o i) b cs M N rest under
+      (image-instance under (goalFirst parts) (first-matched parts θ same m n))
+      (image-instance under (goalSecond parts) (second-matched parts θ same m n long a)) long a whole
 
   -- the same, by what the overlap was made from
   made-meet :
@@ -110,8 +74,7 @@ module _ (p : Program) (w : isWellFormed p ≡ true) (all : (o : Overlap) → Me
       → (b : List Term) (cs M N rest : List Constraint)
       → Pointwise (ConstraintRel (λ s t. instantiate θ s ≡ t)) (i .rule .heads) M
       → Pointwise (ConstraintRel (λ s t. instantiate θ s ≡ t)) (secondHeads j) N
-      → length N ≡ length (j .rule .heads) → length ds ≡ length (i .rule .heads)
-      → Agreed 1 M N ds → SameMultiset _≡_ cs ((M ++ leftover 1 N ds) ++ rest)
+      → length ds ≡ length (i .rule .heads) → Agreed 1 M N ds → SameMultiset _≡_ cs ((M ++ leftover 1 N ds) ++ rest)
       → Meets (p .rules)
         (fireC (i .rule) (confOf b cs) (map liftAtom M) (map liftAtom (leftover 1 N ds ++ rest)))
         (fireC (j .rule) (confOf b cs) (map liftAtom N) (map liftAtom (alone M ds ++ rest)))
@@ -164,7 +127,7 @@ module _ (p : Program) (w : isWellFormed p ≡ true) (all : (o : Overlap) → Me
         let agreed = partners-agreed cs (F .match .stand) (H .match .stand) in
         let (o, e, (parts, same)) = overlap-exists first second shared θ once within m k agreed in
         let listed = member-overlaps p i j ri qj l (member-pairings (record { long = long; within = within; pairs = pairs })) e in
-        made-meet first second shared o parts listed θ same b cs M N rest m k short long agreed
+        made-meet first second shared o parts listed θ same b cs M N rest m k long agreed
         (partners-whole cs ps qs (F .match .fresh) (H .match .fresh) (F .match .stand) (H .match .stand))
 
     -- they meet if none is
