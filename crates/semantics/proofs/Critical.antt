@@ -6,14 +6,17 @@
 --   meets-around         a fork meets where a fork that it is an instance of does
 -- Assumes nothing.
 use Prim.Native.Nat.{ℕ}
-use mathlib.Core.List.{List, [], _∷_, _++_, map, map-append}
-use mathlib.Core.Path.{_≡_, refl, sym, ap, subst, subst₂, _∙_}
+use mathlib.Core.List.{List, [], _++_, map, map-append}
+use mathlib.Core.Path.{_≡_, sym, ap, subst, subst₂, _∙_}
 use Rattle.semantics.specs.Terms.{Rule}
 use Rattle.semantics.specs.Variants.{Pointwise, SameMultiset}
-use Rattle.semantics.proofs.Configurations.{Or, inl, Member, Tm, Atom, sub, subAtom, old, new, flat, Eqv, same}
-use Rattle.semantics.proofs.Configurations.{Config, AtomRel, Iso, Same, iso, headsOf, bodyOf, eqsOf, fireC, Steps, Context, plug}
-use Rattle.semantics.proofs.Multisets.{pointwise-sym, pointwise-mono, pointwise-map-right, pointwise-append, pointwise-parts}
-use Rattle.semantics.proofs.Multisets.{pointwise-refl, multiset-mono, multiset-append, multiset-of-pointwise, multiset-left}
+use Rattle.semantics.proofs.Configurations.{Or, inl, Tm, Atom, sub, subAtom, old, new, flat, Eqv, same}
+use Rattle.semantics.proofs.Configurations.{Config, AtomRel, Iso, Same, iso, headsOf, bodyOf, eqsOf, fireC, Steps, Context}
+use Rattle.semantics.proofs.Configurations.{plug}
+use Rattle.semantics.proofs.Multisets.{pointwise-sym, pointwise-mono, pointwise-map-right, pointwise-append}
+use Rattle.semantics.proofs.Multisets.{pointwise-parts}
+use Rattle.semantics.proofs.Multisets.{pointwise-refl, multiset-mono, multiset-append, multiset-of-pointwise}
+use Rattle.semantics.proofs.Multisets.{multiset-left}
 use Rattle.semantics.proofs.Atoms.{atom-refl, map-sub-sub, flat-sub}
 use Rattle.semantics.proofs.Links.{exchange, exchange-iso}
 use Rattle.semantics.proofs.Isos.{iso-refl, iso-sym, iso-trans, same-trans}
@@ -25,7 +28,8 @@ use Rattle.semantics.proofs.Reface.{entry, reface, reface-same, reface-
 -- firing in a context is the firing, in the context
 pub plug-fire :
     (K : Context) (C : Config) (r : Rule) (M L : List (Atom (C .Var)))
-    → Iso (fireC r (plug K C) (map (subAtom old) M) (map (subAtom old) L ++ map (subAtom new) (K .store))) (plug K (fireC r C M L))
+    → Iso (fireC r (plug K C) (map (subAtom old) M) (map (subAtom old) L ++ map (subAtom new) (K .store)))
+      (plug K (fireC r C M L))
 plug-fire K C r M L =
     rw flat-sub (exchange-iso (C .eqs) L (K .links) (C .face) (K .eqs) (K .store) (flat (headsOf r)) (flat M) (eqsOf r) (bodyOf r)
     (map (sub old) (map (sub new) (K .face))) (map (sub new) (K .face))
@@ -88,7 +92,8 @@ meets-reface ts m = record {
 abbrev pub atomsOf : List (Tm ℕ) → List (Atom ℕ) → Config
 atomsOf face store = record { Var = ℕ; face = face; eqs = []; store = store }
 
--- where every term of the atoms is one of the face, firing on them with all their terms for a face is firing with that face changed
+-- where every term of the atoms is one of the face, firing on them with all their terms for a face is firing, and then changing
+-- the face
 fire-peak :
     (r : Rule) (face : List (Tm ℕ)) (S M L : List (Atom ℕ)) → map (sub (entry face)) (flat S) ≡ flat S
     → reface (flat S) (fireC r (atomsOf face S) M L) ≡ fireC r (peakOf S []) M L
@@ -103,8 +108,8 @@ meets-peak {rs} r q face S G U H A e m =
     subst₂ (Meets rs) (fire-peak r face S G U e) (fire-peak q face S H A e) (meets-reface (flat S) m)
 
 -- a fork of two rules on the atoms of a configuration meets if it is an instance of a fork that meets: the first rule fires on M,
--- which G stands for, and leaves W, which U stands for, and the rest; the second fires on N, which H stands for, and leaves B, which
--- A stands for, and the rest
+-- which G stands for, and leaves W, which U stands for, and the rest; the second fires on N, which H stands for, and leaves B,
+-- which A stands for, and the rest
 pub meets-around :
     {rs : List Rule} (r q : Rule) (G U H A : List (Atom ℕ)) (C : Config) (M W N B rest L K : List (Atom (C .Var)))
     (δ : ℕ → Tm (C .Var))
@@ -123,7 +128,8 @@ meets-around r q G U H A C M W N B rest L K δ g u s l k others m =
 
     peak :
         (I : Iso C (plug context (peakOf (G ++ U) [])))
-        × Pointwise (AtomRel (I .R)) (M ++ W) (map (subAtom old) (G ++ U)) × Pointwise (AtomRel (I .R)) rest (map (subAtom new) rest)
+        × Pointwise (AtomRel (I .R)) (M ++ W) (map (subAtom old) (G ++ U))
+        × Pointwise (AtomRel (I .R)) rest (map (subAtom new) rest)
     peak = peak-iso C (G ++ U) [] (M ++ W) rest δ (pointwise-append g u) (λ e i. elim i [ ]) s
 
     relation : Tm (C .Var) → Tm (Or ℕ (C .Var)) → Type 0
@@ -131,7 +137,8 @@ meets-around r q G U H A C M W N B rest L K δ g u s l k others m =
 
     parts : Pointwise (AtomRel relation) M (map (subAtom old) G) × Pointwise (AtomRel relation) W (map (subAtom old) U)
     parts =
-        pointwise-parts {S = λ m h. Unit {0}} W (map (subAtom old) U) (pointwise-map-right (subAtom old) (pointwise-mono (λ m h x. tt) (pointwise-sym g)))
+        pointwise-parts {S = λ m h. Unit {0}} W (map (subAtom old) U)
+        (pointwise-map-right (subAtom old) (pointwise-mono (λ m h x. tt) (pointwise-sym g)))
         (subst (Pointwise (AtomRel relation) (M ++ W)) (map-append (subAtom old) G U) (peak .1))
 
     more : Pointwise (AtomRel relation) N (map (subAtom old) H) × Pointwise (AtomRel relation) B (map (subAtom old) A)

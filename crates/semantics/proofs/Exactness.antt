@@ -1,5 +1,5 @@
--- Exactness: the overlaps of a well-formed program all join exactly where any two finished derivations of a goal over it end in equal
--- states. An overlap that does not join gives two finished derivations of its goal whose ends are not equal.
+-- Exactness: the overlaps of a well-formed program all join exactly where any two finished derivations of a goal over it end in
+-- equal states. An overlap that does not join gives two finished derivations of its goal whose ends are not equal.
 --   AllJoin                all overlaps join
 --   Confluent              any two finished derivations of a goal end in equal states
 --   joins-confluent        the one
@@ -8,19 +8,16 @@
 --   first-run, second-run  the sides of an overlap, as finished derivations of its goal
 --   unjoined-runs          where an overlap does not join, they are two whose ends are not equal
 -- Assumes nothing.
-use Prim.Native.Nat.{ℕ}
 use mathlib.Core.Bool.{true, false}
 use mathlib.Core.List.{List}
 use mathlib.Core.Logic.{_↔_}
-use mathlib.Core.Option.{some}
-use mathlib.Core.Path.{_≡_, refl, sym, subst, subst₂}
-use lib.ListN.{length, getElem?}
+use mathlib.Core.Path.{_≡_, subst₂}
+use lib.ListN.{length}
 use Rattle.text.specs.Lists.{upTo}
-use Rattle.semantics.specs.Terms.{Rule, Program, Goal, State, isGoalOf, isWellFormed}
-use Rattle.semantics.specs.Firing.{fireAt}
+use Rattle.semantics.specs.Terms.{Program, Goal, isGoalOf, isWellFormed}
 use Rattle.semantics.specs.Derivations.{Event, derive, Finished}
-use Rattle.semantics.specs.Strategy.{Final, entered}
-use Rattle.semantics.specs.Overlaps.{Overlap, secondPositions, overlaps, sideEnd, firstEnd, secondEnd}
+use Rattle.semantics.specs.Strategy.{entered}
+use Rattle.semantics.specs.Overlaps.{Overlap, secondPositions, overlaps, firstEnd, secondEnd}
 use Rattle.semantics.specs.Variants.{Variant}
 use Rattle.semantics.specs.Verdict.{isJoinable}
 use Rattle.semantics.proofs.Configurations.{Member}
@@ -95,8 +92,8 @@ module _ (p : Program) (w : isWellFormed p ≡ true) where
   pub exactness : AllJoin p ↔ Confluent p
   exactness = (joins-confluent, confluent-joins)
 
-  -- an overlap that does not join: its goal is one of the program, its two sides are finished derivations of it, and their ends are
-  -- not equal
+  -- an overlap that does not join: its goal is one of the program, its two sides are finished derivations of it, and their ends
+  -- are not equal
   pub unjoined-runs :
       (o : Overlap) → Member o (overlaps p) → isJoinable p o ≡ false
       → (isGoalOf p (o .goal) ≡ true)

@@ -5,25 +5,22 @@
 --   rep-joined, joined-meets     forks of states and of what they represent are joined alike
 -- Assumes nothing.
 use Prim.Native.Nat.{ℕ}
-use mathlib.Core.List.{List, [], _∷_, _++_, map}
-use mathlib.Core.Option.{Option, none, some}
-use mathlib.Core.Path.{_≡_, refl, sym, ap, subst}
-use Rattle.text.specs.Lists.{bind}
-use Rattle.semantics.specs.Terms.{Term, Constraint, Rule, State, failed, live}
+use mathlib.Core.List.{List, [], _++_, map}
+use mathlib.Core.Option.{some}
+use mathlib.Core.Path.{_≡_, ap, subst}
+use Rattle.semantics.specs.Terms.{Term, Constraint, Rule, State, live}
 use Rattle.semantics.specs.Matching.{Assignment, unassigned, matchAt}
 use Rattle.semantics.specs.Firing.{without, fired, fireAt}
 use Rattle.semantics.specs.Variants.{Pointwise, SameMultiset, Variant}
-use Rattle.semantics.proofs.Configurations.{Atom, Config, Eqv, same, AtomRel, Iso, Same, iso, bothFail, liftAtom, headsOf, Fits}
+use Rattle.semantics.proofs.Configurations.{Config, Same, iso, bothFail, liftAtom, headsOf, Fits}
 use Rattle.semantics.proofs.Configurations.{fireC, confOf, All, Scoped, Rep, hasFailed, isLive}
-use Rattle.semantics.proofs.Multisets.{pointwise-refl, multiset-mono, multiset-map, multiset-right, multiset-back}
-use Rattle.semantics.proofs.Atoms.{atom-refl}
-use Rattle.semantics.proofs.Isos.{iso-refl, iso-sym, iso-trans}
-use Rattle.semantics.proofs.Stepping.{fire-iso}
-use Rattle.semantics.proofs.Options.{none-some, bind-some}
-use Rattle.semantics.proofs.PositionLaws.{Stands, Fresh, stands-same, without-taken}
-use Rattle.semantics.proofs.MatchLaws.{ConstraintRel, instantiate, AtMatch, matchAt-sound, matchAt-complete}
+use Rattle.semantics.proofs.Multisets.{multiset-mono, multiset-map, multiset-right, multiset-back}
+use Rattle.semantics.proofs.Isos.{iso-sym, iso-trans}
+use Rattle.semantics.proofs.Options.{bind-some}
+use Rattle.semantics.proofs.PositionLaws.{Stands, stands-same, without-taken}
+use Rattle.semantics.proofs.MatchLaws.{AtMatch, matchAt-sound}
 use Rattle.semantics.proofs.FireLaws.{Lettered, Firing, fire-represents, fire-fits}
-use Rattle.semantics.proofs.Represent.{rep-iso, rep-same, rep-scoped, rep-variant, rep-reach, rep-steps, ScopedState}
+use Rattle.semantics.proofs.Represent.{rep-iso, rep-same, rep-scoped, rep-variant, rep-reach, rep-steps}
 use Rattle.semantics.proofs.Partners.{multiset-cancel}
 use Rattle.semantics.proofs.Newman.{Joined}
 use Rattle.semantics.proofs.Firings.{Fires, reach-star, star-reach}
@@ -56,8 +53,10 @@ fired-at r ps n b cs {s} letters scoped p =
       match = found;
       fits = fire-fits r n b cs ps θ F;
       represents = λ L h.
-          rep-iso (subst (λ t. Rep t (fireC r (confOf b cs) (map liftAtom (found .matched)) (map liftAtom (without 0 ps cs)))) final
-          (fire-represents r n b cs ps θ F letters)) (fire-rest r (confOf b cs) (map liftAtom (found .matched)) (lift-multiset h));
+          rep-iso
+          (subst (λ t. Rep t (fireC r (confOf b cs) (map liftAtom (found .matched)) (map liftAtom (without 0 ps cs)))) final
+          (fire-represents r n b cs ps θ F letters))
+          (fire-rest r (confOf b cs) (map liftAtom (found .matched)) (lift-multiset h));
     }
 
 -- where M stands at the positions and L is the rest, the state represents the configuration after firing on M
@@ -79,7 +78,8 @@ rep-agree s t v p q = rep-both (rep-variant s t v (rep-scoped q) p) q
 
 -- states that represent configurations which meet are joined
 pub rep-joined :
-    {rs : List Rule} {s t : State} {C D : Config} → All Lettered rs → Rep s C → Rep t D → Meets rs C D → Joined (Fires rs) Variant s t
+    {rs : List Rule} {s t : State} {C D : Config} → All Lettered rs → Rep s C → Rep t D → Meets rs C D
+    → Joined (Fires rs) Variant s t
 rep-joined letters p q m =
     let (u, h, a) = rep-steps letters p (m .leftSteps) in
     let (v, k, b) = rep-steps letters q (m .rightSteps) in
@@ -87,7 +87,8 @@ rep-joined letters p q m =
 
 -- and conversely
 pub joined-meets :
-    {rs : List Rule} {s t : State} {C D : Config} → All Lettered rs → Rep s C → Rep t D → Joined (Fires rs) Variant s t → Meets rs C D
+    {rs : List Rule} {s t : State} {C D : Config} → All Lettered rs → Rep s C → Rep t D → Joined (Fires rs) Variant s t
+    → Meets rs C D
 joined-meets letters p q j =
     let (A, h, a) = rep-reach letters p (star-reach (j .leftSteps)) in
     let (B, k, b) = rep-reach letters q (star-reach (j .rightSteps)) in

@@ -9,7 +9,7 @@
 use Prim.Native.Nat.{ℕ, zero, suc, _<_}
 use native.Mathlib.Omega.{arith}
 use mathlib.Core.Bool.{true}
-use mathlib.Core.List.{List, [], _∷_, _++_}
+use mathlib.Core.List.{List}
 use mathlib.Core.Option.{Option, none, some}
 use mathlib.Core.Path.{_≡_, refl}
 use lib.ListN.{getElem?}
@@ -44,7 +44,8 @@ pub record Fires (rs : List Rule) (s t : State) : Type 0 where
 
 -- the firing of the rule of a number
 pub fires-at :
-    (rs : List Rule) (k : ℕ) (r : Rule) (ps : List ℕ) {s t : State} → getElem? rs k ≡ some r → fireAt r ps s ≡ some t → Fires rs s t
+    (rs : List Rule) (k : ℕ) (r : Rule) (ps : List ℕ) {s t : State} → getElem? rs k ≡ some r → fireAt r ps s ≡ some t
+    → Fires rs s t
 fires-at rs k r ps e f = record { rule = r; positions = ps; among = at-member rs k e; fires = f }
 
 -- firings one after the other

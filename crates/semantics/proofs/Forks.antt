@@ -4,37 +4,36 @@
 --   face-terms            the terms of a goal's constraints are those of the face that lists its variables
 --   overlapping-meet      two firings on an instance of an overlap that joins meet
 -- Assumes nothing.
-use Prim.Native.Nat.{ℕ, zero, suc, _+_, _≤_, _<_}
+use Prim.Native.Nat.{ℕ, zero, suc, _<_}
 use native.Mathlib.Omega.{arith}
-use mathlib.Core.Bool.{Bool, true, false}
+use mathlib.Core.Bool.{true}
 use mathlib.Core.List.{List, [], _∷_, _++_, map, map-append}
-use mathlib.Core.Option.{Option, none, some}
+use mathlib.Core.Option.{none}
 use mathlib.Core.Path.{_≡_, refl, sym, ap, ap₂, subst, subst₂, _∙_}
-use lib.Dec.{eqb}
 use lib.ListN.{length, getD, length-map}
-use Rattle.text.specs.Lists.{every, tabled}
+use Rattle.text.specs.Lists.{tabled}
 use Rattle.semantics.specs.Terms.{Term, Constraint, Rule, Program, mapTerms, isWellFormed}
 use Rattle.semantics.specs.Terms as T
 use Rattle.semantics.specs.Derivations.{become}
-use Rattle.semantics.specs.Overlaps.{Overlap, overlaps}
+use Rattle.semantics.specs.Overlaps.{Overlap}
 use Rattle.semantics.specs.Variants.{Pointwise, SameMultiset}
 use Rattle.semantics.specs.Verdict.{isJoinable}
-use Rattle.semantics.proofs.Configurations.{Or, Member, Tm, con, var, Atom, sub, subAtom, old, flat, Eqv, Config, AtomRel, iso, lift}
+use Rattle.semantics.proofs.Configurations.{Or, Member, con, var, Atom, sub, subAtom, old, flat, Eqv, Config, AtomRel, iso}
+use Rattle.semantics.proofs.Configurations.{lift}
 use Rattle.semantics.proofs.Configurations.{liftAtom, headsOf, Fits, fireC, confOf, TermBelow, All, also}
 use Rattle.semantics.proofs.Configurations as C
 use Rattle.semantics.proofs.Multisets.{pointwise-mono, pointwise-map, pointwise-length, multiset-of-path}
 use Rattle.semantics.proofs.Closure.{eqv-path}
-use Rattle.semantics.proofs.Isos.{iso-refl}
 use Rattle.semantics.proofs.Commute.{commute}
 use Rattle.semantics.proofs.Peaks.{peakOf}
 use Rattle.semantics.proofs.MatchLaws.{ConstraintRel, instantiate}
 use Rattle.semantics.proofs.MatchedTerms.{ConstraintBelow}
 use Rattle.semantics.proofs.Pairings.{leftover, alone, Agreed, join-pointwise, leftover-pointwise, alone-pointwise}
 use Rattle.semantics.proofs.Pairings.{leftover-map, alone-map, agreed-map}
-use Rattle.semantics.proofs.Enumeration.{Listed, overlaps-member}
+use Rattle.semantics.proofs.Enumeration.{Listed}
 use Rattle.semantics.proofs.Entering.{tabled-length, constraint-itself}
 use Rattle.semantics.proofs.Reface.{entry}
-use Rattle.semantics.proofs.Critical.{Meets, atomsOf, meets-peak, meets-around}
+use Rattle.semantics.proofs.Critical.{Meets, meets-peak, meets-around}
 use Rattle.semantics.proofs.FireOn.{lift-multiset}
 use Rattle.semantics.proofs.OverlapGoals.{goalFirst, goalSecond, goal-constraints, goal-agreed, overlap-scoped}
 use Rattle.semantics.proofs.Sides.{PartsOf, sides-meet}
@@ -102,8 +101,8 @@ alone-atoms :
     → alone (map (subAtom (old {Z = ℕ})) (map liftAtom l)) ds ≡ map (subAtom old) (map liftAtom (alone l ds))
 alone-atoms ds l = alone-map (subAtom old) (map liftAtom l) ds ∙ ap (map (subAtom old)) (alone-map liftAtom l ds)
 
--- what relates the first constraints of two forks, and what is left of the second ones, relates the second ones, and what is alone
--- of the first ones
+-- what relates the first constraints of two forks, and what is left of the second ones, relates the second ones, and what is
+-- alone of the first ones
 others-related :
     (ds : List ℕ) (M N X Y : List Constraint) → Agreed 1 M N ds → Agreed 1 X Y ds → length N ≡ length Y
     → (R : Atom ℕ → Atom (Or ℕ ℕ) → Type 0) → Pointwise R (map liftAtom M) (map (subAtom old) (map liftAtom X))
@@ -137,8 +136,8 @@ overlapping-meet p w o parts listed joins b cs M N rest under first second long 
     (map liftAtom M) (map liftAtom W) (map liftAtom N) (map liftAtom (alone M ds)) (map liftAtom rest)
     (map liftAtom (W ++ rest)) (map liftAtom (alone M ds ++ rest)) (λ x. lift (under x))
     (instance-atoms under first) (instance-atoms under (leftover-pointwise 1 ds second))
-    (subst (SameMultiset _≡_ (map liftAtom cs)) (map-append liftAtom (M ++ W) rest ∙ ap (_++ map liftAtom rest) (map-append liftAtom M W))
-    (lift-multiset whole))
+    (subst (SameMultiset _≡_ (map liftAtom cs))
+    (map-append liftAtom (M ++ W) rest ∙ ap (_++ map liftAtom rest) (map-append liftAtom M W)) (lift-multiset whole))
     (multiset-of-path (map-append liftAtom W rest)) (multiset-of-path (map-append liftAtom (alone M ds) rest))
     (λ R. others-related ds M N X Y a (goal-agreed parts long) (sym (pointwise-length second)) (AtomRel R))
     (subst (λ S. Meets (p .rules) (fireC r (peakOf S []) (map liftAtom X) (map liftAtom U))

@@ -1,5 +1,5 @@
--- Newman's lemma, up to an equivalence: steps that end, and whose forks can be joined up to an equivalence that steps respect, have
--- one end up to it.
+-- Newman's lemma, up to an equivalence that steps respect: steps that end, and whose forks can be joined up to the equivalence,
+-- have one end up to it.
 --   Star, Normal              steps one after another; a state that takes none
 --   Reducing                  what the lemma asks of steps, their weight and the equivalence
 --   Joins                     every fork is joined up to the equivalence
@@ -47,7 +47,9 @@ pub record Reducing {S : Type 0} (Good : S → Type 0) (R : S → S → Type 0) 
 abbrev pub Joins : {S : Type 0} → (S → Type 0) → (S → S → Type 0) → (S → S → Type 1) → Type 1
 Joins {S} Good R E = (s t u : S) → Good s → R s t → R s u → Joined R E t u
 
-module _ {S : Type 0} {Good : S → Type 0} {R : S → S → Type 0} {weight : S → ℕ} {E : S → S → Type 1} (H : Reducing Good R weight E) where
+module _
+    {S : Type 0} {Good : S → Type 0} {R : S → S → Type 0} {weight : S → ℕ} {E : S → S → Type 1} (H : Reducing Good R weight E)
+  where
   -- steps from a good state lead to good states
   pub star-keeps : {s t : S} → Star R s t → Good s → Good t
   star-keeps here g = g

@@ -5,32 +5,31 @@
 -- Assumes nothing.
 use Prim.Native.Nat.{ℕ, _≤_, _<_}
 use native.Mathlib.Omega.{arith}
-use mathlib.Core.Bool.{Bool, true, false}
-use mathlib.Core.List.{List, [], _∷_, _++_, map, map-append}
-use mathlib.Core.Option.{Option, none, some}
+use mathlib.Core.Bool.{true}
+use mathlib.Core.List.{List, _++_, map, map-append}
+use mathlib.Core.Option.{some}
 use mathlib.Core.Path.{_≡_, refl, sym, ap, subst, subst₂, _∙_}
 use lib.Dec.{eqb}
 use lib.ListN.{length, getElem?}
 use Rattle.text.specs.Lists.{every}
 use Rattle.semantics.specs.Terms.{Term, Constraint, Rule, Program, State, failed, live, mapTerms, isWellFormed}
-use Rattle.semantics.specs.Terms as T
 use Rattle.semantics.specs.Firing.{without, fireAt}
-use Rattle.semantics.specs.Overlaps.{Numbered, Overlap, apart, goalOf, unjoinedHeads, isPairing, overlapOf, overlaps}
+use Rattle.semantics.specs.Overlaps.{Numbered, Overlap, goalOf, unjoinedHeads, isPairing, overlaps}
 use Rattle.semantics.specs.Variants.{Pointwise, SameMultiset, Variant}
 use Rattle.semantics.specs.Verdict.{isJoinable}
 use Rattle.semantics.proofs.Configurations.{Or, inl, inr, Member, Config, liftAtom, fireC, confOf, All}
 use Rattle.semantics.proofs.Options.{none-some}
-use Rattle.semantics.proofs.Multisets.{pointwise-length, multiset-of-path, all-member}
-use Rattle.semantics.proofs.MatchLaws.{TermFits, ConstraintRel, instantiate}
+use Rattle.semantics.proofs.Multisets.{pointwise-length, all-member}
+use Rattle.semantics.proofs.MatchLaws.{ConstraintRel, instantiate}
 use Rattle.semantics.proofs.Letters.{program-lettered}
 use Rattle.semantics.proofs.VariantLaws.{variant-sym}
 use Rattle.semantics.proofs.Represent.{ScopedState}
 use Rattle.semantics.proofs.Places.{le-or-lt}
-use Rattle.semantics.proofs.Pairings.{leftover, alone, Agreed, leftover-pointwise, leftover-all, alone-all}
+use Rattle.semantics.proofs.Pairings.{leftover, alone, Agreed, leftover-all, alone-all}
 use Rattle.semantics.proofs.Partners.{partnersOf, partners-length, partners-bound, partners-once, partners-agreed}
 use Rattle.semantics.proofs.Partners.{partners-whole, partners-first, partners-second, partners-cases}
 use Rattle.semantics.proofs.Listings.{at-member, member-at}
-use Rattle.semantics.proofs.Enumeration.{OverlapParts, member-pairings, member-overlaps, overlaps-member, Listed}
+use Rattle.semantics.proofs.Enumeration.{OverlapParts, member-pairings, member-overlaps, overlaps-member}
 use Rattle.semantics.proofs.OverlapGoals.{secondHeads, goalValue, goalFirst, goalSecond, heads-instance, wellFormed-heads}
 use Rattle.semantics.proofs.PeakOverlaps.{valueOf, merged, merged-first, merged-second, overlap-exists}
 use Rattle.semantics.proofs.PeakOverlaps.{first-matched, second-matched}
@@ -49,7 +48,7 @@ image-instance ϑ l e =
     subst (Pointwise (ConstraintRel (λ s t. instantiate ϑ s ≡ t)) l) e (heads-instance ϑ (instantiate ϑ) (λ t. refl) l)
 
 module _ (p : Program) (w : isWellFormed p ≡ true) (all : (o : Overlap) → Member o (overlaps p) → isJoinable p o ≡ true) where
-  -- two firings meet on constraints that the heads of an overlap's two rules are, under a replacement that its solution agrees with
+  -- two firings meet on constraints that the heads of an overlap's rules are, under a replacement that its solution agrees with
   matched-meet :
       (o : Overlap) (parts : PartsOf o) → Member o (overlaps p) → (θ : ℕ → Term)
       → ((t : Term) → instantiate θ (parts .solution t) ≡ instantiate θ t)
@@ -103,10 +102,12 @@ module _ (p : Program) (w : isWellFormed p ≡ true) (all : (o : Overlap) → Me
 
     -- the configurations that they lead to
     abbrev leftSide : Config
-    leftSide = fireC r (confOf b cs) (map liftAtom (F .match .matched)) (map liftAtom (leftover 1 (H .match .matched) shared ++ rest))
+    leftSide =
+        fireC r (confOf b cs) (map liftAtom (F .match .matched)) (map liftAtom (leftover 1 (H .match .matched) shared ++ rest))
 
     abbrev rightSide : Config
-    rightSide = fireC q (confOf b cs) (map liftAtom (H .match .matched)) (map liftAtom (alone (F .match .matched) shared ++ rest))
+    rightSide =
+        fireC q (confOf b cs) (map liftAtom (H .match .matched)) (map liftAtom (alone (F .match .matched) shared ++ rest))
 
     -- they meet if constraints are shared
     shared-meet : isPairing shared ≡ true → Meets (p .rules) leftSide rightSide

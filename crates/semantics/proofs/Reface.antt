@@ -31,8 +31,8 @@ entry-related z (each r p) zero = r
 entry-related z (each r p) (suc x) = entry-related z p x
 
 face-related :
-    {X Y : Type 0} {R : Tm X → Tm Y → Type 0} {l : List (Tm X)} {m : List (Tm Y)} → ((c : ℕ) → R (con c) (con c)) → Pointwise R l m
-    → (ts : List (Tm ℕ)) → Pointwise R (map (sub (entry l)) ts) (map (sub (entry m)) ts)
+    {X Y : Type 0} {R : Tm X → Tm Y → Type 0} {l : List (Tm X)} {m : List (Tm Y)} → ((c : ℕ) → R (con c) (con c))
+    → Pointwise R l m → (ts : List (Tm ℕ)) → Pointwise R (map (sub (entry l)) ts) (map (sub (entry m)) ts)
 face-related fixes p [] = empty
 face-related fixes p (con c ∷ ts) = each (fixes c) (face-related fixes p ts)
 face-related fixes p (var x ∷ ts) = each (entry-related (fixes 0) p x) (face-related fixes p ts)

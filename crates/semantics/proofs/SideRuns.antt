@@ -15,7 +15,8 @@ use lib.ListN.{length, getElem?}
 use Rattle.text.specs.Lists.{onward, bind}
 use Rattle.semantics.specs.Terms.{Rule, Program, Goal, State, failed, live, weight, isWellFormed}
 use Rattle.semantics.specs.Firing.{fired, fireAt}
-use Rattle.semantics.specs.Derivations.{Event, fire, Progress, firing, follow, followAll, start, derive, NoRuleFits, Finished, byRest}
+use Rattle.semantics.specs.Derivations.{Event, fire, Progress, firing, follow, followAll, start, derive, NoRuleFits}
+use Rattle.semantics.specs.Derivations.{Finished, byRest}
 use Rattle.semantics.specs.Strategy.{Choice, choose, advance, Final, normalise, entered}
 use Rattle.semantics.proofs.Choosing.{choose-sound}
 use Rattle.semantics.proofs.Weights.{stateWeight, fireAt-lighter}
@@ -71,7 +72,8 @@ strategy-follows p g (suc fuel) (live next bound cs) d e =
     go none q more = λ i. record { state = e i; entered = d .entered; firings = d .firings }
     go (some c) q more =
         let (stands, fits) = choose-sound (p .rules) cs c q in
-        let fires = firing-fires p (c .number) (c .rule) (c .place .positions) d (live next bound cs) (after c) e stands (rw fits) in
+        let s = live next bound cs in
+        let fires = firing-fires p (c .number) (c .rule) (c .place .positions) d s (after c) e stands (rw fits) in
         ap (followAll p g (strategyEvents fuel (p .rules) (after c))) fires
         ∙ more (after c) (record { state = after c; entered = d .entered; firings = suc (d .firings) }) refl
 

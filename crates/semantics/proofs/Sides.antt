@@ -44,7 +44,8 @@ afterwards o r M L =
 
 -- the strategy's end, from the state that it starts from
 ends-star :
-    (p : Program) (fuel : ℕ) (s : State) {end : Final} → end ≡ normalise fuel (p .rules) s 1 → Star (Fires (p .rules)) s (end .state)
+    (p : Program) (fuel : ℕ) (s : State) {end : Final} → end ≡ normalise fuel (p .rules) s 1
+    → Star (Fires (p .rules)) s (end .state)
 ends-star p fuel s e =
     subst (λ (f : Final). Star (Fires (p .rules)) s (f .state)) (sym e) (counted-star (normalise-reach (p .rules) fuel s 1 .1))
 
@@ -60,25 +61,30 @@ module _ (p : Program) (w : isWellFormed p ≡ true) (o : Overlap) (listed : Lis
   goal-scoped = entered-scoped (o .goal) (overlap-scoped parts)
 
   -- the first rule fires on its heads, and leaves what is not joined of the second's
-  pub first-side : Rep (first-end p listed .0) (afterwards o (o .first .rule) (goalFirst parts) (leftover 1 (goalSecond parts) (o .partners)))
+  pub first-side :
+      Rep (first-end p listed .0)
+      (afterwards o (o .first .rule) (goalFirst parts) (leftover 1 (goalSecond parts) (o .partners)))
   unfolding entered
   first-side =
       fired-on
       (fired-at (o .first .rule) (upTo (length (o .first .rule .heads))) (o .goal .variables) (tabled T.var (o .goal .variables))
       (o .goal .constraints) (all-member (program-lettered p w) (at-member (p .rules) (o .first .number) (listed .firstRule)))
       goal-scoped (first-end p listed .1))
-      (goalFirst parts) (leftover 1 (goalSecond parts) (o .partners)) (first-stands parts) (multiset-of-path (goal-constraints parts))
+      (goalFirst parts) (leftover 1 (goalSecond parts) (o .partners)) (first-stands parts)
+      (multiset-of-path (goal-constraints parts))
 
   -- the second rule fires on its own, and leaves what is not joined of the first's
-  pub second-side : Rep (second-end p listed .0) (afterwards o (o .second .rule) (goalSecond parts) (alone (goalFirst parts) (o .partners)))
+  pub second-side :
+      Rep (second-end p listed .0) (afterwards o (o .second .rule) (goalSecond parts) (alone (goalFirst parts) (o .partners)))
   unfolding entered isPairing
   second-side =
       let ones = goalFirst parts in
       let twos = goalSecond parts in
       let ds = o .partners in
-      let first : length (o .first .rule .heads) ≡ length ones = sym (length-map (o .first .rule .heads) (mapTerms (goalTerm parts))) in
+      let rename = mapTerms (goalTerm parts) in
+      let first : length (o .first .rule .heads) ≡ length ones = sym (length-map (o .first .rule .heads) rename) in
       let second : length (o .second .rule .heads) ≡ length twos =
-              sym (length-map (secondHeads (o .second)) (mapTerms (goalTerm parts)) ∙ length-map (o .second .rule .heads) (mapTerms apart)) in
+          sym (length-map (secondHeads (o .second)) rename ∙ length-map (o .second .rule .heads) (mapTerms apart)) in
       let once : isOneToOne ds ≡ true = and-true (isOneToOne ds) (not (every (eqb 0) ds)) (paired .pairs) .0 in
       fired-on
       (fired-at (o .second .rule) (secondPositions 1 (length (o .first .rule .heads)) (length (o .second .rule .heads)) ds)
