@@ -4,24 +4,22 @@
 --   numbered-below, numbered-instance    a numbered term is below the number of variables, and numbering can be undone
 --   goal-scoped, goal-instance           the same for the goal
 -- Assumes nothing.
-use Prim.Native.Nat.{ℕ, zero, suc, _<_}
-use native.Mathlib.Omega.{arith}
-use mathlib.Core.Bool.{Bool, true, false, cond, _||_}
+use Prim.Native.Nat.{ℕ}
+use mathlib.Core.Bool.{true, false, cond}
 use mathlib.Core.List.{List, [], _∷_, _++_, map}
-use mathlib.Core.Option.{some}
 use mathlib.Core.Path.{_≡_, refl, sym, ap, subst, _∙_}
 use lib.Dec.{eqb}
-use lib.ListN.{length, getD, getElem?}
+use lib.ListN.{length, getD}
 use Rattle.text.specs.Lists.{has, placeFrom}
-use Rattle.semantics.specs.Terms.{Term, con, var, Constraint, Goal, mapTerms}
+use Rattle.semantics.specs.Terms.{Term, con, var, Constraint, mapTerms}
 use Rattle.semantics.specs.Overlaps.{appearingIn, appearing, numbered, goalOf}
 use Rattle.semantics.proofs.Configurations.{Or, inl, inr, Member, first, later, All, none, also, TermBelow}
-use Rattle.semantics.proofs.Options.{decide, true-false, none-some, eqb-equal, equal-eqb, apart-eqb}
-use Rattle.semantics.proofs.Bools.{or-cases, or-right}
+use Rattle.semantics.proofs.Options.{decide, true-false, eqb-equal, apart-eqb}
+use Rattle.semantics.proofs.Bools.{or-cases}
 use Rattle.semantics.proofs.Removal.{has-last}
 use Rattle.semantics.proofs.Multisets.{all-member, all-of-members, all-map}
 use Rattle.semantics.proofs.MatchLaws.{instantiate}
-use Rattle.semantics.proofs.Places.{some-equal, has-append, place-stands, place-below, Distinct, distinct-append}
+use Rattle.semantics.proofs.Places.{getD-at, has-append, place-stands, place-below, Distinct, distinct-append}
 
 -- the seen variables with one more, if it is new
 abbrev seenWith : ℕ → List ℕ → List ℕ
@@ -148,12 +146,6 @@ appearing-known {c} {cs} i = all-of-members (c .terms) known
     known : (t : Term) → Member t (c .terms) → Known (appearing [] cs) t
     known (con d) k = tt
     known (var x) k = appearing-has x [] i k
-
--- what stands at a place, with a default
-pub getD-at : {A : Type 0} (l : List A) (i : ℕ) {a : A} (z : A) → getElem? l i ≡ some a → getD l i z ≡ a
-getD-at [] i z e = none-some refl e
-getD-at (x ∷ l) zero z e = some-equal e
-getD-at (x ∷ l) (suc i) z e = getD-at l i z e
 
 -- a numbered term is below the number of the variables
 pub numbered-below : (order : List ℕ) (t : Term) → Known order t → TermBelow (length order) (numbered order t)

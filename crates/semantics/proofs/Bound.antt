@@ -47,7 +47,7 @@ taken-weight symbols c (live next bound cs) =
     let e = mapTerms (become bound) c in
     omega (arith, weight-append symbols cs (e ∷ []), weight-cons symbols e [], weight-nil symbols)
 
--- each event keeps the bound
+-- each event keeps the bound: an entry takes what it adds from what waits
 bounded-entering : (p : Program) (g : Goal) (n : ℕ) (d : Progress) → Bounded p g d → Bounded p g (entering g n d)
 unfolding entering
 bounded-entering p g n d b = go (has n (d .entered)) refl (getElem? (g .constraints) n) refl
@@ -66,6 +66,7 @@ bounded-entering p g n d b = go (has n (d .entered)) refl (getElem? (g .constrai
           weight-inserted (p .symbols) (waiting-enters g (d .entered) n c f s),
         )
 
+-- a firing takes one or more from the state's weight
 bounded-firing :
     (p : Program) (g : Goal) (n : ℕ) (ps : List ℕ) (d : Progress) → isWellFormed p ≡ true → Bounded p g d
     → Bounded p g (firing p n ps d)
@@ -87,12 +88,14 @@ bounded-firing p g n ps d w b = go (getElem? (p .rules) n) refl
     go none e = b
     go (some r) e = fires r e (fireAt r ps (d .state)) refl
 
+-- either event
 bounded-follow :
     (p : Program) (g : Goal) (e : Event) (d : Progress) → isWellFormed p ≡ true → Bounded p g d → Bounded p g (follow p g e d)
 unfolding follow
 bounded-follow p g (enter n) d w b = bounded-entering p g n d b
 bounded-follow p g (fire n ps) d w b = bounded-firing p g n ps d w b
 
+-- all events
 bounded-all :
     (p : Program) (g : Goal) (es : List Event) (d : Progress) → isWellFormed p ≡ true → Bounded p g d
     → Bounded p g (followAll p g es d)

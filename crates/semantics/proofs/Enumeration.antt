@@ -4,20 +4,21 @@
 --   overlap-parts                                   what an overlap was made from
 --   member-overlaps                                 each overlap of rules i ≤ j is listed
 --   Listed, overlaps-member                         and nothing else
+--   norepeat-overlaps                               each once
 -- Assumes nothing.
-use Prim.Native.Nat.{ℕ, zero, suc, _+_, _≤_, _<_}
+use Prim.Native.Nat.{ℕ, zero, suc, _+_, _≤_}
 use native.Mathlib.Omega.{arith}
-use mathlib.Core.Bool.{Bool, true, false, cond}
+use mathlib.Core.Bool.{true, cond}
 use mathlib.Core.List.{List, [], _∷_, _++_, map}
-use mathlib.Core.Option.{Option, none, some}
+use mathlib.Core.Option.{none, some}
 use mathlib.Core.Path.{_≡_, refl, sym, ap, subst, subst₂, _∙_}
 use lib.ListN.{length, getElem?}
-use Rattle.text.specs.Lists.{bind, gather, answers, upTo}
-use Rattle.semantics.specs.Terms.{Term, Constraint, Equation, Rule, Program, mapTerms}
+use Rattle.text.specs.Lists.{bind, gather, upTo}
+use Rattle.semantics.specs.Terms.{Term, Equation, Rule, Program, mapTerms}
 use Rattle.semantics.specs.Solving.{solve}
 use Rattle.semantics.specs.Overlaps.{partnerLists, isPairing, pairings, Numbered, Overlap, apart, joinEquations}
 use Rattle.semantics.specs.Overlaps.{unjoinedHeads, goalOf, overlapOf, numberedFrom, overlapsOf, overlapsAmong, overlaps}
-use Rattle.semantics.proofs.Configurations.{Or, inl, inr, Member, first, later, All, also}
+use Rattle.semantics.proofs.Configurations.{Or, inl, inr, Member, first, All, also}
 use Rattle.semantics.proofs.Configurations as C
 use Rattle.semantics.proofs.Options.{none-some, bind-some, cond-some}
 use Rattle.semantics.proofs.Multisets.{member-cons, member-nil, member-append, member-append-left, member-append-right}
@@ -25,7 +26,7 @@ use Rattle.semantics.proofs.Multisets.{member-map, member-unmap}
 use Rattle.semantics.proofs.Places.{some-equal}
 use Rattle.semantics.proofs.Listings.{member-gather, gather-member, member-answers, answers-member, member-upTo}
 use Rattle.semantics.proofs.Listings.{upTo-member, at-member, member-at, NoRepeat, nothing, norepeat-map}
-use Rattle.semantics.proofs.Listings.{norepeat-gather, norepeat-answers, norepeat-upTo}
+use Rattle.semantics.proofs.Listings.{norepeat-gather, norepeat-answers, norepeat-upTo, norepeat-append}
 use Rattle.semantics.proofs.Listings as L
 
 -- a pairing of m heads with n heads
@@ -228,3 +229,51 @@ overlaps-member p {o} m =
         (subst₂ (λ x y. Member ds (pairings (length (x .rule .heads)) (length (y .rule .heads)))) one two n);
       made = subst (λ l. overlapOf (o .first) (o .second) l ≡ some o) three (subst₂ (λ x y. overlapOf x y ds ≡ some o) one two e);
     }
+
+-- the rules' numbers go up, so no numbered rule stands twice
+numbered-above : (n : ℕ) (rs : List Rule) {a : Numbered} → Member a (numberedFrom n rs) → n ≤ a .number
+numbered-above n rs m =
+    let (k, e) = member-at m in
+    let (h, r) = at-numbered n k rs e in
+    omega arith
+
+norepeat-numbered : (n : ℕ) (rs : List Rule) → NoRepeat (numberedFrom n rs)
+unfolding numberedFrom
+norepeat-numbered n [] = nothing
+norepeat-numbered n (r ∷ rs) = L.apart again (norepeat-numbered (suc n) rs)
+  where
+    again : Member (record { number = n; rule = r }) (numberedFrom (suc n) rs) → ⊥
+    again m = let h : suc n ≤ n = numbered-above (suc n) rs m in omega arith
+
+-- an overlap of two rules is of these rules
+of-rules :
+    {o : Overlap} (i j : Numbered) → Member o (overlapsOf i j) → (o .first ≡ i) × (o .second ≡ j)
+unfolding overlapsOf
+of-rules i j m =
+    let (ds, n, e) = answers-member (overlapOf i j) (pairings (length (i .rule .heads)) (length (j .rule .heads))) m in
+    let made = overlap-parts i j ds e .made in
+    (ap (λ x. x .first) made, ap (λ x. x .second) made)
+
+-- the overlaps of two rules are listed once
+norepeat-of : (i j : Numbered) → NoRepeat (overlapsOf i j)
+unfolding overlapsOf
+norepeat-of i j =
+    norepeat-answers (overlapOf i j) (λ a b o e f.
+    sym (ap (λ x. x .partners) (overlap-parts i j a e .made)) ∙ ap (λ x. x .partners) (overlap-parts i j b f .made))
+    (norepeat-pairings (length (i .rule .heads)) (length (j .rule .heads)))
+
+norepeat-among : {l : List Numbered} → NoRepeat l → NoRepeat (overlapsAmong l)
+unfolding overlapsAmong
+norepeat-among nothing = nothing
+norepeat-among (L.apart {a = x} {l} f p) =
+    norepeat-append
+    (norepeat-gather (overlapsOf x) (norepeat-of x) (λ a b o m n. sym (of-rules x a m .1) ∙ of-rules x b n .1) (L.apart f p))
+    (norepeat-among p) (λ o m n.
+    let (y, i, h) = gather-member (overlapsOf x) (x ∷ l) m in
+    let (j, k, a, b, q, r, le, g) = among-member l n in
+    f (subst (λ z. Member z l) (sym (of-rules a b g .0) ∙ of-rules x y h .0) (at-member l j q)))
+
+-- each overlap of a program is listed once
+pub norepeat-overlaps : (p : Program) → NoRepeat (overlaps p)
+unfolding overlaps
+norepeat-overlaps p = norepeat-among (norepeat-numbered 0 (p .rules))

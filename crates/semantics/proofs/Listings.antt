@@ -4,15 +4,18 @@
 --   member-upTo, upTo-member            the numbers below n
 --   member-at, at-member                an element stands at a place
 --   NoRepeat, norepeat-…                no element stands twice
+--   all-every                           a test that each element passes
 -- Assumes nothing.
 use Prim.Native.Nat.{ℕ, zero, suc, _<_}
 use native.Mathlib.Omega.{arith}
+use mathlib.Core.Bool.{Bool, true}
 use mathlib.Core.List.{List, [], _∷_, _++_, map}
 use mathlib.Core.Option.{Option, none, some}
 use mathlib.Core.Path.{_≡_, refl, sym, ap, subst, _∙_}
 use lib.ListN.{getElem?}
-use Rattle.text.specs.Lists.{onward, gather, answers, tabled, upTo}
-use Rattle.semantics.proofs.Configurations.{Or, inl, inr, Member, first, later}
+use Rattle.text.specs.Lists.{onward, every, gather, answers, upTo}
+use Rattle.semantics.proofs.Configurations.{Or, inl, inr, Member, first, later, All, also}
+use Rattle.semantics.proofs.Configurations as C
 use Rattle.semantics.proofs.Options.{none-some}
 use Rattle.semantics.proofs.Multisets.{member-nil, member-cons, member-append, member-append-left, member-append-right}
 use Rattle.semantics.proofs.Multisets.{member-unmap}
@@ -158,3 +161,8 @@ norepeat-upTo (suc n) =
     last : (a : ℕ) → a < n → Or (a ≡ n) (Member a []) → ⊥
     last a h (inl e) = omega arith
     last a h (inr k) = member-nil k
+
+-- what each element passes all pass
+pub all-every : {A : Type 0} (test : A → Bool) {l : List A} → All (λ a. test a ≡ true) l → every test l ≡ true
+all-every test C.none = refl
+all-every test (also e es) = rw e (all-every test es)

@@ -3,23 +3,22 @@
 --   first-stand, first-fresh        the first side: the numbers below the length of the first list
 --   second-stand, second-fresh      the second side: joined elements at their partners' positions, the others behind
 -- Assumes nothing.
-use Prim.Native.Nat.{ℕ, zero, suc, _+_, _≤_, _<_}
+use Prim.Native.Nat.{ℕ, zero, suc, _+_, _≤_}
 use native.Mathlib.Omega.{arith}
-use mathlib.Core.Bool.{Bool, true, false, cond, _||_}
+use mathlib.Core.Bool.{true, false}
 use mathlib.Core.List.{List, [], _∷_, _++_}
-use mathlib.Core.Option.{some}
-use mathlib.Core.Path.{_≡_, refl, sym, ap, subst, _∙_}
+use mathlib.Core.Path.{_≡_, refl, sym, ap, _∙_}
 use lib.Dec.{eqb}
 use lib.ListN.{length, getElem?}
-use Rattle.text.specs.Lists.{has, placeFrom, tabled, upTo}
+use Rattle.text.specs.Lists.{has, placeFrom, upTo}
 use Rattle.semantics.specs.Terms.{Constraint}
 use Rattle.semantics.specs.Overlaps.{secondPositions}
 use Rattle.semantics.specs.Variants.{Pointwise, empty, each}
 use Rattle.semantics.proofs.Configurations.{Or, inl, inr}
 use Rattle.semantics.proofs.Options.{decide, true-false, eqb-equal}
-use Rattle.semantics.proofs.Bools.{or-cases, false-unless}
+use Rattle.semantics.proofs.Bools.{or-cases}
 use Rattle.semantics.proofs.PositionLaws.{Stands, Fresh}
-use Rattle.semantics.proofs.Places.{some-equal, getElem-left, getElem-right, place-stands, place-below}
+use Rattle.semantics.proofs.Places.{false-unless, some-equal, getElem-left, getElem-right, place-stands, place-below}
 use Rattle.semantics.proofs.Places.{Distinct, distinct-fresh}
 use Rattle.semantics.proofs.Pairings.{leftover, Agreed}
 

@@ -2,13 +2,13 @@
 -- or 0.
 --   leftover, alone        the elements of the second and of the first list that are joined to none
 --   Agreed                 joined elements are equal
+--   agreed-of, agreed-at   the same by numbers
 --   join-union             the first list and what is left of the second are the second and what is alone of the first
 --   join-pointwise         what relates the first lists and what is left of the second ones relates the second ones
 -- Assumes nothing.
 use Prim.Native.Nat.{ℕ, zero, suc, _+_, _≤_, _<_}
-use native.Mathlib.Nat.{add-zero, add-suc, suc-add}
 use native.Mathlib.Omega.{arith}
-use mathlib.Core.Bool.{Bool, true, false, cond, not, _&&_, _||_}
+use mathlib.Core.Bool.{Bool, true, false, cond, not, _||_}
 use mathlib.Core.List.{List, [], _∷_, _++_, map, append-nil}
 use mathlib.Core.Option.{some}
 use mathlib.Core.Path.{_≡_, refl, sym, ap, subst, subst₂, _∙_}
@@ -17,12 +17,12 @@ use lib.ListN.{length, getElem?}
 use Rattle.text.specs.Lists.{has, every, placeFrom}
 use Rattle.semantics.specs.Terms.{Constraint}
 use Rattle.semantics.specs.Overlaps.{isOneToOne, unjoinedHeads}
-use Rattle.semantics.specs.Variants.{Pointwise, empty, each, Inserted, here, there, SameMultiset, put}
-use Rattle.semantics.proofs.Configurations.{Or, inl, inr, All, none, also}
+use Rattle.semantics.specs.Variants.{Pointwise, empty, each, Inserted, here, there, SameMultiset}
+use Rattle.semantics.proofs.Configurations.{Or, inl, inr, All, also}
 use Rattle.semantics.proofs.Options.{decide, true-false, none-some, eqb-equal, equal-eqb, apart-eqb}
 use Rattle.semantics.proofs.Bools.{and-true, or-false, or-cases, or-right}
 use Rattle.semantics.proofs.Places.{le-or-lt, leb-true, leb-false, not-true, some-equal, placeFrom-miss, pointwise-at}
-use Rattle.semantics.proofs.Places.{getElem-map}
+use Rattle.semantics.proofs.Places.{getElem-map, placeFrom-hit, has-at}
 use Rattle.semantics.proofs.Multisets.{multiset-put, multiset-of-path, inserted-left, inserted-right}
 
 -- the elements of the second list, the first of them numbered n, that are joined to none
@@ -52,6 +52,7 @@ rest n [] ds = []
 rest n (x ∷ xs) [] = []
 rest n (x ∷ xs) (d ∷ ds) = cond (keeps n d) (x ∷ rest n xs ds) (rest n xs ds)
 
+-- number 1 keeps everything
 keeps-one : (d : ℕ) → keeps 1 d ≡ true
 keeps-one zero = refl
 keeps-one (suc d) = rw (apart-eqb {m = suc d} {n = 0} (λ e. omega arith), leb-true 1 (suc d) (omega arith))
@@ -257,3 +258,37 @@ alone-all (x ∷ xs) (zero ∷ ds) h e = ap (x ∷_) (alone-all xs ds h (omega a
 alone-all (x ∷ xs) (suc d ∷ ds) h e =
     let (a, b) = and-true (eqb 0 (suc d)) (every (eqb 0) ds) h in
     absurd (let z : 0 ≡ suc d = eqb-equal a in omega arith)
+
+-- joined elements are equal if they are at every number
+pub agreed-of :
+    {A : Type 0} (n : ℕ) (xs ys : List A) (ds : List ℕ)
+    → ((m k : ℕ) (y : A) → m ≡ n + k → getElem? ys k ≡ some y → has m ds ≡ true → getElem? xs (placeFrom (eqb m) 0 ds) ≡ some y)
+    → Agreed n xs ys ds
+agreed-of n xs [] ds h = tt
+agreed-of n xs (y ∷ ys) ds h =
+    (h n 0 y (omega arith) refl, agreed-of (suc n) xs ys ds (λ m k z e. h m (suc k) z (omega arith)))
+
+-- joined elements are equal, by their numbers
+pub agreed-at :
+    {A : Type 0} (n : ℕ) (xs ys : List A) (ds : List ℕ) → Agreed n xs ys ds → (m k : ℕ) {y : A} → m ≡ n + k
+    → getElem? ys k ≡ some y → has m ds ≡ true → getElem? xs (placeFrom (eqb m) 0 ds) ≡ some y
+agreed-at n xs [] ds a m k e s h = none-some refl s
+agreed-at n xs (y ∷ ys) ds a m zero e s h =
+    let z : n ≡ m = omega arith in
+    subst (λ i. getElem? xs (placeFrom (eqb i) 0 ds) ≡ some y) z (a .0 (subst (λ i. has i ds ≡ true) (sym z) h)) ∙ s
+agreed-at n xs (y ∷ ys) ds a m (suc k) e s h = agreed-at (suc n) xs ys ds (a .1) m k (omega arith) s h
+
+-- a partner other than 0 stands once
+pub once-place :
+    (ds : List ℕ) (k d : ℕ) → isOneToOne ds ≡ true → getElem? ds k ≡ some (suc d) → placeFrom (eqb (suc d)) 0 ds ≡ k
+unfolding isOneToOne
+once-place [] k d u e = none-some refl e
+once-place (c ∷ ds) zero d u e = placeFrom-hit (eqb (suc d)) 0 ds (equal-eqb {m = suc d} {n = c} (sym (some-equal e)))
+once-place (c ∷ ds) (suc k) d u e =
+    let (v, w) = and-true (eqb c 0 || not (has c ds)) (isOneToOne ds) u in
+    placeFrom-miss (eqb (suc d)) 0 ds (apart-eqb {m = suc d} {n = c} (λ z. twice z (or-cases (eqb c 0) (not (has c ds)) v)))
+    ∙ ap suc (once-place ds k d w e)
+  where
+    twice : suc d ≡ c → Or (eqb c 0 ≡ true) (not (has c ds) ≡ true) → ⊥
+    twice z (inl p) = let q : c ≡ 0 = eqb-equal p in omega arith
+    twice z (inr p) = true-false (has-at c ds k (e ∙ ap some z)) (not-true (has c ds) p)

@@ -7,9 +7,9 @@
 --   partners-cases                  nothing is joined, or it is a pairing
 --   multiset-cancel                 equal multisets without a common part
 -- Assumes nothing.
-use Prim.Native.Nat.{ℕ, zero, suc, _+_, _≤_, _<_}
+use Prim.Native.Nat.{ℕ, zero, suc, _+_, _≤_}
 use native.Mathlib.Omega.{arith}
-use mathlib.Core.Bool.{Bool, true, false, cond, not, _&&_, _||_}
+use mathlib.Core.Bool.{true, false, cond, not, _&&_, _||_}
 use mathlib.Core.List.{List, [], _∷_, _++_, append-assoc}
 use mathlib.Core.Option.{some}
 use mathlib.Core.Path.{_≡_, refl, sym, ap, subst, _∙_}
@@ -19,16 +19,17 @@ use Rattle.text.specs.Lists.{has, every, placeFrom}
 use Rattle.semantics.specs.Terms.{Constraint}
 use Rattle.semantics.specs.Firing.{without}
 use Rattle.semantics.specs.Overlaps.{isOneToOne, isPairing}
-use Rattle.semantics.specs.Variants.{Pointwise, empty, each, Inserted, here, there, SameMultiset, done, put}
+use Rattle.semantics.specs.Variants.{Pointwise, Inserted, here, there, SameMultiset, put}
 use Rattle.semantics.proofs.Configurations.{Or, inl, inr, All, none, also}
-use Rattle.semantics.proofs.Options.{decide, true-false, none-some, eqb-equal, equal-eqb, apart-eqb}
-use Rattle.semantics.proofs.Bools.{or-cases, or-right, false-unless}
+use Rattle.semantics.proofs.Options.{decide, true-false, none-some, eqb-equal, equal-eqb}
+use Rattle.semantics.proofs.Bools.{or-cases, or-right}
 use Rattle.semantics.proofs.PositionLaws.{Stands, Fresh, without-taken}
 use Rattle.semantics.proofs.Multisets.{multiset-refl, multiset-right, multiset-back, multiset-append, pointwise-append}
 use Rattle.semantics.proofs.Multisets.{pointwise-length}
-use Rattle.semantics.proofs.Places.{some-equal, placeFrom-hit, placeFrom-miss, getElem-below, place-stands, place-below}
-use Rattle.semantics.proofs.Places.{has-at, Distinct, distinct-fresh, fresh-distinct, distinct-append}
-use Rattle.semantics.proofs.Pairings.{leftover, alone, Agreed, join-union, leftover-pointwise}
+use Rattle.semantics.proofs.Places.{false-unless, some-equal, getElem-below, place-stands}
+use Rattle.semantics.proofs.Places.{has-at, Distinct, distinct-fresh, fresh-distinct, distinct-append, place-unique}
+use Rattle.semantics.proofs.Places.{pointwise-get, pointwise-get-back}
+use Rattle.semantics.proofs.Pairings.{leftover, alone, Agreed, join-union, leftover-pointwise, agreed-of}
 
 -- one position's place in a list, from 1; 0 where it does not stand there
 abbrev partner : List ℕ → ℕ → ℕ
@@ -56,14 +57,6 @@ partner-at p k qs e = go (partner-cases p qs)
     go : Or (partner qs p ≡ 0) ((i : ℕ) × (partner qs p ≡ suc i) × (getElem? qs i ≡ some p)) → getElem? qs k ≡ some p
     go (inl z) = absurd (omega arith)
     go (inr (i, z, s)) = ap (getElem? qs) (let w : k ≡ i = omega arith in w) ∙ s
-
--- a place of distinct numbers is the first place of what stands there
-pub place-unique : (l : List ℕ) (i n : ℕ) → Distinct l → getElem? l i ≡ some n → placeFrom (eqb n) 0 l ≡ i
-place-unique [] i n d s = none-some refl s
-place-unique (m ∷ l) zero n d s = placeFrom-hit (eqb n) 0 l (equal-eqb {m = n} {n = m} (sym (some-equal s)))
-place-unique (m ∷ l) (suc i) n d s =
-    placeFrom-miss (eqb n) 0 l (apart-eqb {m = n} {n = m} (λ e.
-    true-false (has-at m l i (s ∙ ap some e)) (d .0))) ∙ ap suc (place-unique l i n (d .1) s)
 
 -- the number of a position among distinct ones is its partner
 partner-is : (p k : ℕ) (qs : List ℕ) → Distinct qs → getElem? qs k ≡ some p → partner qs p ≡ suc k
@@ -136,30 +129,6 @@ partners-distinct (p ∷ ps) qs d = rw (go (partner-cases p qs)) (partners-disti
 
 pub partners-once : (ps qs : List ℕ) → Fresh [] ps → isOneToOne (partnersOf ps qs) ≡ true
 partners-once ps qs f = partners-distinct ps qs (fresh-distinct [] ps f)
-
--- joined elements are equal if they are at every number
-pub agreed-of :
-    {A : Type 0} (n : ℕ) (xs ys : List A) (ds : List ℕ)
-    → ((m k : ℕ) (y : A) → m ≡ n + k → getElem? ys k ≡ some y → has m ds ≡ true → getElem? xs (placeFrom (eqb m) 0 ds) ≡ some y)
-    → Agreed n xs ys ds
-agreed-of n xs [] ds h = tt
-agreed-of n xs (y ∷ ys) ds h =
-    (h n 0 y (omega arith) refl, agreed-of (suc n) xs ys ds (λ m k z e. h m (suc k) z (omega arith)))
-
--- the partner of an element, at its place
-pub pointwise-get :
-    {A B : Type 0} {R : A → B → Type 0} {l : List A} {m : List B} (i : ℕ) {a : A} → Pointwise R l m → getElem? l i ≡ some a
-    → (b : B) × (getElem? m i ≡ some b) × R a b
-pointwise-get i empty p = none-some refl p
-pointwise-get {R} zero (each {b = y} r h) p = (y, refl, subst (λ x. R x y) (some-equal p) r)
-pointwise-get (suc i) (each r h) p = pointwise-get i h p
-
-pub pointwise-get-back :
-    {A B : Type 0} {R : A → B → Type 0} {l : List A} {m : List B} (i : ℕ) {b : B} → Pointwise R l m → getElem? m i ≡ some b
-    → (a : A) × (getElem? l i ≡ some a) × R a b
-pointwise-get-back i empty p = none-some refl p
-pointwise-get-back {R} zero (each {a = x} r h) p = (x, refl, subst (R x) (some-equal p) r)
-pointwise-get-back (suc i) (each r h) p = pointwise-get-back i h p
 
 -- what stands at joined positions is equal
 pub partners-agreed :

@@ -1,7 +1,8 @@
 -- Numbers and places in lists: whether a number stands in one, where its first place is, and what stands at a place.
 --   le-or-lt, leb-true, leb-false        the order of numbers and its test
 --   placeFrom-…, place-…                 the first place
---   getElem-…                            the element at a place
+--   getElem-…, getD-at                   the element at a place
+--   pointwise-at, pointwise-get          the elements at one place of two related lists
 --   has-…, Distinct                      a number of a list; lists without repetition
 --   distinct-fresh, fresh-distinct       distinct positions are fresh ones
 -- Assumes nothing.
@@ -12,12 +13,12 @@ use mathlib.Core.List.{List, [], _∷_, _++_, map}
 use mathlib.Core.Option.{some}
 use mathlib.Core.Path.{_≡_, refl, sym, ap, subst, subst₂, _∙_}
 use lib.Dec.{eqb, leb, leb→le, le→leb, nleb→lt}
-use lib.ListN.{length, getElem?}
+use lib.ListN.{length, getD, getElem?}
 use Rattle.text.specs.Lists.{has, placeFrom}
 use Rattle.semantics.specs.Variants.{Pointwise, empty, each}
 use Rattle.semantics.proofs.Configurations.{Or, inl, inr}
 use Rattle.semantics.proofs.Options.{decide, true-false, none-some, true-T, T-true, eqb-equal, equal-eqb, apart-eqb}
-use Rattle.semantics.proofs.Bools.{or-false, or-cases, or-right, false-unless}
+use Rattle.semantics.proofs.Bools.{or-right}
 use Rattle.semantics.proofs.PositionLaws.{Fresh}
 use Rattle.semantics.proofs.Removal.{has-last, has-other}
 
@@ -44,6 +45,11 @@ leb-false m n h = go (decide (leb m n))
 pub not-true : (b : Bool) → not b ≡ true → b ≡ false
 not-true true e = true-false e refl
 not-true false e = refl
+
+-- a test that cannot pass fails
+pub false-unless : (b : Bool) → (b ≡ true → ⊥) → b ≡ false
+false-unless true f = absurd (f refl)
+false-unless false f = refl
 
 -- the value of an answer
 pub some-equal : {A : Type 0} {a b : A} → some a ≡ some b → a ≡ b
@@ -82,6 +88,27 @@ pub getElem-map :
 getElem-map f [] i p = none-some refl p
 getElem-map f (x ∷ l) zero p = ap some (ap f (some-equal p))
 getElem-map f (x ∷ l) (suc i) p = getElem-map f l i p
+
+-- the partner of an element, at its place
+pub pointwise-get :
+    {A B : Type 0} {R : A → B → Type 0} {l : List A} {m : List B} (i : ℕ) {a : A} → Pointwise R l m → getElem? l i ≡ some a
+    → (b : B) × (getElem? m i ≡ some b) × R a b
+pointwise-get i empty p = none-some refl p
+pointwise-get {R} zero (each {b = y} r h) p = (y, refl, subst (λ x. R x y) (some-equal p) r)
+pointwise-get (suc i) (each r h) p = pointwise-get i h p
+
+pub pointwise-get-back :
+    {A B : Type 0} {R : A → B → Type 0} {l : List A} {m : List B} (i : ℕ) {b : B} → Pointwise R l m → getElem? m i ≡ some b
+    → (a : A) × (getElem? l i ≡ some a) × R a b
+pointwise-get-back i empty p = none-some refl p
+pointwise-get-back {R} zero (each {a = x} r h) p = (x, refl, subst (R x) (some-equal p) r)
+pointwise-get-back (suc i) (each r h) p = pointwise-get-back i h p
+
+-- what stands at a place, with a default
+pub getD-at : {A : Type 0} (l : List A) (i : ℕ) {a : A} (z : A) → getElem? l i ≡ some a → getD l i z ≡ a
+getD-at [] i z e = none-some refl e
+getD-at (x ∷ l) zero z e = some-equal e
+getD-at (x ∷ l) (suc i) z e = getD-at l i z e
 
 -- an element of the first of two lists, and of the second
 pub getElem-left :
@@ -169,3 +196,11 @@ distinct-append [] m d e h = e
 distinct-append (p ∷ l) m d e h =
     (has-append p l m ∙ rw (d .0) (h p (rw (equal-eqb {m = p} refl))),
     distinct-append l m (d .1) e (λ q k. h q (or-right (eqb q p) (has q l) k)))
+
+-- a place of distinct numbers is the first place of what stands there
+pub place-unique : (l : List ℕ) (i n : ℕ) → Distinct l → getElem? l i ≡ some n → placeFrom (eqb n) 0 l ≡ i
+place-unique [] i n d s = none-some refl s
+place-unique (m ∷ l) zero n d s = placeFrom-hit (eqb n) 0 l (equal-eqb {m = n} {n = m} (sym (some-equal s)))
+place-unique (m ∷ l) (suc i) n d s =
+    placeFrom-miss (eqb n) 0 l (apart-eqb {m = n} {n = m} (λ e.
+    true-false (has-at m l i (s ∙ ap some e)) (d .0))) ∙ ap suc (place-unique l i n (d .1) s)

@@ -12,7 +12,7 @@ use lib.ListN.{length}
 use Rattle.semantics.specs.Terms.{Program}
 use Rattle.semantics.specs.Strategy.{Final}
 use Rattle.semantics.specs.Overlaps.{Overlap, overlaps, firstEnd, secondEnd}
-use Rattle.semantics.specs.Verdict.{Verdict, confluent, unjoined, isJoinable, judge, verdict}
+use Rattle.semantics.specs.Verdict.{confluent, unjoined, isJoinable, judge, verdict}
 use Rattle.semantics.proofs.Configurations.{Member, first, later, All, none, also}
 use Rattle.semantics.proofs.Multisets.{all-member, all-of-members}
 
