@@ -1,14 +1,14 @@
 -- What firing does (document 01): the state after a firing represents the configuration after it.
---   Lettered             a rule's variables are letters
+--   Lettered             the variables of a rule's body and equations are letters
 --   Firing               a rule that fits at positions of a state
 --   fire-fits            there the rule fits what is matched
 --   fire-represents      the state after the firing represents the configuration after it
 -- Assumes nothing.
 use Prim.Native.Nat.{ℕ, _+_, _-_, _<_}
-use mathlib.Core.Bool.{Bool, true, false, cond}
-use mathlib.Core.List.{List, [], _∷_, _++_, map, map-append}
+use mathlib.Core.Bool.{true, false, cond}
+use mathlib.Core.List.{List, [], _++_, map, map-append}
 use mathlib.Core.Option.{Option, none, some}
-use mathlib.Core.Path.{_≡_, refl, sym, ap, subst, _∙_}
+use mathlib.Core.Path.{_≡_, refl, sym, ap, _∙_}
 use native.Mathlib.Omega.{arith}
 use lib.Dec.{ltb, ltb→lt, lt→ltb}
 use Rattle.text.specs.Lists.{onward}
@@ -28,14 +28,13 @@ use Rattle.semantics.proofs.Atoms.{equal-holds, flat-pointwise}
 use Rattle.semantics.proofs.Closure.{eqv-path, eqv-sub, eqv-front, eqv-behind, derives-append, derives-map}
 use Rattle.semantics.proofs.Isos.{iso-sym, iso-of-maps}
 use Rattle.semantics.proofs.Options.{decide, none-some, true-T, T-true}
-use Rattle.semantics.proofs.SolveLaws.{solve-solution, solve-clash, solve-within}
+use Rattle.semantics.proofs.SolveLaws.{solve-solution, solve-clash, solve-keeps}
 use Rattle.semantics.proofs.MatchLaws.{TermFits, Paired, AtMatch}
 use Rattle.semantics.proofs.MatchedTerms.{ConstraintBelow, matched-all, without-all, pointwise-all, pointwise-image}
 use Rattle.semantics.proofs.MatchedTerms.{below-mono, paired-all, zipped-map, paired-zipped, zipped-equal}
 
--- a rule's variables are letters
+-- the variables of a rule's body and equations are letters
 pub record Lettered (r : Rule) : Type 0 where
-  pub heads : All (ConstraintBelow alphabet) (r .heads)
   pub body : All (ConstraintBelow alphabet) (r .body)
   pub equations : All (λ e. TermBelow alphabet (e .left) × TermBelow alphabet (e .right)) (r .equations)
 
@@ -263,11 +262,7 @@ module _ (r : Rule) (n : ℕ) (b : List Term) (cs : List Constraint) (ps : List 
         rw q (instance-below (c .left) (h .0), instance-below (c .right) (h .1))
 
     solution-below : Lettered r → (t : Term) → TermBelow (n + alphabet) t → TermBelow (n + alphabet) (σ t)
-    solution-below letters t h = go (solve-within (TermBelow (n + alphabet)) solvedFor p (sides-below letters) t)
-      where
-        go : Or (σ t ≡ t) (TermBelow (n + alphabet) (σ t)) → TermBelow (n + alphabet) (σ t)
-        go (inl q) = subst (TermBelow (n + alphabet)) (sym q) h
-        go (inr q) = q
+    solution-below letters t h = solve-keeps (TermBelow (n + alphabet)) solvedFor p (sides-below letters) t h
 
     fire-scoped : Lettered r → Scoped (n + alphabet) (map σ b) (map (mapTerms σ) remaining)
     unfolding mapTerms

@@ -28,3 +28,6 @@ pub mod Commute
 pub mod Peaks
 pub mod MatchedTerms
 pub mod FireLaws
+pub mod Letters
+pub mod VariantLaws
+pub mod Represent

@@ -6,7 +6,7 @@
 --   instantiate, Agrees, matchAt-complete where there is an answer
 -- Assumes nothing.
 use Prim.Native.Nat.{ℕ}
-use mathlib.Core.Bool.{Bool, true, false, cond}
+use mathlib.Core.Bool.{true, false, cond}
 use mathlib.Core.List.{List, [], _∷_, _++_}
 use mathlib.Core.Option.{Option, none, some}
 use mathlib.Core.Path.{_≡_, refl, sym, ap, subst, subst₂, _∙_}
@@ -267,6 +267,7 @@ matchTerm-complete ϑ (var x) t θ a p = go (θ x) refl
     go none f = (extend x t θ, rw f, λ y u. agrees y u (extend-cases x t θ y))
     go (some u) f = (θ, rw (f, equal-same (a x u f ∙ p)), a)
 
+-- the same for lists of terms
 matchTerms-complete :
     (ϑ : ℕ → Term) {hs ts : List Term} (θ : Assignment) → Agrees θ ϑ → Pointwise (λ h t. instantiate ϑ h ≡ t) hs ts
     → (θ′ : Assignment) × (matchTerms hs ts θ ≡ some θ′) × Agrees θ′ ϑ
@@ -277,6 +278,7 @@ matchTerms-complete ϑ θ a (each {a = h} {b = t} p ps) =
     let (θ′, r, c) = matchTerms-complete ϑ ν b ps in
     (θ′, rw q r, c)
 
+-- the same for a head
 matchConstraint-complete :
     (ϑ : ℕ → Term) (h c : Constraint) (θ : Assignment) → Agrees θ ϑ → ConstraintRel (λ s t. instantiate ϑ s ≡ t) h c
     → (θ′ : Assignment) × (matchConstraint h c θ ≡ some θ′) × Agrees θ′ ϑ

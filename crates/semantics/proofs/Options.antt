@@ -6,13 +6,13 @@
 --   same-equal, equal-same        the test of terms, both ways
 --   below-isBelow, isBelow-below  the test whether a term is below a number, both ways
 -- Assumes nothing.
-use Prim.Native.Nat.{ℕ, zero, suc, _<_, _≤_}
-use mathlib.Core.Bool.{Bool, true, false, cond, not, _&&_, _||_}
+use Prim.Native.Nat.{ℕ, suc}
+use mathlib.Core.Bool.{Bool, true, false, cond}
 use mathlib.Core.Option.{Option, none, some}
-use mathlib.Core.Path.{_≡_, refl, sym, ap, subst, _∙_}
+use mathlib.Core.Path.{_≡_, refl, sym, ap, subst}
 use native.Mathlib.Omega.{arith}
-use lib.Dec.{T, eqb, ltb, leb, eqb→eq, eqb-refl, leb→le, le→leb, nleb→lt}
-use Rattle.text.specs.Lists.{onward, bind}
+use lib.Dec.{T, eqb, ltb, eqb→eq, eqb-refl, leb→le, le→leb}
+use Rattle.text.specs.Lists.{bind}
 use Rattle.semantics.specs.Terms.{Term, con, var, sameTerm, isBelow}
 use Rattle.semantics.proofs.Configurations.{Or, inl, inr, TermBelow}
 

@@ -7,7 +7,7 @@ use Prim.Native.Nat.{ℕ, zero, suc, _+_, _<_}
 use mathlib.Core.Bool.{Bool, true, false, cond, _||_}
 use mathlib.Core.List.{List, [], _∷_, _++_, append-assoc, append-nil}
 use mathlib.Core.Option.{some}
-use mathlib.Core.Path.{_≡_, refl, sym, ap, subst, _∙_}
+use mathlib.Core.Path.{_≡_, refl, sym, ap, ap₂, subst, _∙_}
 use native.Mathlib.Omega.{arith}
 use lib.Dec.{eqb}
 use lib.ListN.{getElem?}
@@ -22,6 +22,12 @@ use Rattle.semantics.proofs.Multisets.{multiset-refl, multiset-back}
 -- a constraint stands at a position, counted from 0
 abbrev pub Stands : List Constraint → ℕ → Constraint → Type 0
 Stands cs p c = getElem? cs p ≡ some c
+
+-- one constraint stands at a position
+pub stands-same :
+    (cs : List Constraint) {ps : List ℕ} {M N : List Constraint} → Pointwise (Stands cs) ps M → Pointwise (Stands cs) ps N → M ≡ N
+stands-same cs empty empty = refl
+stands-same cs (each {b = c} s ss) (each {b = d} t ts) = ap₂ _∷_ (let e : c ≡ d = cc in e) (stands-same cs ss ts)
 
 -- positions none of which is chosen, each of them chosen before the next
 abbrev pub Fresh : List ℕ → List ℕ → Type 0

@@ -4,21 +4,20 @@
 --   Solution, solve-solution                 a list of equations, solved
 --   solution-equal, solution-eqv             equivalent under the equations is equal under their solution
 --   solve-clash                              no answer: the equations equate two different constants
---   solve-within                             a term stays, or becomes one of which all that holds of the equations' sides holds
+--   solve-within, solve-keeps                a term stays, or becomes one that has what all sides of the equations have
 -- Assumes nothing.
 use Prim.Native.Nat.{ℕ}
-use mathlib.Core.Bool.{Bool, true, false, cond}
+use mathlib.Core.Bool.{true, false, cond}
 use mathlib.Core.List.{List, [], _∷_, map}
-use mathlib.Core.Option.{Option, none, some}
+use mathlib.Core.Option.{none, some}
 use mathlib.Core.Path.{_≡_, refl, sym, ap, subst, _∙_}
 use lib.Dec.{leb, eqb}
-use Rattle.text.specs.Lists.{bind}
 use Rattle.semantics.specs.Terms.{Term, con, var, Equation}
 use Rattle.semantics.specs.Solving.{replace, unify, solve}
 use Rattle.semantics.proofs.Configurations.{Or, inl, inr, Member, first, later, Tm, Eqn, Eqv, given, same, flip, chain}
 use Rattle.semantics.proofs.Configurations.{lift, liftEqn}
 use Rattle.semantics.proofs.Configurations as C
-use Rattle.semantics.proofs.Options.{decide, true-false, none-some, bind-some, bind-none, cond-some, eqb-equal, equal-eqb}
+use Rattle.semantics.proofs.Options.{decide, none-some, bind-some, bind-none, cond-some, eqb-equal, equal-eqb}
 use Rattle.semantics.proofs.Lifting.{down, down-lift}
 use Rattle.semantics.proofs.Multisets.{member-map, member-unmap}
 
@@ -239,14 +238,18 @@ solve-solution es p =
     }
 
 -- what is equivalent under the equations is equal under their solution
-pub solution-equal :
+pub solution-down :
     {es : List Equation} {τ : Term → Term} → Solution es τ → {s t : Tm ℕ} → Eqv (map liftEqn es) s t → τ (down s) ≡ τ (down t)
-solution-equal {es} {τ} q (given {e = e} m) =
-    let (e′, m′, p) = member-unmap liftEqn es m in
-    rw p (simp down-lift (q .joins m′))
-solution-equal q same = refl
-solution-equal q (flip r) = sym (solution-equal q r)
-solution-equal q (chain r s) = solution-equal q r ∙ solution-equal q s
+solution-down {es} q (given m) =
+    let (e, i, p) = member-unmap liftEqn es m in
+    rw p (simp down-lift (q .joins i))
+solution-down q same = refl
+solution-down q (flip r) = sym (solution-down q r)
+solution-down q (chain r s) = solution-down q r ∙ solution-down q s
+
+pub solution-equal :
+    {es : List Equation} {τ : Term → Term} → Solution es τ → (s t : Term) → Eqv (map liftEqn es) (lift s) (lift t) → τ s ≡ τ t
+solution-equal q s t r = simp down-lift at (solution-down q r)
 
 -- and what is equal under their solution is equivalent
 pub solution-eqv :
@@ -255,7 +258,7 @@ solution-eqv {es} {τ} q s t p = chain (q .follows s) (rw (ap lift (sym p)) at (
 
 -- the solution of its own answer is that answer
 pub solution-again : {es : List Equation} {τ : Term → Term} → Solution es τ → (t : Term) → τ (τ t) ≡ τ t
-solution-again {τ = τ} q t = sym (simp down-lift at (solution-equal q (q .follows t)))
+solution-again {τ} q t = sym (solution-equal q t (τ t) (q .follows t))
 
 -- without an answer, the equations equate two different constants
 pub solve-clash : (es : List Equation) → solve es (λ t. t) ≡ none → Clash (map liftEqn es)
@@ -266,3 +269,13 @@ pub solve-within :
     (P : Term → Type 0) (es : List Equation) {τ : Term → Term} → solve es (λ t. t) ≡ some τ
     → ((e : Equation) → Member e es → P (e .left) × P (e .right)) → (t : Term) → Or (τ t ≡ t) (P (τ t))
 solve-within P es p sides = solves-within P (solve-solves es (λ t. t) p) sides (λ t. inl refl)
+
+-- so what all sides have, and a term has, the term's solution has
+pub solve-keeps :
+    (P : Term → Type 0) (es : List Equation) {τ : Term → Term} → solve es (λ t. t) ≡ some τ
+    → ((e : Equation) → Member e es → P (e .left) × P (e .right)) → (t : Term) → P t → P (τ t)
+solve-keeps P es {τ} p sides t h = go (solve-within P es p sides t)
+  where
+    go : Or (τ t ≡ t) (P (τ t)) → P (τ t)
+    go (inl q) = subst P (sym q) h
+    go (inr q) = q
