@@ -17,7 +17,8 @@ use Rattle.semantics.specs.Firing.{fired, fireAt}
 use Rattle.semantics.specs.Derivations.{NoRuleFits}
 use Rattle.semantics.specs.Strategy.{Match, find, Choice, chooseFrom, choose, advance}
 use Rattle.semantics.proofs.Configurations.{Or}
-use Rattle.semantics.proofs.Bools.{some-not-none, none-unless, bind-some}
+use Rattle.semantics.proofs.Options.{none-some, bind-some}
+use Rattle.semantics.proofs.Bools.{none-unless}
 use Rattle.semantics.proofs.Search.{Before, find-sound, find-complete, find-smallest}
 
 -- what a choice among rules, the first of them numbered n, has to be: a rule of the list, where it fits, and no earlier one fits
@@ -33,7 +34,7 @@ pub record Chosen (n : ℕ) (rs : List Rule) (cs : List Constraint) (c : Choice)
 chooseFrom-chosen :
     (n : ℕ) (rs : List Rule) (cs : List Constraint) (c : Choice) → chooseFrom n rs cs ≡ some c → Chosen n rs cs c
 unfolding chooseFrom
-chooseFrom-chosen n [] cs c e = some-not-none none e refl
+chooseFrom-chosen n [] cs c e = none-some refl e
 chooseFrom-chosen n (r ∷ rs) cs c e = go (chooseFrom-chosen (suc n) rs cs c) (find (r .heads) cs [] unassigned) refl e
   where
     late : find (r .heads) cs [] unassigned ≡ none → Chosen (suc n) rs cs c → Chosen n (r ∷ rs) cs c
@@ -48,7 +49,6 @@ chooseFrom-chosen n (r ∷ rs) cs c e = go (chooseFrom-chosen (suc n) rs cs c) (
         earlier : (i : ℕ) (q : Rule) → i < suc (f .at) → getElem? (r ∷ rs) i ≡ some q → find (q .heads) cs [] unassigned ≡ none
         earlier zero q l s = let p : r ≡ q = cc in rw (← p) t
         earlier (suc i) q l s = f .earlier i q (omega arith) s
-
     go :
         (chooseFrom (suc n) rs cs ≡ some c → Chosen (suc n) rs cs c) → (o : Option Match) → find (r .heads) cs [] unassigned ≡ o
         → orElse (Option·map (λ m. record { number = n; rule = r; place = m }) o) (chooseFrom (suc n) rs cs) ≡ some c
@@ -67,7 +67,7 @@ chooseFrom-none :
     (n : ℕ) (rs : List Rule) (cs : List Constraint) → chooseFrom n rs cs ≡ none
     → (i : ℕ) (r : Rule) → getElem? rs i ≡ some r → find (r .heads) cs [] unassigned ≡ none
 unfolding chooseFrom
-chooseFrom-none n [] cs e i r s = some-not-none none s refl
+chooseFrom-none n [] cs e i r s = none-some refl s
 chooseFrom-none n (q ∷ rs) cs e zero r s =
     let p : q ≡ r = cc in rw (← p) (go (find (q .heads) cs [] unassigned) refl e)
   where
@@ -76,7 +76,7 @@ chooseFrom-none n (q ∷ rs) cs e zero r s =
         → orElse (Option·map (λ m. record { number = n; rule = q; place = m }) o) (chooseFrom (suc n) rs cs) ≡ none
         → find (q .heads) cs [] unassigned ≡ none
     go none t e = t
-    go (some m) t e = some-not-none (some _) refl e
+    go (some m) t e = none-some e refl
 chooseFrom-none n (q ∷ rs) cs e (suc i) r s = chooseFrom-none (suc n) rs cs (go (find (q .heads) cs [] unassigned) e) i r s
   where
     go :
@@ -84,7 +84,7 @@ chooseFrom-none n (q ∷ rs) cs e (suc i) r s = chooseFrom-none (suc n) rs cs (g
         → orElse (Option·map (λ m. record { number = n; rule = q; place = m }) o) (chooseFrom (suc n) rs cs) ≡ none
         → chooseFrom (suc n) rs cs ≡ none
     go none e = e
-    go (some m) e = some-not-none (some _) refl e
+    go (some m) e = none-some e refl
 
 -- what is chosen is a rule of the list by its number, and it fits where it is chosen
 pub choose-sound :
@@ -125,7 +125,7 @@ pub advance-fires :
     (rs : List Rule) (s t : State) → advance rs s ≡ some t
     → (n : ℕ) × (r : Rule) × (ps : List ℕ) × (getElem? rs n ≡ some r) × (fireAt r ps s ≡ some t)
 unfolding advance fireAt
-advance-fires rs failed t e = some-not-none none e refl
+advance-fires rs failed t e = none-some refl e
 advance-fires rs (live next bound cs) t e =
     let u = bind-some (choose rs cs) (λ c. some (fired (c .rule) (c .place .positions) (c .place .assignment) next bound cs)) e in
     let c = u .0 in
@@ -143,12 +143,13 @@ advance-rests p (live next bound cs) e n r ps q = rw (choose-complete (p .rules)
         → bind o (λ c. some (fired (c .rule) (c .place .positions) (c .place .assignment) next bound cs)) ≡ none
         → choose (p .rules) cs ≡ none
     go none t e = t
-    go (some c) t e = some-not-none (some _) refl e
+    go (some c) t e = none-some e refl
 
+-- and where no rule fits it rests
 pub rests-advance : (p : Program) (s : State) → NoRuleFits p s → advance (p .rules) s ≡ none
 rests-advance p s f = none-unless (advance (p .rules) s) fires
   where
     fires : (t : State) → advance (p .rules) s ≡ some t → ⊥
     fires t e =
         let h = advance-fires (p .rules) s t e in
-        some-not-none (fireAt (h .1) (h .2) s) (h .4) (f (h .0) (h .1) (h .2) (h .3))
+        none-some (f (h .0) (h .1) (h .2) (h .3)) (h .4)

@@ -21,7 +21,8 @@ use Rattle.semantics.specs.Variants.{SameMultiset, done, put, Variant, P
 use Rattle.semantics.specs.Variants.{tryPartners, place, sameState, arePartners}
 use Rattle.semantics.proofs.Configurations.{Or, inl, inr}
 use Rattle.semantics.proofs.Multisets.{inserted-length, multiset-length}
-use Rattle.semantics.proofs.Bools.{not-both, some-not-none, eqb-eq, eqb-same, and-true, or-cases, or-right}
+use Rattle.semantics.proofs.Options.{true-false, none-some, eqb-equal}
+use Rattle.semantics.proofs.Bools.{eqb-same, and-true, or-cases, or-right}
 use Rattle.semantics.proofs.Removal.{without-none, without-one, without-found}
 use Rattle.semantics.proofs.Pairs.{Paired, Inside, Grown, grown-same, grown-chain, unpaired-one-to-one}
 use Rattle.semantics.proofs.Pairs.{terms-inside, constraint-inside}
@@ -37,13 +38,13 @@ tried :
     (k : ℕ) (ds : List Constraint) (placed : ℕ → Constraint → Bool) → tryPartners k ds placed ≡ true
     → (i : ℕ) × (d : Constraint) × (getElem? ds i ≡ some d) × (placed (k + i) d ≡ true)
 unfolding tryPartners
-tried k [] placed e = not-both false e refl
+tried k [] placed e = true-false e refl
 tried k (d ∷ ds) placed e = go (or-cases (placed k d) (tryPartners (suc k) ds placed) e) (tried (suc k) ds placed)
   where
     go :
         Or (placed k d ≡ true) (tryPartners (suc k) ds placed ≡ true)
         → (tryPartners (suc k) ds placed ≡ true
-        → (i : ℕ) × (c : Constraint) × (getElem? ds i ≡ some c) × (placed (suc k + i) c ≡ true))
+           → (i : ℕ) × (c : Constraint) × (getElem? ds i ≡ some c) × (placed (suc k + i) c ≡ true))
         → (i : ℕ) × (c : Constraint) × (getElem? (d ∷ ds) i ≡ some c) × (placed (k + i) c ≡ true)
     go (inl t) more = (0, d, refl, rw add-zero t)
     go (inr t) more = let m = more t in (suc (m .0), m .1, m .2, rw (add-suc, ← suc-add) (m .3))
@@ -53,7 +54,7 @@ trying :
     (k : ℕ) (ds : List Constraint) (placed : ℕ → Constraint → Bool) (i : ℕ) (d : Constraint) → getElem? ds i ≡ some d
     → placed (k + i) d ≡ true → tryPartners k ds placed ≡ true
 unfolding tryPartners
-trying k [] placed i d s t = some-not-none none s refl
+trying k [] placed i d s t = none-some refl s
 trying k (c ∷ ds) placed zero d s t =
     let e : c ≡ d = cc in
     let u : placed k c ≡ true = rw e (rw add-zero at t) in
@@ -66,8 +67,8 @@ trying k (c ∷ ds) placed (suc i) d s t =
 attempted :
     (b : Bool) (o : Option (List Pair)) (on : List Pair → Bool) → cond b false (onward o false on) ≡ true
     → (b ≡ false) × (ps : List Pair) × (o ≡ some ps) × (on ps ≡ true)
-attempted true o on e = not-both false e refl
-attempted false none on e = not-both false e refl
+attempted true o on e = true-false e refl
+attempted false none on e = true-false e refl
 attempted false (some ps) on e = (refl, ps, refl, e)
 
 -- whether a partner at a position will do for a constraint, the others being placed behind it
@@ -118,13 +119,13 @@ place-complete ρ o cs ds used ps rest i e (put {a = c} {b = d} {l = l} {m = m} 
 pub sameState-sound : (s t : State) → sameState s t ≡ true → Variant s t
 unfolding sameState
 sameState-sound failed failed e = tt
-sameState-sound failed (live n c ds) e = not-both false e refl
-sameState-sound (live m b cs) failed e = not-both false e refl
+sameState-sound failed (live n c ds) e = true-false e refl
+sameState-sound (live m b cs) failed e = true-false e refl
 sameState-sound (live m b cs) (live n c ds) e =
     let u = and-true (eqb (length cs) (length ds)) (onward (pairTerms b c []) false (place cs ds [])) e in
     let v = attempted false (pairTerms b c []) (place cs ds []) (u .1) in
     let f = pairTerms-sound b c [] (v .1) (v .2) in
-    let long : length cs ≡ length (without 0 [] ds) = rw (without-none 0 ds) (eqb-eq (length cs) (length ds) (u .0)) in
+    let long : length cs ≡ length (without 0 [] ds) = rw (without-none 0 ds) (eqb-equal (u .0)) in
     let r = place-sound cs ds [] (v .1) long (v .3) in
     let one = r .1 .oneToOne (f .0 .oneToOne unpaired-one-to-one) in
     (Paired (r .0), one, terms-inside (r .1 .holds) (f .1), rw without-none at (r .2))
@@ -136,6 +137,6 @@ sameState-complete failed failed v = refl
 sameState-complete failed (live n c ds) v = absurd (v .lower)
 sameState-complete (live m b cs) failed v = absurd (v .lower)
 sameState-complete (live m b cs) (live n c ds) v =
-    let f = pairTerms-complete (v .0) (v .1) b c [] (λ x y h. not-both false h refl) (v .2) in
+    let f = pairTerms-complete (v .0) (v .1) b c [] (λ x y h. true-false h refl) (v .2) in
     let p = place-complete (v .0) (v .1) cs ds [] (f .0) ds (f .2) (sym (without-none 0 ds)) (v .3) in
     rw (multiset-length (v .3), eqb-same (length ds), f .1) p

@@ -1,7 +1,10 @@
 -- All constraints of a goal enter in order, before any rule fires.
---   followAll-append      events one behind the other
---   enters                the events by which the first constraints of a goal enter, in order
---   enters-all            they lead to the state that the strategy starts from, with no firing
+--   followAll-append           events one behind the other
+--   constraint-itself          before any firing each constraint would enter as it is
+--   every-below, every-upTo    a test of all numbers below n
+--   enters                     the events by which the first constraints of a goal enter, in order
+--   arrivedAt                  how far they lead
+--   enters-all                 all of them lead to the state that the strategy starts from, with no firing
 -- Assumes nothing.
 use Prim.Native.Nat.{ℕ, zero, suc, _<_, _≤_}
 use native.Mathlib.Omega.{arith}
@@ -14,11 +17,12 @@ use lib.Dec.{eqb}
 use lib.ListN.{length, getD, getElem?, take, length-append}
 use lib.Seq.{take-length}
 use Rattle.text.specs.Lists.{every, has, tabled, upTo}
-use Rattle.semantics.specs.Terms.{Term, con, var, Program, Goal, live, mapTerms}
+use Rattle.semantics.specs.Terms.{Term, con, var, Constraint, Program, Goal, live, mapTerms}
 use Rattle.semantics.specs.Derivations.{Event, enter, Progress, become, taken, entering, follow, followAll, start}
 use Rattle.semantics.specs.Derivations.{allEntered}
 use Rattle.semantics.specs.Strategy.{entered}
-use Rattle.semantics.proofs.Bools.{eqb-same, eqb-differ, and-true, or-right}
+use Rattle.semantics.proofs.Options.{apart-eqb}
+use Rattle.semantics.proofs.Bools.{eqb-same, and-true, or-right}
 
 -- events one behind the other
 pub followAll-append :
@@ -29,7 +33,7 @@ followAll-append p g [] fs d = refl
 followAll-append p g (e ∷ es) fs d = followAll-append p g es fs (follow p g e d)
 
 -- a table is as long as it says
-tabled-length {ℓ} : {A : Type ℓ} (f : ℕ → A) (n : ℕ) → length (tabled f n) ≡ n
+pub tabled-length {ℓ} : {A : Type ℓ} (f : ℕ → A) (n : ℕ) → length (tabled f n) ≡ n
 tabled-length f zero = refl
 tabled-length f (suc n) = rw (length-append, tabled-length f n) (omega arith)
 
@@ -53,15 +57,22 @@ unfolding become
 become-itself n (con c) = refl
 become-itself n (var x) = tabled-entry var n x
 
-becomes-itself : (n : ℕ) (ts : List Term) → map (become (tabled var n)) ts ≡ ts
-becomes-itself n [] = refl
-becomes-itself n (t ∷ ts) = rw (become-itself n t, becomes-itself n ts)
+-- the same for lists of terms
+terms-themselves : (n : ℕ) (ts : List Term) → map (become (tabled var n)) ts ≡ ts
+terms-themselves n [] = refl
+terms-themselves n (t ∷ ts) = rw (become-itself n t, terms-themselves n ts)
+
+-- the same for constraints
+pub constraint-itself : (n : ℕ) (c : Constraint) → mapTerms (become (tabled var n)) c ≡ c
+unfolding mapTerms
+constraint-itself n c = rw (terms-themselves n (c .terms))
 
 -- the numbers below n, the last first
 abbrev downFrom : ℕ → List ℕ
 downFrom zero = []
 downFrom (suc n) = n ∷ downFrom n
 
+-- they are in the list
 downFrom-has : (n i : ℕ) → i < n → has i (downFrom n) ≡ true
 downFrom-has zero i l = absurd (omega arith)
 downFrom-has (suc n) i l = go (decLt i n) (downFrom-has n i)
@@ -70,9 +81,10 @@ downFrom-has (suc n) i l = go (decLt i n) (downFrom-has n i)
     go (yes h) more = or-right (eqb i n) (has i (downFrom n)) (more h)
     go (no h) more = let e : i ≡ n = omega arith in rw (e, eqb-same n)
 
+-- and no others are
 downFrom-lacks : (n i : ℕ) → n ≤ i → has i (downFrom n) ≡ false
 downFrom-lacks zero i l = refl
-downFrom-lacks (suc n) i l = rw (eqb-differ i n (λ e. omega arith)) (downFrom-lacks n i (omega arith))
+downFrom-lacks (suc n) i l = rw (apart-eqb {m = i} {n = n} (λ e. omega arith)) (downFrom-lacks n i (omega arith))
 
 -- the constraint of a number, and those before it
 taking {ℓ} :
@@ -95,10 +107,10 @@ arrivedAt g n = record {
 
 -- the next constraint enters
 entering-next : (g : Goal) (n : ℕ) → n < length (g .constraints) → entering g n (arrivedAt g n) ≡ arrivedAt g (suc n)
-unfolding entering taken mapTerms
+unfolding entering taken
 entering-next g n l =
     let t = taking (g .constraints) n l in
-    rw (downFrom-lacks n n (omega arith), t .1, becomes-itself (g .variables) (t .0 .terms), t .2)
+    rw (downFrom-lacks n n (omega arith), t .1, constraint-itself (g .variables) (t .0), t .2)
 
 -- the first n constraints enter
 enters-first :
@@ -120,6 +132,25 @@ every-last test (m ∷ l) n e t =
 every-below : (test : ℕ → Bool) (n : ℕ) → ((i : ℕ) → i < n → test i ≡ true) → every test (upTo n) ≡ true
 every-below test zero h = refl
 every-below test (suc n) h = every-last test (upTo n) n (every-below test n (λ i l. h i (omega arith))) (h n (omega arith))
+
+-- and taken apart
+every-parts : (test : ℕ → Bool) (l : List ℕ) (n : ℕ) → every test (l ++ (n ∷ [])) ≡ true → (every test l ≡ true) × (test n ≡ true)
+every-parts test [] n e = (refl, and-true (test n) true e .0)
+every-parts test (m ∷ l) n e =
+    let u = and-true (test m) (every test (l ++ (n ∷ []))) e in
+    let v = every-parts test l n (u .1) in
+    (rw (u .0) (v .0), v .1)
+
+-- a number below n, where all numbers below n pass a test
+pub every-upTo : (test : ℕ → Bool) (n i : ℕ) → every test (upTo n) ≡ true → i < n → test i ≡ true
+every-upTo test zero i e l = absurd (omega arith)
+every-upTo test (suc n) i e l = go (decLt i n) (every-parts test (upTo n) n e) (every-upTo test n i)
+  where
+    go :
+        Dec (i < n) → (every test (upTo n) ≡ true) × (test n ≡ true) → (every test (upTo n) ≡ true → i < n → test i ≡ true)
+        → test i ≡ true
+    go (yes h) u more = more (u .0) h
+    go (no h) u more = let q : i ≡ n = omega arith in rw q (u .1)
 
 -- all constraints of a goal enter
 pub enters-all :

@@ -31,3 +31,5 @@ pub mod FireLaws
 pub mod Letters
 pub mod VariantLaws
 pub mod Represent
+pub mod Reordering
+pub mod LateEntry

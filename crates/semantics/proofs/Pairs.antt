@@ -16,8 +16,8 @@ use Rattle.semantics.specs.Variants.{OneToOne, TermVariant, sameCon, par
 use Rattle.semantics.specs.Variants.{Pair, arePartners, arePaired, pairTerm, pairTerms, pairConstraint}
 use Rattle.semantics.proofs.Configurations.{Or, inl, inr}
 use Rattle.semantics.proofs.Multisets.{pointwise-mono}
-use Rattle.semantics.proofs.Bools.{not-both, some-not-none, eqb-eq, eqb-same, and-true, or-cases, or-false, or-right}
-use Rattle.semantics.proofs.Bools.{bind-some, when-some}
+use Rattle.semantics.proofs.Options.{true-false, none-some, eqb-equal, bind-some, cond-some}
+use Rattle.semantics.proofs.Bools.{eqb-same, and-true, or-cases, or-false, or-right}
 
 -- the renaming of a list of pairs
 abbrev pub Paired : List Pair → ℕ → ℕ → Type 0
@@ -36,7 +36,7 @@ paired-cases a b p ps e = go (or-cases (eqb a (p .left) && eqb b (p .right)) (ar
         Or ((eqb a (p .left) && eqb b (p .right)) ≡ true) (Paired ps a b) → Or ((a ≡ p .left) × (b ≡ p .right)) (Paired ps a b)
     go (inl t) =
         let u = and-true (eqb a (p .left)) (eqb b (p .right)) t in
-        inl (eqb-eq a (p .left) (u .0), eqb-eq b (p .right) (u .1))
+        inl (eqb-equal (u .0), eqb-equal (u .1))
     go (inr t) = inr t
 
 -- the new pair, and the old ones
@@ -44,6 +44,7 @@ paired-new : (x y : ℕ) (ps : List Pair) → Paired (record { left = x; right =
 unfolding arePartners
 paired-new x y ps = rw (eqb-same x, eqb-same y)
 
+-- the pairs of a list are in it with one more
 paired-old : (p : Pair) (ps : List Pair) → Inside (Paired ps) (Paired (p ∷ ps))
 unfolding arePartners
 paired-old p ps a b e = or-right (eqb a (p .left) && eqb b (p .right)) (arePartners a b ps) e
@@ -52,7 +53,7 @@ paired-old p ps a b e = or-right (eqb a (p .left) && eqb b (p .right)) (arePartn
 unpaired :
     (x y : ℕ) (ps : List Pair) → arePaired x y ps ≡ false → (a b : ℕ) → Paired ps a b → Or (a ≡ x) (b ≡ y) → ⊥
 unfolding arePaired arePartners
-unpaired x y [] e a b h o = not-both false h refl
+unpaired x y [] e a b h o = true-false h refl
 unpaired x y (p ∷ ps) e a b h o =
     let u = or-false (eqb x (p .left) || eqb y (p .right)) (arePaired x y ps) e in
     let v = or-false (eqb x (p .left)) (eqb y (p .right)) (u .0) in
@@ -61,21 +62,20 @@ unpaired x y (p ∷ ps) e a b h o =
     go :
         eqb x (p .left) ≡ false → eqb y (p .right) ≡ false → Or ((a ≡ p .left) × (b ≡ p .right)) (Paired ps a b)
         → Or (a ≡ x) (b ≡ y) → (Paired ps a b → Or (a ≡ x) (b ≡ y) → ⊥) → ⊥
-    go f g (inl c) (inl q) more = not-both (eqb x (p .left)) (rw (sym q, c .0) (eqb-same (p .left))) f
-    go f g (inl c) (inr q) more = not-both (eqb y (p .right)) (rw (sym q, c .1) (eqb-same (p .right))) g
+    go f g (inl c) (inl q) more = true-false (rw (sym q, c .0) (eqb-same (p .left))) f
+    go f g (inl c) (inr q) more = true-false (rw (sym q, c .1) (eqb-same (p .right))) g
     go f g (inr c) o more = more c o
 
 -- a variable with a partner is in some pair
 has-pair :
     (x y : ℕ) (ps : List Pair) → arePaired x y ps ≡ true → (a : ℕ) × (b : ℕ) × (Paired ps a b) × (Or (a ≡ x) (b ≡ y))
 unfolding arePaired arePartners
-has-pair x y [] e = not-both false e refl
+has-pair x y [] e = true-false e refl
 has-pair x y (p ∷ ps) e = go (or-cases (eqb x (p .left) || eqb y (p .right)) (arePaired x y ps) e) (has-pair x y ps)
   where
     first : Or (eqb x (p .left) ≡ true) (eqb y (p .right) ≡ true) → Or (p .left ≡ x) (p .right ≡ y)
-    first (inl t) = inl (sym (eqb-eq x (p .left) t))
-    first (inr t) = inr (sym (eqb-eq y (p .right) t))
-
+    first (inl t) = inl (sym (eqb-equal t))
+    first (inr t) = inr (sym (eqb-equal t))
     go :
         Or ((eqb x (p .left) || eqb y (p .right)) ≡ true) (arePaired x y ps ≡ true)
         → (arePaired x y ps ≡ true → (a : ℕ) × (b : ℕ) × (Paired ps a b) × (Or (a ≡ x) (b ≡ y)))
@@ -89,16 +89,18 @@ pub record Grown (ps qs : List Pair) : Type 0 where
   pub holds : Inside (Paired ps) (Paired qs)
   pub oneToOne : OneToOne (Paired ps) → OneToOne (Paired qs)
 
+-- a list of pairs holds itself
 pub grown-same : (ps : List Pair) → Grown ps ps
 grown-same ps = record { holds = λ x y h. h; oneToOne = λ o. o }
 
+-- one grown list after another
 pub grown-chain : {ps qs rs : List Pair} → Grown ps qs → Grown qs rs → Grown ps rs
 grown-chain g h = record { holds = λ x y p. h .holds x y (g .holds x y p); oneToOne = λ o. h .oneToOne (g .oneToOne o) }
 
 -- no pairs at all are one to one
 pub unpaired-one-to-one : OneToOne (Paired [])
 unfolding arePartners
-unpaired-one-to-one = (λ x y z p q. not-both false p refl, λ x y z p q. not-both false p refl)
+unpaired-one-to-one = (λ x y z p q. true-false p refl, λ x y z p q. true-false p refl)
 
 -- one more pair of variables without partners
 grown-pair : (x y : ℕ) (ps : List Pair) → arePaired x y ps ≡ false → Grown ps (record { left = x; right = y } ∷ ps)
@@ -106,10 +108,8 @@ grown-pair x y ps f = record { holds = paired-old (record { left = x; right = y 
   where
     more : List Pair
     more = record { left = x; right = y } ∷ ps
-
     here : (a b : ℕ) → Paired more a b → Or ((a ≡ x) × (b ≡ y)) (Paired ps a b)
     here a b = paired-cases a b (record { left = x; right = y }) ps
-
     right :
         (a b c : ℕ) → OneToOne (Paired ps) → Or ((a ≡ x) × (b ≡ y)) (Paired ps a b) → Or ((a ≡ x) × (c ≡ y)) (Paired ps a c)
         → b ≡ c
@@ -117,7 +117,6 @@ grown-pair x y ps f = record { holds = paired-old (record { left = x; right = y 
     right a b c o (inl u) (inr v) = absurd (unpaired x y ps f a c v (inl (u .0)))
     right a b c o (inr u) (inl v) = absurd (unpaired x y ps f a b u (inl (v .0)))
     right a b c o (inr u) (inr v) = o .0 a b c u v
-
     left :
         (a b c : ℕ) → OneToOne (Paired ps) → Or ((a ≡ x) × (c ≡ y)) (Paired ps a c) → Or ((b ≡ x) × (c ≡ y)) (Paired ps b c)
         → a ≡ b
@@ -125,7 +124,6 @@ grown-pair x y ps f = record { holds = paired-old (record { left = x; right = y 
     left a b c o (inl u) (inr v) = absurd (unpaired x y ps f b c v (inr (u .1)))
     left a b c o (inr u) (inl v) = absurd (unpaired x y ps f a c u (inr (v .1)))
     left a b c o (inr u) (inr v) = o .1 a b c u v
-
     grown : OneToOne (Paired ps) → OneToOne (Paired more)
     grown o = (λ a b c p q. right a b c o (here a b p) (here a c q), λ a b c p q. left a b c o (here a c p) (here b c q))
 
@@ -134,10 +132,12 @@ term-inside : {ρ σ : ℕ → ℕ → Type 0} → Inside ρ σ → {s t : Term}
 term-inside i sameCon = sameCon
 term-inside i (partners {x = x} {y = y} r) = partners (i x y r)
 
+-- the same for lists of terms
 pub terms-inside :
     {ρ σ : ℕ → ℕ → Type 0} → Inside ρ σ → {ss ts : List Term} → Pointwise (TermVariant ρ) ss ts → Pointwise (TermVariant σ) ss ts
 terms-inside i h = pointwise-mono (λ s t r. term-inside i r) h
 
+-- the same for constraints
 pub constraint-inside :
     {ρ σ : ℕ → ℕ → Type 0} → Inside ρ σ → {c d : Constraint} → ConstraintVariant ρ c d → ConstraintVariant σ c d
 constraint-inside i v = record { symbols = v .symbols; terms = terms-inside i (v .terms) }
@@ -147,12 +147,12 @@ pairTerm-sound :
     (s t : Term) (ps qs : List Pair) → pairTerm s t ps ≡ some qs → Grown ps qs × TermVariant (Paired qs) s t
 unfolding pairTerm
 pairTerm-sound (con a) (con b) ps qs e =
-    let u = when-some (eqb a b) (some ps) e in
-    let v = eqb-eq a b (u .0) in
+    let u = cond-some (eqb a b) e in
+    let v : a ≡ b = eqb-equal (u .0) in
     let w : ps ≡ qs = cc in
     (rw (← w) (grown-same ps), rw (← v) sameCon)
-pairTerm-sound (con a) (var y) ps qs e = some-not-none none e refl
-pairTerm-sound (var x) (con b) ps qs e = some-not-none none e refl
+pairTerm-sound (con a) (var y) ps qs e = none-some refl e
+pairTerm-sound (var x) (con b) ps qs e = none-some refl e
 pairTerm-sound (var x) (var y) ps qs e = go (arePartners x y ps) refl (arePaired x y ps) refl e
   where
     go :
@@ -160,7 +160,7 @@ pairTerm-sound (var x) (var y) ps qs e = go (arePartners x y ps) refl (arePaired
         → cond s (some ps) (cond t none (some (record { left = x; right = y } ∷ ps))) ≡ some qs
         → Grown ps qs × TermVariant (Paired qs) (var x) (var y)
     go true p t q e = let w : ps ≡ qs = cc in (rw (← w) (grown-same ps), rw (← w) (partners p))
-    go false p true q e = some-not-none none e refl
+    go false p true q e = none-some refl e
     go false p false q e =
         let w : record { left = x; right = y } ∷ ps ≡ qs = cc in
         (rw (← w) (grown-pair x y ps q), rw (← w) (partners (paired-new x y ps)))
@@ -171,8 +171,8 @@ pub pairTerms-sound :
     → Grown ps qs × Pointwise (TermVariant (Paired qs)) ss ts
 unfolding pairTerms
 pairTerms-sound [] [] ps qs e = let w : ps ≡ qs = cc in (rw (← w) (grown-same ps), empty)
-pairTerms-sound [] (t ∷ ts) ps qs e = some-not-none none e refl
-pairTerms-sound (s ∷ ss) [] ps qs e = some-not-none none e refl
+pairTerms-sound [] (t ∷ ts) ps qs e = none-some refl e
+pairTerms-sound (s ∷ ss) [] ps qs e = none-some refl e
 pairTerms-sound (s ∷ ss) (t ∷ ts) ps qs e =
     let u = bind-some (pairTerm s t ps) (pairTerms ss ts) e in
     let f = pairTerm-sound s t ps (u .0) (u .1) in
@@ -184,9 +184,9 @@ pub pairConstraint-sound :
     (c d : Constraint) (ps qs : List Pair) → pairConstraint c d ps ≡ some qs → Grown ps qs × ConstraintVariant (Paired qs) c d
 unfolding pairConstraint
 pairConstraint-sound c d ps qs e =
-    let u = when-some (eqb (c .symbol) (d .symbol)) (pairTerms (c .terms) (d .terms) ps) e in
+    let u = cond-some (eqb (c .symbol) (d .symbol)) e in
     let f = pairTerms-sound (c .terms) (d .terms) ps qs (u .1) in
-    (f .0, record { symbols = eqb-eq (c .symbol) (d .symbol) (u .0); terms = f .1 })
+    (f .0, record { symbols = eqb-equal (u .0); terms = f .1 })
 
 -- pairs of a list with one more are inside a renaming that has them all
 inside-pair :
@@ -209,7 +209,6 @@ pairTerm-complete ρ o s t ps i (partners {x = x} {y = y} r) = go (arePartners x
     both : (a b : ℕ) → ρ a b → Or (a ≡ x) (b ≡ y) → (a ≡ x) × (b ≡ y)
     both a b h (inl e) = (e, o .0 x b y (rw e at h) r)
     both a b h (inr e) = (o .1 a x y (rw e at h) r, e)
-
     go :
         (u : Bool) → arePartners x y ps ≡ u → (v : Bool) → arePaired x y ps ≡ v
         → (qs : List Pair) × (cond u (some ps) (cond v none (some (record { left = x; right = y } ∷ ps))) ≡ some qs)
@@ -219,7 +218,7 @@ pairTerm-complete ρ o s t ps i (partners {x = x} {y = y} r) = go (arePartners x
     go false p true q =
         let m = has-pair x y ps q in
         let n = both (m .0) (m .1) (i (m .0) (m .1) (m .2)) (m .3) in
-        not-both (arePartners x y ps) (rw (n .0, n .1) at (m .2)) p
+        true-false (rw (n .0, n .1) at (m .2)) p
 
 -- the same for lists of terms
 pub pairTerms-complete :

@@ -2,6 +2,7 @@
 --   has-last, has-other, has-front      whether a number stands in a list with one more number behind it
 --   without-none                        nothing is removed at no positions
 --   without-same                        the same positions remove the same
+--   without-every                       nothing is left at all positions
 --   without-one                         one more position, which was not removed: one constraint less
 --   without-found                       what stands among the rest stands at a position that is not removed
 -- Assumes nothing.
@@ -9,15 +10,16 @@ use Prim.Native.Nat.{ℕ, zero, suc, _+_, _<_}
 use native.Mathlib.Omega.{arith}
 use mathlib.Core.Bool.{Bool, true, false, cond, _||_}
 use mathlib.Core.List.{List, [], _∷_, _++_}
-use mathlib.Core.Option.{none, some}
+use mathlib.Core.Option.{some}
 use mathlib.Core.Path.{_≡_, refl, ap}
 use lib.Dec.{eqb}
-use lib.ListN.{getElem?}
+use lib.ListN.{length, getElem?}
 use Rattle.text.specs.Lists.{has}
 use Rattle.semantics.specs.Terms.{Constraint}
 use Rattle.semantics.specs.Firing.{without}
 use Rattle.semantics.specs.Variants.{Inserted, here, there}
-use Rattle.semantics.proofs.Bools.{some-not-none, eqb-same, eqb-differ, or-right}
+use Rattle.semantics.proofs.Options.{none-some, apart-eqb}
+use Rattle.semantics.proofs.Bools.{eqb-same, or-right}
 
 -- the last number of a list stands in it
 pub has-last : (n : ℕ) (l : List ℕ) → has n (l ++ (n ∷ [])) ≡ true
@@ -26,7 +28,7 @@ has-last n (m ∷ l) = or-right (eqb n m) (has n (l ++ (n ∷ []))) (has-last n 
 
 -- another number behind a list changes nothing
 pub has-other : (n m : ℕ) (l : List ℕ) → (n ≡ m → ⊥) → has n (l ++ (m ∷ [])) ≡ has n l
-has-other n m [] d = rw (eqb-differ n m d)
+has-other n m [] d = rw (apart-eqb {m = n} {n = m} d)
 has-other n m (k ∷ l) d = ap (eqb n k ||_) (has-other n m l d)
 
 -- a number behind a list or in front of it
@@ -66,7 +68,7 @@ pub without-one :
     (k : ℕ) (ps : List ℕ) (cs : List Constraint) (i q : ℕ) (c : Constraint) → q ≡ k + i → getElem? cs i ≡ some c
     → has q ps ≡ false → Inserted c (without k (ps ++ (q ∷ [])) cs) (without k ps cs)
 unfolding without
-without-one k ps [] i q c e s f = some-not-none none s refl
+without-one k ps [] i q c e s f = none-some refl s
 without-one k ps (b ∷ cs) zero q c e s f =
     let m : k ≡ q = omega arith in
     let n : b ≡ c = cc in
@@ -77,9 +79,16 @@ without-one k ps (b ∷ cs) (suc i) q c e s f =
     go :
         (t : Bool) → Inserted c (without (suc k) (ps ++ (q ∷ [])) cs) (without (suc k) ps cs)
         → Inserted c (cond t (without (suc k) (ps ++ (q ∷ [])) cs) (b ∷ without (suc k) (ps ++ (q ∷ [])) cs))
-        (cond t (without (suc k) ps cs) (b ∷ without (suc k) ps cs))
+            (cond t (without (suc k) ps cs) (b ∷ without (suc k) ps cs))
     go true h = h
     go false h = there h
+
+-- nothing is left where all positions are removed
+pub without-every :
+    (k : ℕ) (ps : List ℕ) (cs : List Constraint) → ((i : ℕ) → i < k + length cs → has i ps ≡ true) → without k ps cs ≡ []
+unfolding without
+without-every k ps [] f = refl
+without-every k ps (c ∷ cs) f = rw (f k (omega arith)) (without-every (suc k) ps cs (λ i l. f i (omega arith)))
 
 -- where an element of the rest stands: at a position that is not removed, and the others are the rest without it too
 pub record Among (k : ℕ) (ps : List ℕ) (cs : List Constraint) (c : Constraint) (m : List Constraint) : Type 0 where

@@ -18,7 +18,8 @@ use Rattle.semantics.specs.Terms.{Constraint}
 use Rattle.semantics.specs.Matching.{Assignment, unassigned, matchConstraint, matchAt}
 use Rattle.semantics.specs.Strategy.{Match, firstIn, find}
 use Rattle.semantics.proofs.Configurations.{Or, inl, inr}
-use Rattle.semantics.proofs.Bools.{some-not-none, none-unless, bind-some, unless-some}
+use Rattle.semantics.proofs.Options.{none-some, bind-some, cond-some-not}
+use Rattle.semantics.proofs.Bools.{none-unless}
 
 -- the strict order of lists of positions of one length, compared from the first
 pub data Before : List ℕ → List ℕ → Type 0 where
@@ -42,8 +43,7 @@ pub matchAt-cons :
     → matchAt (h ∷ hs) (p ∷ ps) cs chosen θ ≡ some end → FirstFits h hs p ps cs chosen θ end
 unfolding matchAt
 matchAt-cons h hs p ps cs chosen θ end e =
-    let u = unless-some (has p chosen)
-    (bind (getElem? cs p) (λ c. bind (matchConstraint h c θ) (matchAt hs ps cs (chosen ++ (p ∷ []))))) e in
+    let u = cond-some-not (has p chosen) e in
     let v = bind-some (getElem? cs p) (λ c. bind (matchConstraint h c θ) (matchAt hs ps cs (chosen ++ (p ∷ [])))) (u .1) in
     let w = bind-some (matchConstraint h (v .0) θ) (matchAt hs ps cs (chosen ++ (p ∷ []))) (v .2) in
     record { free = u .0; constraint = v .0; stands = v .1; next = w .0; fits = w .1; rest = w .2 }
@@ -61,8 +61,8 @@ pub matchAt-length :
     → matchAt hs ps cs chosen θ ≡ some end → length ps ≡ length hs
 unfolding matchAt
 matchAt-length [] [] cs chosen θ end e = refl
-matchAt-length [] (p ∷ ps) cs chosen θ end e = some-not-none none e refl
-matchAt-length (h ∷ hs) [] cs chosen θ end e = some-not-none none e refl
+matchAt-length [] (p ∷ ps) cs chosen θ end e = none-some refl e
+matchAt-length (h ∷ hs) [] cs chosen θ end e = none-some refl e
 matchAt-length (h ∷ hs) (p ∷ ps) cs chosen θ end e =
     let f = matchAt-cons h hs p ps cs chosen θ end e in
     ap suc (matchAt-length hs ps cs (chosen ++ (p ∷ [])) (f .next) end (f .rest))
@@ -75,11 +75,12 @@ pub record FirstAt {A : Type 0} (p : ℕ) (cs : List Constraint) (try : ℕ → 
   pub answers : try (p + at) constraint ≡ some a
   pub earlier : (i : ℕ) (c : Constraint) → i < at → getElem? cs i ≡ some c → try (p + i) c ≡ none
 
+-- the first answer over a list comes from some element of it
 pub firstIn-some :
     {A : Type 0} (p : ℕ) (cs : List Constraint) (try : ℕ → Constraint → Option A) (a : A)
     → firstIn p cs try ≡ some a → FirstAt p cs try a
 unfolding firstIn
-firstIn-some p [] try a e = some-not-none none e refl
+firstIn-some p [] try a e = none-some refl e
 firstIn-some {A} p (c ∷ cs) try a e = go (firstIn-some (suc p) cs try a) (try p c) refl e
   where
     late : try p c ≡ none → FirstAt (suc p) cs try a → FirstAt p (c ∷ cs) try a
@@ -94,7 +95,6 @@ firstIn-some {A} p (c ∷ cs) try a e = go (firstIn-some (suc p) cs try a) (try 
         earlier : (i : ℕ) (d : Constraint) → i < suc (f .at) → getElem? (c ∷ cs) i ≡ some d → try (p + i) d ≡ none
         earlier zero d l s = let q : c ≡ d = cc in rw (add-zero, ← q) t
         earlier (suc i) d l s = rw (add-suc, ← suc-add) (f .earlier i d (omega arith) s)
-
     go :
         (firstIn (suc p) cs try ≡ some a → FirstAt (suc p) cs try a) → (o : Option A) → try p c ≡ o
         → orElse o (firstIn (suc p) cs try) ≡ some a → FirstAt p (c ∷ cs) try a
@@ -112,19 +112,19 @@ pub firstIn-none :
     {A : Type 0} (p : ℕ) (cs : List Constraint) (try : ℕ → Constraint → Option A) → firstIn p cs try ≡ none
     → (i : ℕ) (c : Constraint) → getElem? cs i ≡ some c → try (p + i) c ≡ none
 unfolding firstIn
-firstIn-none p [] try e i c s = some-not-none none s refl
+firstIn-none p [] try e i c s = none-some refl s
 firstIn-none {A} p (c ∷ cs) try e zero d s =
     let q : c ≡ d = cc in rw (add-zero, ← q) (go (try p c) refl e)
   where
     go : (o : Option A) → try p c ≡ o → orElse o (firstIn (suc p) cs try) ≡ none → try p c ≡ none
     go none t e = t
-    go (some b) t e = some-not-none (some b) refl e
+    go (some b) t e = none-some e refl
 firstIn-none {A} p (c ∷ cs) try e (suc i) d s =
     rw (add-suc, ← suc-add) (firstIn-none (suc p) cs try (go (try p c) e) i d s)
   where
     go : (o : Option A) → orElse o (firstIn (suc p) cs try) ≡ none → firstIn (suc p) cs try ≡ none
     go none e = e
-    go (some b) e = some-not-none (some b) refl e
+    go (some b) e = none-some e refl
 
 -- what the search tries for a head at a position
 abbrev attempt : Constraint → List Constraint → List Constraint → List ℕ → Assignment → ℕ → Constraint → Option Match
@@ -143,15 +143,16 @@ find-refutes :
     (hs : List Constraint) (cs : List Constraint) (chosen : List ℕ) (θ : Assignment) → find hs cs chosen θ ≡ none
     → (ps : List ℕ) (end : Assignment) → matchAt hs ps cs chosen θ ≡ some end → ⊥
 unfolding find matchAt
-find-refutes [] cs chosen θ e ps end m = some-not-none (some _) refl e
-find-refutes (h ∷ hs) cs chosen θ e [] end m = some-not-none none m refl
+find-refutes [] cs chosen θ e ps end m = none-some e refl
+find-refutes (h ∷ hs) cs chosen θ e [] end m = none-some refl m
 find-refutes (h ∷ hs) cs chosen θ e (p ∷ ps) end m =
     let f = matchAt-cons h hs p ps cs chosen θ end m in
     let n = firstIn-none 0 cs (attempt h hs cs chosen θ) e p (f .constraint) (f .stands) in
     let nothing : find hs cs (chosen ++ (p ∷ [])) (f .next) ≡ none =
-    sym (attempt-goes-on h hs p ps cs chosen θ end f) ∙ (rw zero-add at n) in
+            sym (attempt-goes-on h hs p ps cs chosen θ end f) ∙ (rw zero-add at n) in
     find-refutes hs cs (chosen ++ (p ∷ [])) (f .next) nothing ps end (f .rest)
 
+-- so the heads match at no positions
 pub find-complete :
     (hs : List Constraint) (cs : List Constraint) (chosen : List ℕ) (θ : Assignment) → find hs cs chosen θ ≡ none
     → (ps : List ℕ) → matchAt hs ps cs chosen θ ≡ none
@@ -195,13 +196,11 @@ found-join h hs cs chosen θ m f next free fits g = record {
       fits = fits;
       rest = g .fits;
     })
-
     kept :
         (qs : List ℕ) → Or (qs ≡ g .positions) (Before (g .positions) qs)
         → Or (f .at ∷ qs ≡ f .at ∷ g .positions) (Before (f .at ∷ g .positions) (f .at ∷ qs))
     kept qs (inl e) = inl (ap (f .at ∷_) e)
     kept qs (inr b) = inr (atLater b)
-
     at-same :
         (qs : List ℕ) (end : Assignment) → FirstFits h hs (f .at) qs cs chosen θ end
         → Or (f .at ∷ qs ≡ f .at ∷ g .positions) (Before (f .at ∷ g .positions) (f .at ∷ qs))
@@ -209,20 +208,18 @@ found-join h hs cs chosen θ m f next free fits g = record {
         let c : k .constraint ≡ f .constraint = cc (k .stands, f .stands) in
         let n : k .next ≡ next = cc (k .fits, fits, c) in
         kept qs (g .smallest qs end (rw n at (k .rest)))
-
     by-order :
         (q : ℕ) (qs : List ℕ) (end : Assignment) → FirstFits h hs q qs cs chosen θ end
         → Or (f .at < q) (Or (f .at ≡ q) (q < f .at))
         → Or (q ∷ qs ≡ f .at ∷ g .positions) (Before (f .at ∷ g .positions) (q ∷ qs))
     by-order q qs end k (inl l) = inr (atFirst l
         (matchAt-length hs (g .positions) cs (chosen ++ (f .at ∷ [])) next (m .assignment) (g .fits)
-        ∙ sym (matchAt-length hs qs cs (chosen ++ (q ∷ [])) (k .next) end (k .rest))))
+         ∙ sym (matchAt-length hs qs cs (chosen ++ (q ∷ [])) (k .next) end (k .rest))))
     by-order q qs end k (inr (inl e)) = rw (← e) (at-same qs end (rw (← e) at k))
     by-order q qs end k (inr (inr l)) =
         let n = f .earlier q (k .constraint) l (k .stands) in
         absurd (find-refutes hs cs (chosen ++ (q ∷ [])) (k .next)
-        (sym (attempt-goes-on h hs q qs cs chosen θ end k) ∙ (rw zero-add at n)) qs end (k .rest))
-
+          (sym (attempt-goes-on h hs q qs cs chosen θ end k) ∙ (rw zero-add at n)) qs end (k .rest))
     smallest :
         (qs : List ℕ) (end : Assignment) → matchAt (h ∷ hs) qs cs chosen θ ≡ some end
         → Or (qs ≡ f .at ∷ g .positions) (Before (f .at ∷ g .positions) qs)
@@ -243,12 +240,12 @@ find-found [] cs chosen θ m e = record {
   where
     smallest : (qs : List ℕ) (end : Assignment) → matchAt [] qs cs chosen θ ≡ some end → Or (qs ≡ []) (Before [] qs)
     smallest [] end e = inl refl
-    smallest (q ∷ qs) end e = some-not-none none e refl
+    smallest (q ∷ qs) end e = none-some refl e
 find-found (h ∷ hs) cs chosen θ m e =
     let f = firstIn-some 0 cs (attempt h hs cs chosen θ) m e in
     let a = rw zero-add at (f .answers) in
     let on = find hs cs (chosen ++ (f .at ∷ [])) in
-    let u = unless-some (has (f .at) chosen) (bind (matchConstraint h (f .constraint) θ) on) a in
+    let u = cond-some-not (has (f .at) chosen) a in
     let w = bind-some (matchConstraint h (f .constraint) θ) on (u .1) in
     found-join h hs cs chosen θ m f (w .0) (u .0) (w .1) (find-found hs cs (chosen ++ (f .at ∷ [])) (w .0) m (w .2))
 

@@ -17,11 +17,12 @@ use lib.ListN.{getElem?}
 use Rattle.text.specs.Lists.{every}
 use Rattle.semantics.specs.Terms.{Term, Constraint, Symbol, Rule, Program, State, failed, live, mapTerms, mapSides}
 use Rattle.semantics.specs.Terms.{symbolAt, weight, isOfRule, isBelow, alphabet, isRuleOf, isWellFormed}
-use Rattle.semantics.specs.Matching.{Assignment, unassigned, matchTerms, matchConstraint, matchAt}
+use Rattle.semantics.specs.Matching.{Assignment, unassigned, matchConstraint, matchAt}
 use Rattle.semantics.specs.Solving.{solve}
 use Rattle.semantics.specs.Firing.{without, instance, settle, fired, fireAt}
 use Rattle.semantics.specs.Variants.{Inserted, here, there}
-use Rattle.semantics.proofs.Bools.{T-of, eqb-eq, and-true, some-not-none, bind-some, when-some}
+use Rattle.semantics.proofs.Options.{true-T, eqb-equal, none-some, bind-some, cond-some}
+use Rattle.semantics.proofs.Bools.{and-true}
 use Rattle.semantics.proofs.Removal.{without-none, without-one}
 use Rattle.semantics.proofs.Search.{matchAt-cons}
 
@@ -32,6 +33,7 @@ pub weight-cons :
 unfolding weight
 weight-cons symbols c cs = refl
 
+-- no constraints weigh nothing
 pub weight-nil : (symbols : List Symbol) → weight symbols [] ≡ 0
 unfolding weight
 weight-nil symbols = refl
@@ -63,7 +65,7 @@ pub matchConstraint-symbol :
     (h c : Constraint) (θ end : Assignment) → matchConstraint h c θ ≡ some end → h .symbol ≡ c .symbol
 unfolding matchConstraint
 matchConstraint-symbol h c θ end e =
-    eqb-eq (h .symbol) (c .symbol) (when-some (eqb (h .symbol) (c .symbol)) (matchTerms (h .terms) (c .terms) θ) e .0)
+    eqb-equal (cond-some (eqb (h .symbol) (c .symbol)) e .0)
 
 -- the constraints at matched positions weigh what the heads do
 pub matchAt-weight :
@@ -72,8 +74,8 @@ pub matchAt-weight :
     → weight symbols (without 0 chosen cs) ≡ weight symbols hs + weight symbols (without 0 (chosen ++ ps) cs)
 unfolding matchAt
 matchAt-weight symbols [] [] cs chosen θ end e = rw (append-nil, weight-nil, zero-add)
-matchAt-weight symbols [] (p ∷ ps) cs chosen θ end e = some-not-none none e refl
-matchAt-weight symbols (h ∷ hs) [] cs chosen θ end e = some-not-none none e refl
+matchAt-weight symbols [] (p ∷ ps) cs chosen θ end e = none-some refl e
+matchAt-weight symbols (h ∷ hs) [] cs chosen θ end e = none-some refl e
 matchAt-weight symbols (h ∷ hs) (p ∷ ps) cs chosen θ end e =
     let f = matchAt-cons h hs p ps cs chosen θ end e in
     let i = without-one 0 chosen cs p p (f .constraint) (omega arith) (f .stands) (f .free) in
@@ -87,7 +89,7 @@ matchAt-weight symbols (h ∷ hs) (p ∷ ps) cs chosen θ end e =
 pub every-at {ℓ} :
     {A : Type ℓ} (test : A → Bool) (l : List A) (n : ℕ) (a : A) → every test l ≡ true → getElem? l n ≡ some a
     → test a ≡ true
-every-at test [] n a e s = some-not-none none s refl
+every-at test [] n a e s = none-some refl s
 every-at test (b ∷ l) zero a e s = let q : b ≡ a = cc in rw (← q) (and-true (test b) (every test l) e .0)
 every-at test (b ∷ l) (suc n) a e s = every-at test l n a (and-true (test b) (every test l) e .1) s
 
@@ -99,9 +101,9 @@ unfolding isWellFormed isRuleOf
 rule-lowers p n r w s =
     let e = every-at (isRuleOf (p .symbols)) (p .rules) n r w s in
     let over = every (isOfRule (p .symbols)) (r .heads) && every (isOfRule (p .symbols)) (r .body)
-    && every (λ q. isBelow alphabet (q .left) && isBelow alphabet (q .right)) (r .equations) in
+            && every (λ q. isBelow alphabet (q .left) && isBelow alphabet (q .right)) (r .equations) in
     let heavy = ltb (weight (p .symbols) (r .body)) (weight (p .symbols) (r .heads)) in
-    ltb→lt (weight (p .symbols) (r .body)) (weight (p .symbols) (r .heads)) (T-of {b = heavy} (and-true over heavy e .1))
+    ltb→lt (weight (p .symbols) (r .body)) (weight (p .symbols) (r .heads)) (true-T {b = heavy} (and-true over heavy e .1))
 
 -- the weight of a state; a failed one has none
 unfoldable pub stateWeight : List Symbol → State → ℕ
@@ -131,15 +133,14 @@ fired-lighter symbols r ps θ next bound cs l m =
       rw without-none at (matchAt-weight symbols (r .heads) ps cs [] unassigned θ m),
       settle-weight symbols o (next + alphabet) bound (without 0 ps cs ++ body),
       weight-append symbols (without 0 ps cs) body,
-      weight-map symbols (instance next θ) (r .body),
-    )
+      weight-map symbols (instance next θ) (r .body))
 
 -- a firing of a well-formed program's rule lowers the weight of the state
 pub fireAt-lighter :
     (p : Program) (n : ℕ) (r : Rule) (ps : List ℕ) (s t : State) → isWellFormed p ≡ true → getElem? (p .rules) n ≡ some r
     → fireAt r ps s ≡ some t → stateWeight (p .symbols) t < stateWeight (p .symbols) s
 unfolding fireAt stateWeight
-fireAt-lighter p n r ps failed t w e f = some-not-none none f refl
+fireAt-lighter p n r ps failed t w e f = none-some refl f
 fireAt-lighter p n r ps (live next bound cs) t w e f =
     let u = bind-some (matchAt (r .heads) ps cs [] unassigned) (λ θ. some (fired r ps θ next bound cs)) f in
     let q : fired r ps (u .0) next bound cs ≡ t = cc (u .2) in
