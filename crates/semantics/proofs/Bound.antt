@@ -55,7 +55,7 @@ bounded-entering p g n d b = go (has n (d .entered)) refl (getElem? (g .constrai
     go :
         (t : Bool) → has n (d .entered) ≡ t → (o : Option Constraint) → getElem? (g .constraints) n ≡ o
         → Bounded p g
-            (cond t d (onward o d (λ c. record { state = taken c (d .state); entered = n ∷ d .entered; firings = d .firings })))
+        (cond t d (onward o d (λ c. record { state = taken c (d .state); entered = n ∷ d .entered; firings = d .firings })))
     go true f o s = b
     go false f none s = b
     go false f (some c) s =
@@ -63,7 +63,8 @@ bounded-entering p g n d b = go (has n (d .entered)) refl (getElem? (g .constrai
           arith,
           b,
           taken-weight (p .symbols) c (d .state),
-          weight-inserted (p .symbols) (waiting-enters g (d .entered) n c f s))
+          weight-inserted (p .symbols) (waiting-enters g (d .entered) n c f s),
+        )
 
 -- a firing takes one or more from the state's weight
 bounded-firing :
@@ -77,12 +78,13 @@ bounded-firing p g n ps d w b = go (getElem? (p .rules) n) refl
         → Bounded p g (onward o d (λ s. record { state = s; entered = d .entered; firings = suc (d .firings) }))
     fires r e none f = b
     fires r e (some t) f = omega (arith, b, fireAt-lighter p n r ps (d .state) t w e f)
+
     go :
         (o : Option Rule) → getElem? (p .rules) n ≡ o
         → Bounded p g
-            (onward o d
-            (λ r. onward (fireAt r ps (d .state)) d
-            (λ s. record { state = s; entered = d .entered; firings = suc (d .firings) })))
+        (onward o d
+        (λ r. onward (fireAt r ps (d .state)) d
+        (λ s. record { state = s; entered = d .entered; firings = suc (d .firings) })))
     go none e = b
     go (some r) e = fires r e (fireAt r ps (d .state)) refl
 

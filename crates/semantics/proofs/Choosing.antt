@@ -49,6 +49,7 @@ chooseFrom-chosen n (r ∷ rs) cs c e = go (chooseFrom-chosen (suc n) rs cs c) (
         earlier : (i : ℕ) (q : Rule) → i < suc (f .at) → getElem? (r ∷ rs) i ≡ some q → find (q .heads) cs [] unassigned ≡ none
         earlier zero q l s = let p : r ≡ q = cc in rw (← p) t
         earlier (suc i) q l s = f .earlier i q (omega arith) s
+
     go :
         (chooseFrom (suc n) rs cs ≡ some c → Chosen (suc n) rs cs c) → (o : Option Match) → find (r .heads) cs [] unassigned ≡ o
         → orElse (Option·map (λ m. record { number = n; rule = r; place = m }) o) (chooseFrom (suc n) rs cs) ≡ some c

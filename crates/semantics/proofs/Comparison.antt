@@ -44,7 +44,7 @@ tried k (d ∷ ds) placed e = go (or-cases (placed k d) (tryPartners (suc k) ds 
     go :
         Or (placed k d ≡ true) (tryPartners (suc k) ds placed ≡ true)
         → (tryPartners (suc k) ds placed ≡ true
-           → (i : ℕ) × (c : Constraint) × (getElem? ds i ≡ some c) × (placed (suc k + i) c ≡ true))
+        → (i : ℕ) × (c : Constraint) × (getElem? ds i ≡ some c) × (placed (suc k + i) c ≡ true))
         → (i : ℕ) × (c : Constraint) × (getElem? (d ∷ ds) i ≡ some c) × (placed (k + i) c ≡ true)
     go (inl t) more = (0, d, refl, rw add-zero t)
     go (inr t) more = let m = more t in (suc (m .0), m .1, m .2, rw (add-suc, ← suc-add) (m .3))

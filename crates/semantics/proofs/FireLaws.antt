@@ -230,8 +230,10 @@ module _ (r : Rule) (n : ℕ) (b : List Term) (cs : List Constraint) (ps : List 
 
     store-becomes : Pointwise (AtomRel Becomes) (after .store) (map liftAtom (map (mapTerms σ) remaining))
     store-becomes =
-        rw (map-append (mapTerms σ) (without 0 ps cs) (map (mapTerms (instance n θ)) (r .body)),
-          map-append liftAtom (map (mapTerms σ) (without 0 ps cs)) (map (mapTerms σ) (map (mapTerms (instance n θ)) (r .body))))
+        rw (
+          map-append (mapTerms σ) (without 0 ps cs) (map (mapTerms (instance n θ)) (r .body)),
+          map-append liftAtom (map (mapTerms σ) (without 0 ps cs)) (map (mapTerms σ) (map (mapTerms (instance n θ)) (r .body))),
+        )
         (pointwise-append old-store new-store)
 
     -- the state after the firing equals the configuration after it
@@ -274,6 +276,7 @@ module _ (r : Rule) (n : ℕ) (b : List Term) (cs : List Constraint) (ps : List 
       where
         oldTerm : (t : Term) → TermBelow n t → TermBelow (n + alphabet) (σ t)
         oldTerm t h = solution-below letters t (below-mono (omega arith) t h)
+
         newTerm : (t : Term) → TermBelow alphabet t → TermBelow (n + alphabet) (σ (instance n θ t))
         newTerm t h = solution-below letters (instance n θ t) (instance-below t h)
 

@@ -105,11 +105,13 @@ matchTerm-sound (var x) t θ {θ′} p = go (θ x) refl p
         let e : θ ≡ θ′ = cc in
         subst (TermsMatch (var x ∷ []) (t ∷ []) θ) e
         (record { fits = each (f ∙ ap some (same-equal u t q)) empty; extends = λ y v g. g; from = λ y v g. inl g })
+
     keeps :
         θ x ≡ none → (y : ℕ) (u : Term) → Or ((x ≡ y) × (extend x t θ y ≡ some t)) (extend x t θ y ≡ θ y)
         → θ y ≡ some u → extend x t θ y ≡ some u
     keeps f y u (inl (e, q)) g = none-some (sym (ap θ e) ∙ f) g
     keeps f y u (inr q) g = q ∙ g
+
     comes :
         (y : ℕ) (u : Term) → Or ((x ≡ y) × (extend x t θ y ≡ some t)) (extend x t θ y ≡ θ y) → extend x t θ y ≡ some u
         → Or (θ y ≡ some u) (Zipped (var y) u (var x ∷ []) (t ∷ []))
@@ -117,6 +119,7 @@ matchTerm-sound (var x) t θ {θ′} p = go (θ x) refl p
         let d : t ≡ u = cc in
         inr (subst₂ (λ z v. Zipped (var z) v (var x ∷ []) (t ∷ [])) e d front)
     comes y u (inr q) g = inl (sym q ∙ g)
+
     go :
         (o : Option Term) → θ x ≡ o → onward o (some (extend x t θ)) (λ u. cond (sameTerm u t) (some θ) none) ≡ some θ′
         → TermsMatch (var x ∷ []) (t ∷ []) θ θ′
@@ -141,11 +144,13 @@ terms-both {h} {t} {hs} {ts} {θ} {ν} {θ′} a b = record {
   where
     onto : Pointwise (TermFits ν) (h ∷ []) (t ∷ []) → Pointwise (TermFits θ′) (h ∷ hs) (t ∷ ts)
     onto (each f none′) = each (fits-extend (b .extends) h t f) (b .fits)
+
     first :
         (x : ℕ) (u : Term) → Or (θ x ≡ some u) (Zipped (var x) u (h ∷ []) (t ∷ []))
         → Or (θ x ≡ some u) (Zipped (var x) u (h ∷ hs) (t ∷ ts))
     first x u (inl f) = inl f
     first x u (inr z) = inr (zipped-left hs ts z)
+
     back :
         (x : ℕ) (u : Term) → Or (ν x ≡ some u) (Zipped (var x) u hs ts)
         → Or (θ x ≡ some u) (Zipped (var x) u (h ∷ hs) (t ∷ ts))
@@ -195,6 +200,7 @@ heads-both {h} {c} {hs} {M} {θ} {ν} s a b = record {
         → Or (θ x ≡ some u) (Paired (var x) u (h ∷ hs) (c ∷ M))
     first x u (inl f) = inl f
     first x u (inr z) = inr (inFirst z)
+
     back :
         (x : ℕ) (u : Term) → Or (ν x ≡ some u) (Paired (var x) u hs M)
         → Or (θ x ≡ some u) (Paired (var x) u (h ∷ hs) (c ∷ M))
@@ -218,7 +224,7 @@ matchAt-sound (h ∷ hs) [] cs chosen θ p = none-some refl p
 matchAt-sound (h ∷ hs) (q ∷ ps) cs chosen θ p =
     let (free, a) = cond-some-not (has q chosen) p in
     let (c, stands, b) =
-        bind-some (getElem? cs q) (λ c. bind (matchConstraint h c θ) (matchAt hs ps cs (chosen ++ (q ∷ [])))) a in
+    bind-some (getElem? cs q) (λ c. bind (matchConstraint h c θ) (matchAt hs ps cs (chosen ++ (q ∷ [])))) a in
     let (ν, m, d) = bind-some (matchConstraint h c θ) (matchAt hs ps cs (chosen ++ (q ∷ []))) b in
     let head = matchConstraint-sound h c θ m in
     let more = matchAt-sound hs ps cs (chosen ++ (q ∷ [])) ν d in
@@ -253,10 +259,11 @@ matchTerm-complete ϑ (var x) t θ a p = go (θ x) refl
         let d : t ≡ u = cc in
         sym d ∙ sym p ∙ ap ϑ e
     agrees y u (inr q) g = a y u (sym q ∙ g)
+
     go :
         (o : Option Term) → θ x ≡ o
         → (θ′ : Assignment) × (onward (θ x) (some (extend x t θ)) (λ u. cond (sameTerm u t) (some θ) none) ≡ some θ′)
-          × Agrees θ′ ϑ
+        × Agrees θ′ ϑ
     go none f = (extend x t θ, rw f, λ y u. agrees y u (extend-cases x t θ y))
     go (some u) f = (θ, rw (f, equal-same (a x u f ∙ p)), a)
 

@@ -71,7 +71,7 @@ normalise-ends p (suc fuel) s f w l = go (normalise-ends p fuel) (advance (p .ru
   where
     go :
         ((t : State) (f : ℕ) → isWellFormed p ≡ true → stateWeight (p .symbols) t ≤ fuel
-         → NoRuleFits p (normalise fuel (p .rules) t f .state))
+        → NoRuleFits p (normalise fuel (p .rules) t f .state))
         → (o : Option State) → advance (p .rules) s ≡ o
         → NoRuleFits p (onward o (record { state = s; firings = f }) (λ t. normalise fuel (p .rules) t (suc f)) .state)
     go more none e = advance-rests p s e
@@ -90,7 +90,7 @@ normalise-reach rs (suc fuel) s f = go (normalise-reach rs fuel) (advance rs s) 
   where
     go :
         ((t : State) (f : ℕ)
-         → (n : ℕ) × Reach rs n t (normalise fuel rs t f .state) × (normalise fuel rs t f .firings ≡ f + n))
+        → (n : ℕ) × Reach rs n t (normalise fuel rs t f .state) × (normalise fuel rs t f .firings ≡ f + n))
         → (o : Option State) → advance rs s ≡ o
         → (n : ℕ) × Reach rs n s (onward o (record { state = s; firings = f }) (λ t. normalise fuel rs t (suc f)) .state)
         × (onward o (record { state = s; firings = f }) (λ t. normalise fuel rs t (suc f)) .firings ≡ f + n)
@@ -109,11 +109,14 @@ reach-finished p g n u h rest =
     let k = length (g .constraints) in
     let es = enters k ++ reach-events h in
     let d : followAll p g es (start g) ≡ record { state = u; entered = arrivedAt g k .entered; firings = 0 + n } =
-            rw (followAll-append p g (enters k) (reach-events h) (start g), enters-all p g)
-            (reach-follows p g h (arrivedAt g k) (arrivedAt-state g)) in
-    (es, ap (λ q. q .state) d, ap (λ q. q .firings) d ∙ zero-add n,
-     byRest (arrivedAt-entered g (followAll p g es (start g)) (ap (λ q. q .entered) d))
-     (rw d rest))
+    rw (followAll-append p g (enters k) (reach-events h) (start g), enters-all p g)
+    (reach-follows p g h (arrivedAt g k) (arrivedAt-state g)) in (
+      es,
+      ap (λ q. q .state) d,
+      ap (λ q. q .firings) d ∙ zero-add n,
+      byRest (arrivedAt-entered g (followAll p g es (start g)) (ap (λ q. q .entered) d))
+          (rw d rest),
+    )
 
 -- the run of a goal is a finished derivation
 pub run-finished :

@@ -76,6 +76,7 @@ has-pair x y (p ∷ ps) e = go (or-cases (eqb x (p .left) || eqb y (p .right)) (
     first : Or (eqb x (p .left) ≡ true) (eqb y (p .right) ≡ true) → Or (p .left ≡ x) (p .right ≡ y)
     first (inl t) = inl (sym (eqb-equal t))
     first (inr t) = inr (sym (eqb-equal t))
+
     go :
         Or ((eqb x (p .left) || eqb y (p .right)) ≡ true) (arePaired x y ps ≡ true)
         → (arePaired x y ps ≡ true → (a : ℕ) × (b : ℕ) × (Paired ps a b) × (Or (a ≡ x) (b ≡ y)))
@@ -108,8 +109,10 @@ grown-pair x y ps f = record { holds = paired-old (record { left = x; right = y 
   where
     more : List Pair
     more = record { left = x; right = y } ∷ ps
+
     here : (a b : ℕ) → Paired more a b → Or ((a ≡ x) × (b ≡ y)) (Paired ps a b)
     here a b = paired-cases a b (record { left = x; right = y }) ps
+
     right :
         (a b c : ℕ) → OneToOne (Paired ps) → Or ((a ≡ x) × (b ≡ y)) (Paired ps a b) → Or ((a ≡ x) × (c ≡ y)) (Paired ps a c)
         → b ≡ c
@@ -117,6 +120,7 @@ grown-pair x y ps f = record { holds = paired-old (record { left = x; right = y 
     right a b c o (inl u) (inr v) = absurd (unpaired x y ps f a c v (inl (u .0)))
     right a b c o (inr u) (inl v) = absurd (unpaired x y ps f a b u (inl (v .0)))
     right a b c o (inr u) (inr v) = o .0 a b c u v
+
     left :
         (a b c : ℕ) → OneToOne (Paired ps) → Or ((a ≡ x) × (c ≡ y)) (Paired ps a c) → Or ((b ≡ x) × (c ≡ y)) (Paired ps b c)
         → a ≡ b
@@ -124,6 +128,7 @@ grown-pair x y ps f = record { holds = paired-old (record { left = x; right = y 
     left a b c o (inl u) (inr v) = absurd (unpaired x y ps f b c v (inr (u .1)))
     left a b c o (inr u) (inl v) = absurd (unpaired x y ps f a c u (inr (v .1)))
     left a b c o (inr u) (inr v) = o .1 a b c u v
+
     grown : OneToOne (Paired ps) → OneToOne (Paired more)
     grown o = (λ a b c p q. right a b c o (here a b p) (here a c q), λ a b c p q. left a b c o (here a c p) (here b c q))
 
@@ -209,6 +214,7 @@ pairTerm-complete ρ o s t ps i (partners {x = x} {y = y} r) = go (arePartners x
     both : (a b : ℕ) → ρ a b → Or (a ≡ x) (b ≡ y) → (a ≡ x) × (b ≡ y)
     both a b h (inl e) = (e, o .0 x b y (rw e at h) r)
     both a b h (inr e) = (o .1 a x y (rw e at h) r, e)
+
     go :
         (u : Bool) → arePartners x y ps ≡ u → (v : Bool) → arePaired x y ps ≡ v
         → (qs : List Pair) × (cond u (some ps) (cond v none (some (record { left = x; right = y } ∷ ps))) ≡ some qs)

@@ -129,14 +129,16 @@ without-find k chosen (d ∷ cs) {c} {left} i = go (has k chosen) refl i (λ x l
       free = e;
       rest = rw (has-last k k chosen refl) (q ∙ sym (without-past (suc k) k chosen cs (omega arith)));
     }
+
     behind :
         has k chosen ≡ false
         → Or ((c ≡ d) × (left ≡ without (suc k) chosen cs))
-          ((l : List Constraint) × (left ≡ d ∷ l) × Inserted c l (without (suc k) chosen cs))
+        ((l : List Constraint) × (left ≡ d ∷ l) × Inserted c l (without (suc k) chosen cs))
         → ((x : Constraint) (l : List Constraint) → Inserted x l (without (suc k) chosen cs) → Found (suc k) chosen cs x l)
         → Found k chosen (d ∷ cs) c left
     behind e (inl (p, q)) ih = front e p q
     behind e (inr (l, p, j)) ih = rw p (rw e at (found-behind d (ih c l j)))
+
     go :
         (b : Bool) → has k chosen ≡ b → Inserted c left (cond b (without (suc k) chosen cs) (d ∷ without (suc k) chosen cs))
         → ((x : Constraint) (l : List Constraint) → Inserted x l (without (suc k) chosen cs) → Found (suc k) chosen cs x l)

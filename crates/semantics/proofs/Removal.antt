@@ -79,7 +79,7 @@ without-one k ps (b ∷ cs) (suc i) q c e s f =
     go :
         (t : Bool) → Inserted c (without (suc k) (ps ++ (q ∷ [])) cs) (without (suc k) ps cs)
         → Inserted c (cond t (without (suc k) (ps ++ (q ∷ [])) cs) (b ∷ without (suc k) (ps ++ (q ∷ [])) cs))
-            (cond t (without (suc k) ps cs) (b ∷ without (suc k) ps cs))
+        (cond t (without (suc k) ps cs) (b ∷ without (suc k) ps cs))
     go true h = h
     go false h = there h
 

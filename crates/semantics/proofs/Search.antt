@@ -95,6 +95,7 @@ firstIn-some {A} p (c ∷ cs) try a e = go (firstIn-some (suc p) cs try a) (try 
         earlier : (i : ℕ) (d : Constraint) → i < suc (f .at) → getElem? (c ∷ cs) i ≡ some d → try (p + i) d ≡ none
         earlier zero d l s = let q : c ≡ d = cc in rw (add-zero, ← q) t
         earlier (suc i) d l s = rw (add-suc, ← suc-add) (f .earlier i d (omega arith) s)
+
     go :
         (firstIn (suc p) cs try ≡ some a → FirstAt (suc p) cs try a) → (o : Option A) → try p c ≡ o
         → orElse o (firstIn (suc p) cs try) ≡ some a → FirstAt p (c ∷ cs) try a
@@ -149,7 +150,7 @@ find-refutes (h ∷ hs) cs chosen θ e (p ∷ ps) end m =
     let f = matchAt-cons h hs p ps cs chosen θ end m in
     let n = firstIn-none 0 cs (attempt h hs cs chosen θ) e p (f .constraint) (f .stands) in
     let nothing : find hs cs (chosen ++ (p ∷ [])) (f .next) ≡ none =
-            sym (attempt-goes-on h hs p ps cs chosen θ end f) ∙ (rw zero-add at n) in
+    sym (attempt-goes-on h hs p ps cs chosen θ end f) ∙ (rw zero-add at n) in
     find-refutes hs cs (chosen ++ (p ∷ [])) (f .next) nothing ps end (f .rest)
 
 -- so the heads match at no positions
@@ -196,11 +197,13 @@ found-join h hs cs chosen θ m f next free fits g = record {
       fits = fits;
       rest = g .fits;
     })
+
     kept :
         (qs : List ℕ) → Or (qs ≡ g .positions) (Before (g .positions) qs)
         → Or (f .at ∷ qs ≡ f .at ∷ g .positions) (Before (f .at ∷ g .positions) (f .at ∷ qs))
     kept qs (inl e) = inl (ap (f .at ∷_) e)
     kept qs (inr b) = inr (atLater b)
+
     at-same :
         (qs : List ℕ) (end : Assignment) → FirstFits h hs (f .at) qs cs chosen θ end
         → Or (f .at ∷ qs ≡ f .at ∷ g .positions) (Before (f .at ∷ g .positions) (f .at ∷ qs))
@@ -208,18 +211,20 @@ found-join h hs cs chosen θ m f next free fits g = record {
         let c : k .constraint ≡ f .constraint = cc (k .stands, f .stands) in
         let n : k .next ≡ next = cc (k .fits, fits, c) in
         kept qs (g .smallest qs end (rw n at (k .rest)))
+
     by-order :
         (q : ℕ) (qs : List ℕ) (end : Assignment) → FirstFits h hs q qs cs chosen θ end
         → Or (f .at < q) (Or (f .at ≡ q) (q < f .at))
         → Or (q ∷ qs ≡ f .at ∷ g .positions) (Before (f .at ∷ g .positions) (q ∷ qs))
     by-order q qs end k (inl l) = inr (atFirst l
         (matchAt-length hs (g .positions) cs (chosen ++ (f .at ∷ [])) next (m .assignment) (g .fits)
-         ∙ sym (matchAt-length hs qs cs (chosen ++ (q ∷ [])) (k .next) end (k .rest))))
+        ∙ sym (matchAt-length hs qs cs (chosen ++ (q ∷ [])) (k .next) end (k .rest))))
     by-order q qs end k (inr (inl e)) = rw (← e) (at-same qs end (rw (← e) at k))
     by-order q qs end k (inr (inr l)) =
         let n = f .earlier q (k .constraint) l (k .stands) in
         absurd (find-refutes hs cs (chosen ++ (q ∷ [])) (k .next)
-          (sym (attempt-goes-on h hs q qs cs chosen θ end k) ∙ (rw zero-add at n)) qs end (k .rest))
+        (sym (attempt-goes-on h hs q qs cs chosen θ end k) ∙ (rw zero-add at n)) qs end (k .rest))
+
     smallest :
         (qs : List ℕ) (end : Assignment) → matchAt (h ∷ hs) qs cs chosen θ ≡ some end
         → Or (qs ≡ f .at ∷ g .positions) (Before (f .at ∷ g .positions) qs)

@@ -65,6 +65,7 @@ replace-unifies x t = record {
     stays : Or (replace x t t ≡ t) ((t ≡ var x) × (replace x t t ≡ t)) → replace x t t ≡ t
     stays (inl p) = p
     stays (inr q) = q .1
+
     sort :
         (u : Term) → Or (replace x t u ≡ u) ((u ≡ var x) × (replace x t u ≡ t))
         → Or (replace x t u ≡ u) (Or ((u ≡ var x) × (replace x t u ≡ t)) ((u ≡ t) × (replace x t u ≡ var x)))
@@ -141,6 +142,7 @@ unifies-follows F e σ {ν} u holds within t = chain (within t) (moved (σ t) (u
   where
     sides : Eqv F (lift (σ (e .left))) (lift (σ (e .right)))
     sides = chain (flip (within (e .left))) (chain holds (within (e .right)))
+
     moved :
         (v : Term)
         → Or (ν v ≡ v) (Or ((v ≡ σ (e .left)) × (ν v ≡ σ (e .right))) ((v ≡ σ (e .right)) × (ν v ≡ σ (e .left))))
@@ -170,14 +172,17 @@ solves-within P (further {e = e} {σ = σ} {ν = ν} u r) sides within =
     reach : (t : Term) → P t → Or (σ t ≡ t) (P (σ t)) → P (σ t)
     reach t p (inl q) = subst P (sym q) p
     reach t p (inr q) = q
+
     atLeft : P (σ (e .left))
     atLeft = reach (e .left) (sides e first .0) (within (e .left))
+
     atRight : P (σ (e .right))
     atRight = reach (e .right) (sides e first .1) (within (e .right))
+
     moved :
         (t : Term) → Or (σ t ≡ t) (P (σ t))
         → Or (ν (σ t) ≡ σ t)
-          (Or ((σ t ≡ σ (e .left)) × (ν (σ t) ≡ σ (e .right))) ((σ t ≡ σ (e .right)) × (ν (σ t) ≡ σ (e .left))))
+        (Or ((σ t ≡ σ (e .left)) × (ν (σ t) ≡ σ (e .right))) ((σ t ≡ σ (e .right)) × (ν (σ t) ≡ σ (e .left))))
         → Or (ν (σ t) ≡ t) (P (ν (σ t)))
     moved t (inl p) (inl q) = inl (q ∙ p)
     moved t (inr p) (inl q) = inr (subst P (sym q) p)
@@ -206,9 +211,10 @@ clash-follows F (e ∷ es) σ p holds within =
         let atLeft = rw (ap lift p) at (within (e .left)) in
         let atRight = rw (ap lift q) at (within (e .right)) in
         (a, b, d, chain (flip atLeft) (chain (holds e first) atRight))
+
     go :
         Or (unify (σ (e .left)) (σ (e .right)) ≡ none)
-          ((ν : Term → Term) × (unify (σ (e .left)) (σ (e .right)) ≡ some ν) × (solve es (λ t. ν (σ t)) ≡ none))
+        ((ν : Term → Term) × (unify (σ (e .left)) (σ (e .right)) ≡ some ν) × (solve es (λ t. ν (σ t)) ≡ none))
         → ((ν : Term → Term) → unify (σ (e .left)) (σ (e .right)) ≡ some ν → solve es (λ t. ν (σ t)) ≡ none → Clash F)
         → Clash F
     go (inl q) more = constants (unify-clash (σ (e .left)) (σ (e .right)) q)

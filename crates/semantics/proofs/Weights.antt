@@ -101,7 +101,7 @@ unfolding isWellFormed isRuleOf
 rule-lowers p n r w s =
     let e = every-at (isRuleOf (p .symbols)) (p .rules) n r w s in
     let over = every (isOfRule (p .symbols)) (r .heads) && every (isOfRule (p .symbols)) (r .body)
-            && every (λ q. isBelow alphabet (q .left) && isBelow alphabet (q .right)) (r .equations) in
+    && every (λ q. isBelow alphabet (q .left) && isBelow alphabet (q .right)) (r .equations) in
     let heavy = ltb (weight (p .symbols) (r .body)) (weight (p .symbols) (r .heads)) in
     ltb→lt (weight (p .symbols) (r .body)) (weight (p .symbols) (r .heads)) (true-T {b = heavy} (and-true over heavy e .1))
 
@@ -133,7 +133,8 @@ fired-lighter symbols r ps θ next bound cs l m =
       rw without-none at (matchAt-weight symbols (r .heads) ps cs [] unassigned θ m),
       settle-weight symbols o (next + alphabet) bound (without 0 ps cs ++ body),
       weight-append symbols (without 0 ps cs) body,
-      weight-map symbols (instance next θ) (r .body))
+      weight-map symbols (instance next θ) (r .body),
+    )
 
 -- a firing of a well-formed program's rule lowers the weight of the state
 pub fireAt-lighter :
