@@ -33,3 +33,4 @@ pub mod VariantLaws
 pub mod Represent
 pub mod Reordering
 pub mod LateEntry
+pub mod Sides
