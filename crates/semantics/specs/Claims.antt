@@ -2,21 +2,24 @@
 --   OneOutcome            each goal has one outcome, over all lists of events
 --   sideEvents            the derivation of a side of an overlap, event by event
 --   Counterexample        an unjoined overlap that is shown, with its two ends, is one
+--   Demand3               all of demand 3, as one claim
 --   Bounded               no derivation fires more often than its goal's weight
 -- Assumes nothing.
 use Prim.Native.Nat.{ℕ, zero, suc, _≤_}
 use mathlib.Core.Bool.{Bool, true}
 use mathlib.Core.List.{List, [], _∷_, _++_, map}
 use mathlib.Core.Option.{Option, none, some}
+use mathlib.Core.Logic.{_↔_}
 use mathlib.Core.Path.{_≡_}
-use lib.ListN.{length}
+use lib.ListN.{length, getElem?}
 use Rattle.text.specs.Lists.{onward, upTo}
 use Rattle.semantics.specs.Terms.{Constraint, Rule, Program, Goal, State, failed, live, weight, isGoalOf}
 use Rattle.semantics.specs.Firing.{fired, fireAt}
 use Rattle.semantics.specs.Derivations.{Event, enter, fire, Progress, derive, Finished}
 use Rattle.semantics.specs.Strategy.{Choice, choose, Final, entered}
 use Rattle.semantics.specs.Variants.{Variant}
-use Rattle.semantics.specs.Overlaps.{Overlap, secondPositions}
+use Rattle.semantics.specs.Overlaps.{Overlap, secondPositions, overlaps}
+use Rattle.semantics.specs.Verdict.{verdict, confluent, unjoined}
 
 -- each goal over the program's symbols, of any length, with any constants and any number of variables, has one outcome: any two
 -- finished derivations of it, whatever enters when and whatever fires where, end in equal states
@@ -67,3 +70,12 @@ pub record Counterexample (p : Program) (o : Overlap) (one two : Final) : Type 1
   pub first : EndsIn p (o .goal) (firstEvents p o) one
   pub second : EndsIn p (o .goal) (secondEvents p o) two
   pub differ : Variant (one .state) (two .state) → ⊥
+
+-- demand 3 of a program: its verdict is confluent exactly when each goal has one outcome, and then the number is that of its
+-- overlaps; a verdict that shows an overlap shows one of the program's, and a counterexample; and every derivation is bounded
+pub record Demand3 (p : Program) : Type 1 where
+  pub exact : ((n : ℕ) × (verdict p ≡ confluent n)) ↔ OneOutcome p
+  pub counted : (n : ℕ) → verdict p ≡ confluent n → n ≡ length (overlaps p)
+  pub shown : (o : Overlap) (one two : Final) → verdict p ≡ unjoined o one two → Counterexample p o one two
+  pub overlap : (o : Overlap) (one two : Final) → verdict p ≡ unjoined o one two → (i : ℕ) × (getElem? (overlaps p) i ≡ some o)
+  pub bounded : Bounded p
