@@ -56,9 +56,12 @@ demand-of-verdict :
 unfolding checkListing pass fail verdictListing
 demand-of-verdict s room r e d = go (verdict (r .program)) refl
   where
+    shown : Verdict → Reply
+    shown v = listing (verdictListing (namingOf (r .program) (r .constants)) v)
+
     go : (v : Verdict) → verdict (r .program) ≡ v → Demand3On s room r
     go (confluent n) k =
-        let reply : checkReply s room ≡ pass n = rw (← k) e in
+        let reply : checkReply s room ≡ pass n = e ∙ ap shown k in
         record {
           decided = passed n reply;
           exact = (λ _. d .exact .0 (n, k), λ _. (n, reply));
@@ -66,7 +69,7 @@ demand-of-verdict s room r e d = go (verdict (r .program)) refl
           bounded = d .bounded;
         }
     go (unjoined o one two) k =
-        let reply : checkReply s room ≡ fail r o one two = rw (← k) e in
+        let reply : checkReply s room ≡ fail r o one two = e ∙ ap shown k in
         record {
           decided =
               failed (record { overlap = o; one = one; two = two; reply = reply; counterexample = d .shown o one two k });
