@@ -9,6 +9,9 @@ pub mod Isos
 pub mod Links
 pub mod Stepping
 pub mod Options
+pub mod Contexts
+pub mod Commute
+pub mod Peaks
 pub mod Lifting
 pub mod SolveLaws
 pub mod PositionLaws
@@ -26,6 +29,17 @@ pub mod Normal
 pub mod Contexts
 pub mod Commute
 pub mod Peaks
+pub mod Places
+pub mod Pairings
+pub mod OverlapPositions
+pub mod Partners
+pub mod Listings
+pub mod Enumeration
+pub mod Verdicts
+pub mod Appearing
+pub mod JoinLaws
+pub mod OverlapGoals
+pub mod PeakOverlaps
 pub mod MatchedTerms
 pub mod FireLaws
 pub mod Letters
