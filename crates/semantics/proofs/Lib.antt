@@ -26,9 +26,6 @@ pub mod Weights
 pub mod Bound
 pub mod Entering
 pub mod Normal
-pub mod Contexts
-pub mod Commute
-pub mod Peaks
 pub mod Places
 pub mod Pairings
 pub mod OverlapPositions
@@ -47,4 +44,4 @@ pub mod VariantLaws
 pub mod Represent
 pub mod Reordering
 pub mod LateEntry
-pub mod Sides
+pub mod SideEvents
