@@ -12,10 +12,6 @@ pub mod Options
 pub mod Contexts
 pub mod Commute
 pub mod Peaks
-pub mod Contexts
-pub mod Commute
-pub mod Peaks
-pub mod Options
 pub mod Lifting
 pub mod SolveLaws
 pub mod PositionLaws
@@ -48,13 +44,6 @@ pub mod Appearing
 pub mod JoinLaws
 pub mod OverlapGoals
 pub mod PeakOverlaps
-pub mod MatchedTerms
-pub mod FireLaws
-pub mod Letters
-pub mod VariantLaws
-pub mod Represent
-pub mod Reordering
-pub mod LateEntry
 pub mod SideEvents
 pub mod Newman
 pub mod Firings
