@@ -29,7 +29,7 @@ use Rattle.semantics.proofs.Reface.{entry, reface, reface-same, reface-
 pub plug-fire :
     (K : Context) (C : Config) (r : Rule) (M L : List (Atom (C .Var)))
     → Iso (fireC r (plug K C) (map (subAtom old) M) (map (subAtom old) L ++ map (subAtom new) (K .store)))
-      (plug K (fireC r C M L))
+    (plug K (fireC r C M L))
 plug-fire K C r M L =
     rw flat-sub (exchange-iso (C .eqs) L (K .links) (C .face) (K .eqs) (K .store) (flat (headsOf r)) (flat M) (eqsOf r) (bodyOf r)
     (map (sub old) (map (sub new) (K .face))) (map (sub new) (K .face))
@@ -116,8 +116,8 @@ pub meets-around :
     → Pointwise (AtomRel (λ h m. Eqv (C .eqs) (sub δ h) m)) G M → Pointwise (AtomRel (λ h m. Eqv (C .eqs) (sub δ h) m)) U W
     → SameMultiset _≡_ (C .store) ((M ++ W) ++ rest) → SameMultiset _≡_ L (W ++ rest) → SameMultiset _≡_ K (B ++ rest)
     → ((R : Tm (C .Var) → Tm (Or ℕ (C .Var)) → Type 0) → Pointwise (AtomRel R) M (map (subAtom old) G)
-       → Pointwise (AtomRel R) W (map (subAtom old) U)
-       → Pointwise (AtomRel R) N (map (subAtom old) H) × Pointwise (AtomRel R) B (map (subAtom old) A))
+    → Pointwise (AtomRel R) W (map (subAtom old) U)
+    → Pointwise (AtomRel R) N (map (subAtom old) H) × Pointwise (AtomRel R) B (map (subAtom old) A))
     → Meets rs (fireC r (peakOf (G ++ U) []) G U) (fireC q (peakOf (G ++ U) []) H A)
     → Meets rs (fireC r C M L) (fireC q C N K)
 meets-around r q G U H A C M W N B rest L K δ g u s l k others m =

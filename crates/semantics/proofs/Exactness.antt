@@ -52,7 +52,7 @@ module _ (p : Program) (w : isWellFormed p ≡ true) where
       let one = derive p g es .state in
       let two = derive p g fs .state in
       let ends = newman (reducing p w) (peak-joined p w all) (entered g) t u (entered-scoped g (goal-below p g goal))
-          (counted-star h) (counted-star k) (rests-normal p t rests) (rests-normal p u stops) in
+      (counted-star h) (counted-star k) (rests-normal p t rests) (rests-normal p u stops) in
       variant-trans one t two (reordered-variant s) (variant-trans t u two ends (variant-sym two u (reordered-variant q)))
 
   module _ (o : Overlap) (listed : Listed p o) where
@@ -99,7 +99,7 @@ module _ (p : Program) (w : isWellFormed p ≡ true) where
       → (isGoalOf p (o .goal) ≡ true)
       × SideRun p (o .goal) (o .first .number) (o .first .rule) (upTo (length (o .first .rule .heads))) (firstEnd p o)
       × SideRun p (o .goal) (o .second .number) (o .second .rule)
-        (secondPositions 1 (length (o .first .rule .heads)) (length (o .second .rule .heads)) (o .partners)) (secondEnd p o)
+      (secondPositions 1 (length (o .first .rule .heads)) (length (o .second .rule .heads)) (o .partners)) (secondEnd p o)
       × (Variant (firstEnd p o .state) (secondEnd p o .state) → ⊥)
   unjoined-runs o i e =
       let listed = overlaps-member p i in

@@ -109,12 +109,13 @@ others-related :
     → Pointwise R (map liftAtom (leftover 1 N ds)) (map (subAtom old) (map liftAtom (leftover 1 Y ds)))
     → Pointwise R (map liftAtom N) (map (subAtom old) (map liftAtom Y))
     × Pointwise R (map liftAtom (alone M ds)) (map (subAtom old) (map liftAtom (alone X ds)))
-others-related ds M N X Y a b e R p q =
-    (join-pointwise 1 (map liftAtom N) (map (subAtom old) (map liftAtom Y)) ds p
-    (subst₂ (Pointwise R) (sym (leftover-map liftAtom 1 N ds)) (sym (leftover-atoms ds Y)) q)
-    (agreed-map liftAtom 1 M N ds a)
-    (agreed-map (subAtom old) 1 (map liftAtom X) (map liftAtom Y) ds (agreed-map liftAtom 1 X Y ds b)) long,
-    subst₂ (Pointwise R) (alone-map liftAtom M ds) (alone-atoms ds X) (alone-pointwise ds p))
+others-related ds M N X Y a b e R p q = (
+  join-pointwise 1 (map liftAtom N) (map (subAtom old) (map liftAtom Y)) ds p
+      (subst₂ (Pointwise R) (sym (leftover-map liftAtom 1 N ds)) (sym (leftover-atoms ds Y)) q)
+      (agreed-map liftAtom 1 M N ds a)
+      (agreed-map (subAtom old) 1 (map liftAtom X) (map liftAtom Y) ds (agreed-map liftAtom 1 X Y ds b)) long,
+  subst₂ (Pointwise R) (alone-map liftAtom M ds) (alone-atoms ds X) (alone-pointwise ds p),
+)
   where
     long : length (map liftAtom N) ≡ length (map (subAtom (old {Z = ℕ})) (map liftAtom Y))
     long = length-map N liftAtom ∙ e ∙ sym (length-map (map liftAtom Y) (subAtom old) ∙ length-map Y liftAtom)
@@ -129,8 +130,8 @@ pub overlapping-meet :
     → length (o .partners) ≡ length (o .first .rule .heads) → Agreed 1 M N (o .partners)
     → SameMultiset _≡_ cs ((M ++ leftover 1 N (o .partners)) ++ rest)
     → Meets (p .rules)
-      (fireC (o .first .rule) (confOf b cs) (map liftAtom M) (map liftAtom (leftover 1 N (o .partners) ++ rest)))
-      (fireC (o .second .rule) (confOf b cs) (map liftAtom N) (map liftAtom (alone M (o .partners) ++ rest)))
+    (fireC (o .first .rule) (confOf b cs) (map liftAtom M) (map liftAtom (leftover 1 N (o .partners) ++ rest)))
+    (fireC (o .second .rule) (confOf b cs) (map liftAtom N) (map liftAtom (alone M (o .partners) ++ rest)))
 overlapping-meet p w o parts listed joins b cs M N rest under first second long a whole =
     meets-around r q (map liftAtom X) (map liftAtom U) (map liftAtom Y) (map liftAtom (alone X ds)) (confOf b cs)
     (map liftAtom M) (map liftAtom W) (map liftAtom N) (map liftAtom (alone M ds)) (map liftAtom rest)
@@ -149,15 +150,21 @@ overlapping-meet p w o parts listed joins b cs M N rest under first second long 
   where
     r : Rule
     r = o .first .rule
+
     q : Rule
     q = o .second .rule
+
     ds : List ℕ
     ds = o .partners
+
     X : List Constraint
     X = goalFirst parts
+
     Y : List Constraint
     Y = goalSecond parts
+
     U : List Constraint
     U = leftover 1 Y ds
+
     W : List Constraint
     W = leftover 1 N ds

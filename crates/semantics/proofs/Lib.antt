@@ -55,3 +55,4 @@ pub mod Forks
 pub mod SideRuns
 pub mod Peak
 pub mod Exactness
+pub mod Demand3

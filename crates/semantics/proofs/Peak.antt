@@ -58,8 +58,8 @@ module _ (p : Program) (w : isWellFormed p ≡ true) (all : (o : Overlap) → Me
       → length (o .partners) ≡ length (o .first .rule .heads) → Agreed 1 M N (o .partners)
       → SameMultiset _≡_ cs ((M ++ leftover 1 N (o .partners)) ++ rest)
       → Meets (p .rules)
-        (fireC (o .first .rule) (confOf b cs) (map liftAtom M) (map liftAtom (leftover 1 N (o .partners) ++ rest)))
-        (fireC (o .second .rule) (confOf b cs) (map liftAtom N) (map liftAtom (alone M (o .partners) ++ rest)))
+      (fireC (o .first .rule) (confOf b cs) (map liftAtom M) (map liftAtom (leftover 1 N (o .partners) ++ rest)))
+      (fireC (o .second .rule) (confOf b cs) (map liftAtom N) (map liftAtom (alone M (o .partners) ++ rest)))
   matched-meet o parts i θ same b cs M N rest m n long a whole =
       let under = goalValue parts θ in
       overlapping-meet p w o parts (overlaps-member p i) (all o i) b cs M N rest under
@@ -75,16 +75,22 @@ module _ (p : Program) (w : isWellFormed p ≡ true) (all : (o : Overlap) → Me
       → Pointwise (ConstraintRel (λ s t. instantiate θ s ≡ t)) (secondHeads j) N
       → length ds ≡ length (i .rule .heads) → Agreed 1 M N ds → SameMultiset _≡_ cs ((M ++ leftover 1 N ds) ++ rest)
       → Meets (p .rules)
-        (fireC (i .rule) (confOf b cs) (map liftAtom M) (map liftAtom (leftover 1 N ds ++ rest)))
-        (fireC (j .rule) (confOf b cs) (map liftAtom N) (map liftAtom (alone M ds ++ rest)))
+      (fireC (i .rule) (confOf b cs) (map liftAtom M) (map liftAtom (leftover 1 N ds ++ rest)))
+      (fireC (j .rule) (confOf b cs) (map liftAtom N) (map liftAtom (alone M ds ++ rest)))
   made-meet i j ds o parts k θ same =
       matched-meet
       (record {
-        first = i; second = j; partners = ds;
+        first = i;
+        second = j;
+        partners = ds;
         goal = goalOf (map (mapTerms (parts .solution)) (i .rule .heads ++ unjoinedHeads 1 (secondHeads j) ds));
       })
       (record {
-        equations = parts .equations; solution = parts .solution; joined = parts .joined; solved = parts .solved; made = refl;
+        equations = parts .equations;
+        solution = parts .solution;
+        joined = parts .joined;
+        solved = parts .solved;
+        made = refl;
       })
       (subst (λ x. Member x (overlaps p)) (parts .made) k) θ same
 
@@ -93,70 +99,70 @@ module _ (p : Program) (w : isWellFormed p ≡ true) (all : (o : Overlap) → Me
       (i j : ℕ) (r q : Rule) (ri : getElem? (p .rules) i ≡ some r) (qj : getElem? (p .rules) j ≡ some q) (l : i ≤ j)
       (b : List Term) (cs : List Constraint) (ps qs : List ℕ) (s t : State) (F : FiredAt r ps b cs s) (H : FiredAt q qs b cs t)
     where
-    -- the partners of their positions, and what neither has matched
-    abbrev shared : List ℕ
-    shared = partnersOf ps qs
+      -- the partners of their positions, and what neither has matched
+      abbrev shared : List ℕ
+      shared = partnersOf ps qs
 
-    abbrev rest : List Constraint
-    rest = without 0 (ps ++ leftover 1 qs shared) cs
+      abbrev rest : List Constraint
+      rest = without 0 (ps ++ leftover 1 qs shared) cs
 
-    -- the configurations that they lead to
-    abbrev leftSide : Config
-    leftSide =
-        fireC r (confOf b cs) (map liftAtom (F .match .matched)) (map liftAtom (leftover 1 (H .match .matched) shared ++ rest))
+      -- the configurations that they lead to
+      abbrev leftSide : Config
+      leftSide =
+          fireC r (confOf b cs) (map liftAtom (F .match .matched)) (map liftAtom (leftover 1 (H .match .matched) shared ++ rest))
 
-    abbrev rightSide : Config
-    rightSide =
-        fireC q (confOf b cs) (map liftAtom (H .match .matched)) (map liftAtom (alone (F .match .matched) shared ++ rest))
+      abbrev rightSide : Config
+      rightSide =
+          fireC q (confOf b cs) (map liftAtom (H .match .matched)) (map liftAtom (alone (F .match .matched) shared ++ rest))
 
-    -- they meet if constraints are shared
-    shared-meet : isPairing shared ≡ true → Meets (p .rules) leftSide rightSide
-    shared-meet pairs =
-        let M = F .match .matched in
-        let N = H .match .matched in
-        let first : Numbered = record { number = i; rule = r } in
-        let second : Numbered = record { number = j; rule = q } in
-        let θ = merged (valueOf (F .assignment)) (valueOf (H .assignment)) in
-        let m = merged-first (F .assignment) (valueOf (H .assignment)) (wellFormed-heads p i w ri .1) (F .match .heads .fits) in
-        let k = merged-second (valueOf (F .assignment)) (H .assignment) (H .match .heads .fits) in
-        let once = partners-once ps qs (F .match .fresh) in
-        let long : length shared ≡ length (r .heads) =
-                partners-length ps qs ∙ pointwise-length (F .match .stand) ∙ sym (pointwise-length (F .match .heads .fits)) in
-        let short : length N ≡ length (q .heads) = sym (pointwise-length (H .match .heads .fits)) in
-        let within : All (λ d. d ≤ length (q .heads)) shared =
-                subst (λ n. All (λ d. d ≤ n) shared) (pointwise-length (H .match .stand) ∙ short) (partners-bound ps qs) in
-        let agreed = partners-agreed cs (F .match .stand) (H .match .stand) in
-        let (o, e, (parts, same)) = overlap-exists first second shared θ once within m k agreed in
-        let listed = member-overlaps p i j ri qj l (member-pairings (record { long = long; within = within; pairs = pairs })) e in
-        made-meet first second shared o parts listed θ same b cs M N rest m k long agreed
-        (partners-whole cs ps qs (F .match .fresh) (H .match .fresh) (F .match .stand) (H .match .stand))
+      -- they meet if constraints are shared
+      shared-meet : isPairing shared ≡ true → Meets (p .rules) leftSide rightSide
+      shared-meet pairs =
+          let M = F .match .matched in
+          let N = H .match .matched in
+          let first : Numbered = record { number = i; rule = r } in
+          let second : Numbered = record { number = j; rule = q } in
+          let θ = merged (valueOf (F .assignment)) (valueOf (H .assignment)) in
+          let m = merged-first (F .assignment) (valueOf (H .assignment)) (wellFormed-heads p i w ri .1) (F .match .heads .fits) in
+          let k = merged-second (valueOf (F .assignment)) (H .assignment) (H .match .heads .fits) in
+          let once = partners-once ps qs (F .match .fresh) in
+          let long : length shared ≡ length (r .heads) =
+          partners-length ps qs ∙ pointwise-length (F .match .stand) ∙ sym (pointwise-length (F .match .heads .fits)) in
+          let short : length N ≡ length (q .heads) = sym (pointwise-length (H .match .heads .fits)) in
+          let within : All (λ d. d ≤ length (q .heads)) shared =
+          subst (λ n. All (λ d. d ≤ n) shared) (pointwise-length (H .match .stand) ∙ short) (partners-bound ps qs) in
+          let agreed = partners-agreed cs (F .match .stand) (H .match .stand) in
+          let (o, e, (parts, same)) = overlap-exists first second shared θ once within m k agreed in
+          let listed = member-overlaps p i j ri qj l (member-pairings (record { long = long; within = within; pairs = pairs })) e in
+          made-meet first second shared o parts listed θ same b cs M N rest m k long agreed
+          (partners-whole cs ps qs (F .match .fresh) (H .match .fresh) (F .match .stand) (H .match .stand))
 
-    -- they meet if none is
-    apart-meet : every (eqb 0) shared ≡ true → Meets (p .rules) leftSide rightSide
-    apart-meet zeros =
-        let M = F .match .matched in
-        let N = H .match .matched in
-        let long : length shared ≡ length M = partners-length ps qs ∙ pointwise-length (F .match .stand) in
-        let up : (a c : List Constraint) → map liftAtom (a ++ c) ≡ map liftAtom a ++ map liftAtom c = map-append liftAtom in
-        subst₂ (λ L K. Meets (p .rules) (fireC r (confOf b cs) (map liftAtom M) L) (fireC q (confOf b cs) (map liftAtom N) K))
-        (sym (ap (λ a. map liftAtom (a ++ rest)) (leftover-all 0 N shared zeros) ∙ up N rest))
-        (sym (ap (λ a. map liftAtom (a ++ rest)) (alone-all M shared zeros long) ∙ up M rest))
-        (disjoint-meet r q (confOf b cs) (map liftAtom M) (map liftAtom N) (map liftAtom rest) (at-member (p .rules) i ri)
-        (at-member (p .rules) j qj) (F .fits) (H .fits))
+      -- they meet if none is
+      apart-meet : every (eqb 0) shared ≡ true → Meets (p .rules) leftSide rightSide
+      apart-meet zeros =
+          let M = F .match .matched in
+          let N = H .match .matched in
+          let long : length shared ≡ length M = partners-length ps qs ∙ pointwise-length (F .match .stand) in
+          let up : (a c : List Constraint) → map liftAtom (a ++ c) ≡ map liftAtom a ++ map liftAtom c = map-append liftAtom in
+          subst₂ (λ L K. Meets (p .rules) (fireC r (confOf b cs) (map liftAtom M) L) (fireC q (confOf b cs) (map liftAtom N) K))
+          (sym (ap (λ a. map liftAtom (a ++ rest)) (leftover-all 0 N shared zeros) ∙ up N rest))
+          (sym (ap (λ a. map liftAtom (a ++ rest)) (alone-all M shared zeros long) ∙ up M rest))
+          (disjoint-meet r q (confOf b cs) (map liftAtom M) (map liftAtom N) (map liftAtom rest) (at-member (p .rules) i ri)
+          (at-member (p .rules) j qj) (F .fits) (H .fits))
 
-    -- so they are joined
-    fork-joined : Joined (Fires (p .rules)) Variant s t
-    fork-joined =
-        rep-joined (program-lettered p w)
-        (F .represents (leftover 1 (H .match .matched) shared ++ rest)
-        (partners-first cs ps qs (F .match .fresh) (H .match .fresh) (F .match .stand) (H .match .stand)))
-        (H .represents (alone (F .match .matched) shared ++ rest)
-        (partners-second cs ps qs (F .match .fresh) (H .match .fresh) (F .match .stand) (H .match .stand)))
-        (cases (partners-cases shared (partners-once ps qs (F .match .fresh))))
-      where
-        cases : Or (every (eqb 0) shared ≡ true) (isPairing shared ≡ true) → Meets (p .rules) leftSide rightSide
-        cases (inl z) = apart-meet z
-        cases (inr z) = shared-meet z
+      -- so they are joined
+      fork-joined : Joined (Fires (p .rules)) Variant s t
+      fork-joined =
+          rep-joined (program-lettered p w)
+          (F .represents (leftover 1 (H .match .matched) shared ++ rest)
+          (partners-first cs ps qs (F .match .fresh) (H .match .fresh) (F .match .stand) (H .match .stand)))
+          (H .represents (alone (F .match .matched) shared ++ rest)
+          (partners-second cs ps qs (F .match .fresh) (H .match .fresh) (F .match .stand) (H .match .stand)))
+          (cases (partners-cases shared (partners-once ps qs (F .match .fresh))))
+        where
+          cases : Or (every (eqb 0) shared ≡ true) (isPairing shared ≡ true) → Meets (p .rules) leftSide rightSide
+          cases (inl z) = apart-meet z
+          cases (inr z) = shared-meet z
 
   -- whatever two firings lead a scoped state to is joined
   pub peak-joined : Joins ScopedState (Fires (p .rules)) Variant
@@ -178,6 +184,7 @@ module _ (p : Program) (w : isWellFormed p ≡ true) (all : (o : Overlap) → Me
         rightSteps = h .leftSteps;
         equal = variant-sym (h .left) (h .right) (h .equal);
       }
+
       cases :
           (i j : ℕ) → getElem? (p .rules) i ≡ some (f .rule) → getElem? (p .rules) j ≡ some (g .rule)
           → FiredAt (f .rule) (f .positions) b cs t → FiredAt (g .rule) (g .positions) b cs u → Or (i ≤ j) (j < i)

@@ -60,15 +60,16 @@ strategy-follows p g (suc fuel) (live next bound cs) d e =
   where
     after : Choice → State
     after c = fired (c .rule) (c .place .positions) (c .place .assignment) next bound cs
+
     go :
         (o : Option Choice) → choose (p .rules) cs ≡ o
         → ((t : State) (d′ : Progress) → d′ .state ≡ t
-          → followAll p g (strategyEvents fuel (p .rules) t) d′ ≡ atEnd (d′ .entered) (normalise fuel (p .rules) t (d′ .firings)))
+        → followAll p g (strategyEvents fuel (p .rules) t) d′ ≡ atEnd (d′ .entered) (normalise fuel (p .rules) t (d′ .firings)))
         → followAll p g
-          (onward o [] (λ c. fire (c .number) (c .place .positions) ∷ strategyEvents fuel (p .rules) (after c))) d
+        (onward o [] (λ c. fire (c .number) (c .place .positions) ∷ strategyEvents fuel (p .rules) (after c))) d
         ≡ atEnd (d .entered)
-          (onward (bind o (λ c. some (after c))) (record { state = live next bound cs; firings = d .firings })
-          (λ t. normalise fuel (p .rules) t (suc (d .firings))))
+        (onward (bind o (λ c. some (after c))) (record { state = live next bound cs; firings = d .firings })
+        (λ t. normalise fuel (p .rules) t (suc (d .firings))))
     go none q more = λ i. record { state = e i; entered = d .entered; firings = d .firings }
     go (some c) q more =
         let (stands, fits) = choose-sound (p .rules) cs c q in
@@ -104,12 +105,16 @@ side-run p w g k r ps s end rule fits ends = record {
   where
     size : ℕ
     size = length (g .constraints)
+
     fuel : ℕ
     fuel = weight (p .symbols) (g .constraints)
+
     events : List Event
     events = sideEvents p g k ps s
+
     chosen : List Event
     chosen = strategyEvents fuel (p .rules) s
+
     begun : Progress
     begun = record { state = s; entered = arrivedAt g size .entered; firings = 1 }
 

@@ -84,7 +84,7 @@ module _ (p : Program) (w : isWellFormed p ≡ true) (o : Overlap) (listed : Lis
       let rename = mapTerms (goalTerm parts) in
       let first : length (o .first .rule .heads) ≡ length ones = sym (length-map (o .first .rule .heads) rename) in
       let second : length (o .second .rule .heads) ≡ length twos =
-          sym (length-map (secondHeads (o .second)) rename ∙ length-map (o .second .rule .heads) (mapTerms apart)) in
+      sym (length-map (secondHeads (o .second)) rename ∙ length-map (o .second .rule .heads) (mapTerms apart)) in
       let once : isOneToOne ds ≡ true = and-true (isOneToOne ds) (not (every (eqb 0) ds)) (paired .pairs) .0 in
       fired-on
       (fired-at (o .second .rule) (secondPositions 1 (length (o .first .rule .heads)) (length (o .second .rule .heads)) ds)
@@ -111,5 +111,5 @@ module _ (p : Program) (w : isWellFormed p ≡ true) (o : Overlap) (listed : Lis
   pub sides-meet :
       isJoinable p o ≡ true
       → Meets (p .rules) (afterwards o (o .first .rule) (goalFirst parts) (leftover 1 (goalSecond parts) (o .partners)))
-        (afterwards o (o .second .rule) (goalSecond parts) (alone (goalFirst parts) (o .partners)))
+      (afterwards o (o .second .rule) (goalSecond parts) (alone (goalFirst parts) (o .partners)))
   sides-meet j = joined-meets (program-lettered p w) first-side second-side (sides-joined j)
