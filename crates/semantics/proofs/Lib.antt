@@ -52,7 +52,6 @@ pub mod Critical
 pub mod FireOn
 pub mod Sides
 pub mod Forks
-pub mod SideRuns
 pub mod Peak
 pub mod Exactness
 pub mod Demand3
