@@ -1,3 +1,4 @@
--- Laws of this crate's definitions, and the starred cases. Assumes nothing.
+-- Laws of this crate's definitions, the starred cases, and demand 3 on bytes. Assumes nothing.
 pub mod Opened
 pub mod Starred
+pub mod Demand3

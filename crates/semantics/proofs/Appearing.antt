@@ -45,9 +45,11 @@ seen-from y x seen k = go (decide (has x seen))
     last : Or (eqb y x ≡ true) (false ≡ true) → y ≡ x
     last (inl e) = eqb-equal e
     last (inr e) = true-false e refl
+
     cases : Or (has y seen ≡ true) (has y (x ∷ []) ≡ true) → Or (has y seen ≡ true) (y ≡ x)
     cases (inl h) = inl h
     cases (inr h) = inr (last (or-cases (eqb y x) false h))
+
     go : Or (has x seen ≡ true) (has x seen ≡ false) → Or (has y seen ≡ true) (y ≡ x)
     go (inl h) = inl (rw h at k)
     go (inr h) = cases (or-cases (has y seen) (has y (x ∷ [])) (sym (has-append y seen (x ∷ [])) ∙ (rw h at k)))
@@ -57,6 +59,7 @@ seen-distinct x seen d = go (decide (has x seen))
   where
     other : has x seen ≡ false → (q : ℕ) → has q seen ≡ true → has q (x ∷ []) ≡ false
     other h q k = rw (apart-eqb {m = q} {n = x} (λ e. true-false k (ap (λ n. has n seen) e ∙ h)))
+
     go : Or (has x seen ≡ true) (has x seen ≡ false) → Distinct (seenWith x seen)
     go (inl h) = rw h d
     go (inr h) = rw h (distinct-append seen (x ∷ []) d (refl, tt) (other h))
@@ -88,6 +91,7 @@ terms-from y seen (var x ∷ ts) h = on (terms-from y (seenWith x seen) ts h)
     front : Or (has y seen ≡ true) (y ≡ x) → Or (has y seen ≡ true) (Member (var y) (var x ∷ ts))
     front (inl k) = inl k
     front (inr e) = inr (subst (λ z. Member (var y) (var z ∷ ts)) e first)
+
     on : Or (has y (seenWith x seen) ≡ true) (Member (var y) ts) → Or (has y seen ≡ true) (Member (var y) (var x ∷ ts))
     on (inl k) = front (seen-from y x seen k)
     on (inr k) = inr (later k)
@@ -123,6 +127,7 @@ appearing-from y seen (c ∷ cs) h = on (appearing-from y (appearingIn seen (c .
         → Or (has y seen ≡ true) ((d : Constraint) × Member d (c ∷ cs) × Member (var y) (d .terms))
     front (inl k) = inl k
     front (inr k) = inr (c, first, k)
+
     on :
         Or (has y (appearingIn seen (c .terms)) ≡ true) ((d : Constraint) × Member d cs × Member (var y) (d .terms))
         → Or (has y seen ≡ true) ((d : Constraint) × Member d (c ∷ cs) × Member (var y) (d .terms))
@@ -180,7 +185,7 @@ goal-scoped cs =
 pub goal-instance :
     (θ : ℕ → Term) (cs : List Constraint)
     → map (mapTerms (instantiate (λ v. θ (getD (appearing [] cs) v 0)))) (goalOf cs .constraints)
-      ≡ map (mapTerms (instantiate θ)) cs
+    ≡ map (mapTerms (instantiate θ)) cs
 unfolding goalOf mapTerms
 goal-instance θ cs =
     let order = appearing [] cs in

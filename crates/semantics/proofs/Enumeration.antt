@@ -74,6 +74,7 @@ norepeat-lists n (suc m) =
   where
     tail-equal : {a b : ℕ} {k l : List ℕ} → _≡_ {A = List ℕ} (a ∷ k) (b ∷ l) → k ≡ l
     tail-equal e = cc
+
     head-equal : {a b : ℕ} {k l : List ℕ} → _≡_ {A = List ℕ} (a ∷ k) (b ∷ l) → a ≡ b
     head-equal e = cc
 
@@ -109,7 +110,7 @@ pub record OverlapParts (i j : Numbered) (ds : List ℕ) (o : Overlap) : Type 0 
         second = j;
         partners = ds;
         goal =
-          goalOf (map (mapTerms solution) (i .rule .heads ++ unjoinedHeads 1 (map (mapTerms apart) (j .rule .heads)) ds));
+            goalOf (map (mapTerms solution) (i .rule .heads ++ unjoinedHeads 1 (map (mapTerms apart) (j .rule .heads)) ds));
       }
 
 pub overlap-parts : (i j : Numbered) (ds : List ℕ) {o : Overlap} → overlapOf i j ds ≡ some o → OverlapParts i j ds o
@@ -118,10 +119,18 @@ overlap-parts i j ds e =
     let hs = i .rule .heads in
     let gs = map (mapTerms apart) (j .rule .heads) in
     let (es, a, b) = bind-some (joinEquations hs ds gs)
-        (λ es. bind (solve es (λ t. t)) (λ σ. some (record {
-          first = i; second = j; partners = ds; goal = goalOf (map (mapTerms σ) (hs ++ unjoinedHeads 1 gs ds)) }))) e in
+    (λ es. bind (solve es (λ t. t)) (λ σ. some (record {
+      first = i;
+      second = j;
+      partners = ds;
+      goal = goalOf (map (mapTerms σ) (hs ++ unjoinedHeads 1 gs ds));
+    }))) e in
     let (σ, c, d) = bind-some (solve es (λ t. t)) (λ σ. some (record {
-          first = i; second = j; partners = ds; goal = goalOf (map (mapTerms σ) (hs ++ unjoinedHeads 1 gs ds)) })) b in
+      first = i;
+      second = j;
+      partners = ds;
+      goal = goalOf (map (mapTerms σ) (hs ++ unjoinedHeads 1 gs ds));
+    })) b in
     record { equations = es; solution = σ; joined = a; solved = c; made = sym (some-equal d) }
 
 -- the rules with their numbers
@@ -162,7 +171,7 @@ member-among (x ∷ l) (suc i) (suc j) p q h m =
 among-member :
     {o : Overlap} (l : List Numbered) → Member o (overlapsAmong l)
     → (i : ℕ) × (j : ℕ) × (a : Numbered) × (b : Numbered) × (getElem? l i ≡ some a) × (getElem? l j ≡ some b) × (i ≤ j)
-      × Member o (overlapsOf a b)
+    × Member o (overlapsOf a b)
 unfolding overlapsAmong
 among-member [] m = elim m [ ]
 among-member {o} (x ∷ l) m = go (member-append (gather (overlapsOf x) (x ∷ l)) m) (among-member l)
@@ -171,6 +180,7 @@ among-member {o} (x ∷ l) m = go (member-append (gather (overlapsOf x) (x ∷ l
     Pair k =
         (i : ℕ) × (j : ℕ) × (a : Numbered) × (b : Numbered) × (getElem? k i ≡ some a) × (getElem? k j ≡ some b) × (i ≤ j)
         × Member o (overlapsOf a b)
+
     go :
         Or (Member o (gather (overlapsOf x) (x ∷ l))) (Member o (overlapsAmong l)) → (Member o (overlapsAmong l) → Pair l)
         → Pair (x ∷ l)
@@ -218,15 +228,15 @@ overlaps-member p {o} m =
     let three : ds ≡ o .partners = sym (ap (λ x. x .partners) made) in
     record {
       firstRule =
-        subst (λ x. getElem? (p .rules) (x .number) ≡ some (x .rule)) one
-        (ap (getElem? (p .rules)) (let z : a .number ≡ i = omega arith in z) ∙ rulea);
+          subst (λ x. getElem? (p .rules) (x .number) ≡ some (x .rule)) one
+          (ap (getElem? (p .rules)) (let z : a .number ≡ i = omega arith in z) ∙ rulea);
       secondRule =
-        subst (λ x. getElem? (p .rules) (x .number) ≡ some (x .rule)) two
-        (ap (getElem? (p .rules)) (let z : b .number ≡ j = omega arith in z) ∙ ruleb);
+          subst (λ x. getElem? (p .rules) (x .number) ≡ some (x .rule)) two
+          (ap (getElem? (p .rules)) (let z : b .number ≡ j = omega arith in z) ∙ ruleb);
       ordered = subst₂ (λ x y. x .number ≤ y .number) one two (omega arith);
       paired =
-        subst (λ l. Member l (pairings (length (o .first .rule .heads)) (length (o .second .rule .heads)))) three
-        (subst₂ (λ x y. Member ds (pairings (length (x .rule .heads)) (length (y .rule .heads)))) one two n);
+          subst (λ l. Member l (pairings (length (o .first .rule .heads)) (length (o .second .rule .heads)))) three
+          (subst₂ (λ x y. Member ds (pairings (length (x .rule .heads)) (length (y .rule .heads)))) one two n);
       made = subst (λ l. overlapOf (o .first) (o .second) l ≡ some o) three (subst₂ (λ x y. overlapOf x y ds ≡ some o) one two e);
     }
 

@@ -66,7 +66,7 @@ pub join-sound :
     (hs : List Constraint) (ds : List ℕ) (gs : List Constraint) {es : List Equation} → joinEquations hs ds gs ≡ some es
     → (k d : ℕ) (h : Constraint) → getElem? hs k ≡ some h → getElem? ds k ≡ some (suc d)
     → (g : Constraint) × (getElem? gs d ≡ some g)
-      × ConstraintRel (λ s t. Member (record { left = s; right = t }) es) h g
+    × ConstraintRel (λ s t. Member (record { left = s; right = t }) es) h g
 unfolding joinEquations
 join-sound [] ds gs p k d h a b = none-some refl a
 join-sound (x ∷ hs) [] gs p k d h a b = none-some refl b
@@ -74,24 +74,28 @@ join-sound (x ∷ hs) (zero ∷ ds) gs p zero d h a b = absurd (let z : 0 ≡ su
 join-sound (x ∷ hs) (zero ∷ ds) gs p (suc k) d h a b = join-sound hs ds gs p k d h a b
 join-sound (x ∷ hs) (suc n ∷ ds) gs {es} p k d h a b =
     let (g, at, q) = bind-some (getElem? gs n)
-        (λ g. bind (equate x g) (λ es. bind (joinEquations hs ds gs) (λ more. some (es ++ more)))) p in
+    (λ g. bind (equate x g) (λ es. bind (joinEquations hs ds gs) (λ more. some (es ++ more)))) p in
     let (fs, eq, r) = bind-some (equate x g) (λ es. bind (joinEquations hs ds gs) (λ more. some (es ++ more))) q in
     let (more, rest, s) = bind-some (joinEquations hs ds gs) (λ more. some (fs ++ more)) r in
     go k a b g at fs (equate-sound x g eq) more (join-sound hs ds gs rest) (some-equal s)
   where
     Answer : List Equation → Type 0
     Answer l = (g : Constraint) × (getElem? gs d ≡ some g) × ConstraintRel (Equated l) h g
+
     go :
         (k : ℕ) → getElem? (x ∷ hs) k ≡ some h → getElem? (suc n ∷ ds) k ≡ some (suc d)
         → (g : Constraint) → getElem? gs n ≡ some g → (fs : List Equation) → ConstraintRel (Equated fs) x g
         → (more : List Equation)
         → ((k d : ℕ) (h : Constraint) → getElem? hs k ≡ some h → getElem? ds k ≡ some (suc d)
-          → (g : Constraint) × (getElem? gs d ≡ some g) × ConstraintRel (Equated more) h g)
+        → (g : Constraint) × (getElem? gs d ≡ some g) × ConstraintRel (Equated more) h g)
         → fs ++ more ≡ es → Answer es
     go zero a b g at fs eq more ih e =
         let z : suc n ≡ suc d = some-equal b in
-        subst Answer e (g, ap (getElem? gs) (let w : d ≡ n = omega arith in w) ∙ at,
-        equated-more (λ e i. member-append-left more i) (subst (λ y. ConstraintRel (Equated fs) y g) (some-equal a) eq))
+        subst Answer e (
+          g,
+          ap (getElem? gs) (let w : d ≡ n = omega arith in w) ∙ at,
+          equated-more (λ e i. member-append-left more i) (subst (λ y. ConstraintRel (Equated fs) y g) (some-equal a) eq),
+        )
     go (suc k) a b g at fs eq more ih e =
         let (y, aty, r) = ih k d h a b in
         subst Answer e (y, aty, equated-more (λ e i. member-append-right fs i) r)
@@ -117,8 +121,9 @@ join-agreed hs ds gs {es} p l f holds = agreed-of 1 (map (mapTerms f) hs) (map (
         → getElem? (map (mapTerms f) hs) i ≡ some y
     meet i k x y atx aty (g, atg, r) =
         let same : Equalised f x g =
-            record { symbols = r .symbols; terms = pointwise-mono (λ s t. holds (record { left = s; right = t })) (r .terms) } in
+        record { symbols = r .symbols; terms = pointwise-mono (λ s t. holds (record { left = s; right = t })) (r .terms) } in
         getElem-map (mapTerms f) hs i atx ∙ ap some (mapped-equal f same) ∙ sym (getElem-map (mapTerms f) gs k atg) ∙ aty
+
     joined :
         (m k : ℕ) (y : Constraint) → m ≡ 1 + k → getElem? (map (mapTerms f) gs) k ≡ some y → has m ds ≡ true
         → getElem? (map (mapTerms f) hs) (placeFrom (eqb m) 0 ds) ≡ some y
@@ -156,7 +161,7 @@ equate-complete f r =
 pub join-complete :
     (f : Term → Term) (hs : List Constraint) (ds : List ℕ) (gs : List Constraint)
     → ((k d : ℕ) (h : Constraint) → getElem? hs k ≡ some h → getElem? ds k ≡ some (suc d)
-      → (g : Constraint) × (getElem? gs d ≡ some g) × Equalised f h g)
+    → (g : Constraint) × (getElem? gs d ≡ some g) × Equalised f h g)
     → (es : List Equation) × (joinEquations hs ds gs ≡ some es) × Holds f es
 unfolding joinEquations
 join-complete f [] ds gs j = ([], refl, λ e i. absurd (member-nil i))
@@ -186,11 +191,14 @@ agreed-joined f {hs} {gs} {M} {N} ds u b p q a k d h at e =
     let (y, aty, ry) = pointwise-get d q atg in
     let (x, atx, rx) = pointwise-get k p at in
     let found = agreed-at 1 M N ds a (suc d) d (omega arith) aty (has-at (suc d) ds k e) in
-    let same : x ≡ y = some-equal (sym atx ∙ ap (getElem? M) (sym (once-place ds k d u e)) ∙ found) in
-    (g, atg, record {
-      symbols = rx .symbols ∙ ap (λ c. c .symbol) same ∙ sym (ry .symbols);
-      terms = both (rx .terms) (subst (λ c. Pointwise (λ s t. f s ≡ t) (g .terms) (c .terms)) (sym same) (ry .terms));
-    })
+    let same : x ≡ y = some-equal (sym atx ∙ ap (getElem? M) (sym (once-place ds k d u e)) ∙ found) in (
+      g,
+      atg,
+      record {
+        symbols = rx .symbols ∙ ap (λ c. c .symbol) same ∙ sym (ry .symbols);
+        terms = both (rx .terms) (subst (λ c. Pointwise (λ s t. f s ≡ t) (g .terms) (c .terms)) (sym same) (ry .terms));
+      },
+    )
   where
     both : {ss ts us : List Term} → Pointwise (λ s u. f s ≡ u) ss us → Pointwise (λ t u. f t ≡ u) ts us
         → Pointwise (λ s t. f s ≡ f t) ss ts

@@ -69,7 +69,7 @@ sized-fired n r ps (live next bound cs) t e z =
     go (θ, m, q) =
         let p : fired r ps θ next bound cs ≡ t = cc in
         rw p at (sized-settled n (solve (map (mapSides (instance next θ)) (r .equations)) (λ t. t)) (next + alphabet) bound
-          (without 0 ps cs ++ map (mapTerms (instance next θ)) (r .body)) z)
+        (without 0 ps cs ++ map (mapTerms (instance next θ)) (r .body)) z)
 
 -- and an entry
 sized-taken : (n : ℕ) (c : Constraint) (s : State) → Sized n s → Sized n (taken c s)
@@ -155,7 +155,7 @@ late-entering p g n d h = go (has n (d .entered)) refl (getElem? (g .constraints
     go :
         (t : Bool) → has n (d .entered) ≡ t → (o : Option Constraint) → getElem? (g .constraints) n ≡ o
         → Late p g
-            (cond t d (onward o d (λ c. record { state = taken c (d .state); entered = n ∷ d .entered; firings = d .firings })))
+        (cond t d (onward o d (λ c. record { state = taken c (d .state); entered = n ∷ d .entered; firings = d .firings })))
     go true f o s = h
     go false f none s = h
     go false f (some c) s = record {
@@ -163,7 +163,7 @@ late-entering p g n d h = go (has n (d .entered)) refl (getElem? (g .constraints
       reach = h .reach;
       same = reordered-trans
           (whole-entered c (waiting g d) (without 0 (n ∷ d .entered) (g .constraints)) (d .state)
-            (waiting-enters g (d .entered) n c f s))
+          (waiting-enters g (d .entered) n c f s))
           (h .same);
       sized = sized-taken (g .variables) c (d .state) (h .sized);
     }
@@ -206,6 +206,7 @@ late-firing p g n ps d below h = go (getElem? (p .rules) n) refl
       same = m;
       sized = sized-fired (g .variables) r ps (d .state) t f (h .sized);
     }
+
     fires-or-not :
         (r : Rule) → getElem? (p .rules) n ≡ some r → (o : Option State) → fireAt r ps (d .state) ≡ o
         → Late p g (onward o d (λ s. record { state = s; entered = d .entered; firings = suc (d .firings) }))
@@ -214,12 +215,13 @@ late-firing p g n ps d below h = go (getElem? (p .rules) n) refl
         let rest = without-all 0 (d .entered) below in
         step r e t f
         (whole-fires (g .variables) (waiting g d) rest r ps (d .state) t (h .reached) (h .sized) f (h .same))
+
     go :
         (o : Option Rule) → getElem? (p .rules) n ≡ o
         → Late p g
-            (onward o d
-            (λ r. onward (fireAt r ps (d .state)) d
-            (λ s. record { state = s; entered = d .entered; firings = suc (d .firings) })))
+        (onward o d
+        (λ r. onward (fireAt r ps (d .state)) d
+        (λ s. record { state = s; entered = d .entered; firings = suc (d .firings) })))
     go none e = h
     go (some r) e = fires-or-not r e (fireAt r ps (d .state)) refl
 
@@ -276,6 +278,7 @@ finished-whole p g d (byRest a f) = (rw none-waits (alone (d .state)), f)
     none-waits =
         without-every 0 (d .entered) (g .constraints)
         (λ i l. every-upTo (λ n. has n (d .entered)) (length (g .constraints)) i a (omega arith))
+
     alone : (s : State) → withMore (entrants []) s ≡ s
     alone failed = refl
     alone (live next bound cs) = rw append-nil

@@ -55,11 +55,13 @@ answers-member {A} {B} f {b} (x ∷ l) i = go (f x) refl i (answers-member f l)
   where
     on : (a : A) × Member a l × (f a ≡ some b) → (a : A) × Member a (x ∷ l) × (f a ≡ some b)
     on (a, j, e) = (a, later j, e)
+
     front :
         (z : B) → f x ≡ some z → Or (b ≡ z) (Member b (answers f l))
         → (Member b (answers f l) → (a : A) × Member a l × (f a ≡ some b)) → (a : A) × Member a (x ∷ l) × (f a ≡ some b)
     front z e (inl p) ih = (x, first, e ∙ ap some (sym p))
     front z e (inr j) ih = on (ih j)
+
     go :
         (o : Option B) → f x ≡ o → Member b (onward o (answers f l) (λ z. z ∷ answers f l))
         → (Member b (answers f l) → (a : A) × Member a l × (f a ≡ some b)) → (a : A) × Member a (x ∷ l) × (f a ≡ some b)
@@ -80,6 +82,7 @@ member-upTo i (suc n) h = go (below-or-last i n h) (member-upTo i n)
         on : Or (i < n) (i ≡ n) → Or (suc i < suc n) (suc i ≡ suc n)
         on (inl a) = inl (omega arith)
         on (inr a) = inr (ap suc a)
+
     go : Or (i < n) (i ≡ n) → (i < n → Member i (upTo n)) → Member i (upTo n ++ (n ∷ []))
     go (inl l) ih = member-append-left (n ∷ []) (ih l)
     go (inr e) ih = member-append-right (upTo n) (subst (λ k. Member i (k ∷ [])) e first)
@@ -91,6 +94,7 @@ upTo-member i (suc n) j = go (member-append (upTo n) j) (upTo-member i n)
     last : Or (i ≡ n) (Member i []) → i < suc n
     last (inl e) = omega arith
     last (inr k) = absurd (member-nil k)
+
     go : Or (Member i (upTo n)) (Member i (n ∷ [])) → (Member i (upTo n) → i < n) → i < suc n
     go (inl k) ih = let h = ih k in omega arith
     go (inr k) ih = last (member-cons k)

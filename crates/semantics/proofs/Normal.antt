@@ -44,7 +44,7 @@ reach-events arrived = []
 reach-events (fires k r ps e f g) = fire k ps ∷ reach-events g
 
 -- an event that fires a rule where it fits
-firing-fires :
+pub firing-fires :
     (p : Program) (k : ℕ) (r : Rule) (ps : List ℕ) (d : Progress) (s t : State) → d .state ≡ s → getElem? (p .rules) k ≡ some r
     → fireAt r ps s ≡ some t → firing p k ps d ≡ record { state = t; entered = d .entered; firings = suc (d .firings) }
 unfolding firing

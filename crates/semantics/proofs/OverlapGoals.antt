@@ -127,7 +127,7 @@ module _ {i j : Numbered} {ds : List ℕ} {o : Overlap} (parts : OverlapParts i 
       ∙ mapTerms-twice (numbered overlapOrder) σ (hs ++ unjoinedHeads 1 gs ds)
       ∙ map-append (mapTerms goalTerm) hs (unjoinedHeads 1 gs ds)
       ∙ ap (goalFirst ++_)
-        (ap (map (mapTerms goalTerm)) (unjoined-leftover 1 gs ds) ∙ sym (leftover-map (mapTerms goalTerm) 1 gs ds))
+      (ap (map (mapTerms goalTerm)) (unjoined-leftover 1 gs ds) ∙ sym (leftover-map (mapTerms goalTerm) 1 gs ds))
 
   pub goal-variables : o .goal .variables ≡ length overlapOrder
   unfolding goalOf
@@ -147,7 +147,7 @@ module _ {i j : Numbered} {ds : List ℕ} {o : Overlap} (parts : OverlapParts i 
   pub second-stands :
       length ds ≡ length (i .rule .heads)
       → Pointwise (Stands (o .goal .constraints))
-        (secondPositions 1 (length (i .rule .heads)) (length (j .rule .heads)) ds) goalSecond
+      (secondPositions 1 (length (i .rule .heads)) (length (j .rule .heads)) ds) goalSecond
   second-stands l =
       subst (λ cs. Pointwise (Stands cs) (secondPositions 1 (length (i .rule .heads)) (length (j .rule .heads)) ds) goalSecond)
       (sym goal-constraints)
@@ -174,7 +174,7 @@ module _ {i j : Numbered} {ds : List ℕ} {o : Overlap} (parts : OverlapParts i 
       length ds ≡ length (i .rule .heads)
       → (θ : Assignment)
       × (matchAt (j .rule .heads) (secondPositions 1 (length (i .rule .heads)) (length (j .rule .heads)) ds)
-        (o .goal .constraints) [] unassigned ≡ some θ)
+      (o .goal .constraints) [] unassigned ≡ some θ)
       × Agrees θ (λ x. goalTerm (apart (var x)))
   unfolding apart
   second-fits l =
@@ -194,9 +194,11 @@ module _ {i j : Numbered} {ds : List ℕ} {o : Overlap} (parts : OverlapParts i 
       (s : State) × (fireAt (i .rule) (upTo (length (i .rule .heads))) (entered (o .goal)) ≡ some s)
   unfolding fireAt entered
   first-fires =
-      let (θ, e, a) = first-fits in
-      (fired (i .rule) (upTo (length (i .rule .heads))) θ (o .goal .variables) (tabled var (o .goal .variables))
-      (o .goal .constraints), rw e)
+      let (θ, e, a) = first-fits in (
+        fired (i .rule) (upTo (length (i .rule .heads))) θ (o .goal .variables) (tabled var (o .goal .variables))
+            (o .goal .constraints),
+        rw e,
+      )
 
   pub second-fires :
       length ds ≡ length (i .rule .heads)
@@ -204,9 +206,11 @@ module _ {i j : Numbered} {ds : List ℕ} {o : Overlap} (parts : OverlapParts i 
       × (fireAt (j .rule) (secondPositions 1 (length (i .rule .heads)) (length (j .rule .heads)) ds) (entered (o .goal)) ≡ some s)
   unfolding fireAt entered
   second-fires l =
-      let (θ, e, a) = second-fits l in
-      (fired (j .rule) (secondPositions 1 (length (i .rule .heads)) (length (j .rule .heads)) ds) θ (o .goal .variables)
-      (tabled var (o .goal .variables)) (o .goal .constraints), rw e)
+      let (θ, e, a) = second-fits l in (
+        fired (j .rule) (secondPositions 1 (length (i .rule .heads)) (length (j .rule .heads)) ds) θ (o .goal .variables)
+            (tabled var (o .goal .variables)) (o .goal .constraints),
+        rw e,
+      )
 
   -- every variable of the goal's constraints is one of the goal's
   pub overlap-scoped : All (λ c. All (TermBelow (o .goal .variables)) (c .terms)) (o .goal .constraints)
@@ -228,6 +232,7 @@ module _ {i j : Numbered} {ds : List ℕ} {o : Overlap} (parts : OverlapParts i 
           subst (All (λ c. isDeclared (p .symbols) c ≡ true)) (sym goal-constraints)
           (all-append (declared-map (p .symbols) goalTerm a)
           (all-leftover 1 ds (declared-map (p .symbols) goalTerm (declared-map (p .symbols) apart b))))
+
       all-both :
           {cs : List Constraint} → All (λ c. isDeclared (p .symbols) c ≡ true) cs
           → All (λ c. All (TermBelow (o .goal .variables)) (c .terms)) cs
@@ -245,13 +250,14 @@ unfolding isWellFormed isRuleOf isOfRule
 wellFormed-heads p n {r} w e =
     let rule = every-at (isRuleOf (p .symbols)) (p .rules) n r w e in
     let heads = every-all (isOfRule (p .symbols)) (r .heads) (first-of (every (isOfRule (p .symbols)) (r .heads))
-        (every (isOfRule (p .symbols)) (r .body))
-        (every (λ e. isBelow alphabet (e .left) && isBelow alphabet (e .right)) (r .equations))
-        (ltb (weight (p .symbols) (r .body)) (weight (p .symbols) (r .heads))) rule) in
-    (all-mono (λ c h. and-true (isDeclared (p .symbols) c) (every (isBelow alphabet) (c .terms)) h .0) heads,
-    all-mono (λ c h.
-    all-mono (λ t. isBelow-below alphabet t) (every-all (isBelow alphabet) (c .terms)
-    (and-true (isDeclared (p .symbols) c) (every (isBelow alphabet) (c .terms)) h .1))) heads)
+    (every (isOfRule (p .symbols)) (r .body))
+    (every (λ e. isBelow alphabet (e .left) && isBelow alphabet (e .right)) (r .equations))
+    (ltb (weight (p .symbols) (r .body)) (weight (p .symbols) (r .heads))) rule) in (
+      all-mono (λ c h. and-true (isDeclared (p .symbols) c) (every (isBelow alphabet) (c .terms)) h .0) heads,
+      all-mono (λ c h.
+          all-mono (λ t. isBelow-below alphabet t) (every-all (isBelow alphabet) (c .terms)
+          (and-true (isDeclared (p .symbols) c) (every (isBelow alphabet) (c .terms)) h .1))) heads,
+    )
   where
     first-of : (a b c d : Bool) → (a && b && c && d) ≡ true → a ≡ true
     first-of a b c d h = and-true a b (and-true (a && b) c (and-true (a && b && c) d h .0) .0) .0
@@ -273,7 +279,7 @@ side-end p g r ps e = rw e
 pub first-end :
     (p : Program) {o : Overlap} → Listed p o
     → (s : State) × (fireAt (o .first .rule) (upTo (length (o .first .rule .heads))) (entered (o .goal)) ≡ some s)
-      × (firstEnd p o ≡ normalise (weight (p .symbols) (o .goal .constraints)) (p .rules) s 1)
+    × (firstEnd p o ≡ normalise (weight (p .symbols) (o .goal .constraints)) (p .rules) s 1)
 unfolding firstEnd
 first-end p {o} l =
     let (s, e) = first-fires (overlap-parts (o .first) (o .second) (o .partners) (l .made)) in
@@ -282,14 +288,14 @@ first-end p {o} l =
 pub second-end :
     (p : Program) {o : Overlap} → Listed p o
     → (s : State)
-      × (fireAt (o .second .rule)
-        (secondPositions 1 (length (o .first .rule .heads)) (length (o .second .rule .heads)) (o .partners)) (entered (o .goal))
-        ≡ some s)
-      × (secondEnd p o ≡ normalise (weight (p .symbols) (o .goal .constraints)) (p .rules) s 1)
+    × (fireAt (o .second .rule)
+    (secondPositions 1 (length (o .first .rule .heads)) (length (o .second .rule .heads)) (o .partners)) (entered (o .goal))
+    ≡ some s)
+    × (secondEnd p o ≡ normalise (weight (p .symbols) (o .goal .constraints)) (p .rules) s 1)
 unfolding secondEnd
 second-end p {o} l =
     let m = length (o .first .rule .heads) in
     let n = length (o .second .rule .heads) in
     let (s, e) = second-fires (overlap-parts (o .first) (o .second) (o .partners) (l .made))
-        (pairings-member m n (o .partners) (l .paired) .long) in
+    (pairings-member m n (o .partners) (l .paired) .long) in
     (s, e, side-end p (o .goal) (o .second .rule) (secondPositions 1 m n (o .partners)) e)

@@ -85,7 +85,7 @@ second-from cs xs n free (y ∷ ys) ds a f g =
     go :
         Or (has n ds ≡ true) (has n ds ≡ false)
         → ((k : ℕ) → ((i : ℕ) → getElem? cs (k + i) ≡ getElem? (leftover (suc n) ys ds) i)
-          → Pointwise (Stands cs) (secondPositions (suc n) k (length ys) ds) ys)
+        → Pointwise (Stands cs) (secondPositions (suc n) k (length ys) ds) ys)
         → Pointwise (Stands cs) (secondPositions n free (suc (length ys)) ds) (y ∷ ys)
     go (inl h) more = rw h (each (f (placeFrom (eqb n) 0 ds) y (a .0 h)) (more free (λ i. rw h at (g i))))
     go (inr h) more =
@@ -112,19 +112,23 @@ second-cases q n free (suc k) ds h =
   where
     Place : ℕ → ℕ → Type 0
     Place f m = Or (f ≤ q) ((i : ℕ) × (m ≤ i) × (has i ds ≡ true) × (q ≡ placeFrom (eqb i) 0 ds))
+
     weaken : (f : ℕ) → free ≤ f → Place f (suc n) → Place free n
     weaken f l (inl z) = inl (omega arith)
     weaken f l (inr (i, z, t, e)) = inr (i, omega arith, t, e)
+
     atPlace :
         has n ds ≡ true → Or (eqb q (placeFrom (eqb n) 0 ds) ≡ true) (has q (secondPositions (suc n) free k ds) ≡ true)
         → (has q (secondPositions (suc n) free k ds) ≡ true → Place free (suc n)) → Place free n
     atPlace t (inl e) ih = inr (n, omega arith, t, eqb-equal e)
     atPlace t (inr e) ih = weaken free (omega arith) (ih e)
+
     atFree :
         Or (eqb q free ≡ true) (has q (secondPositions (suc n) (suc free) k ds) ≡ true)
         → (has q (secondPositions (suc n) (suc free) k ds) ≡ true → Place (suc free) (suc n)) → Place free n
     atFree (inl e) ih = let z : q ≡ free = eqb-equal e in inl (omega arith)
     atFree (inr e) ih = weaken (suc free) (omega arith) (ih e)
+
     go :
         Or (has n ds ≡ true) (has n ds ≡ false)
         → (has q (secondPositions (suc n) free k ds) ≡ true → Place free (suc n))
@@ -144,24 +148,32 @@ second-distinct n free (suc k) ds l =
     placed :
         has n ds ≡ true
         → Or (free ≤ placeFrom (eqb n) 0 ds)
-          ((i : ℕ) × (suc n ≤ i) × (has i ds ≡ true) × (placeFrom (eqb n) 0 ds ≡ placeFrom (eqb i) 0 ds)) → ⊥
+        ((i : ℕ) × (suc n ≤ i) × (has i ds ≡ true) × (placeFrom (eqb n) 0 ds ≡ placeFrom (eqb i) 0 ds)) → ⊥
     placed t (inl z) = let b = place-below n ds t in omega arith
     placed t (inr (i, z, s, e)) =
         let w : n ≡ i = some-equal (sym (place-stands n ds t) ∙ ap (getElem? ds) e ∙ place-stands i ds s) in
         omega arith
+
     freed :
         Or (suc free ≤ free) ((i : ℕ) × (suc n ≤ i) × (has i ds ≡ true) × (free ≡ placeFrom (eqb i) 0 ds)) → ⊥
     freed (inl z) = omega arith
     freed (inr (i, z, s, e)) = let b = place-below i ds s in omega arith
+
     go :
         Or (has n ds ≡ true) (has n ds ≡ false) → Distinct (secondPositions (suc n) free k ds)
         → Distinct (secondPositions (suc n) (suc free) k ds) → Distinct (secondPositions n free (suc k) ds)
     go (inl t) one two =
-        rw t (false-unless (has (placeFrom (eqb n) 0 ds) (secondPositions (suc n) free k ds)) (λ h.
-        placed t (second-cases (placeFrom (eqb n) 0 ds) (suc n) free k ds h)), one)
+        rw t (
+          false-unless (has (placeFrom (eqb n) 0 ds) (secondPositions (suc n) free k ds)) (λ h.
+              placed t (second-cases (placeFrom (eqb n) 0 ds) (suc n) free k ds h)),
+          one,
+        )
     go (inr t) one two =
-        rw t (false-unless (has free (secondPositions (suc n) (suc free) k ds)) (λ h.
-        freed (second-cases free (suc n) (suc free) k ds h)), two)
+        rw t (
+          false-unless (has free (secondPositions (suc n) (suc free) k ds)) (λ h.
+              freed (second-cases free (suc n) (suc free) k ds h)),
+          two,
+        )
 
 pub second-fresh : (n free k : ℕ) (ds : List ℕ) → length ds ≤ free → Fresh [] (secondPositions n free k ds)
 second-fresh n free k ds l =

@@ -67,6 +67,7 @@ keeps-skip n d h = go (le-or-lt n d)
         go2 : Or (suc n ≤ d) (d < suc n) → suc n ≤ d
         go2 (inl y) = y
         go2 (inr y) = absurd (h (omega arith))
+
     go : Or (n ≤ d) (d < n) → keeps n d ≡ keeps (suc n) d
     go (inl z) = rw (leb-true n d z, leb-true (suc n) d (above z))
     go (inr z) = rw (leb-false n d z, leb-false (suc n) d (omega arith))
@@ -114,9 +115,11 @@ rest-take {A} n {y} (x ∷ xs) (d ∷ ds) l u h e =
     under : (b : Bool) {k m : List A} → Inserted y k m → Inserted y (cond b (x ∷ k) k) (cond b (x ∷ m) m)
     under true i = there i
     under false i = i
+
     once : Or (eqb d 0 ≡ true) (not (has d ds) ≡ true) → n ≡ d → has n ds ≡ false
     once (inl z) q = let z′ : d ≡ 0 = eqb-equal z in absurd (omega arith)
     once (inr z) q = rw q (not-true (has d ds) z)
+
     go :
         Or (eqb n d ≡ true) (eqb n d ≡ false) → (eqb d 0 || not (has d ds)) ≡ true
         → (has n ds ≡ true → getElem? xs (placeFrom (eqb n) 0 ds) ≡ some y → Inserted y (rest (suc n) xs ds) (rest n xs ds))
@@ -138,8 +141,8 @@ rest-union n xs [] ds l u a =
     multiset-of-path (append-nil (rest n xs ds) ∙ ap (λ k. rest k xs ds) (let z : n ≡ n + 0 = omega arith in z))
 rest-union {A} n xs (y ∷ ys) ds l u a =
     let more : SameMultiset _≡_ (rest (suc n) xs ds ++ leftover (suc n) ys ds) (ys ++ rest (n + suc (length ys)) xs ds) =
-        subst (λ k. SameMultiset _≡_ (rest (suc n) xs ds ++ leftover (suc n) ys ds) (ys ++ rest k xs ds)) (omega arith)
-        (rest-union (suc n) xs ys ds (omega arith) u (a .1)) in
+    subst (λ k. SameMultiset _≡_ (rest (suc n) xs ds ++ leftover (suc n) ys ds) (ys ++ rest k xs ds)) (omega arith)
+    (rest-union (suc n) xs ys ds (omega arith) u (a .1)) in
     go (decide (has n ds)) more
   where
     go :
@@ -174,6 +177,7 @@ join-pointwise {A} {B} {R} {xs} {xs′} n (y ∷ ys) (y′ ∷ ys′) ds p q a b
     split : Pointwise R (y ∷ leftover (suc n) ys ds) (y′ ∷ leftover (suc n) ys′ ds)
         → R y y′ × Pointwise R (leftover (suc n) ys ds) (leftover (suc n) ys′ ds)
     split (each r k) = (r, k)
+
     go :
         Or (has n ds ≡ true) (has n ds ≡ false)
         → (Pointwise R (leftover (suc n) ys ds) (leftover (suc n) ys′ ds) → Pointwise R ys ys′)
@@ -191,7 +195,7 @@ leftover-pointwise {R} n ds (each {a = y} {b = y′} {l} {m} r p) = go (has n ds
     go :
         (b : Bool) → Pointwise R (leftover (suc n) l ds) (leftover (suc n) m ds)
         → Pointwise R (cond b (leftover (suc n) l ds) (y ∷ leftover (suc n) l ds))
-          (cond b (leftover (suc n) m ds) (y′ ∷ leftover (suc n) m ds))
+        (cond b (leftover (suc n) m ds) (y′ ∷ leftover (suc n) m ds))
     go true k = k
     go false k = each r k
 
@@ -212,7 +216,7 @@ leftover-map f n (y ∷ ys) ds = go (has n ds) (leftover-map f (suc n) ys ds)
     go :
         (b : Bool) → leftover (suc n) (map f ys) ds ≡ map f (leftover (suc n) ys ds)
         → cond b (leftover (suc n) (map f ys) ds) (f y ∷ leftover (suc n) (map f ys) ds)
-          ≡ map f (cond b (leftover (suc n) ys ds) (y ∷ leftover (suc n) ys ds))
+        ≡ map f (cond b (leftover (suc n) ys ds) (y ∷ leftover (suc n) ys ds))
     go true e = e
     go false e = ap (f y ∷_) e
 

@@ -76,6 +76,7 @@ has-pair x y (p ∷ ps) e = go (or-cases (eqb x (p .left) || eqb y (p .right)) (
     first : Or (eqb x (p .left) ≡ true) (eqb y (p .right) ≡ true) → Or (p .left ≡ x) (p .right ≡ y)
     first (inl t) = inl (sym (eqb-equal t))
     first (inr t) = inr (sym (eqb-equal t))
+
     go :
         Or ((eqb x (p .left) || eqb y (p .right)) ≡ true) (arePaired x y ps ≡ true)
         → (arePaired x y ps ≡ true → (a : ℕ) × (b : ℕ) × (Paired ps a b) × (Or (a ≡ x) (b ≡ y)))

@@ -118,13 +118,14 @@ partners-distinct (p ∷ ps) qs d = rw (go (partner-cases p qs)) (partners-disti
     twice k s (r, h, t) =
         let e : r ≡ p = some-equal (sym t ∙ s) in
         true-false (subst (λ x. has x ps ≡ true) e h) (d .0)
+
     go :
         Or (partner qs p ≡ 0) ((k : ℕ) × (partner qs p ≡ suc k) × (getElem? qs k ≡ some p))
         → (eqb (partner qs p) 0 || not (has (partner qs p) (partnersOf ps qs))) ≡ true
     go (inl e) = rw (equal-eqb e)
     go (inr (k, e, s)) =
         let f : has (suc k) (partnersOf ps qs) ≡ false =
-            false-unless (has (suc k) (partnersOf ps qs)) (λ h. twice k s (partners-from ps qs k h)) in
+        false-unless (has (suc k) (partnersOf ps qs)) (λ h. twice k s (partners-from ps qs k h)) in
         rw (e, f) (or-right (eqb (suc k) 0) true refl)
 
 pub partners-once : (ps qs : List ℕ) → Fresh [] ps → isOneToOne (partnersOf ps qs) ≡ true
@@ -158,17 +159,19 @@ leftover-from n q (p ∷ qs) ds h = go (decide (has n ds)) (leftover-from (suc n
         (m : ℕ) × (k : ℕ) × (m ≡ suc n + k) × (getElem? qs k ≡ some q) × (has m ds ≡ false)
         → (m : ℕ) × (k : ℕ) × (m ≡ n + k) × (getElem? (p ∷ qs) k ≡ some q) × (has m ds ≡ false)
     on (m, k, e, s, f) = (m, suc k, omega arith, s, f)
+
     front :
         has n ds ≡ false → Or (eqb q p ≡ true) (has q (leftover (suc n) qs ds) ≡ true)
         → (has q (leftover (suc n) qs ds) ≡ true
-          → (m : ℕ) × (k : ℕ) × (m ≡ suc n + k) × (getElem? qs k ≡ some q) × (has m ds ≡ false))
+        → (m : ℕ) × (k : ℕ) × (m ≡ suc n + k) × (getElem? qs k ≡ some q) × (has m ds ≡ false))
         → (m : ℕ) × (k : ℕ) × (m ≡ n + k) × (getElem? (p ∷ qs) k ≡ some q) × (has m ds ≡ false)
     front f (inl e) ih = (n, 0, omega arith, ap some (sym (eqb-equal e)), f)
     front f (inr e) ih = on (ih e)
+
     go :
         Or (has n ds ≡ true) (has n ds ≡ false)
         → (has q (leftover (suc n) qs ds) ≡ true
-          → (m : ℕ) × (k : ℕ) × (m ≡ suc n + k) × (getElem? qs k ≡ some q) × (has m ds ≡ false))
+        → (m : ℕ) × (k : ℕ) × (m ≡ suc n + k) × (getElem? qs k ≡ some q) × (has m ds ≡ false))
         → (m : ℕ) × (k : ℕ) × (m ≡ n + k) × (getElem? (p ∷ qs) k ≡ some q) × (has m ds ≡ false)
     go (inl t) ih = on (ih (rw t at h))
     go (inr t) ih = front t (or-cases (eqb q p) (has q (leftover (suc n) qs ds)) (rw t at h)) ih
@@ -181,9 +184,12 @@ leftover-distinct n (q ∷ qs) ds d = go (decide (has n ds)) (leftover-distinct 
     go : Or (has n ds ≡ true) (has n ds ≡ false) → Distinct (leftover (suc n) qs ds) → Distinct (leftover n (q ∷ qs) ds)
     go (inl t) ih = rw t ih
     go (inr t) ih =
-        rw t (false-unless (has q (leftover (suc n) qs ds)) (λ h.
-        let (m, k, e, s, f) = leftover-from (suc n) q qs ds h in
-        true-false (has-at q qs k s) (d .0)), ih)
+        rw t (
+          false-unless (has q (leftover (suc n) qs ds)) (λ h.
+              let (m, k, e, s, f) = leftover-from (suc n) q qs ds h in
+              true-false (has-at q qs k s) (d .0)),
+          ih,
+        )
 
 -- the first positions and what is left of the second are distinct
 pub partners-fresh : (ps qs : List ℕ) → Fresh [] ps → Fresh [] qs → Fresh [] (ps ++ leftover 1 qs (partnersOf ps qs))
@@ -219,7 +225,7 @@ multiset-cancel (x ∷ a) s = multiset-cancel a (multiset-uncons s)
 pub partners-whole :
     (cs : List Constraint) {M N : List Constraint} (ps qs : List ℕ) → Fresh [] ps → Fresh [] qs → Pointwise (Stands cs) ps M
     → Pointwise (Stands cs) qs N → SameMultiset _≡_ cs
-      ((M ++ leftover 1 N (partnersOf ps qs)) ++ without 0 (ps ++ leftover 1 qs (partnersOf ps qs)) cs)
+    ((M ++ leftover 1 N (partnersOf ps qs)) ++ without 0 (ps ++ leftover 1 qs (partnersOf ps qs)) cs)
 partners-whole cs ps qs f g s t =
     without-taken cs (ps ++ leftover 1 qs (partnersOf ps qs)) (partners-fresh ps qs f g) (partners-stand cs s t)
 
@@ -227,7 +233,7 @@ partners-whole cs ps qs f g s t =
 pub partners-first :
     (cs : List Constraint) {M N : List Constraint} (ps qs : List ℕ) → Fresh [] ps → Fresh [] qs → Pointwise (Stands cs) ps M
     → Pointwise (Stands cs) qs N → SameMultiset _≡_ (without 0 ps cs)
-      (leftover 1 N (partnersOf ps qs) ++ without 0 (ps ++ leftover 1 qs (partnersOf ps qs)) cs)
+    (leftover 1 N (partnersOf ps qs) ++ without 0 (ps ++ leftover 1 qs (partnersOf ps qs)) cs)
 partners-first cs {M} {N} ps qs f g s t =
     multiset-cancel M (rw append-assoc at
     (multiset-right (multiset-back (without-taken cs ps f s)) (partners-whole cs ps qs f g s t)))
@@ -236,12 +242,12 @@ partners-first cs {M} {N} ps qs f g s t =
 pub partners-second :
     (cs : List Constraint) {M N : List Constraint} (ps qs : List ℕ) → Fresh [] ps → Fresh [] qs → Pointwise (Stands cs) ps M
     → Pointwise (Stands cs) qs N → SameMultiset _≡_ (without 0 qs cs)
-      (alone M (partnersOf ps qs) ++ without 0 (ps ++ leftover 1 qs (partnersOf ps qs)) cs)
+    (alone M (partnersOf ps qs) ++ without 0 (ps ++ leftover 1 qs (partnersOf ps qs)) cs)
 partners-second cs {M} {N} ps qs f g s t =
     let ds = partnersOf ps qs in
     let rest = without 0 (ps ++ leftover 1 qs ds) cs in
     let union = join-union M N ds (partners-length ps qs ∙ pointwise-length s) (partners-once ps qs f)
-        (subst (λ k. All (λ d. d ≤ k) ds) (pointwise-length t) (partners-bound ps qs)) (partners-agreed cs s t) in
+    (subst (λ k. All (λ d. d ≤ k) ds) (pointwise-length t) (partners-bound ps qs)) (partners-agreed cs s t) in
     let whole = multiset-right (partners-whole cs ps qs f g s t) (multiset-append union (multiset-refl (λ a. refl) rest)) in
     multiset-cancel N (rw append-assoc at (multiset-right (multiset-back (without-taken cs qs g t)) whole))
 

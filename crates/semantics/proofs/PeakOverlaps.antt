@@ -114,6 +114,7 @@ holds-solves θ es h = go (solve es (λ t. t)) refl
   where
     clash : (a b : ℕ) → _≡_ {A = Tm ℕ} (C.con a) (C.con b) → (a ≡ b → ⊥) → ⊥
     clash a b e d = d (cc)
+
     go : (x : Option (Term → Term)) → solve es (λ t. t) ≡ x → (σ : Term → Term) × (solve es (λ t. t) ≡ some σ)
     go none e = let (a, b, d, v) = solve-clash es e in absurd (clash a b (holds-equal θ es h v) d)
     go (some σ) e = (σ, e)
@@ -134,18 +135,21 @@ pub overlap-exists :
     → Pointwise (ConstraintRel (λ s t. instantiate θ s ≡ t)) (i .rule .heads) M
     → Pointwise (ConstraintRel (λ s t. instantiate θ s ≡ t)) (secondHeads j) N → Agreed 1 M N ds
     → (o : Overlap) × (overlapOf i j ds ≡ some o)
-      × ((parts : OverlapParts i j ds o) × ((t : Term) → instantiate θ (parts .solution t) ≡ instantiate θ t))
+    × ((parts : OverlapParts i j ds o) × ((t : Term) → instantiate θ (parts .solution t) ≡ instantiate θ t))
 unfolding overlapOf
 overlap-exists i j ds θ u b p q a =
     let hs = i .rule .heads in
     let gs = secondHeads j in
     let bound = subst (λ n. All (λ d. d ≤ n) ds) (sym (length-map (j .rule .heads) (mapTerms apart))) b in
     let (es, e, h) = join-complete (instantiate θ) hs ds gs (agreed-joined (instantiate θ) ds u bound p q a) in
-    let (σ, s) = holds-solves θ es h in
-    (record { first = i; second = j; partners = ds; goal = goalOf (map (mapTerms σ) (hs ++ unjoinedHeads 1 gs ds)) },
-    rw (e, s),
-    (record { equations = es; solution = σ; joined = e; solved = s; made = refl },
-    solution-instance θ es h (solve-solution es s)))
+    let (σ, s) = holds-solves θ es h in (
+      record { first = i; second = j; partners = ds; goal = goalOf (map (mapTerms σ) (hs ++ unjoinedHeads 1 gs ds)) },
+      rw (e, s),
+      (
+        record { equations = es; solution = σ; joined = e; solved = s; made = refl },
+        solution-instance θ es h (solve-solution es s),
+      ),
+    )
 
 -- an image, element by element
 image-pointwise : {A B : Type 0} (f : A → B) (l : List A) {m : List B} → map f l ≡ m → Pointwise (λ a b. f a ≡ b) l m
@@ -187,43 +191,43 @@ module _
     (p : Pointwise (ConstraintRel (λ s t. instantiate θ s ≡ t)) (i .rule .heads) M)
     (q : Pointwise (ConstraintRel (λ s t. instantiate θ s ≡ t)) (secondHeads j) N)
   where
-  -- the goal is what is matched, with each of its variables replaced by what it stands for
-  pub goal-matched :
-      map (mapTerms (instantiate (goalValue parts θ))) (o .goal .constraints) ≡ M ++ leftover 1 N ds
-  goal-matched =
-      let hs = i .rule .heads in
-      let gs = secondHeads j in
-      let σ = parts .solution in
-      let rest = unjoinedHeads 1 gs ds in
-      ap (λ x. map (mapTerms (instantiate (goalValue parts θ))) (x .goal .constraints)) (parts .made)
-      ∙ goal-instance θ (map (mapTerms σ) (hs ++ rest)) ∙ mapTerms-twice (instantiate θ) σ (hs ++ rest)
-      ∙ (λ k. map (mapTerms (λ t. same t k)) (hs ++ rest)) ∙ map-append (mapTerms (instantiate θ)) hs rest
-      ∙ (λ k. instance-image (instantiate θ) p k ++ map (mapTerms (instantiate θ)) (unjoined-leftover 1 gs ds k))
-      ∙ ap (M ++_) (sym (leftover-map (mapTerms (instantiate θ)) 1 gs ds)
+    -- the goal is what is matched, with each of its variables replaced by what it stands for
+    pub goal-matched :
+        map (mapTerms (instantiate (goalValue parts θ))) (o .goal .constraints) ≡ M ++ leftover 1 N ds
+    goal-matched =
+        let hs = i .rule .heads in
+        let gs = secondHeads j in
+        let σ = parts .solution in
+        let rest = unjoinedHeads 1 gs ds in
+        ap (λ x. map (mapTerms (instantiate (goalValue parts θ))) (x .goal .constraints)) (parts .made)
+        ∙ goal-instance θ (map (mapTerms σ) (hs ++ rest)) ∙ mapTerms-twice (instantiate θ) σ (hs ++ rest)
+        ∙ (λ k. map (mapTerms (λ t. same t k)) (hs ++ rest)) ∙ map-append (mapTerms (instantiate θ)) hs rest
+        ∙ (λ k. instance-image (instantiate θ) p k ++ map (mapTerms (instantiate θ)) (unjoined-leftover 1 gs ds k))
+        ∙ ap (M ++_) (sym (leftover-map (mapTerms (instantiate θ)) 1 gs ds)
         ∙ ap (λ l. leftover 1 l ds) (instance-image (instantiate θ) q))
 
-  -- so are the heads of the first rule in the goal, and what is left of the second's
-  goal-sides :
-      (map (mapTerms (instantiate (goalValue parts θ))) (goalFirst parts) ≡ M)
-      × (map (mapTerms (instantiate (goalValue parts θ))) (leftover 1 (goalSecond parts) ds)
+    -- so are the heads of the first rule in the goal, and what is left of the second's
+    goal-sides :
+        (map (mapTerms (instantiate (goalValue parts θ))) (goalFirst parts) ≡ M)
+        × (map (mapTerms (instantiate (goalValue parts θ))) (leftover 1 (goalSecond parts) ds)
         ≡ leftover 1 N ds)
-  goal-sides =
-      let f = mapTerms (instantiate (goalValue parts θ)) in
-      parts-equal (map f (goalFirst parts)) M
-      (length-map (goalFirst parts) f ∙ length-map (i .rule .heads) (mapTerms (goalTerm parts)) ∙ pointwise-length p)
-      (sym (map-append f (goalFirst parts) (leftover 1 (goalSecond parts) ds)) ∙ sym (ap (map f) (goal-constraints parts))
-      ∙ goal-matched)
+    goal-sides =
+        let f = mapTerms (instantiate (goalValue parts θ)) in
+        parts-equal (map f (goalFirst parts)) M
+        (length-map (goalFirst parts) f ∙ length-map (i .rule .heads) (mapTerms (goalTerm parts)) ∙ pointwise-length p)
+        (sym (map-append f (goalFirst parts) (leftover 1 (goalSecond parts) ds)) ∙ sym (ap (map f) (goal-constraints parts))
+        ∙ goal-matched)
 
-  pub first-matched : map (mapTerms (instantiate (goalValue parts θ))) (goalFirst parts) ≡ M
-  first-matched = goal-sides .0
+    pub first-matched : map (mapTerms (instantiate (goalValue parts θ))) (goalFirst parts) ≡ M
+    first-matched = goal-sides .0
 
-  -- and all heads of the second
-  pub second-matched :
-      length ds ≡ length (i .rule .heads) → Agreed 1 M N ds
-      → map (mapTerms (instantiate (goalValue parts θ))) (goalSecond parts) ≡ N
-  second-matched l a =
-      let f = mapTerms (instantiate (goalValue parts θ)) in
-      pointwise-image f
-      (join-pointwise 1 (goalSecond parts) N ds (image-pointwise f (goalFirst parts) (goal-sides .0))
-      (image-pointwise f (leftover 1 (goalSecond parts) ds) (goal-sides .1)) (goal-agreed parts l) a
-      (length-map (secondHeads j) (mapTerms (goalTerm parts)) ∙ pointwise-length q))
+    -- and all heads of the second
+    pub second-matched :
+        length ds ≡ length (i .rule .heads) → Agreed 1 M N ds
+        → map (mapTerms (instantiate (goalValue parts θ))) (goalSecond parts) ≡ N
+    second-matched l a =
+        let f = mapTerms (instantiate (goalValue parts θ)) in
+        pointwise-image f
+        (join-pointwise 1 (goalSecond parts) N ds (image-pointwise f (goalFirst parts) (goal-sides .0))
+        (image-pointwise f (leftover 1 (goalSecond parts) ds) (goal-sides .1)) (goal-agreed parts l) a
+        (length-map (secondHeads j) (mapTerms (goalTerm parts)) ∙ pointwise-length q))

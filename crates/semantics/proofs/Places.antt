@@ -172,9 +172,11 @@ Distinct (p ∷ ps) = (has p ps ≡ false) × Distinct ps
 pub distinct-fresh :
     (chosen ps : List ℕ) → Distinct ps → ((q : ℕ) → has q ps ≡ true → has q chosen ≡ false) → Fresh chosen ps
 distinct-fresh chosen [] d h = tt
-distinct-fresh chosen (p ∷ ps) d h =
-    (h p (rw (equal-eqb {m = p} refl)), distinct-fresh (chosen ++ (p ∷ [])) ps (d .1) (λ q e.
-    has-other q p chosen (λ z. true-false (subst (λ k. has k ps ≡ true) z e) (d .0)) ∙ h q (or-right (eqb q p) (has q ps) e)))
+distinct-fresh chosen (p ∷ ps) d h = (
+  h p (rw (equal-eqb {m = p} refl)),
+  distinct-fresh (chosen ++ (p ∷ [])) ps (d .1) (λ q e.
+      has-other q p chosen (λ z. true-false (subst (λ k. has k ps ≡ true) z e) (d .0)) ∙ h q (or-right (eqb q p) (has q ps) e)),
+)
 
 -- fresh numbers are not chosen
 pub fresh-avoids : (chosen ps : List ℕ) (q : ℕ) → Fresh chosen ps → has q chosen ≡ true → has q ps ≡ false
@@ -193,9 +195,10 @@ fresh-distinct chosen (p ∷ ps) f =
 pub distinct-append :
     (l m : List ℕ) → Distinct l → Distinct m → ((q : ℕ) → has q l ≡ true → has q m ≡ false) → Distinct (l ++ m)
 distinct-append [] m d e h = e
-distinct-append (p ∷ l) m d e h =
-    (has-append p l m ∙ rw (d .0) (h p (rw (equal-eqb {m = p} refl))),
-    distinct-append l m (d .1) e (λ q k. h q (or-right (eqb q p) (has q l) k)))
+distinct-append (p ∷ l) m d e h = (
+  has-append p l m ∙ rw (d .0) (h p (rw (equal-eqb {m = p} refl))),
+  distinct-append l m (d .1) e (λ q k. h q (or-right (eqb q p) (has q l) k)),
+)
 
 -- a place of distinct numbers is the first place of what stands there
 pub place-unique : (l : List ℕ) (i n : ℕ) → Distinct l → getElem? l i ≡ some n → placeFrom (eqb n) 0 l ≡ i

@@ -83,6 +83,7 @@ moved c k l taken ds i m = go (multiset-take i m)
     found d n e a s =
         let q : a .position ≡ a .at = omega (arith, a .counted) in
         record { at = a .at; stands = rw e (a .stands); free = rw q at (a .free); left = rw (a .rest, q) at s }
+
     go :
         (d : Constraint) × (n : List Constraint) × (c ≡ d) × Inserted d n (without 0 taken ds) × SameMultiset _≡_ k n
         → Moved c k taken ds
@@ -99,10 +100,11 @@ moves-join :
     (k rest : List Constraint) → matchConstraint h c θ ≡ some next → (m : Moved c k taken ds)
     → Moves hs ds (taken ++ (m .at ∷ [])) next end rest
     → Moves (h ∷ hs) ds taken θ end rest
-moves-join h hs ds taken θ next end c k rest f m (qs, e, s) =
-    (m .at ∷ qs,
-     matchAt-join (record { free = m .free; constraint = c; stands = m .stands; next = next; fits = f; rest = e }),
-     rw append-assoc at s)
+moves-join h hs ds taken θ next end c k rest f m (qs, e, s) = (
+  m .at ∷ qs,
+  matchAt-join (record { free = m .free; constraint = c; stands = m .stands; next = next; fits = f; rest = e }),
+  rw append-assoc at s,
+)
 
 -- heads that match among constraints match them wherever they stand, with the same assignment, and the same others are left;
 -- there may be more constraints, ws
@@ -120,8 +122,8 @@ matchAt-moves (h ∷ hs) (p ∷ ps) cs ds ws chosen taken θ end e m =
     go :
         (f : FirstFits h hs p ps cs chosen θ end)
         → ((chosen taken : List ℕ) (θ end : Assignment)
-           → matchAt hs ps cs chosen θ ≡ some end → SameMultiset _≡_ (without 0 chosen cs ++ ws) (without 0 taken ds)
-           → Moves hs ds taken θ end (without 0 (chosen ++ ps) cs ++ ws))
+        → matchAt hs ps cs chosen θ ≡ some end → SameMultiset _≡_ (without 0 chosen cs ++ ws) (without 0 taken ds)
+        → Moves hs ds taken θ end (without 0 (chosen ++ ps) cs ++ ws))
         → Moves (h ∷ hs) ds taken θ end (without 0 (chosen ++ p ∷ ps) cs ++ ws)
     go f more =
         let i = without-one 0 chosen cs p p (f .constraint) (omega arith) (f .stands) (f .free) in
@@ -164,7 +166,7 @@ settle-moves more bound f es next cs ds m = go (solve es (λ t. t)) refl
     go none e = bothFailed
     go (some σ) e =
         let n : SameMultiset _≡_ (map (mapTerms σ) (cs ++ more bound)) (map (mapTerms σ) ds) =
-                multiset-map (mapTerms σ) (mapTerms σ) (multiset-mono (λ c d q. ap (mapTerms σ) q) m) in
+        multiset-map (mapTerms σ) (mapTerms σ) (multiset-mono (λ c d q. ap (mapTerms σ) q) m) in
         reordered (rw (map-append (mapTerms σ) cs (more bound), ← f σ (solve-solution es e .fixes)) at n)
 
 -- a rule that fires in a state fires in one with more constraints, in any order
@@ -184,15 +186,16 @@ fire-moves more r ps next bound cs ds t f e m =
       where
         body : List Constraint
         body = map (mapTerms (instance next θ)) (r .body)
+
         moves :
             Moves (r .heads) ds [] unassigned θ (without 0 ps cs ++ more bound)
             → (qs : List ℕ) × (u : State) × (fireAt r qs (live next bound ds) ≡ some u) × Reordered (withMore more t) u
         moves (qs, c, n) =
             let q : fired r ps θ next bound cs ≡ t = cc in
             let s =
-                    settle-moves more bound f (map (mapSides (instance next θ)) (r .equations)) (next + alphabet)
-                    (without 0 ps cs ++ body) (without 0 qs ds ++ body)
-                    (body-behind (without 0 ps cs) (more bound) body (without 0 qs ds) n) in
+            settle-moves more bound f (map (mapSides (instance next θ)) (r .equations)) (next + alphabet)
+            (without 0 ps cs ++ body) (without 0 qs ds ++ body)
+            (body-behind (without 0 ps cs) (more bound) body (without 0 qs ds) n) in
             (qs, fired r qs θ next bound ds, rw c, rw q at s)
 
 -- no more constraints change nothing

@@ -96,9 +96,11 @@ fireAt-sound r ps n b cs {s} letters scoped i p =
     let M = F .fitting .matched in
     let split = lift-split M (without 0 ps cs) (without-taken cs ps (F .fitting .fresh) (F .fitting .stand)) in
     let D = fireC r (confOf b cs) (map liftAtom M) (map liftAtom (without 0 ps cs)) in
-    let final : fired r ps θ n b cs ≡ s = cc in
-    (D, step r (map liftAtom M) (map liftAtom (without 0 ps cs)) i split (fire-fits r n b cs ps θ F),
-    subst (λ t. Rep t D) final (fire-represents r n b cs ps θ F letters))
+    let final : fired r ps θ n b cs ≡ s = cc in (
+      D,
+      step r (map liftAtom M) (map liftAtom (without 0 ps cs)) i split (fire-fits r n b cs ps θ F),
+      subst (λ t. Rep t D) final (fire-represents r n b cs ps θ F letters),
+    )
 
 -- a constraint and a rule's head that fit as atoms do
 fits-down :
@@ -129,18 +131,21 @@ complete-at :
     (r : Rule) (n : ℕ) (b : List Term) (cs M L : List Constraint) → Lettered r → Scoped n b cs → SameMultiset _≡_ cs (M ++ L)
     → Fits [] (headsOf r) (map liftAtom M)
     → (ps : List ℕ) × (s : State) × (fireAt r ps (live n b cs) ≡ some s)
-      × Rep s (fireC r (confOf b cs) (map liftAtom M) (map liftAtom L))
+    × Rep s (fireC r (confOf b cs) (map liftAtom M) (map liftAtom L))
 unfolding fireAt unassigned
 complete-at r n b cs M L letters scoped split f =
     let (ps, fresh, stand, rest) = without-positions cs M L split in
     let heads = fits-down (f .θ) (pointwise-unmap liftAtom liftAtom (r .heads) M (f .fits)) in
     let none-yet : (x : ℕ) (t : Term) → unassigned x ≡ some t → t ≡ down (f .θ x) = λ x t p. none-some refl p in
     let (θ, m, agrees) = matchAt-complete (λ x. down (f .θ x)) cs [] unassigned none-yet stand fresh heads in
-    let F : Firing r n b cs ps θ = record { scoped = scoped; fitting = matchAt-sound (r .heads) ps cs [] unassigned m } in
-    (ps, fired r ps θ n b cs, ap (λ o. bind o (λ θ. some (fired r ps θ n b cs))) m,
-    rep-iso (subst (λ N. Rep (fired r ps θ n b cs) (fireC r (confOf b cs) (map liftAtom N) (map liftAtom (without 0 ps cs))))
-    (stands-same cs (F .fitting .stand) stand) (fire-represents r n b cs ps θ F letters))
-    (fire-rest r (confOf b cs) (map liftAtom M) (multiset-map liftAtom liftAtom (multiset-mono (λ c d e. ap liftAtom e) rest))))
+    let F : Firing r n b cs ps θ = record { scoped = scoped; fitting = matchAt-sound (r .heads) ps cs [] unassigned m } in (
+      ps,
+      fired r ps θ n b cs,
+      ap (λ o. bind o (λ θ. some (fired r ps θ n b cs))) m,
+      rep-iso (subst (λ N. Rep (fired r ps θ n b cs) (fireC r (confOf b cs) (map liftAtom N) (map liftAtom (without 0 ps cs))))
+          (stands-same cs (F .fitting .stand) stand) (fire-represents r n b cs ps θ F letters))
+          (fire-rest r (confOf b cs) (map liftAtom M) (multiset-map liftAtom liftAtom (multiset-mono (λ c d e. ap liftAtom e) rest))),
+    )
 
 -- the list of atoms of a list of constraints, in two parts
 down-split :
@@ -148,7 +153,7 @@ down-split :
     → SameMultiset _≡_ cs (map downAtom M ++ map downAtom L)
 down-split {cs} M L h =
     let k : SameMultiset _≡_ (map downAtom (map liftAtom cs)) (map downAtom (M ++ L)) =
-        multiset-map downAtom downAtom (multiset-mono (λ a b e. ap downAtom e) h) in
+    multiset-map downAtom downAtom (multiset-mono (λ a b e. ap downAtom e) h) in
     subst₂ (SameMultiset _≡_) (map-inverse liftAtom downAtom downAtom-liftAtom cs) (map-append downAtom M L) k
 
 -- a step of a state as a configuration is a firing at positions
@@ -159,8 +164,8 @@ pub fireAt-complete :
 fireAt-complete n b cs letters scoped (step r M L i split f) =
     let up : (l : List (Atom ℕ)) → map liftAtom (map downAtom l) ≡ l = map-inverse downAtom liftAtom liftAtom-downAtom in
     let (ps, s, p, h) =
-        complete-at r n b cs (map downAtom M) (map downAtom L) (all-member letters i) scoped (down-split M L split)
-        (subst (Fits [] (headsOf r)) (sym (up M)) f) in
+    complete-at r n b cs (map downAtom M) (map downAtom L) (all-member letters i) scoped (down-split M L split)
+    (subst (Fits [] (headsOf r)) (sym (up M)) f) in
     (r, ps, s, i, p, subst₂ (λ M L. Rep s (fireC r (confOf b cs) M L)) (up M) (up L) h)
 
 -- a firing of a state is a step of what the state represents

@@ -58,20 +58,25 @@ con-var p = absurd (let z : _≡_ {A = ℕ} 0 1 = cc in omega arith)
 -- equal configurations of states are equal states
 pub iso-variant :
     (m n : ℕ) {b c : List Term} {cs ds : List Constraint} → Iso (confOf b cs) (confOf c ds) → Variant (live m b cs) (live n c ds)
-iso-variant m n {b} {c} {cs} {ds} I =
-    ((λ x y. I .R (var x) (var y)),
-    ((λ x y z r q. same-var (eqv-nil (I .core .respects r q same))),
-    λ x y z r q. same-var (eqv-nil (I .core .reflects r q same))),
-    pointwise-mono lower (pointwise-unmap lift lift b c (I .faces)),
-    multiset-mono (λ a d q. record {
-      symbols = q .symbols;
-      terms = pointwise-mono lower (pointwise-unmap lift lift (a .terms) (d .terms) (q .args));
-    }) (multiset-unmap liftAtom liftAtom cs ds (I .stores)))
+iso-variant m n {b} {c} {cs} {ds} I = (
+  (λ x y. I .R (var x) (var y)),
+  (
+    (λ x y z r q. same-var (eqv-nil (I .core .respects r q same))),
+    λ x y z r q. same-var (eqv-nil (I .core .reflects r q same)),
+  ),
+  pointwise-mono lower (pointwise-unmap lift lift b c (I .faces)),
+  multiset-mono (λ a d q. record {
+    symbols = q .symbols;
+    terms = pointwise-mono lower (pointwise-unmap lift lift (a .terms) (d .terms) (q .args));
+  }) (multiset-unmap liftAtom liftAtom cs ds (I .stores)),
+)
   where
     same-var : {x y : ℕ} → _≡_ {A = Tm ℕ} (var x) (var y) → x ≡ y
     same-var p = cc
+
     same-con : {x y : ℕ} → _≡_ {A = Tm ℕ} (con x) (con y) → x ≡ y
     same-con p = cc
+
     lower : (s t : Term) → I .R (lift s) (lift t) → TermVariant (λ x y. I .R (var x) (var y)) s t
     lower (T.con c) (T.con d) r =
         let e = same-con (eqv-nil (I .core .respects (I .core .fixes c) r same)) in

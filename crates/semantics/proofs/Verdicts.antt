@@ -54,14 +54,18 @@ judge-unjoined p n {o} {e} {f} (x ∷ os) q = go (isJoinable p x) refl q (judge-
     shown j q =
         let one : x ≡ o = cc in
         let two : firstEnd p x ≡ e = cc in
-        let three : secondEnd p x ≡ f = cc in
-        (subst (λ y. Member y (x ∷ os)) one first, subst (λ y. isJoinable p y ≡ false) one j,
-        sym two ∙ ap (firstEnd p) one, sym three ∙ ap (secondEnd p) one)
+        let three : secondEnd p x ≡ f = cc in (
+          subst (λ y. Member y (x ∷ os)) one first,
+          subst (λ y. isJoinable p y ≡ false) one j,
+          sym two ∙ ap (firstEnd p) one,
+          sym three ∙ ap (secondEnd p) one,
+        )
+
     go :
         (b : Bool) → isJoinable p x ≡ b
         → cond b (judge p (suc n) os) (unjoined x (firstEnd p x) (secondEnd p x)) ≡ unjoined o e f
         → (judge p (suc n) os ≡ unjoined o e f
-          → Member o os × (isJoinable p o ≡ false) × (e ≡ firstEnd p o) × (f ≡ secondEnd p o))
+        → Member o os × (isJoinable p o ≡ false) × (e ≡ firstEnd p o) × (f ≡ secondEnd p o))
         → Member o (x ∷ os) × (isJoinable p o ≡ false) × (e ≡ firstEnd p o) × (f ≡ secondEnd p o)
     go true j r ih = let (a, b, c, d) = ih r in (later a, b, c, d)
     go false j r ih = shown j r

@@ -8,4 +8,5 @@ pub mod Strategy
 pub mod Variants
 pub mod Overlaps
 pub mod Verdict
+pub mod Claims
 pub mod Published
