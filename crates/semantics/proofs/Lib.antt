@@ -65,3 +65,4 @@ pub mod RenamedRules
 pub mod FreshVariants
 pub mod SimplifyLaws
 pub mod FiringIsSimplify
+pub mod Choices

@@ -10,3 +10,4 @@ pub mod Overlaps
 pub mod Verdict
 pub mod Claims
 pub mod Published
+pub mod CriticalPairs
