@@ -30,9 +30,7 @@ use Rattle.semantics.proofs.Options.{none-some, isBelow-below}
 use Rattle.semantics.proofs.Bools.{and-true}
 use Rattle.semantics.proofs.Lifting.{downAtom, liftAtom-downAtom, downAtom-liftAtom, map-inverse}
 use Rattle.semantics.proofs.MatchedTerms.{ConstraintBelow}
-use Rattle.semantics.proofs.FireLaws.{Lettered}
-use Rattle.semantics.proofs.Letters.{every-all, program-lettered}
-use Rattle.semantics.proofs.Listings.{at-member}
+use Rattle.semantics.proofs.RuleLetters.{AllLetters, program-letters}
 use Rattle.semantics.proofs.Represent.{ScopedState, rep-iso, rep-fires, rep-step}
 use Rattle.semantics.proofs.Renamings.{beyond}
 use Rattle.semantics.proofs.Valuations.{satisfiable-solved, solved-satisfiable}
@@ -42,31 +40,6 @@ use Rattle.semantics.proofs.FreshVariants.{fresh-beyond, matched-avoids
 use Rattle.semantics.proofs.PublishedStates.{confWith, confP, represents-rep, rep-represents}
 use Rattle.semantics.proofs.Emptying.{users, builtIns, Into, emptied-into, emptied-exists}
 use Rattle.semantics.proofs.SimplifyLaws.{body-users, body-builtIns, simplified-iso}
-
--- all variables of a rule are letters
-pub record AllLetters (r : Rule) : Type 0 where
-  pub heads : All (ConstraintBelow alphabet) (r .heads)
-  pub others : Lettered r
-
--- so it is for the rules of a well-formed program
-rule-heads : (symbols : List Symbol) (r : Rule) → isRuleOf symbols r ≡ true → All (ConstraintBelow alphabet) (r .heads)
-unfolding isRuleOf isOfRule
-rule-heads symbols r w =
-    let heads = every (isOfRule symbols) (r .heads) in
-    let body = every (isOfRule symbols) (r .body) in
-    let sides = every (λ e. isBelow alphabet (e .left) && isBelow alphabet (e .right)) (r .equations) in
-    let (abc, d) = and-true (heads && body && sides) (ltb (weight symbols (r .body)) (weight symbols (r .heads))) w in
-    let (ab, c) = and-true (heads && body) sides abc in
-    all-mono (λ c k. all-mono (isBelow-below alphabet) (every-all (isBelow alphabet) (c .terms)
-    (and-true (isDeclared symbols c) (every (isBelow alphabet) (c .terms)) k .1)))
-    (every-all (isOfRule symbols) (r .heads) (and-true heads body ab .0))
-
-pub program-letters : (p : Program) → isWellFormed p ≡ true → {r : Rule} → Member r (p .rules) → AllLetters r
-unfolding isWellFormed
-program-letters p w {r} i = record {
-  heads = rule-heads (p .symbols) r (all-member (every-all (isRuleOf (p .symbols)) (p .rules) w) i);
-  others = all-member (program-lettered p w) i;
-}
 
 -- the image of a list in two parts
 split-map :
@@ -186,7 +159,7 @@ module _ (p : Program) (w : isWellFormed p ≡ true) (a : Published) (goals : a 
       → Simplify r a b → Emptied b c → (ps : List ℕ) × (t : State) × (fireAt r ps s ≡ some t) × Represents c t
   fires-in failed scoped v n r b c i k e = satisfiable-live a (simplify-satisfiable k) v
   fires-in (live m l cs) scoped v n r b c i k e =
-      let letters = program-letters p w (at-member (p .rules) n i) in
+      let letters = program-letters p n w i in
       let (D, st, I) = simplify-step letters goals k e in
       let (q, ps, t, j, h, rep) = rep-step {rs = r ∷ []} (also (letters .others) C.none) (represents-rep a (live m l cs) scoped v) st in
       (ps, t, subst (λ x. fireAt x ps (live m l cs) ≡ some t) (only j) h, rep-represents c t (rep-iso rep I))
@@ -197,7 +170,7 @@ module _ (p : Program) (w : isWellFormed p ≡ true) (a : Published) (goals : a 
   unfolding fireAt
   published-in failed scoped v n r ps t i h = none-some refl h
   published-in (live m l cs) scoped v n r ps t i h =
-      let letters = program-letters p w (at-member (p .rules) n i) in
+      let letters = program-letters p n w i in
       let (D, st, rep) = rep-fires r ps (letters .others) (first {l = []}) (represents-rep a (live m l cs) scoped v) h in
       let (b, c, k, e, I) = step-simplify a letters goals (live-satisfiable a m l cs v) st in
       (b, c, k, e, rep-represents c t (rep-iso rep I))

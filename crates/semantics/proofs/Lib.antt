@@ -64,5 +64,9 @@ pub mod Emptying
 pub mod RenamedRules
 pub mod FreshVariants
 pub mod SimplifyLaws
+pub mod RuleLetters
 pub mod FiringIsSimplify
 pub mod Choices
+pub mod ChosenHeads
+pub mod Readings
+pub mod PairSides

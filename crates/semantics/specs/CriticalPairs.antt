@@ -68,12 +68,12 @@ partnersOf m js = partnersFrom 0 m js
 unfoldable pub picked : List Constraint → List ℕ → List Constraint
 picked cs ns = answers (getElem? cs) ns
 
--- the second rule's variables, renamed apart, and its heads
-unfoldable pub second : ℕ → ℕ
-second x = alphabet + x
+-- the second rule's variables, renamed apart from the first's, and its heads
+unfoldable pub shifted : ℕ → ℕ
+shifted x = alphabet + x
 
-unfoldable pub secondHeads : Rule → List Constraint
-secondHeads q = map (mapTerms (renamed second)) (q .heads)
+unfoldable pub shiftedHeads : Rule → List Constraint
+shiftedHeads q = map (mapTerms (renamed shifted)) (q .heads)
 
 -- a critical pair (Ḡ, B ∧ H'rest =#= B' ∧ Hrest, V)
 pub record CriticalPair : Type 0 where
@@ -86,12 +86,12 @@ pub record CriticalPair : Type 0 where
 pub data Critical (r q : Rule) (js : List Joint) : CriticalPair → Type 0 where
   critical :
       {es : List Equation} → Choice (length (r .heads)) (length (q .heads)) js
-      → EquatedAll (picked (r .heads) (lefts js)) (picked (secondHeads q) (rights js)) es → Satisfiable es
+      → EquatedAll (picked (r .heads) (lefts js)) (picked (shiftedHeads q) (rights js)) es → Satisfiable es
       → Critical r q js (record {
         condition = es;
-        left = bodyItems (λ x. x) r ++ map user (without 0 (rights js) (secondHeads q));
-        right = bodyItems second q ++ map user (without 0 (lefts js) (r .heads));
-        variables = appearing [] (r .heads ++ secondHeads q);
+        left = bodyItems (λ x. x) r ++ map user (without 0 (rights js) (shiftedHeads q));
+        right = bodyItems shifted q ++ map user (without 0 (lefts js) (r .heads));
+        variables = appearing [] (r .heads ++ shiftedHeads q);
       })
 
 -- the two states whose joinability is that of the pair
