@@ -70,3 +70,4 @@ pub mod Choices
 pub mod ChosenHeads
 pub mod Readings
 pub mod PairSides
+pub mod PairStates

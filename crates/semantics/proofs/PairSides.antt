@@ -56,10 +56,16 @@ image-member :
 image-member f (each r p) first = r
 image-member f (each r p) (later i) = image-member f p i
 
+-- a rule's heads, renamed; a term of these or of others
+abbrev pub ownHeads : Rule → (ℕ → ℕ) → List Constraint
+ownHeads r κ = map (mapTerms (renamed κ)) (r .heads)
+
+abbrev pub OfHeads : List Constraint → List Constraint → Term → Type 0
+OfHeads one two t = Or (Within one t) (Within two t)
+
 module _ (r : Rule) (κ : ℕ → ℕ) (b : List Term) (es : List Equation) (L : List Constraint) where
-  -- the rule's heads, renamed
-  abbrev pub own : List Constraint
-  own = map (mapTerms (renamed κ)) (r .heads)
+  abbrev own : List Constraint
+  own = ownHeads r κ
 
   abbrev equations : List (Eqn (Or ℕ ℕ))
   equations = afterFiring r b es own L .eqs
@@ -89,12 +95,8 @@ module _ (r : Rule) (κ : ℕ → ℕ) (b : List Term) (es : List Equation) (L :
   module _
       (others : List Constraint) (apart : Separates κ) (letters : AllLetters r) (away : All (ConstraintAvoids κ) others)
       (rest : (c : Constraint) → Member c L → Member c others) where
-    -- a term of the rule's heads or of others
-    abbrev pub OfHeads : Term → Type 0
-    OfHeads t = Or (Within own t) (Within others t)
-
-    -- all of these are settled
-    settled : (t : Term) → OfHeads t → Fixed t
+    -- all terms of the rule's heads and of the others are settled
+    settled : (t : Term) → OfHeads own others t → Fixed t
     settled t (inl w) = own-settled apart letters t w
     settled t (inr (c, i, j)) = eqv-path (back-other κ t (all-member (all-member away i) j))
 
@@ -110,7 +112,7 @@ module _ (r : Rule) (κ : ℕ → ℕ) (b : List Term) (es : List Equation) (L :
         rw k (subst₂ (Eqv equations) (sym (back-renamed κ apart (d .left) x)) (sym (back-renamed κ apart (d .right) y))
         (linked-new (flat (headsOf r)) (flat (map liftAtom own)) (eqsOf r) (map liftEqn es) (liftEqn d) (member-map liftEqn j)))
 
-    condition-held : (e : Equation) → Member e es → OfHeads (e .left) → OfHeads (e .right) → Held (e .left) (e .right)
+    condition-held : (e : Equation) → Member e es → OfHeads own others (e .left) → OfHeads own others (e .right) → Held (e .left) (e .right)
     condition-held e i x y =
         chain (settled (e .left) x)
         (chain (linked-old (flat (headsOf r)) (flat (map liftAtom own)) (eqsOf r) (map liftEqn es) (liftEqn e) (member-map liftEqn i))
@@ -118,8 +120,8 @@ module _ (r : Rule) (κ : ℕ → ℕ) (b : List Term) (es : List Equation) (L :
 
     -- firing on the heads leaves the body and the rest, with the rule's equations and the condition
     pub side-iso :
-        (bs : List Equation) (us : List Constraint) → ((e : Equation) → Member e es → OfHeads (e .left) × OfHeads (e .right))
-        → All OfHeads b → SameMultiset _≡_ bs (map (mapSides (renamed κ)) (r .equations) ++ es)
+        (bs : List Equation) (us : List Constraint) → ((e : Equation) → Member e es → OfHeads own others (e .left) × OfHeads own others (e .right))
+        → All (OfHeads own others) b → SameMultiset _≡_ bs (map (mapSides (renamed κ)) (r .equations) ++ es)
         → SameMultiset _≡_ us (map (mapTerms (renamed κ)) (r .body) ++ L) → Iso (afterFiring r b es own L) (confWith b bs us)
     unfolding mapTerms mapSides
     side-iso bs us sides face solved taken =

@@ -47,7 +47,7 @@ entry-become b (T.var x) h = go (T.var x) b x h
     go d (t ∷ b) zero h = refl
     go d (t ∷ b) (suc x) h = go d b x (omega arith)
 
-entries-become :
+pub entries-become :
     (b : List Term) {ts : List Term} → All (TermBelow (length b)) ts
     → map (sub (entry (map lift b))) (map lift ts) ≡ map lift (map (become b) ts)
 entries-become b none = refl

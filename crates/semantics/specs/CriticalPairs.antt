@@ -1,10 +1,10 @@
 -- Critical pairs, from document 000, definition 3.4, for simplification rules without guards: heads of one rule are equated with
 -- heads of another, and each rule leaves its body and the heads of the other that are not equated.
---   Joint, Choice               which heads are equated with which
---   jointsOf, partnersOf        the same, as for each head of the first rule its partner, and back
---   CriticalPair, Critical      the tuple (Ḡ, B ∧ H'rest =#= B' ∧ Hrest, V), where the chosen heads can be equated
---   leftState, rightState       its two states (definition 3.5)
---   reading, seen               a state of an overlap's goal, seen from the variables of the two rules
+--   Joint, Choice                    which heads are equated with which
+--   jointsOf, partnersOf             the same, as for each head of the first rule its partner, and back
+--   CriticalPair, pairOf, Critical   the tuple (Ḡ, B ∧ H'rest =#= B' ∧ Hrest, V), where the chosen heads can be equated
+--   leftState, rightState            its two states (definition 3.5)
+--   reading, seen                    a state of an overlap's goal, seen from the variables of the two rules
 -- Assumes nothing.
 use Prim.Native.Nat.{ℕ, zero, suc, _+_, _<_, _≤_}
 use mathlib.Core.Bool.{false, cond}
@@ -82,17 +82,21 @@ pub record CriticalPair : Type 0 where
   pub right : List Item
   pub variables : List ℕ
 
--- the critical pair of two rules and a choice of heads, if these can be equated. V are the variables of all heads
+-- the pair of two rules, a choice of heads and the equations between these. V are the variables of all heads
+unfoldable pub pairOf : Rule → Rule → List Joint → List Equation → CriticalPair
+pairOf r q js es = record {
+  condition = es;
+  left = bodyItems (λ x. x) r ++ map user (without 0 (rights js) (shiftedHeads q));
+  right = bodyItems shifted q ++ map user (without 0 (lefts js) (r .heads));
+  variables = appearing [] (r .heads ++ shiftedHeads q);
+}
+
+-- it is a critical pair if the chosen heads can be equated
 pub data Critical (r q : Rule) (js : List Joint) : CriticalPair → Type 0 where
   critical :
       {es : List Equation} → Choice (length (r .heads)) (length (q .heads)) js
       → EquatedAll (picked (r .heads) (lefts js)) (picked (shiftedHeads q) (rights js)) es → Satisfiable es
-      → Critical r q js (record {
-        condition = es;
-        left = bodyItems (λ x. x) r ++ map user (without 0 (rights js) (shiftedHeads q));
-        right = bodyItems shifted q ++ map user (without 0 (lefts js) (r .heads));
-        variables = appearing [] (r .heads ++ shiftedHeads q);
-      })
+      → Critical r q js (pairOf r q js es)
 
 -- the two states whose joinability is that of the pair
 unfoldable pub leftState : CriticalPair → Published
