@@ -1,7 +1,6 @@
 -- Firing is Simplify (document 000, section 2.2.3 and figure 1; document 01: a rule fires).
---   FiringIsSimplify      every firing is a Simplify step and then Introduce and Solve steps, every such step is a firing, and
---                         where no rule fits no step is possible
---   firing-is-simplify    so it is for every state, and what it represents
+--   simplify-step, step-simplify      a Simplify step is a step of the configuration, and conversely
+--   firing-is-simplify                the claim, of every state and what it represents
 -- Assumes nothing.
 use Prim.Native.Nat.{ℕ, _+_}
 use mathlib.Core.Bool.{true, _&&_}
@@ -22,6 +21,7 @@ use Rattle.semantics.specs.Variants.{Pointwise, SameMultiset, Variant}
 use Rattle.semantics.specs.Published.{Published, Satisfiable, EquatedAll, renamed, FreshFor, termsOf, bodyItems, Solve, solves}
 use Rattle.semantics.specs.Published.{Introduce, introduces, Simplify, simplifies, Emptied, normal, Represents, Goes, solving}
 use Rattle.semantics.specs.Published.{introducing, simplifying}
+use Rattle.semantics.specs.Correspondence.{FiringIsSimplify}
 use Rattle.semantics.proofs.Configurations.{Member, first, later, Atom, Config, Iso, Step, step, Fits, lift, liftAtom, liftEqn}
 use Rattle.semantics.proofs.Configurations.{headsOf, fireC, All, also, Rep}
 use Rattle.semantics.proofs.Configurations as C
@@ -139,19 +139,6 @@ empty-solve (solves s) e = let l = multiset-length s in let k = ap length e in o
 
 empty-introduce : {a b : Published} → Introduce a b → a .goals ≡ [] → ⊥
 empty-introduce (introduces s) e = let l = multiset-length s in let k = ap length e in omega arith
-
--- firing in a state is Simplify in the published state that it represents
-pub record FiringIsSimplify (p : Program) (a : Published) (s : State) : Type 1 where
-  -- every firing is a Simplify step, followed by the Introduce and Solve steps of the body
-  pub published :
-      (n : ℕ) (r : Rule) (ps : List ℕ) (t : State) → getElem? (p .rules) n ≡ some r → fireAt r ps s ≡ some t
-      → (b : Published) × (c : Published) × Simplify r a b × Emptied b c × Represents c t
-  -- every Simplify step, followed by the Introduce and Solve steps of the body in any order, is a firing
-  pub fires :
-      (n : ℕ) (r : Rule) (b c : Published) → getElem? (p .rules) n ≡ some r → Simplify r a b → Emptied b c
-      → (ps : List ℕ) × (t : State) × (fireAt r ps s ≡ some t) × Represents c t
-  -- where no rule fits, no step is possible
-  pub final : NoRuleFits p s → (b : Published) → Goes p a b → ⊥
 
 module _ (p : Program) (w : isWellFormed p ≡ true) (a : Published) (goals : a .goals ≡ []) where
   fires-in :

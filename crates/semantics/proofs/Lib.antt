@@ -71,3 +71,5 @@ pub mod ChosenHeads
 pub mod Readings
 pub mod PairSides
 pub mod PairStates
+pub mod JoinedHeads
+pub mod OverlapSides

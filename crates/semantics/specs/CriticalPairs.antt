@@ -105,6 +105,10 @@ leftState c = record { goals = c .left; userStore = []; builtInStore = c .condit
 unfoldable pub rightState : CriticalPair → Published
 rightState c = record { goals = c .right; userStore = []; builtInStore = c .condition; variables = c .variables }
 
+-- the heads of both rules, the equated ones once: all of the first rule's, and the second's that are not equated
+unfoldable pub joined : Rule → Rule → List Joint → List Constraint
+joined r q js = r .heads ++ without 0 (rights js) (shiftedHeads q)
+
 -- what variables are under a unifier, in the goal of constraints under it
 unfoldable pub reading : (Term → Term) → List Constraint → List ℕ → List Term
 reading σ cs vs = map (λ x. numbered (appearing [] (map (mapTerms σ) cs)) (σ (var x))) vs

@@ -11,3 +11,4 @@ pub mod Verdict
 pub mod Claims
 pub mod Published
 pub mod CriticalPairs
+pub mod Correspondence

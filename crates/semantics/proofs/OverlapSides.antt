@@ -1,0 +1,272 @@
+-- The sides of an overlap of a program are the two states of its critical pair (document 000, definitions 3.4 and 3.5).
+--   overlap-critical       an overlap is a critical pair, by the joints of its partners
+--   overlap-sides          and its two sides are the pair's states, under the unifier
+-- Assumes nothing.
+use Prim.Native.Nat.{ℕ, zero, suc, _+_, _<_, _≤_}
+use mathlib.Core.Bool.{Bool, true, false, cond}
+use mathlib.Core.List.{List, [], _∷_, _++_, map, map-append, map-map}
+use mathlib.Core.Option.{some}
+use mathlib.Core.Path.{_≡_, refl, sym, ap, ap₂, subst, subst₃, _∙_}
+use native.Mathlib.Omega.{arith}
+use lib.Dec.{eqb}
+use lib.ListN.{length, getElem?}
+use Rattle.text.specs.Lists.{has, placeFrom, upTo, tabled}
+use Rattle.semantics.specs.Terms.{Term, Constraint, Equation, Rule, Program, State, mapTerms, alphabet, isWellFormed}
+use Rattle.semantics.specs.Terms as T
+use Rattle.semantics.specs.Firing.{without}
+use Rattle.semantics.specs.Overlaps.{apart, unjoinedHeads, appearing, numbered, goalOf, Overlap}
+use Rattle.semantics.specs.Published.{Equated, EquatedAll, renamed, user, bodyItems, Emptied, Published, Represents}
+use Rattle.semantics.specs.Published as P
+use Rattle.semantics.specs.CriticalPairs.{lefts, rights, jointsOf, picked, shifted, shiftedHeads, pairOf, Critical, critical}
+use Rattle.semantics.specs.CriticalPairs.{leftState, rightState, joined, reading, seen}
+use Rattle.semantics.specs.Correspondence.{Side, Sides}
+use Rattle.semantics.proofs.Configurations.{Or, inl, inr, Member, first, later, TermBelow, All, none, also, Rep, liftAtom, fireC, confOf}
+use Rattle.semantics.proofs.Options.{true-false}
+use Rattle.semantics.proofs.Multisets.{member-map, member-unmap, member-append, member-append-left, member-append-right}
+use Rattle.semantics.proofs.Multisets.{all-member, all-map, all-mono, all-of-members}
+use Rattle.semantics.proofs.SolveLaws.{solve-solution}
+use Rattle.semantics.proofs.MatchedTerms.{without-all}
+use Rattle.semantics.proofs.Renamings.{Separates, Avoids, ConstraintAvoids}
+use Rattle.semantics.proofs.Pairings.{leftover, alone, Agreed, leftover-map, alone-map, unjoined-leftover}
+use Rattle.semantics.proofs.Listings.{member-at}
+use Rattle.semantics.proofs.Places.{has-at}
+use Rattle.semantics.proofs.Appearing.{Known, appearing-known, appearing-from}
+use Rattle.semantics.proofs.Enumeration.{IsPairing, OverlapParts, overlap-parts, Listed, pairings-member}
+use Rattle.semantics.proofs.JoinLaws.{join-agreed}
+use Rattle.semantics.proofs.OverlapGoals.{secondHeads, goalFirst, goalSecond, goal-variables, first-end, second-end}
+use Rattle.semantics.proofs.Sides.{first-side, second-side}
+use Rattle.semantics.proofs.Valuations.{solved-satisfiable}
+use Rattle.semantics.proofs.RuleLetters.{AllLetters, program-letters}
+use Rattle.semantics.proofs.Choices.{pairing-choice}
+use Rattle.semantics.proofs.ChosenHeads.{join-equated, without-rights, without-lefts, shifted-heads}
+use Rattle.semantics.proofs.Readings.{InGoal, goalNumber}
+use Rattle.semantics.proofs.PairSides.{Within, ownHeads, OfHeads}
+use Rattle.semantics.proofs.JoinedHeads.{heads-same, agreed-member, leftover-member, alone-member, equated-sides, picked-member}
+use Rattle.semantics.proofs.PairStates.{seen-represents}
+
+-- what is left of a list is of the list
+without-member : {c : Constraint} (k : ℕ) (ps : List ℕ) (cs : List Constraint) → Member c (without k ps cs) → Member c cs
+without-member k ps cs i = all-member (without-all k ps (all-of-members cs (λ c j. j))) i
+
+-- a variable of the second rule is no letter, and a letter is none of these
+shifted-avoids : (t : Term) → Avoids (λ x. x) (renamed shifted t)
+unfolding renamed shifted
+shifted-avoids (T.con c) = tt
+shifted-avoids (T.var x) = λ y h e. omega arith
+
+letter-avoids : (t : Term) → TermBelow alphabet t → Avoids shifted t
+unfolding shifted
+letter-avoids (T.con c) h = tt
+letter-avoids (T.var x) h = λ y k e. omega arith
+
+shifted-separates : Separates shifted
+unfolding shifted
+shifted-separates x y h k e = omega arith
+
+module _ (p : Program) (w : isWellFormed p ≡ true) (o : Overlap) (listed : Listed p o) where
+  -- its two rules, their heads, and its partners
+  abbrev one : Rule
+  one = o .first .rule
+
+  abbrev two : Rule
+  two = o .second .rule
+
+  abbrev firsts : List Constraint
+  firsts = one .heads
+
+  abbrev seconds : List Constraint
+  seconds = shiftedHeads two
+
+  abbrev ds : List ℕ
+  ds = o .partners
+
+  -- what it was made from
+  abbrev parts : OverlapParts (o .first) (o .second) ds o
+  parts = overlap-parts (o .first) (o .second) ds (listed .made)
+
+  abbrev es : List Equation
+  es = parts .equations
+
+  abbrev σ : Term → Term
+  σ = parts .solution
+
+  paired : IsPairing (length firsts) (length (two .heads)) ds
+  paired = pairings-member (length firsts) (length (two .heads)) ds (listed .paired)
+
+  -- the equations are those between the chosen heads, so it is a critical pair
+  equated : EquatedAll (picked firsts (lefts (jointsOf ds))) (picked seconds (rights (jointsOf ds))) es
+  unfolding jointsOf
+  equated =
+      subst (λ g. EquatedAll (picked firsts (lefts (jointsOf ds))) (picked g (rights (jointsOf ds))) es) (shifted-heads two)
+      (join-equated firsts 0 firsts ds (secondHeads (o .second))
+      (λ i. ap (getElem? firsts) (let z : 0 + i ≡ i = omega arith in z)) (paired .long) (parts .joined))
+
+  pub overlap-critical : Critical one two (jointsOf ds) (pairOf one two (jointsOf ds) es)
+  overlap-critical =
+      critical (pairing-choice (length firsts) (length (two .heads)) ds paired) equated (solved-satisfiable es (parts .solved))
+
+  -- the second rule's heads that are not joined, and the constraints of the goal before the unifier
+  second-rest : without 0 (rights (jointsOf ds)) seconds ≡ leftover 1 (secondHeads (o .second)) ds
+  unfolding jointsOf
+  second-rest =
+      ap (without 0 (rights (jointsOf ds))) (sym (shifted-heads two)) ∙ without-rights 0 0 ds (secondHeads (o .second))
+      ∙ unjoined-leftover 1 (secondHeads (o .second)) ds
+
+  first-rest : without 0 (lefts (jointsOf ds)) firsts ≡ alone firsts ds
+  unfolding jointsOf
+  first-rest = without-lefts 0 ds firsts (paired .long)
+
+  abbrev beforehand : List Constraint
+  beforehand = firsts ++ unjoinedHeads 1 (secondHeads (o .second)) ds
+
+  joined-heads : joined one two (jointsOf ds) ≡ beforehand
+  unfolding joined
+  joined-heads = ap (firsts ++_) (second-rest ∙ sym (unjoined-leftover 1 (secondHeads (o .second)) ds))
+
+  -- every term of the heads is in the goal, under the unifier
+  abbrev InIt : Term → Type 0
+  InIt t = InGoal es σ (parts .solved) beforehand t
+
+  listed-terms :
+      (c : Constraint) {t : Term} → Member (mapTerms σ c) (map (mapTerms σ) beforehand) → Member t (c .terms) → InIt t
+  unfolding mapTerms
+  listed-terms c i j = all-member (appearing-known i) (member-map σ j)
+
+  first-in : {t : Term} → Within firsts t → InIt t
+  first-in (c, i, j) =
+      listed-terms c (member-map (mapTerms σ) (member-append-left (unjoinedHeads 1 (secondHeads (o .second)) ds) i)) j
+
+  second-in : {t : Term} → Within seconds t → InIt t
+  second-in (c, i, j) =
+      let k : Member c (secondHeads (o .second)) = subst (Member c) (sym (shifted-heads two)) i in
+      let agreed = join-agreed firsts ds (secondHeads (o .second)) (parts .joined) (paired .long) σ
+          (λ e m. solve-solution es (parts .solved) .joins m) in
+      listed-terms c (go (agreed-member 1 (map (mapTerms σ) firsts) (map (mapTerms σ) (secondHeads (o .second))) ds agreed
+      (member-map (mapTerms σ) k))) j
+    where
+      go :
+          {d : Constraint}
+          → Or (Member d (map (mapTerms σ) firsts)) (Member d (leftover 1 (map (mapTerms σ) (secondHeads (o .second))) ds))
+          → Member d (map (mapTerms σ) beforehand)
+      go (inl m) =
+          rw map-append (member-append-left (map (mapTerms σ) (unjoinedHeads 1 (secondHeads (o .second)) ds)) m)
+      go {d} (inr m) =
+          rw (map-append (mapTerms σ) firsts (unjoinedHeads 1 (secondHeads (o .second)) ds), unjoined-leftover 1 (secondHeads (o .second)) ds)
+          (member-append-right (map (mapTerms σ) firsts) (subst (Member d) (leftover-map (mapTerms σ) 1 (secondHeads (o .second)) ds) m))
+
+  -- the variables of all heads are terms of the heads
+  variables-of : (x : ℕ) → Member x (appearing [] (firsts ++ seconds)) → Or (Within firsts (T.var x)) (Within seconds (T.var x))
+  variables-of x i =
+      let (k, at) = member-at i in
+      go (appearing-from x [] (firsts ++ seconds) (has-at x (appearing [] (firsts ++ seconds)) k at))
+    where
+      go :
+          Or (has x [] ≡ true) ((c : Constraint) × Member c (firsts ++ seconds) × Member (T.var x) (c .terms))
+          → Or (Within firsts (T.var x)) (Within seconds (T.var x))
+      go (inl h) = true-false h refl
+      go (inr (c, m, j)) = part (member-append firsts m)
+        where
+          part : Or (Member c firsts) (Member c seconds) → Or (Within firsts (T.var x)) (Within seconds (T.var x))
+          part (inl k) = inl (c, k, j)
+          part (inr k) = inr (c, k, j)
+
+  -- the sides of the condition are
+  condition-of : (e : Equation) → Member e es → Within firsts (e .left) × Within seconds (e .right)
+  condition-of e i =
+      let ((c, k, a), (d, l, b)) = equated-sides equated i in
+      ((c, picked-member firsts (lefts (jointsOf ds)) k, a), (d, picked-member seconds (rights (jointsOf ds)) l, b))
+
+  -- all variables of both rules are letters
+  letters-one : AllLetters one
+  letters-one = program-letters p (o .first .number) w (listed .firstRule)
+
+  letters-two : AllLetters two
+  letters-two = program-letters p (o .second .number) w (listed .secondRule)
+
+  -- the second rule's heads have no letter of the first rule, and conversely
+  seconds-avoid : All (ConstraintAvoids (λ x. x)) seconds
+  unfolding shiftedHeads mapTerms
+  seconds-avoid =
+      all-map (mapTerms (renamed shifted)) (all-of-members (two .heads) (λ c i. all-map (renamed shifted)
+      (all-of-members (c .terms) (λ t j. shifted-avoids t))))
+
+  firsts-avoid : All (ConstraintAvoids shifted) firsts
+  firsts-avoid = all-mono (λ c h. all-mono letter-avoids h) (letters-one .heads)
+
+  -- the reading of the goal
+  abbrev variables : List ℕ
+  variables = appearing [] (firsts ++ seconds)
+
+  abbrev inGoal : Term → Term
+  inGoal = goalNumber es σ (parts .solved) beforehand
+
+  reading-is : reading σ (joined one two (jointsOf ds)) variables ≡ map inGoal (map T.var variables)
+  unfolding reading
+  reading-is =
+      ap (λ cs. map (λ x. numbered (appearing [] (map (mapTerms σ) cs)) (σ (T.var x))) variables) joined-heads
+      ∙ sym (map-map inGoal T.var variables)
+
+  -- the configuration after a rule has fired in the goal
+  abbrev Fired : State → Rule → ℕ → List Constraint → List Constraint → Type 1
+  Fired s r k M L = Rep s (fireC r (confOf (tabled T.var k) (o .goal .constraints)) (map liftAtom M) (map liftAtom L))
+
+  -- the first rule's side
+  first-represents :
+      (b : Published) → Emptied (leftState (pairOf one two (jointsOf ds) es)) b
+      → Represents b (seen (reading σ (joined one two (jointsOf ds)) variables) (first-end p listed .0))
+  unfolding leftState pairOf
+  first-represents b e =
+      subst (λ ts. Represents b (seen ts (first-end p listed .0))) (sym reading-is)
+      (seen-represents es σ (parts .solved) beforehand one (λ x. x) variables (o .goal .constraints)
+      (without 0 (rights (jointsOf ds)) seconds) seconds (λ x y h k z. z) letters-one seconds-avoid
+      (λ d i. without-member 0 (rights (jointsOf ds)) seconds i)
+      (λ e i. let (x, y) = condition-of e i in (inl (itself x), inr y))
+      (all-map T.var (all-of-members variables (λ x i. own-or-other (variables-of x i)))) known
+      (subst₃ (Fired (first-end p listed .0) one) (goal-variables parts)
+      (ap (map (mapTerms inGoal)) (sym (heads-same firsts)))
+      (leftover-map (mapTerms inGoal) 1 (secondHeads (o .second)) ds ∙ ap (map (mapTerms inGoal)) (sym second-rest))
+      (first-side p w o listed parts)) e)
+    where
+      itself : {t : Term} → Within firsts t → Within (ownHeads one (λ x. x)) t
+      itself {t} x = subst (λ cs. Within cs t) (sym (heads-same firsts)) x
+      own-or-other : {t : Term} → Or (Within firsts t) (Within seconds t) → OfHeads (ownHeads one (λ x. x)) seconds t
+      own-or-other (inl x) = inl (itself x)
+      own-or-other (inr x) = inr x
+      known : (t : Term) → OfHeads (ownHeads one (λ x. x)) seconds t → InIt t
+      known t (inl x) = first-in (subst (λ cs. Within cs t) (heads-same firsts) x)
+      known t (inr x) = second-in x
+
+  -- the second rule's side
+  second-represents :
+      (b : Published) → Emptied (rightState (pairOf one two (jointsOf ds) es)) b
+      → Represents b (seen (reading σ (joined one two (jointsOf ds)) variables) (second-end p listed .0))
+  unfolding rightState pairOf shiftedHeads
+  second-represents b e =
+      subst (λ ts. Represents b (seen ts (second-end p listed .0))) (sym reading-is)
+      (seen-represents es σ (parts .solved) beforehand two shifted variables (o .goal .constraints)
+      (without 0 (lefts (jointsOf ds)) firsts) firsts shifted-separates letters-two firsts-avoid
+      (λ d i. without-member 0 (lefts (jointsOf ds)) firsts i)
+      (λ e i. let (x, y) = condition-of e i in (inr x, inl y))
+      (all-map T.var (all-of-members variables (λ x i. own-or-other (variables-of x i)))) known
+      (subst₃ (Fired (second-end p listed .0) two) (goal-variables parts)
+      (ap (map (mapTerms inGoal)) (shifted-heads two))
+      (alone-map (mapTerms inGoal) firsts ds ∙ ap (map (mapTerms inGoal)) (sym first-rest))
+      (second-side p w o listed parts)) e)
+    where
+      own-or-other : {t : Term} → Or (Within firsts t) (Within seconds t) → OfHeads seconds firsts t
+      own-or-other (inl x) = inr x
+      own-or-other (inr x) = inl x
+      known : (t : Term) → OfHeads seconds firsts t → InIt t
+      known t (inl x) = second-in x
+      known t (inr x) = first-in x
+
+  -- both sides
+  pub overlap-sides : Sides o (jointsOf ds) (pairOf one two (jointsOf ds) es)
+  unfolding pairOf
+  overlap-sides = record {
+    unifier = σ;
+    solved = parts .solved;
+    goal = ap (λ (x : Overlap). x .goal) (parts .made) ∙ ap (λ cs. goalOf (map (mapTerms σ) cs)) (sym joined-heads);
+    first = record { state = first-end p listed .0; fires = first-end p listed .1; represents = first-represents };
+    second = record { state = second-end p listed .0; fires = second-end p listed .1; represents = second-represents };
+  }
