@@ -73,3 +73,4 @@ pub mod PairSides
 pub mod PairStates
 pub mod JoinedHeads
 pub mod OverlapSides
+pub mod CriticalOverlaps

@@ -1,0 +1,214 @@
+-- The overlaps of a program are the critical pairs of its rules (document 000, definition 3.4), one to one.
+--   choices-are-pairings             which heads are equated with which, as it is enumerated
+--   critical-overlap                 a critical pair has an overlap
+--   norepeat-overlaps                no overlap is enumerated twice
+--   overlaps-are-critical-pairs      the claim, of every well-formed program
+-- Assumes nothing.
+use Prim.Native.Nat.{ℕ, zero, suc, _+_, _≤_}
+use mathlib.Core.Bool.{true}
+use mathlib.Core.List.{List, [], _∷_, _++_, map}
+use mathlib.Core.Option.{some}
+use mathlib.Core.Path.{_≡_, refl, sym, ap, subst, subst₂, _∙_}
+use native.Mathlib.Omega.{arith}
+use lib.ListN.{length, getElem?, length-map}
+use Rattle.text.specs.Lists.{gather}
+use Rattle.semantics.specs.Terms.{Rule, Program, mapTerms, isWellFormed}
+use Rattle.semantics.specs.Solving.{solve}
+use Rattle.semantics.specs.Overlaps.{pairings, apart, joinEquations, unjoinedHeads, goalOf, Numbered, Overlap, overlapOf}
+use Rattle.semantics.specs.Overlaps.{numberedFrom, overlapsOf, overlapsAmong, overlaps}
+use Rattle.semantics.specs.CriticalPairs.{Joint, lefts, rights, Choice, jointsOf, partnersOf, picked, shiftedHeads}
+use Rattle.semantics.specs.CriticalPairs.{CriticalPair, pairOf, Critical, critical}
+use Rattle.semantics.specs.Published.{EquatedAll}
+use Rattle.semantics.specs.Correspondence.{ChoicesArePairings, OverlapsAreCriticalPairs}
+use Rattle.semantics.proofs.Configurations.{Or, inl, inr, Member, first, later, All}
+use Rattle.semantics.proofs.Options.{none-some}
+use Rattle.semantics.proofs.Multisets.{member-append, member-cons}
+use Rattle.semantics.proofs.Places.{some-equal}
+use Rattle.semantics.proofs.Listings.{at-member, member-at, answers-member, gather-member, NoRepeat, nothing}
+use Rattle.semantics.proofs.Listings.{norepeat-append, norepeat-gather, norepeat-answers}
+use Rattle.semantics.proofs.Listings as L
+use Rattle.semantics.proofs.Enumeration.{IsPairing, member-pairings, pairings-member, norepeat-pairings, OverlapParts, overlap-parts}
+use Rattle.semantics.proofs.Enumeration.{Listed, member-overlaps, overlaps-member}
+use Rattle.semantics.proofs.Valuations.{satisfiable-solved}
+use Rattle.semantics.proofs.Choices.{joints-partners, partners-joints, choice-pairing, pairing-choice}
+use Rattle.semantics.proofs.ChosenHeads.{equated-join, shifted-heads}
+use Rattle.semantics.proofs.OverlapSides.{overlap-critical, overlap-sides}
+
+-- what is listed once stands at one place
+norepeat-at : {A : Type 0} {a : A} {l : List A} (m n : ℕ) → NoRepeat l → getElem? l m ≡ some a → getElem? l n ≡ some a → m ≡ n
+norepeat-at m n nothing p q = none-some refl p
+norepeat-at zero zero (L.apart f h) p q = refl
+norepeat-at zero (suc n) (L.apart {l} f h) p q = absurd (f (subst (λ x. Member x l) (some-equal (sym p)) (at-member l n q)))
+norepeat-at (suc m) zero (L.apart {l} f h) p q = absurd (f (subst (λ x. Member x l) (some-equal (sym q)) (at-member l m p)))
+norepeat-at (suc m) (suc n) (L.apart f h) p q = ap suc (norepeat-at m n h p q)
+
+-- from a choice to its partners and back, and the other way round
+back-joints : (m n : ℕ) (js : List Joint) → Choice m n js → jointsOf (partnersOf m js) ≡ js
+unfolding jointsOf partnersOf
+back-joints m n js c = joints-partners m n 0 m (omega arith) (c .joints)
+
+back-partners : (m n : ℕ) (ds : List ℕ) → IsPairing m n ds → partnersOf m (jointsOf ds) ≡ ds
+unfolding jointsOf partnersOf
+back-partners m n ds h = subst (λ k. partnersOf k (jointsOf ds) ≡ ds) (h .long) (partners-joints 0 ds)
+
+-- the choices are the pairings
+pub choices-are-pairings : (m n : ℕ) → ChoicesArePairings m n
+choices-are-pairings m n = record {
+  enumerated = λ js c. member-at (member-pairings (choice-pairing m n js c));
+  chosen = λ i ds e. pairing-choice m n ds (listed i ds e);
+  back = back-joints m n;
+  forth = λ i ds e. back-partners m n ds (listed i ds e);
+  once = λ i k ds e f. norepeat-at i k (norepeat-pairings m n) e f;
+}
+  where
+    listed : (i : ℕ) (ds : List ℕ) → getElem? (pairings m n) i ≡ some ds → IsPairing m n ds
+    listed i ds e = pairings-member m n ds (at-member (pairings m n) i e)
+
+-- a critical pair has an overlap, by the partners of its choice
+pub critical-overlap :
+    (i j : Numbered) {js : List Joint} {c : CriticalPair} → Critical (i .rule) (j .rule) js c
+    → (o : Overlap) × (overlapOf i j (partnersOf (length (i .rule .heads)) js) ≡ some o)
+unfolding overlapOf jointsOf partnersOf
+critical-overlap i j {js} (critical {es} choice equated sat) =
+    let m = length (i .rule .heads) in
+    let n = length (j .rule .heads) in
+    let ds = partnersOf m js in
+    let hs = i .rule .heads in
+    let gs = map (mapTerms apart) (j .rule .heads) in
+    let paired = choice-pairing m n js choice in
+    let here : EquatedAll (picked hs (lefts (jointsOf ds))) (picked gs (rights (jointsOf ds))) es =
+        subst₂ (λ k g. EquatedAll (picked hs (lefts k)) (picked g (rights k)) es) (sym (back-joints m n js choice))
+        (sym (shifted-heads (j .rule))) equated in
+    let joins : joinEquations hs ds gs ≡ some es =
+        equated-join hs 0 hs gs (λ k. ap (getElem? hs) (let z : 0 + k ≡ k = omega arith in z)) (paired .long)
+        (subst (λ k. All (λ d. d ≤ k) ds) (sym (length-map (j .rule .heads) (mapTerms apart))) (paired .within)) here in
+    let (σ, solved) = satisfiable-solved es sat in
+    (record { first = i; second = j; partners = ds; goal = goalOf (map (mapTerms σ) (hs ++ unjoinedHeads 1 gs ds)) },
+    rw (joins, solved))
+
+-- it is of a choice
+critical-choice :
+    {r q : Rule} {js : List Joint} {c : CriticalPair} → Critical r q js c → Choice (length (r .heads)) (length (q .heads)) js
+critical-choice (critical choice equated sat) = choice
+
+-- an overlap of two rules has them for its own
+of-rules : (i j : Numbered) {o : Overlap} → Member o (overlapsOf i j) → (o .first ≡ i) × (o .second ≡ j)
+unfolding overlapsOf
+of-rules i j m =
+    let (ds, k, e) = answers-member (overlapOf i j) (pairings (length (i .rule .heads)) (length (j .rule .heads))) m in
+    let made = overlap-parts i j ds e .made in
+    (ap (λ (x : Overlap). x .first) made, ap (λ (x : Overlap). x .second) made)
+
+-- no overlap of two rules is enumerated twice
+norepeat-of : (i j : Numbered) → NoRepeat (overlapsOf i j)
+unfolding overlapsOf
+norepeat-of i j =
+    norepeat-answers (overlapOf i j) (λ ds ds′ o e f.
+    sym (ap (λ (x : Overlap). x .partners) (overlap-parts i j ds e .made))
+    ∙ ap (λ (x : Overlap). x .partners) (overlap-parts i j ds′ f .made))
+    (norepeat-pairings (length (i .rule .heads)) (length (j .rule .heads)))
+
+-- the first rule of an overlap among rules is one of them
+among-first : {o : Overlap} (l : List Numbered) → Member o (overlapsAmong l) → Member (o .first) l
+unfolding overlapsAmong
+among-first [] m = elim m [ ]
+among-first {o} (i ∷ js) m = go (member-append (gather (overlapsOf i) (i ∷ js)) m) (among-first js)
+  where
+    go :
+        Or (Member o (gather (overlapsOf i) (i ∷ js))) (Member o (overlapsAmong js))
+        → (Member o (overlapsAmong js) → Member (o .first) js) → Member (o .first) (i ∷ js)
+    go (inl k) ih =
+        let (j, a, b) = gather-member (overlapsOf i) (i ∷ js) k in
+        subst (λ x. Member x (i ∷ js)) (sym (of-rules i j b .0)) first
+    go (inr k) ih = later (ih k)
+
+-- no overlap among rules is enumerated twice
+norepeat-among : {l : List Numbered} → NoRepeat l → NoRepeat (overlapsAmong l)
+unfolding overlapsAmong
+norepeat-among nothing = nothing
+norepeat-among (L.apart {a = i} {l = js} f h) =
+    norepeat-append (norepeat-gather (overlapsOf i) (norepeat-of i)
+    (λ a b o m n. sym (of-rules i a m .1) ∙ of-rules i b n .1) (L.apart f h)) (norepeat-among h)
+    (λ o m n. let (j, a, b) = gather-member (overlapsOf i) (i ∷ js) m in
+    f (subst (λ x. Member x js) (of-rules i j b .0) (among-first js n)))
+
+-- the rules with their numbers are different
+numbered-from : {a : Numbered} (n : ℕ) (rs : List Rule) → Member a (numberedFrom n rs) → n ≤ a .number
+unfolding numberedFrom
+numbered-from n [] m = elim m [ ]
+numbered-from {a} n (r ∷ rs) m = go (member-cons m) (numbered-from (suc n) rs)
+  where
+    go :
+        Or (a ≡ record { number = n; rule = r }) (Member a (numberedFrom (suc n) rs))
+        → (Member a (numberedFrom (suc n) rs) → suc n ≤ a .number) → n ≤ a .number
+    go (inl e) ih = let z : a .number ≡ n = ap (λ (x : Numbered). x .number) e in omega arith
+    go (inr k) ih = let z = ih k in omega arith
+
+norepeat-numbered : (n : ℕ) (rs : List Rule) → NoRepeat (numberedFrom n rs)
+unfolding numberedFrom
+norepeat-numbered n [] = nothing
+norepeat-numbered n (r ∷ rs) =
+    L.apart {a = record { number = n; rule = r }} (λ m. let z : suc n ≤ n = numbered-from (suc n) rs m in omega arith)
+    (norepeat-numbered (suc n) rs)
+
+-- no overlap of a program is enumerated twice
+pub norepeat-overlaps : (p : Program) → NoRepeat (overlaps p)
+unfolding overlaps
+norepeat-overlaps p = norepeat-among (norepeat-numbered 0 (p .rules))
+
+-- overlaps of the same rules and joints are the same
+same-overlap :
+    (p : Program) (o u : Overlap) → Listed p o → Listed p u → o .first .number ≡ u .first .number
+    → o .second .number ≡ u .second .number → jointsOf (o .partners) ≡ jointsOf (u .partners) → o ≡ u
+same-overlap p o u l k a b c =
+    let one : o .first ≡ u .first = λ i. record {
+          number = a i;
+          rule = some-equal (sym (l .firstRule) ∙ ap (getElem? (p .rules)) a ∙ k .firstRule) i;
+        } in
+    let two : o .second ≡ u .second = λ i. record {
+          number = b i;
+          rule = some-equal (sym (l .secondRule) ∙ ap (getElem? (p .rules)) b ∙ k .secondRule) i;
+        } in
+    let m = length (u .first .rule .heads) in
+    let n = length (u .second .rule .heads) in
+    let partners : o .partners ≡ u .partners =
+        sym (back-partners (length (o .first .rule .heads)) (length (o .second .rule .heads)) (o .partners)
+        (pairings-member (length (o .first .rule .heads)) (length (o .second .rule .heads)) (o .partners) (l .paired)))
+        ∙ (λ i. partnersOf (length (one i .rule .heads)) (c i))
+        ∙ back-partners m n (u .partners) (pairings-member m n (u .partners) (k .paired)) in
+    some-equal (sym (l .made) ∙ (λ i. overlapOf (one i) (two i) (partners i)) ∙ k .made)
+
+-- the overlaps of a well-formed program are the critical pairs of its rules
+pub overlaps-are-critical-pairs : (p : Program) → isWellFormed p ≡ true → OverlapsAreCriticalPairs p
+overlaps-are-critical-pairs p w = record {
+  enumerated = enumerated;
+  ordered = λ n o e. let l = listed n o e in (l .firstRule, l .secondRule, l .ordered);
+  critical = λ n o e.
+      let l = listed n o e in
+      (pairOf (o .first .rule) (o .second .rule) (jointsOf (o .partners)) (parts-of o l .equations),
+      overlap-critical p w o l, overlap-sides p w o l);
+  once = λ m n o u e f a b c.
+      norepeat-at m n (norepeat-overlaps p) e
+      (f ∙ ap some (sym (same-overlap p o u (listed m o e) (listed n u f) a b c)));
+}
+  where
+    listed : (n : ℕ) (o : Overlap) → getElem? (overlaps p) n ≡ some o → Listed p o
+    listed n o e = overlaps-member p (at-member (overlaps p) n e)
+    parts-of : (o : Overlap) → Listed p o → OverlapParts (o .first) (o .second) (o .partners) o
+    parts-of o l = overlap-parts (o .first) (o .second) (o .partners) (l .made)
+    enumerated :
+        (i j : ℕ) (r q : Rule) (js : List Joint) (c : CriticalPair) → getElem? (p .rules) i ≡ some r
+        → getElem? (p .rules) j ≡ some q → i ≤ j → Critical r q js c
+        → (n : ℕ) × (o : Overlap) × (getElem? (overlaps p) n ≡ some o) × (o .first .number ≡ i) × (o .second .number ≡ j)
+          × (jointsOf (o .partners) ≡ js)
+    enumerated i j r q js c f g h k =
+        let one : Numbered = record { number = i; rule = r } in
+        let two : Numbered = record { number = j; rule = q } in
+        let m = length (r .heads) in
+        let n = length (q .heads) in
+        let ds = partnersOf m js in
+        let (o, e) = critical-overlap one two k in
+        let made = overlap-parts one two ds e .made in
+        let (x, at) = member-at (member-overlaps p i j f g h (member-pairings (choice-pairing m n js (critical-choice k))) e) in
+        (x, o, at, ap (λ (x : Overlap). x .first .number) made, ap (λ (x : Overlap). x .second .number) made,
+        ap (λ (x : Overlap). jointsOf (x .partners)) made ∙ back-joints m n js (critical-choice k))
