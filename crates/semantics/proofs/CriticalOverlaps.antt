@@ -186,7 +186,13 @@ overlaps-are-critical-pairs p w = record {
   critical = λ n o e.
       let l = listed n o e in
       (pairOf (o .first .rule) (o .second .rule) (jointsOf (o .partners)) (parts-of o l .equations),
-      overlap-critical p w o l, overlap-sides p w o l);
+      overlap-critical (paired-of o l) (parts-of o l), overlap-sides p w o l);
+  refused = λ i j n ds c at e k.
+      let m = length (i .rule .heads) in
+      let l = length (j .rule .heads) in
+      let back = back-partners m l ds (pairings-member m l ds (at-member (pairings m l) n at)) in
+      let (o, h) = critical-overlap i j k in
+      none-some e (subst (λ x. overlapOf i j x ≡ some o) back h);
   once = λ m n o u e f a b c.
       norepeat-at m n (norepeat-overlaps p) e
       (f ∙ ap some (sym (same-overlap p o u (listed m o e) (listed n u f) a b c)));
@@ -196,6 +202,9 @@ overlaps-are-critical-pairs p w = record {
     listed n o e = overlaps-member p (at-member (overlaps p) n e)
     parts-of : (o : Overlap) → Listed p o → OverlapParts (o .first) (o .second) (o .partners) o
     parts-of o l = overlap-parts (o .first) (o .second) (o .partners) (l .made)
+    paired-of : (o : Overlap) → Listed p o → IsPairing (length (o .first .rule .heads)) (length (o .second .rule .heads)) (o .partners)
+    paired-of o l =
+        pairings-member (length (o .first .rule .heads)) (length (o .second .rule .heads)) (o .partners) (l .paired)
     enumerated :
         (i j : ℕ) (r q : Rule) (js : List Joint) (c : CriticalPair) → getElem? (p .rules) i ≡ some r
         → getElem? (p .rules) j ≡ some q → i ≤ j → Critical r q js c

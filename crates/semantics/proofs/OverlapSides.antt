@@ -14,7 +14,7 @@ use Rattle.text.specs.Lists.{has, placeFrom, upTo, tabled}
 use Rattle.semantics.specs.Terms.{Term, Constraint, Equation, Rule, Program, State, mapTerms, alphabet, isWellFormed}
 use Rattle.semantics.specs.Terms as T
 use Rattle.semantics.specs.Firing.{without}
-use Rattle.semantics.specs.Overlaps.{apart, unjoinedHeads, appearing, numbered, goalOf, Overlap}
+use Rattle.semantics.specs.Overlaps.{apart, unjoinedHeads, appearing, numbered, goalOf, Numbered, Overlap}
 use Rattle.semantics.specs.Published.{Equated, EquatedAll, renamed, user, bodyItems, Emptied, Published, Represents}
 use Rattle.semantics.specs.Published as P
 use Rattle.semantics.specs.CriticalPairs.{lefts, rights, jointsOf, picked, shifted, shiftedHeads, pairOf, Critical, critical}
@@ -24,13 +24,13 @@ use Rattle.semantics.proofs.Configurations.{Or, inl, inr, Member, first
 use Rattle.semantics.proofs.Options.{true-false}
 use Rattle.semantics.proofs.Multisets.{member-map, member-unmap, member-append, member-append-left, member-append-right}
 use Rattle.semantics.proofs.Multisets.{all-member, all-map, all-mono, all-of-members}
-use Rattle.semantics.proofs.SolveLaws.{solve-solution}
+use Rattle.semantics.proofs.SolveLaws.{solve-solution, solve-keeps}
 use Rattle.semantics.proofs.MatchedTerms.{without-all}
 use Rattle.semantics.proofs.Renamings.{Separates, Avoids, ConstraintAvoids}
 use Rattle.semantics.proofs.Pairings.{leftover, alone, Agreed, leftover-map, alone-map, unjoined-leftover}
 use Rattle.semantics.proofs.Listings.{member-at}
-use Rattle.semantics.proofs.Places.{has-at}
-use Rattle.semantics.proofs.Appearing.{Known, appearing-known, appearing-from}
+use Rattle.semantics.proofs.Places.{getElem-map, getElem-at, place-stands, has-at}
+use Rattle.semantics.proofs.Appearing.{appearing-known, appearing-has, appearing-from}
 use Rattle.semantics.proofs.Enumeration.{IsPairing, OverlapParts, overlap-parts, Listed, pairings-member}
 use Rattle.semantics.proofs.JoinLaws.{join-agreed}
 use Rattle.semantics.proofs.OverlapGoals.{secondHeads, goalFirst, goalSecond, goal-variables, first-end, second-end}
@@ -39,7 +39,7 @@ use Rattle.semantics.proofs.Valuations.{solved-satisfiable}
 use Rattle.semantics.proofs.RuleLetters.{AllLetters, program-letters}
 use Rattle.semantics.proofs.Choices.{pairing-choice}
 use Rattle.semantics.proofs.ChosenHeads.{join-equated, without-rights, without-lefts, shifted-heads}
-use Rattle.semantics.proofs.Readings.{InGoal, goalNumber}
+use Rattle.semantics.proofs.Readings.{goalOrder, goalNumber, number-variable, InGoal}
 use Rattle.semantics.proofs.PairSides.{Within, ownHeads, OfHeads}
 use Rattle.semantics.proofs.JoinedHeads.{heads-same, agreed-member, leftover-member, alone-member, equated-sides, picked-member}
 use Rattle.semantics.proofs.PairStates.{seen-represents}
@@ -62,6 +62,28 @@ letter-avoids (T.var x) h = λ y k e. omega arith
 shifted-separates : Separates shifted
 unfolding shifted
 shifted-separates x y h k e = omega arith
+
+-- the equations that are solved are those between the chosen heads
+parts-equated :
+    {i j : Numbered} {ds : List ℕ} {o : Overlap} → IsPairing (length (i .rule .heads)) (length (j .rule .heads)) ds
+    → (parts : OverlapParts i j ds o)
+    → EquatedAll (picked (i .rule .heads) (lefts (jointsOf ds))) (picked (shiftedHeads (j .rule)) (rights (jointsOf ds)))
+      (parts .equations)
+unfolding jointsOf
+parts-equated {i} {j} {ds} paired parts =
+    subst (λ g. EquatedAll (picked (i .rule .heads) (lefts (jointsOf ds))) (picked g (rights (jointsOf ds))) (parts .equations))
+    (shifted-heads (j .rule))
+    (join-equated (i .rule .heads) 0 (i .rule .heads) ds (secondHeads j)
+    (λ k. ap (getElem? (i .rule .heads)) (let z : 0 + k ≡ k = omega arith in z)) (paired .long) (parts .joined))
+
+-- an overlap is a critical pair
+pub overlap-critical :
+    {i j : Numbered} {ds : List ℕ} {o : Overlap} → IsPairing (length (i .rule .heads)) (length (j .rule .heads)) ds
+    → (parts : OverlapParts i j ds o)
+    → Critical (i .rule) (j .rule) (jointsOf ds) (pairOf (i .rule) (j .rule) (jointsOf ds) (parts .equations))
+overlap-critical {i} {j} {ds} paired parts =
+    critical (pairing-choice (length (i .rule .heads)) (length (j .rule .heads)) ds paired) (parts-equated paired parts)
+    (solved-satisfiable (parts .equations) (parts .solved))
 
 module _ (p : Program) (w : isWellFormed p ≡ true) (o : Overlap) (listed : Listed p o) where
   -- its two rules, their heads, and its partners
@@ -93,17 +115,9 @@ module _ (p : Program) (w : isWellFormed p ≡ true) (o : Overlap) (listed : Lis
   paired : IsPairing (length firsts) (length (two .heads)) ds
   paired = pairings-member (length firsts) (length (two .heads)) ds (listed .paired)
 
-  -- the equations are those between the chosen heads, so it is a critical pair
+  -- the equations are those between the chosen heads
   equated : EquatedAll (picked firsts (lefts (jointsOf ds))) (picked seconds (rights (jointsOf ds))) es
-  unfolding jointsOf
-  equated =
-      subst (λ g. EquatedAll (picked firsts (lefts (jointsOf ds))) (picked g (rights (jointsOf ds))) es) (shifted-heads two)
-      (join-equated firsts 0 firsts ds (secondHeads (o .second))
-      (λ i. ap (getElem? firsts) (let z : 0 + i ≡ i = omega arith in z)) (paired .long) (parts .joined))
-
-  pub overlap-critical : Critical one two (jointsOf ds) (pairOf one two (jointsOf ds) es)
-  overlap-critical =
-      critical (pairing-choice (length firsts) (length (two .heads)) ds paired) equated (solved-satisfiable es (parts .solved))
+  equated = parts-equated paired parts
 
   -- the second rule's heads that are not joined, and the constraints of the goal before the unifier
   second-rest : without 0 (rights (jointsOf ds)) seconds ≡ leftover 1 (secondHeads (o .second)) ds
@@ -206,6 +220,49 @@ module _ (p : Program) (w : isWellFormed p ≡ true) (o : Overlap) (listed : Lis
       ap (λ cs. map (λ x. numbered (appearing [] (map (mapTerms σ) cs)) (σ (T.var x))) variables) joined-heads
       ∙ sym (map-map inGoal T.var variables)
 
+  -- every variable of the goal is one of the reading's terms
+  abbrev HeadTerm : Term → Type 0
+  HeadTerm t = Or (Within firsts t) (Within seconds t)
+
+  head-variable : (x : ℕ) → HeadTerm (T.var x) → has x variables ≡ true
+  head-variable x (inl (c, i, j)) = appearing-has x [] (member-append-left seconds i) j
+  head-variable x (inr (c, i, j)) = appearing-has x [] (member-append-right firsts i) j
+
+  beforehand-terms : {c : Constraint} {t : Term} → Member c beforehand → Member t (c .terms) → HeadTerm t
+  beforehand-terms {c} {t} i j = go (member-append firsts i)
+    where
+      go : Or (Member c firsts) (Member c (unjoinedHeads 1 (secondHeads (o .second)) ds)) → HeadTerm t
+      go (inl k) = inl (c, k, j)
+      go (inr k) =
+          inr (c, subst (Member c) (shifted-heads two) (leftover-member 1 (secondHeads (o .second)) ds
+          (subst (Member c) (unjoined-leftover 1 (secondHeads (o .second)) ds) k)), j)
+
+  goal-variable : (x : ℕ) → has x (goalOrder es σ (parts .solved) beforehand) ≡ true → has x variables ≡ true
+  unfolding mapTerms
+  goal-variable x h = go (appearing-from x [] (map (mapTerms σ) beforehand) h)
+    where
+      go :
+          Or (has x [] ≡ true) ((c : Constraint) × Member c (map (mapTerms σ) beforehand) × Member (T.var x) (c .terms))
+          → has x variables ≡ true
+      go (inl k) = true-false k refl
+      go (inr (c, i, j)) =
+          let (d, k, e) = member-unmap (mapTerms σ) beforehand i in
+          let (t, l, q) = member-unmap σ (d .terms) (subst (λ (a : Constraint). Member (T.var x) (a .terms)) e j) in
+          head-variable x (subst HeadTerm (sym q) (solve-keeps HeadTerm es (parts .solved)
+          (λ e m. let (a, b) = condition-of e m in (inl a, inr b)) t (beforehand-terms k l)))
+
+  covered :
+      (v : ℕ) → v < o .goal .variables
+      → (n : ℕ) × (getElem? (reading σ (joined one two (jointsOf ds)) variables) n ≡ some (T.var v))
+  covered v h =
+      let order = goalOrder es σ (parts .solved) beforehand in
+      let (x, at) = getElem-at order v (subst (λ k. v < k) (goal-variables parts) h) in
+      let n = placeFrom (eqb x) 0 variables in
+      let stands : getElem? variables n ≡ some x =
+          place-stands x variables (goal-variable x (has-at x order v at)) in
+      (n, ap (λ l. getElem? l n) reading-is ∙ getElem-map inGoal (map T.var variables) n (getElem-map T.var variables n stands)
+      ∙ ap some (number-variable es σ (parts .solved) beforehand v at))
+
   -- the configuration after a rule has fired in the goal
   abbrev Fired : State → Rule → ℕ → List Constraint → List Constraint → Type 1
   Fired s r k M L = Rep s (fireC r (confOf (tabled T.var k) (o .goal .constraints)) (map liftAtom M) (map liftAtom L))
@@ -267,6 +324,7 @@ module _ (p : Program) (w : isWellFormed p ≡ true) (o : Overlap) (listed : Lis
     unifier = σ;
     solved = parts .solved;
     goal = ap (λ (x : Overlap). x .goal) (parts .made) ∙ ap (λ cs. goalOf (map (mapTerms σ) cs)) (sym joined-heads);
+    covered = covered;
     first = record { state = first-end p listed .0; fires = first-end p listed .1; represents = first-represents };
     second = record { state = second-end p listed .0; fires = second-end p listed .1; represents = second-represents };
   }

@@ -126,16 +126,19 @@ module _ (es : List Equation) (σ : Term → Term) (p : solve es (λ t. t) ≡ s
           let (t, l, q) = member-unmap σ (d .terms) (subst (λ (a : Constraint). Member (T.var x) (a .terms)) e j) in
           ap σ q ∙ solution-again (solve-solution es p) t ∙ sym q
 
+  -- the variable at a place of the order is the goal's variable of that number
+  pub number-variable : (v : ℕ) {x : ℕ} → getElem? goalOrder v ≡ some x → goalNumber (T.var x) ≡ T.var v
+  unfolding numbered
+  number-variable v {x} at =
+      ap (numbered goalOrder) (order-fixed x (has-at x goalOrder v at))
+      ∙ ap T.var (place-unique goalOrder v x (appearing-distinct [] (map (mapTerms σ) cs) tt) at)
+
   -- numbering undoes denoting
   undo : (u : Tm ℕ) → used u → Eqv [] (sub number (sub denote u)) u
-  unfolding numbered
   undo (con c) h = same
   undo (var v) h =
       let (x, at) = getElem-at goalOrder v h in
-      let e : getD goalOrder v 0 ≡ x = getD-at goalOrder v 0 at in
-      eqv-path (ap (λ y. lift (goalNumber (T.var y))) e
-      ∙ ap (λ t. lift (numbered goalOrder t)) (order-fixed x (has-at x goalOrder v at))
-      ∙ ap var (place-unique goalOrder v x (appearing-distinct [] (map (mapTerms σ) cs) tt) at))
+      eqv-path (ap (λ y. lift (goalNumber (T.var y))) (getD-at goalOrder v 0 at) ∙ ap lift (number-variable v at))
 
   number-core : Core [] (map liftEqn es) Denotes
   number-core = core-of-maps denote number used (λ c. tt) (λ e i. elim i [ ]) number-held undo

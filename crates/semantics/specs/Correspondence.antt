@@ -5,18 +5,18 @@
 --   Side, Sides                  of an overlap and a critical pair
 --   OverlapsAreCriticalPairs     of a program
 -- Assumes nothing.
-use Prim.Native.Nat.{ℕ, _≤_}
+use Prim.Native.Nat.{ℕ, _<_, _≤_}
 use mathlib.Core.List.{List, map}
 use mathlib.Core.Option.{none, some}
 use mathlib.Core.Path.{_≡_}
 use lib.ListN.{length, getElem?}
 use Rattle.text.specs.Lists.{upTo}
-use Rattle.semantics.specs.Terms.{Term, Rule, Program, State, mapTerms}
+use Rattle.semantics.specs.Terms.{Term, var, Rule, Program, State, mapTerms}
 use Rattle.semantics.specs.Solving.{solve}
 use Rattle.semantics.specs.Firing.{fireAt}
 use Rattle.semantics.specs.Derivations.{NoRuleFits}
 use Rattle.semantics.specs.Strategy.{entered}
-use Rattle.semantics.specs.Overlaps.{pairings, Overlap, secondPositions, goalOf, overlapOf, overlaps}
+use Rattle.semantics.specs.Overlaps.{pairings, Numbered, Overlap, secondPositions, goalOf, overlapOf, overlaps}
 use Rattle.semantics.specs.Published.{Published, Simplify, Emptied, Represents, Goes}
 use Rattle.semantics.specs.CriticalPairs.{Joint, Choice, jointsOf, partnersOf, CriticalPair, Critical, leftState, rightState}
 use Rattle.semantics.specs.CriticalPairs.{joined, reading, seen}
@@ -51,11 +51,14 @@ pub record Side (o : Overlap) (r : Rule) (ps : List ℕ) (ts : List Term) (a : P
   pub represents : (b : Published) → Emptied a b → Represents b (seen ts state)
 
 -- the two sides of an overlap are the two states of a critical pair, under the unifier of the pair's condition, which makes the
--- overlap's goal of the joined heads
+-- overlap's goal of the joined heads. The reading leaves out no variable of the goal
 pub record Sides (o : Overlap) (js : List Joint) (c : CriticalPair) : Type 1 where
   pub unifier : Term → Term
   pub solved : solve (c .condition) (λ t. t) ≡ some unifier
   pub goal : o .goal ≡ goalOf (map (mapTerms unifier) (joined (o .first .rule) (o .second .rule) js))
+  pub covered :
+      (v : ℕ) → v < o .goal .variables
+      → (n : ℕ) × (getElem? (reading unifier (joined (o .first .rule) (o .second .rule) js) (c .variables)) n ≡ some (var v))
   pub first :
       Side o (o .first .rule) (upTo (length (o .first .rule .heads)))
       (reading unifier (joined (o .first .rule) (o .second .rule) js) (c .variables)) (leftState c)
@@ -81,6 +84,11 @@ pub record OverlapsAreCriticalPairs (p : Program) : Type 1 where
       (n : ℕ) (o : Overlap) → getElem? (overlaps p) n ≡ some o
       → (c : CriticalPair) × Critical (o .first .rule) (o .second .rule) (jointsOf (o .partners)) c
         × Sides o (jointsOf (o .partners)) c
+  -- a pairing that does not unify is no critical pair
+  pub refused :
+      (i j : Numbered) (n : ℕ) (ds : List ℕ) (c : CriticalPair)
+      → getElem? (pairings (length (i .rule .heads)) (length (j .rule .heads))) n ≡ some ds → overlapOf i j ds ≡ none
+      → Critical (i .rule) (j .rule) (jointsOf ds) c → ⊥
   -- nothing is enumerated twice
   pub once :
       (m n : ℕ) (o u : Overlap) → getElem? (overlaps p) m ≡ some o → getElem? (overlaps p) n ≡ some u
