@@ -74,3 +74,4 @@ pub mod PairStates
 pub mod JoinedHeads
 pub mod OverlapSides
 pub mod CriticalOverlaps
+pub mod Represented
