@@ -75,3 +75,5 @@ pub mod JoinedHeads
 pub mod OverlapSides
 pub mod CriticalOverlaps
 pub mod Represented
+pub mod Derived
+pub mod Demand2

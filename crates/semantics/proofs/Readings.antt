@@ -54,7 +54,7 @@ entries-become b none = refl
 entries-become b (also {a = t} h more) = ap₂ _∷_ (entry-become b t h) (entries-become b more)
 
 -- what terms have become is in scope where the face is
-become-below : {n : ℕ} {b : List Term} → All (TermBelow n) b → (t : Term) → TermBelow (length b) t → TermBelow n (become b t)
+pub become-below : {n : ℕ} {b : List Term} → All (TermBelow n) b → (t : Term) → TermBelow (length b) t → TermBelow n (become b t)
 unfolding become
 become-below a (T.con c) h = tt
 become-below {n} a (T.var x) h = go (T.var x) x a h

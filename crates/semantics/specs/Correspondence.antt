@@ -4,17 +4,19 @@
 --   ChoicesArePairings           of the numbers of heads of two rules
 --   Side, Sides                  of an overlap and a critical pair
 --   OverlapsAreCriticalPairs     of a program
+--   Demand2                      all of demand 2, as one claim
 -- Assumes nothing.
 use Prim.Native.Nat.{ℕ, _<_, _≤_}
-use mathlib.Core.List.{List, map}
+use mathlib.Core.Bool.{true}
+use mathlib.Core.List.{List, [], map}
 use mathlib.Core.Option.{none, some}
 use mathlib.Core.Path.{_≡_}
 use lib.ListN.{length, getElem?}
 use Rattle.text.specs.Lists.{upTo}
-use Rattle.semantics.specs.Terms.{Term, var, Rule, Program, State, mapTerms}
+use Rattle.semantics.specs.Terms.{Term, var, Rule, Program, Goal, State, mapTerms, isGoalOf}
 use Rattle.semantics.specs.Solving.{solve}
 use Rattle.semantics.specs.Firing.{fireAt}
-use Rattle.semantics.specs.Derivations.{NoRuleFits}
+use Rattle.semantics.specs.Derivations.{Event, derive, NoRuleFits}
 use Rattle.semantics.specs.Strategy.{entered}
 use Rattle.semantics.specs.Overlaps.{pairings, Numbered, Overlap, secondPositions, goalOf, overlapOf, overlaps}
 use Rattle.semantics.specs.Published.{Published, Simplify, Emptied, Represents, Goes}
@@ -94,3 +96,15 @@ pub record OverlapsAreCriticalPairs (p : Program) : Type 1 where
       (m n : ℕ) (o u : Overlap) → getElem? (overlaps p) m ≡ some o → getElem? (overlaps p) n ≡ some u
       → o .first .number ≡ u .first .number → o .second .number ≡ u .second .number
       → jointsOf (o .partners) ≡ jointsOf (u .partners) → m ≡ n
+
+-- demand 2 of a program: every state of a derivation of one of its goals represents a published state, and firing in it is Simplify
+-- there; the choices of heads are the pairings; and the overlaps are the critical pairs
+pub record Demand2 (p : Program) : Type 1 where
+  pub represented :
+      (g : Goal) (es : List Event) → isGoalOf p g ≡ true
+      → (a : Published) × (a .goals ≡ []) × Represents a (derive p g es .state)
+  pub firing :
+      (g : Goal) (es : List Event) (a : Published) → isGoalOf p g ≡ true → a .goals ≡ [] → Represents a (derive p g es .state)
+      → FiringIsSimplify p a (derive p g es .state)
+  pub choices : (m n : ℕ) → ChoicesArePairings m n
+  pub overlaps : OverlapsAreCriticalPairs p

@@ -1,0 +1,20 @@
+-- Demand 2 for every well-formed program: firing is the published Simplify step, and the overlaps are the published critical pairs.
+--   demand-2
+-- Assumes nothing.
+use mathlib.Core.Bool.{true}
+use mathlib.Core.Path.{_≡_}
+use Rattle.semantics.specs.Terms.{Program, isWellFormed}
+use Rattle.semantics.specs.Derivations.{derive}
+use Rattle.semantics.specs.Correspondence.{Demand2}
+use Rattle.semantics.proofs.FiringIsSimplify.{firing-is-simplify}
+use Rattle.semantics.proofs.Represented.{state-represents}
+use Rattle.semantics.proofs.Derived.{derive-scoped}
+use Rattle.semantics.proofs.CriticalOverlaps.{choices-are-pairings, overlaps-are-critical-pairs}
+
+pub demand-2 : (p : Program) → isWellFormed p ≡ true → Demand2 p
+demand-2 p w = record {
+  represented = λ g es over. state-represents (derive p g es .state) (derive-scoped p g es w over);
+  firing = λ g es a over goals v. firing-is-simplify p a (derive p g es .state) w (derive-scoped p g es w over) goals v;
+  choices = choices-are-pairings;
+  overlaps = overlaps-are-critical-pairs p w;
+}
