@@ -125,16 +125,6 @@ none-joints k [] e = refl
 none-joints k (zero ∷ ds) e = none-joints (suc k) ds (rw (equal-eqb {m = 0} refl) at e)
 none-joints k (suc d ∷ ds) e = true-false (rw (eqb·zero-suc d) at e) refl
 
--- a pairing gives a choice
-pub pairing-choice : (m n : ℕ) (ds : List ℕ) → IsPairing m n ds → Choice m n (jointsOf ds)
-unfolding isPairing jointsOf
-pairing-choice m n ds p =
-    let (u, v) = and-true (isOneToOne ds) (not (every (eqb 0) ds)) (p .pairs) in
-    record {
-      joints = joints-of m n 0 (omega (arith, p .long)) (p .within) u;
-      nonempty = λ e. true-false (joints-none 0 ds e) (not-true (every (eqb 0) ds) v);
-    }
-
 -- the partners are as many as the heads, and within bounds
 partners-long : (k m : ℕ) (js : List Joint) → length (partnersFrom k m js) ≡ m
 unfolding partnersFrom
@@ -172,3 +162,13 @@ choice-pairing m n js c =
     both : (a b : Bool) → a ≡ true → (b ≡ true → ⊥) → (a && not b) ≡ true
     both a true p q = absurd (q refl)
     both a false p q = rw p
+
+-- a pairing gives a choice
+pub pairing-choice : (m n : ℕ) (ds : List ℕ) → IsPairing m n ds → Choice m n (jointsOf ds)
+unfolding isPairing jointsOf
+pairing-choice m n ds p =
+    let (u, v) = and-true (isOneToOne ds) (not (every (eqb 0) ds)) (p .pairs) in
+    record {
+      joints = joints-of m n 0 (omega (arith, p .long)) (p .within) u;
+      nonempty = λ e. true-false (joints-none 0 ds e) (not-true (every (eqb 0) ds) v);
+    }

@@ -1,7 +1,6 @@
 -- The overlaps of a program are the critical pairs of its rules (document 000, definition 3.4), one to one.
 --   choices-are-pairings             which heads are equated with which, as it is enumerated
 --   critical-overlap                 a critical pair has an overlap
---   norepeat-overlaps                no overlap is enumerated twice
 --   overlaps-are-critical-pairs      the claim, of every well-formed program
 -- Assumes nothing.
 use Prim.Native.Nat.{ℕ, zero, suc, _+_, _≤_}
@@ -28,7 +27,7 @@ use Rattle.semantics.proofs.Listings.{at-member, member-at, answers-mem
 use Rattle.semantics.proofs.Listings.{norepeat-append, norepeat-gather, norepeat-answers}
 use Rattle.semantics.proofs.Listings as L
 use Rattle.semantics.proofs.Enumeration.{IsPairing, member-pairings, pairings-member, norepeat-pairings, OverlapParts, overlap-parts}
-use Rattle.semantics.proofs.Enumeration.{Listed, member-overlaps, overlaps-member}
+use Rattle.semantics.proofs.Enumeration.{Listed, member-overlaps, overlaps-member, norepeat-overlaps}
 use Rattle.semantics.proofs.Valuations.{satisfiable-solved}
 use Rattle.semantics.proofs.Choices.{joints-partners, partners-joints, choice-pairing, pairing-choice}
 use Rattle.semantics.proofs.ChosenHeads.{equated-join, shifted-heads}
@@ -90,71 +89,6 @@ critical-overlap i j {js} (critical {es} choice equated sat) =
 critical-choice :
     {r q : Rule} {js : List Joint} {c : CriticalPair} → Critical r q js c → Choice (length (r .heads)) (length (q .heads)) js
 critical-choice (critical choice equated sat) = choice
-
--- an overlap of two rules has them for its own
-of-rules : (i j : Numbered) {o : Overlap} → Member o (overlapsOf i j) → (o .first ≡ i) × (o .second ≡ j)
-unfolding overlapsOf
-of-rules i j m =
-    let (ds, k, e) = answers-member (overlapOf i j) (pairings (length (i .rule .heads)) (length (j .rule .heads))) m in
-    let made = overlap-parts i j ds e .made in
-    (ap (λ (x : Overlap). x .first) made, ap (λ (x : Overlap). x .second) made)
-
--- no overlap of two rules is enumerated twice
-norepeat-of : (i j : Numbered) → NoRepeat (overlapsOf i j)
-unfolding overlapsOf
-norepeat-of i j =
-    norepeat-answers (overlapOf i j) (λ ds ds′ o e f.
-    sym (ap (λ (x : Overlap). x .partners) (overlap-parts i j ds e .made))
-    ∙ ap (λ (x : Overlap). x .partners) (overlap-parts i j ds′ f .made))
-    (norepeat-pairings (length (i .rule .heads)) (length (j .rule .heads)))
-
--- the first rule of an overlap among rules is one of them
-among-first : {o : Overlap} (l : List Numbered) → Member o (overlapsAmong l) → Member (o .first) l
-unfolding overlapsAmong
-among-first [] m = elim m [ ]
-among-first {o} (i ∷ js) m = go (member-append (gather (overlapsOf i) (i ∷ js)) m) (among-first js)
-  where
-    go :
-        Or (Member o (gather (overlapsOf i) (i ∷ js))) (Member o (overlapsAmong js))
-        → (Member o (overlapsAmong js) → Member (o .first) js) → Member (o .first) (i ∷ js)
-    go (inl k) ih =
-        let (j, a, b) = gather-member (overlapsOf i) (i ∷ js) k in
-        subst (λ x. Member x (i ∷ js)) (sym (of-rules i j b .0)) first
-    go (inr k) ih = later (ih k)
-
--- no overlap among rules is enumerated twice
-norepeat-among : {l : List Numbered} → NoRepeat l → NoRepeat (overlapsAmong l)
-unfolding overlapsAmong
-norepeat-among nothing = nothing
-norepeat-among (L.apart {a = i} {l = js} f h) =
-    norepeat-append (norepeat-gather (overlapsOf i) (norepeat-of i)
-    (λ a b o m n. sym (of-rules i a m .1) ∙ of-rules i b n .1) (L.apart f h)) (norepeat-among h)
-    (λ o m n. let (j, a, b) = gather-member (overlapsOf i) (i ∷ js) m in
-    f (subst (λ x. Member x js) (of-rules i j b .0) (among-first js n)))
-
--- the rules with their numbers are different
-numbered-from : {a : Numbered} (n : ℕ) (rs : List Rule) → Member a (numberedFrom n rs) → n ≤ a .number
-unfolding numberedFrom
-numbered-from n [] m = elim m [ ]
-numbered-from {a} n (r ∷ rs) m = go (member-cons m) (numbered-from (suc n) rs)
-  where
-    go :
-        Or (a ≡ record { number = n; rule = r }) (Member a (numberedFrom (suc n) rs))
-        → (Member a (numberedFrom (suc n) rs) → suc n ≤ a .number) → n ≤ a .number
-    go (inl e) ih = let z : a .number ≡ n = ap (λ (x : Numbered). x .number) e in omega arith
-    go (inr k) ih = let z = ih k in omega arith
-
-norepeat-numbered : (n : ℕ) (rs : List Rule) → NoRepeat (numberedFrom n rs)
-unfolding numberedFrom
-norepeat-numbered n [] = nothing
-norepeat-numbered n (r ∷ rs) =
-    L.apart {a = record { number = n; rule = r }} (λ m. let z : suc n ≤ n = numbered-from (suc n) rs m in omega arith)
-    (norepeat-numbered (suc n) rs)
-
--- no overlap of a program is enumerated twice
-pub norepeat-overlaps : (p : Program) → NoRepeat (overlaps p)
-unfolding overlaps
-norepeat-overlaps p = norepeat-among (norepeat-numbered 0 (p .rules))
 
 -- overlaps of the same rules and joints are the same
 same-overlap :
