@@ -1,2 +1,5 @@
 -- Laws of this crate's definitions. Assumes nothing.
 pub mod Opened
+pub mod Tabled
+pub mod Letters
+pub mod Constants
