@@ -99,3 +99,62 @@ module _ (first second cells : List ℕ) (n m : ℕ) where
         let same : k ≡ n + m = omega arith in
         ap some (constants-more k start len same (omega arith) ∙ ap (λ (x : List ℕ). cs ++ (x ∷ [])) (sym q))
         ∙ sym (ap roomy (longer k e p h) ∙ roomy-some (cs ++ (f ∷ [])) (omega (arith, sized, length-append cs (f ∷ []))))
+
+-- what a limit says of the constants
+pub roomy-is : (cs ds : List (List ℕ)) → some ds ≡ roomy cs → (cs ≡ ds) × (length cs ≤ 64)
+unfolding roomy maxConstants
+roomy-is cs ds e = go (ltb 64 (length cs)) refl e
+  where
+    go : (t : Bool) → ltb 64 (length cs) ≡ t → some ds ≡ cond t none (some cs) → (cs ≡ ds) × (length cs ≤ 64)
+    go true p q = absurd (let z : _≡_ {A = ℕ} 0 1 = cc in omega arith)
+    go false p q = (let z : cs ≡ ds = cc in z, ltb-false 64 (length cs) p)
+
+pub roomy-not : (cs : List (List ℕ)) → none ≡ roomy cs → 64 < length cs
+unfolding roomy maxConstants
+roomy-not cs e = go (ltb 64 (length cs)) refl e
+  where
+    go : (t : Bool) → ltb 64 (length cs) ≡ t → none ≡ cond t none (some cs) → 64 < length cs
+    go true p q = ltb-true 64 (length cs) p
+    go false p q = absurd (let z : _≡_ {A = ℕ} 0 1 = cc in omega arith)
+
+-- the constants after more fields are not fewer
+with-grows : (f : List ℕ) (cs : List (List ℕ)) → length cs ≤ length (withName f cs)
+unfolding withName
+with-grows f cs = go (isKnown f cs)
+  where
+    go : (t : Bool) → length cs ≤ length (cond t cs (cs ++ (f ∷ [])))
+    go true = omega arith
+    go false = omega (arith, length-append cs (f ∷ []))
+
+one-grows : (f : List ℕ) (cs : List (List ℕ)) → length cs ≤ length (cond (isName f) (withName f cs) cs)
+one-grows f cs = go (isName f)
+  where
+    go : (t : Bool) → length cs ≤ length (cond t (withName f cs) cs)
+    go true = with-grows f cs
+    go false = omega arith
+
+pub added-grows : (fs : List (List ℕ)) (cs : List (List ℕ)) → length cs ≤ length (constantsAfter fs cs)
+unfolding constantsAfter
+added-grows [] cs = omega arith
+added-grows (f ∷ fs) cs =
+    omega (arith, one-grows f cs, added-grows fs (cond (isName f) (withName f cs) cs))
+
+-- the constants after a line, one field on
+module _ (f : List ℕ) (all fs : List (List ℕ)) (cs : List (List ℕ)) (q : all ≡ f ∷ fs) where
+  unfold-one : constantsAfter all cs ≡ constantsAfter fs (cond (isName f) (withName f cs) cs)
+  unfolding constantsAfter
+  unfold-one = rw q
+
+  pub added-step : (ds : List (List ℕ)) → some ds ≡ roomy (cond (isName f) (withName f cs) cs)
+      → roomy (constantsAfter all cs) ≡ roomy (constantsAfter fs ds)
+  added-step ds e =
+      ap roomy (unfold-one ∙ ap (constantsAfter fs) (roomy-is (cond (isName f) (withName f cs) cs) ds e .0))
+
+  pub added-full : none ≡ roomy (cond (isName f) (withName f cs) cs) → none ≡ roomy (constantsAfter all cs)
+  added-full e =
+      let ds : List (List ℕ) = cond (isName f) (withName f cs) cs in
+      sym (ap roomy unfold-one ∙ roomy-none (constantsAfter fs ds) (omega (arith, roomy-not ds e, added-grows fs ds)))
+
+pub added-end : (all : List (List ℕ)) (cs : List (List ℕ)) → all ≡ [] → length cs ≤ 64 → some cs ≡ roomy (constantsAfter all cs)
+unfolding constantsAfter
+added-end all cs q h = rw q (sym (roomy-some cs h))

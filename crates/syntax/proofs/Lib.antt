@@ -3,3 +3,5 @@ pub mod Opened
 pub mod Tabled
 pub mod Letters
 pub mod Constants
+pub mod Cells
+pub mod Shapes
