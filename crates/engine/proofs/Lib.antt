@@ -1,0 +1,3 @@
+-- Laws of the engine's cells. Assumes nothing.
+pub mod CellLaws
+pub mod MatchLaws

@@ -1,0 +1,39 @@
+-- How the engine's arrays decode; the cells are those of the tables of `syntax`.
+--   assigned, fitOf      bindings of a rule's variables, and what matching answers
+--   Matched              what a match promises
+-- Assumes nothing.
+use Prim.Native.Nat.{ℕ}
+use mathlib.Core.Bool.{Bool, true, false, cond}
+use mathlib.Core.List.{List, [], _∷_}
+use mathlib.Core.Option.{Option, none, some}
+use mathlib.Core.Path.{_≡_}
+use lib.Dec.{eqb}
+use lib.ListN.{length, getD, drop}
+use Rattle.text.specs.Lists.{every}
+use Rattle.semantics.specs.Terms.{Constraint, isBelow, alphabet}
+use Rattle.semantics.specs.Matching.{Assignment}
+use Rattle.syntax.specs.Tables.{cellTerm, cellTerms}
+
+-- 26 cells as an assignment: cell x is what the rule variable x is replaced by, and 0 where nothing is settled
+unfoldable pub assigned : List ℕ → Assignment
+assigned bindings x = cond (eqb (getD bindings x 0) 0) none (some (cellTerm (getD bindings x 0)))
+
+-- what matching answers: whether it fits, and the bindings under which it does
+unfoldable pub fitOf : Bool → List ℕ → Option Assignment
+fitOf fits bindings = cond fits (some (assigned bindings)) none
+
+-- five cells as a constraint
+unfoldable pub rowConstraint : List ℕ → Constraint
+rowConstraint row = record { symbol = getD row 0 0; terms = cellTerms (drop 1 row) }
+
+-- what matching asks: a head and a constraint of five cells each, 26 bindings, and letters for the head's variables
+pub record Rows (head constraint bindings : List ℕ) : Type 0 where
+  pub head-size : length head ≡ 5
+  pub constraint-size : length constraint ≡ 5
+  pub bindings-size : length bindings ≡ 26
+  pub letters : every (isBelow alphabet) (rowConstraint head .terms) ≡ true
+
+-- a match promises the answer of its definition, in 26 cells
+pub record Matched (fits : Bool) (bindings : List ℕ) (answer : Option Assignment) : Type 0 where
+  pub same : fitOf fits bindings ≡ answer
+  pub size : length bindings ≡ 26

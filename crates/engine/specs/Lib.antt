@@ -1,0 +1,2 @@
+-- How the engine's arrays decode. Assumes nothing.
+pub mod Cells
