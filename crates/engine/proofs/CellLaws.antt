@@ -2,7 +2,7 @@
 --   same-cell        two cells are the same term where they are the same cell
 --   assigned-set     a stored binding extends the assignment
 -- Assumes nothing.
-use Prim.Native.Nat.{ℕ, zero, suc, _+_, _-_, _≤_, _<_}
+use Prim.Native.Nat.{ℕ, zero, suc, _+_, _-_, _*_, _≤_, _<_}
 use native.Mathlib.Omega.{arith}
 use mathlib.Core.Bool.{Bool, true, false, cond, _&&_}
 use mathlib.Core.List.{List, [], _∷_}
@@ -10,14 +10,14 @@ use mathlib.Core.Logic.{_⊎_, inl, inr, ⊎-elim}
 use mathlib.Core.Option.{Option, none, some}
 use mathlib.Core.Path.{_≡_, refl, ap, sym, fun-ext, _∙_}
 use lib.Dec.{eqb, ltb, leb}
-use lib.ListN.{length, getD, set, drop}
-use lib.Seq.{getD-set-same, getD-set-other, drop-cons}
+use lib.ListN.{length, getD, set, take, drop, length-drop}
+use lib.Seq.{getD-set-same, getD-set-other, drop-cons, drop-drop}
 use borrow.Author.Tests.{lt-ltb, le-ltb, eq-eqb, ne-eqb, eqb-true, eqb-false, leb-true, leb-false, ltb-true}
 use Rattle.text.specs.Lists.{every}
 use Rattle.semantics.specs.Terms.{Term, con, var, sameTerm, isBelow, alphabet}
 use Rattle.semantics.specs.Matching.{Assignment, extend}
-use Rattle.syntax.specs.Tables.{cellTerm, cellTerms}
-use Rattle.engine.specs.Cells.{assigned}
+use Rattle.syntax.specs.Tables.{cellTerm, cellTerms, cellConstraints}
+use Rattle.engine.specs.Cells.{assigned, rowConstraint}
 
 -- a test's two answers
 pub either : (b : Bool) → (b ≡ true) ⊎ (b ≡ false)
@@ -102,3 +102,21 @@ pub terms-more :
     → cellTerms (drop i l) ≡ cellTerm (getD l i 0) ∷ cellTerms (drop (suc i) l)
 unfolding cellTerms
 terms-more l i h e = rw (drop-cons l i 0 h, ne-eqb (getD l i 0) 0 e)
+
+-- five cells and more are a constraint and more
+constraints-five : (l : List ℕ) → 5 ≤ length l → cellConstraints l ≡ rowConstraint (take 5 l) ∷ cellConstraints (drop 5 l)
+unfolding cellConstraints rowConstraint
+constraints-five [] h = absurd (omega arith)
+constraints-five (k ∷ []) h = absurd (omega arith)
+constraints-five (k ∷ a ∷ []) h = absurd (omega arith)
+constraints-five (k ∷ a ∷ b ∷ []) h = absurd (omega arith)
+constraints-five (k ∷ a ∷ b ∷ c ∷ []) h = absurd (omega arith)
+constraints-five (k ∷ a ∷ b ∷ c ∷ d ∷ l) h = refl
+
+-- the constraints from number i on
+pub constraints-at :
+    (l : List ℕ) (i : ℕ) → 5 * i + 5 ≤ length l
+    → cellConstraints (drop (5 * i) l) ≡ rowConstraint (take 5 (drop (5 * i) l)) ∷ cellConstraints (drop (5 * suc i) l)
+constraints-at l i h =
+    let e : 5 * i + 5 ≡ 5 * suc i = omega arith in
+    constraints-five (drop (5 * i) l) (omega (arith, length-drop (5 * i) l)) ∙ rw (drop-drop 5 (5 * i) l, e)

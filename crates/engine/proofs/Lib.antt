@@ -1,3 +1,4 @@
 -- Laws of the engine's cells. Assumes nothing.
 pub mod CellLaws
 pub mod MatchLaws
+pub mod SearchLaws

@@ -1,2 +1,3 @@
 -- How the engine's arrays decode. Assumes nothing.
 pub mod Cells
+pub mod Places
