@@ -2,3 +2,4 @@
 pub mod CellLaws
 pub mod MatchLaws
 pub mod SearchLaws
+pub mod ChooseLaws

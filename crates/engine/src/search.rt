@@ -2,16 +2,17 @@
 use crate::matching::Fit;
 use crate::matching::match_constraint;
 ghost use mathlib.Core.Bool.{cond};
+ghost use mathlib.Core.List.{[]};
 ghost use mathlib.Core.Option.{none};
 ghost use mathlib.Core.Path.{_≡_};
 ghost use Prim.Native.Nat.{_≤_, _*_};
-ghost use lib.ListN.{length, take, drop};
+ghost use lib.ListN.{length, take, drop, getD};
 ghost use Rattle.text.specs.Lists.{has};
-ghost use Rattle.semantics.specs.Matching.{matchConstraint};
+ghost use Rattle.semantics.specs.Matching.{matchConstraint, unassigned};
 ghost use Rattle.semantics.specs.Strategy.{find};
-ghost use Rattle.syntax.specs.Tables.{cellConstraints};
+ghost use Rattle.syntax.specs.Tables.{cellConstraints, ruleOfRow};
 ghost use Rattle.engine.specs.Cells.{assigned, rowConstraint, Rows, Matched};
-ghost use Rattle.engine.specs.Places.{Seeking, Located};
+ghost use Rattle.engine.specs.Places.{Seeking, Located, Row, Table, Chosen};
 
 // Whether positions were found, with them and the bindings under which the heads fit there.
 pub struct Found {
@@ -91,5 +92,61 @@ pub fn find(heads: &[u16], n: usize, h: usize, cells: &[u16], m: usize, chosen: 
         found: false,
         positions: chosen,
         bindings,
+    }
+}
+
+// A rule that fits, by its number, and where it fits.
+pub struct Choice {
+    pub found: bool,
+    pub number: usize,
+    pub positions: [usize; 4],
+    pub bindings: [u16; 26],
+}
+
+// A cell as a number of the machine's width.
+pub fn wide(cell: u16) -> usize
+    ensures { λ r. ⌜ r ≡ cell ⌝ }
+{
+    cell as usize
+}
+
+// Positions for all heads of a rule.
+pub fn find_rule(row: &[u16], cells: &[u16], m: usize) -> Found
+    requires { ⌜ Row (now row) × (length (now cells) ≡ 5 * m) ⌝ }
+    ensures { λ r. ⌜ Located (r .found) (getD (now (row .entry)) 3 0) (r .positions) (r .bindings)
+      (find (ruleOfRow [] (now (row .entry)) .heads) (cellConstraints (now (cells .entry))) [] unassigned) ⌝ }
+{
+    let n = wide(row[3]);
+    let e = 6 + 5 * n;
+    find(&row[6..e], n, 0, cells, m, [0; 4], [0; 26])
+}
+
+// The first rule that fits.
+pub fn choose(rules: &[u16], n: usize, cells: &[u16], m: usize) -> Choice
+    requires { ⌜ Table (now rules) n × (length (now cells) ≡ 5 * m) ⌝ }
+    ensures { λ r. ⌜ Chosen (now (rules .entry)) n (now (cells .entry)) (r .found) (r .number) (r .positions) (r .bindings) ⌝ }
+{
+    let mut i = 0;
+    while i < n {
+        let a = 64 * i;
+        let e = a + 64;
+        let place = find_rule(&rules[a..e], cells, m);
+        if place.found {
+            let positions = place.positions;
+            let bindings = place.bindings;
+            return Choice {
+                found: true,
+                number: i,
+                positions,
+                bindings,
+            };
+        }
+        i += 1;
+    }
+    Choice {
+        found: false,
+        number: n,
+        positions: [0; 4],
+        bindings: [0; 26],
     }
 }
