@@ -3,3 +3,5 @@ pub mod CellLaws
 pub mod MatchLaws
 pub mod SearchLaws
 pub mod ChooseLaws
+pub mod MapLaws
+pub mod SolveLaws

@@ -1,13 +1,14 @@
 -- How the engine's arrays decode; the cells are those of the tables of `syntax`.
 --   assigned, fitOf      bindings of a rule's variables, and what matching answers
 --   Matched              what a match promises
+--   swap, merge          a variable's cell replaced; the solution of an equation between cells
 -- Assumes nothing.
 use Prim.Native.Nat.{ℕ}
-use mathlib.Core.Bool.{Bool, true, false, cond}
+use mathlib.Core.Bool.{Bool, true, false, cond, _&&_}
 use mathlib.Core.List.{List, [], _∷_}
 use mathlib.Core.Option.{Option, none, some}
 use mathlib.Core.Path.{_≡_}
-use lib.Dec.{eqb}
+use lib.Dec.{eqb, ltb}
 use lib.ListN.{length, getD, drop}
 use Rattle.text.specs.Lists.{every}
 use Rattle.semantics.specs.Terms.{Constraint, isBelow, alphabet}
@@ -37,3 +38,15 @@ pub record Rows (head constraint bindings : List ℕ) : Type 0 where
 pub record Matched (fits : Bool) (bindings : List ℕ) (answer : Option Assignment) : Type 0 where
   pub same : fitOf fits bindings ≡ answer
   pub size : length bindings ≡ 26
+
+-- a cell, with v replaced by t
+unfoldable pub swap : ℕ → ℕ → ℕ → ℕ
+swap v t x = cond (eqb x v) t x
+
+-- whether two cells are different constants
+unfoldable pub clashes : ℕ → ℕ → Bool
+clashes a b = cond (eqb a b) false (ltb a 256 && ltb b 256)
+
+-- a cell under the solution of an equation between two cells: the larger becomes the smaller
+unfoldable pub merge : ℕ → ℕ → ℕ → ℕ
+merge a b = cond (ltb a b) (swap b a) (swap a b)

@@ -1,3 +1,4 @@
 -- How the engine's arrays decode. Assumes nothing.
 pub mod Cells
 pub mod Places
+pub mod States

@@ -2,3 +2,4 @@
 // Each function equals the definition of `semantics` that its contract names, through the decodings of `syntax` and of specs/.
 pub mod matching;
 pub mod search;
+pub mod solving;

@@ -1,0 +1,44 @@
+-- `put_in` meets its contract.
+-- Assumes nothing.
+use borrow.Author.Needs.{needs}
+use Rattle.engine.proofs.SolveLaws.{merged-clash, merged-done}
+use Rattle.engine.proofs.solving.put_in.Statement.{statement}
+use Rattle.engine.proofs.solving.put_in.Tie as tie
+use Rattle.engine.proofs.solving.replace_all.Reads as replace-all-reads
+
+returns : tie.Need-returns
+returns c = merged-clash _ _ _ _ _ ((c .before .before .before .before .pre)) ((c .if1) .taken)
+
+replace-all-requires : tie.Need-replace-all-requires
+replace-all-requires c κs = search needs
+
+replace-all-requires-2 : tie.Need-replace-all-requires-2
+replace-all-requires-2 c κs = search needs
+
+replace-all-requires-3 : tie.Need-replace-all-requires-3
+replace-all-requires-3 c κs = search needs
+
+same-length : tie.Need-same-length
+same-length c = search needs
+
+same-length-2 : tie.Need-same-length-2
+same-length-2 c = search needs
+
+same-length-3 : tie.Need-same-length-3
+same-length-3 c = search needs
+
+returns-2 : tie.Need-returns-2
+returns-2 c = merged-done _ _ _ _ _ _ _ _ ((c .before .before .before .before .before .before .before .before .before .before .before .before .before .before .before .before .pre)) ((c .before .before .before .before .before .before .before .before .before .before .before .before .if1) .left) ((c .before .before .before .before .before .before .before .before .before .before .replace-all) .ensures) ((c .before .before .before .before .before .before .replace-all2) .ensures) ((c .before .before .replace-all3) .ensures)
+
+pub put-in-spec : {M : Type 1} → statement M
+put-in-spec =
+    tie.close
+    (tie.spec
+    returns
+    replace-all-requires
+    replace-all-requires-2
+    replace-all-requires-3
+    same-length
+    same-length-2
+    same-length-3
+    returns-2)
