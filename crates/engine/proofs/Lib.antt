@@ -5,3 +5,5 @@ pub mod SearchLaws
 pub mod ChooseLaws
 pub mod MapLaws
 pub mod SolveLaws
+pub mod FireLaws
+pub mod RuleLaws

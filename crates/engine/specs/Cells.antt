@@ -2,14 +2,16 @@
 --   assigned, fitOf      bindings of a rule's variables, and what matching answers
 --   Matched              what a match promises
 --   swap, merge          a variable's cell replaced; the solution of an equation between cells
+--   instanceCell         a cell of a rule's body, in the state
 -- Assumes nothing.
-use Prim.Native.Nat.{ℕ}
+use Prim.Native.Nat.{ℕ, _+_, _-_, _*_}
 use mathlib.Core.Bool.{Bool, true, false, cond, _&&_}
 use mathlib.Core.List.{List, [], _∷_}
 use mathlib.Core.Option.{Option, none, some}
 use mathlib.Core.Path.{_≡_}
 use lib.Dec.{eqb, ltb}
 use lib.ListN.{length, getD, drop}
+use lib.Seq.{paste}
 use Rattle.text.specs.Lists.{every}
 use Rattle.semantics.specs.Terms.{Constraint, isBelow, alphabet}
 use Rattle.semantics.specs.Matching.{Assignment}
@@ -50,3 +52,13 @@ clashes a b = cond (eqb a b) false (ltb a 256 && ltb b 256)
 -- a cell under the solution of an equation between two cells: the larger becomes the smaller
 unfoldable pub merge : ℕ → ℕ → ℕ → ℕ
 merge a b = cond (ltb a b) (swap b a) (swap a b)
+
+-- a cell of a rule's body: what the rule's variable is bound to, or a new variable
+unfoldable pub instanceCell : ℕ → List ℕ → ℕ → ℕ
+instanceCell next bindings x =
+    cond (ltb x 256) x
+    (cond (ltb (x - 256) 26) (cond (eqb (getD bindings (x - 256) 0) 0) (next + x) (getD bindings (x - 256) 0)) x)
+
+-- the cells with the constraint at one position written over that at another
+unfoldable pub movedRow : ℕ → ℕ → List ℕ → List ℕ
+movedRow from to cells = paste cells (5 * to) (drop (5 * from) cells) 5

@@ -3,3 +3,4 @@
 pub mod matching;
 pub mod search;
 pub mod solving;
+pub mod firing;
