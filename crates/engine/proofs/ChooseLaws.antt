@@ -75,10 +75,10 @@ drop-tabled f n i h =
     drop-cons (tabled f n) i (f i) (omega (arith, length-tabled f n)) ∙ rw (getD-tabled f n i (f i) h)
 
 -- a rule's row as the code lends it
-abbrev lentRow : List ℕ → ℕ → List ℕ
+abbrev pub lentRow : List ℕ → ℕ → List ℕ
 lentRow rules i = take (64 * i + 64 - 64 * i) (drop (64 * i) rules)
 
-row-cells : (i : ℕ) → 64 * i + 64 - 64 * i ≡ 64
+pub row-cells : (i : ℕ) → 64 * i + 64 - 64 * i ≡ 64
 row-cells i = omega arith
 
 -- the rules from i on give the choice among all of them
@@ -101,6 +101,7 @@ module _ (rules : List ℕ) (n : ℕ) (cells : List ℕ) (m i : ℕ) (given : Ta
         same = λ text. rw (drop-of-length-le (tabled (ruleOf text rules) n) {i = i}
           (omega (arith, length-tabled (ruleOf text rules) n))) at (w .same text);
         within = λ (z : false ≡ true). let y : _≡_ {A = ℕ} 0 1 = cc in absurd (omega arith);
+        fits = λ (z : false ≡ true). let y : _≡_ {A = ℕ} 0 1 = cc in absurd (omega arith);
         positions-size = refl;
         bindings-size = refl;
       }
@@ -140,6 +141,7 @@ module _ (rules : List ℕ) (n : ℕ) (cells : List ℕ) (m i : ℕ) (given : Ta
           record {
             same = λ text. rw z at (tried text);
             within = λ y. l;
+            fits = λ y. rw (row-cells i, z) at (t .same);
             positions-size = t .positions-size;
             bindings-size = t .bindings-size;
           }

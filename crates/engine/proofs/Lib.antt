@@ -7,3 +7,6 @@ pub mod MapLaws
 pub mod SolveLaws
 pub mod FireLaws
 pub mod RuleLaws
+pub mod WeightLaws
+pub mod StepLaws
+pub mod RunLaws

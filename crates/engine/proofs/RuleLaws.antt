@@ -145,14 +145,14 @@ module _ (row bindings : List ℕ) (next : ℕ) (cells : List ℕ) (w : ℕ) (q 
     rule-solved r bound b c s = record { same = λ after. rw (part, decoded) at (s .same after) }
 
 -- constraints with low symbols, one list behind the other
-every-append :
+pub every-append :
     {A : Type 0} (t : A → Bool) (l m : List A) → every t l ≡ true → every t m ≡ true → every t (l ++ m) ≡ true
 every-append t [] m h k = k
 every-append t (x ∷ l) m h k =
     rw (and-true (t x) (every t l) h .0, every-append t l m (and-true (t x) (every t l) h .1) k)
 
 -- those that stay
-low-without : (p : ℕ) (ps : List ℕ) (cs : List Constraint) → every isLow cs ≡ true → every isLow (without p ps cs) ≡ true
+pub low-without : (p : ℕ) (ps : List ℕ) (cs : List Constraint) → every isLow cs ≡ true → every isLow (without p ps cs) ≡ true
 unfolding without
 low-without p ps [] h = refl
 low-without p ps (c ∷ cs) h =
@@ -165,7 +165,7 @@ low-without p ps (c ∷ cs) h =
     go false more = rw (and-true (isLow c) (every isLow cs) h .0) more
 
 -- a body's symbols
-low-body : (cs : List Constraint) → every (λ (c : Constraint). isLow c && isLettered c) cs ≡ true → every isLow cs ≡ true
+pub low-body : (cs : List Constraint) → every (λ (c : Constraint). isLow c && isLettered c) cs ≡ true → every isLow cs ≡ true
 low-body [] h = refl
 low-body (c ∷ cs) h =
     let both : (isLow c && isLettered c) ≡ true =

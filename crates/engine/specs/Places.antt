@@ -13,7 +13,8 @@ use lib.Dec.{ltb, leb}
 use lib.ListN.{length, take, drop, getD}
 use Rattle.text.specs.Lists.{every}
 use Rattle.semantics.specs.Terms.{Term, con, var, Constraint, Equation, isBelow, alphabet}
-use Rattle.semantics.specs.Strategy.{Match, Choice, choose}
+use Rattle.semantics.specs.Matching.{unassigned}
+use Rattle.semantics.specs.Strategy.{Match, Choice, find, choose}
 use Rattle.syntax.specs.Tables.{cellConstraints, ruleOfRow, ruleOf, rulesOf}
 use Rattle.engine.specs.Cells.{assigned}
 
@@ -77,5 +78,9 @@ pub record Chosen (rules : List ℕ) (n : ℕ) (cells : List ℕ) (found : Bool)
   pub same :
       (text : List ℕ) → choiceOf text rules found number positions bindings ≡ choose (rulesOf text rules n) (cellConstraints cells)
   pub within : found ≡ true → number < n
+  pub fits :
+      found ≡ true
+      → foundOf true (getD (take 64 (drop (64 * number) rules)) 3 0) positions bindings
+      ≡ find (ruleOfRow [] (take 64 (drop (64 * number) rules)) .heads) (cellConstraints cells) [] unassigned
   pub positions-size : length positions ≡ 4
   pub bindings-size : length bindings ≡ 26

@@ -4,3 +4,4 @@ pub mod matching;
 pub mod search;
 pub mod solving;
 pub mod firing;
+pub mod derivation;
