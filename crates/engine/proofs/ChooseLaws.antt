@@ -30,32 +30,35 @@ unfolding assigned unassigned
 zeros-unassigned = fun-ext (λ x. rw (zeros-zero 26 x))
 
 module _ (row cells : List ℕ) (m w : ℕ) (r : Row row) (k : length cells ≡ 5 * m) (e : w ≡ getD row 3 0) where
+  none-placed : w - w ≡ 0
+  none-placed = omega arith
+
   heads-cells : 6 + 5 * w - 6 ≡ 5 * getD row 3 0
   heads-cells = omega arith
 
   -- what the search for a rule's heads asks
-  pub rule-seeking : Seeking (take (6 + 5 * w - 6) (drop 6 row)) w 0 cells m (replicate 4 0) (replicate 26 0)
+  pub rule-seeking : Seeking (take (6 + 5 * w - 6) (drop 6 row)) w w cells m (replicate 4 0) (replicate 26 0)
   unfolding ruleOfRow
   rule-seeking =
       record {
         heads-size = length-take-le (6 + 5 * w - 6) (drop 6 row)
           (omega (arith, length-drop 6 row, r .size, r .heads-few)) ∙ omega arith;
         few = omega (arith, r .heads-few);
-        placed = omega arith;
+        there = omega arith;
         cells-size = k;
         chosen-size = refl;
         bindings-size = refl;
-        letters = rw heads-cells (r .heads);
+        letters = rw (heads-cells, none-placed) (r .heads);
       }
 
   -- what it answers
   pub rule-located :
       (f : Bool) (ps b : List ℕ)
-      → Located f w ps b (find (cellConstraints (drop (5 * 0) (take (6 + 5 * w - 6) (drop 6 row)))) (cellConstraints cells)
-        (take 0 (replicate 4 0)) (assigned (replicate 26 0)))
+      → Located f w ps b (find (cellConstraints (drop (5 * (w - w)) (take (6 + 5 * w - 6) (drop 6 row)))) (cellConstraints cells)
+        (take (w - w) (replicate 4 0)) (assigned (replicate 26 0)))
       → Located f (getD row 3 0) ps b (find (ruleOfRow [] row .heads) (cellConstraints cells) [] unassigned)
   unfolding ruleOfRow
-  rule-located f ps b l = let k : 6 + 5 * w - 6 ≡ 5 * w = omega arith in rw (← e) (rw (k, zeros-unassigned) at l)
+  rule-located f ps b l = let k : 6 + 5 * w - 6 ≡ 5 * w = omega arith in rw (← e) (rw (k, none-placed, zeros-unassigned) at l)
 
 -- the entries of a table
 length-tabled : {A : Type 0} (f : ℕ → A) (n : ℕ) → length (tabled f n) ≡ n

@@ -106,8 +106,30 @@ lent-size l i h = rw (five i) (length-take-le 5 (drop (5 * i) l) (omega (arith, 
 first-symbol : (l : List ℕ) (i : ℕ) → getD (take 5 (drop (5 * i) l)) 0 0 ≡ getD l (5 * i) 0
 first-symbol l i = getD-take 5 (drop (5 * i) l) 0 0 (omega arith) ∙ getD-drop (5 * i) l 0 0 ∙ rw add-zero
 
+-- what the search asks, by the number of heads that are placed
+pub record Placing (heads : List ℕ) (n h : ℕ) (cells : List ℕ) (m : ℕ) (chosen bindings : List ℕ) : Type 0 where
+  pub heads-size : length heads ≡ 5 * n
+  pub few : n ≤ 4
+  pub cells-size : length cells ≡ 5 * m
+  pub chosen-size : length chosen ≡ 4
+  pub bindings-size : length bindings ≡ 26
+  pub letters : every isLettered (cellConstraints (drop (5 * h) heads)) ≡ true
+
+pub placing :
+    (heads : List ℕ) (n left : ℕ) (cells : List ℕ) (m : ℕ) (chosen bindings : List ℕ)
+    → Seeking heads n left cells m chosen bindings → Placing heads n (n - left) cells m chosen bindings
+placing heads n left cells m chosen bindings s =
+    record {
+      heads-size = s .heads-size;
+      few = s .few;
+      cells-size = s .cells-size;
+      chosen-size = s .chosen-size;
+      bindings-size = s .bindings-size;
+      letters = s .letters;
+    }
+
 module _ (heads : List ℕ) (n h : ℕ) (cells : List ℕ) (m : ℕ) (chosen bindings : List ℕ)
-    (s : Seeking heads n h cells m chosen bindings) where
+    (s : Placing heads n h cells m chosen bindings) where
   -- all heads have their positions
   pub seek-done : h ≡ n → Located true n chosen bindings (answer heads h cells chosen bindings)
   unfolding find foundOf cellConstraints
@@ -134,17 +156,18 @@ module _ (heads : List ℕ) (n h : ℕ) (cells : List ℕ) (m : ℕ) (chosen bin
 
     -- what the next head's search asks
     pub seek-next :
-        (q : ℕ) (b : List ℕ) → length b ≡ 26 → Seeking heads n (h + 1) cells m (set chosen h q) b
-    seek-next q b k =
-        rw (add-one h) (record {
+        (q : ℕ) (b : List ℕ) (left : ℕ) → left ≤ n → n - left ≡ suc h → length b ≡ 26
+        → Seeking heads n left cells m (set chosen h q) b
+    seek-next q b left t e k =
+        record {
           heads-size = s .heads-size;
           few = s .few;
-          placed = l;
+          there = t;
           cells-size = s .cells-size;
           chosen-size = length-set chosen h q ∙ s .chosen-size;
           bindings-size = k;
-          letters = seek-later;
-        })
+          letters = rw e seek-later;
+        }
 
     -- the search tries the constraints one after the other
     pub seek-start : Sought heads h cells m chosen bindings 0
@@ -213,14 +236,17 @@ module _ (heads : List ℕ) (n h : ℕ) (cells : List ℕ) (m : ℕ) (chosen bin
           seek-misfit z =
               skip (fitting ∙ rw (← t .same, z))
 
-          tried : f ≡ true → attempt heads h cells chosen bindings p this ≡ answer heads (h + 1) cells (set chosen h p) b
+          tried : f ≡ true → attempt heads h cells chosen bindings p this ≡ answer heads (suc h) cells (set chosen h p) b
           unfolding fitOf
           tried z =
               fitting
-              ∙ rw (← t .same, z, add-one h, take-suc-set chosen h p (omega (arith, s .chosen-size, s .few)))
+              ∙ rw (← t .same, z, take-suc-set chosen h p (omega (arith, s .chosen-size, s .few)))
 
-          module _ (z : f ≡ true) (g : Bool) (ps b′ : List ℕ)
-              (u : Located g n ps b′ (answer heads (h + 1) cells (set chosen h p) b)) where
+          module _ (z : f ≡ true) (g : Bool) (ps b′ : List ℕ) (next : ℕ)
+              (given-later : Located g n ps b′ (answer heads next cells (set chosen h p) b)) (e : next ≡ suc h) where
+            u : Located g n ps b′ (answer heads (suc h) cells (set chosen h p) b)
+            u = rw e at given-later
+
             -- the later heads find no positions
             pub seek-dead : g ≡ false → Sought heads h cells m chosen bindings (p + 1)
             unfolding foundOf

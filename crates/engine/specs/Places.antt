@@ -4,7 +4,7 @@
 --   Row, Table           rules that the engine runs
 --   choiceOf, Chosen     a rule that fits, and where
 -- Assumes nothing.
-use Prim.Native.Nat.{ℕ, _≤_, _<_, _*_}
+use Prim.Native.Nat.{ℕ, _-_, _*_, _≤_, _<_}
 use mathlib.Core.Bool.{Bool, true, false, cond, _&&_}
 use mathlib.Core.List.{List, [], _∷_}
 use mathlib.Core.Option.{Option, none, some, Option·map}
@@ -27,15 +27,15 @@ unfoldable pub foundOf : Bool → ℕ → List ℕ → List ℕ → Option Match
 foundOf found n positions bindings =
     cond found (some (record { positions = take n positions; assignment = assigned bindings })) none
 
--- n heads and m constraints of five cells each, positions for the first h heads, and letters for the variables of the others
-pub record Seeking (heads : List ℕ) (n h : ℕ) (cells : List ℕ) (m : ℕ) (chosen bindings : List ℕ) : Type 0 where
+-- n heads and m constraints of five cells each, positions for all heads but those left, and letters for the variables of those left
+pub record Seeking (heads : List ℕ) (n left : ℕ) (cells : List ℕ) (m : ℕ) (chosen bindings : List ℕ) : Type 0 where
   pub heads-size : length heads ≡ 5 * n
   pub few : n ≤ 4
-  pub placed : h ≤ n
+  pub there : left ≤ n
   pub cells-size : length cells ≡ 5 * m
   pub chosen-size : length chosen ≡ 4
   pub bindings-size : length bindings ≡ 26
-  pub letters : every isLettered (cellConstraints (drop (5 * h) heads)) ≡ true
+  pub letters : every isLettered (cellConstraints (drop (5 * (n - left)) heads)) ≡ true
 
 -- the search promises the answer of its definition, in four positions and 26 bindings
 pub record Located (found : Bool) (n : ℕ) (positions bindings : List ℕ) (answer : Option Match) : Type 0 where

@@ -5,7 +5,7 @@ ghost use mathlib.Core.Bool.{cond};
 ghost use mathlib.Core.List.{[]};
 ghost use mathlib.Core.Option.{none};
 ghost use mathlib.Core.Path.{_≡_};
-ghost use Prim.Native.Nat.{_≤_, _*_};
+ghost use Prim.Native.Nat.{_≤_, _*_, _-_};
 ghost use lib.ListN.{length, take, drop, getD};
 ghost use Rattle.text.specs.Lists.{has};
 ghost use Rattle.semantics.specs.Matching.{matchConstraint, unassigned};
@@ -52,20 +52,21 @@ pub fn fit_at(head: &[u16], constraint: &[u16], h: usize, p: usize, chosen: [usi
     match_constraint(head, constraint, bindings)
 }
 
-// Positions for the heads from number h on, each over the positions still free: the first that lets the later heads fit too.
-pub fn find(heads: &[u16], n: usize, h: usize, cells: &[u16], m: usize, chosen: [usize; 4], bindings: [u16; 26]) -> Found
-    requires { ⌜ Seeking (now heads) n h (now cells) m chosen bindings ⌝ }
+// Positions for the heads that are left, each over the positions still free: the first that lets the later heads fit too.
+pub fn find(heads: &[u16], n: usize, left: usize, cells: &[u16], m: usize, chosen: [usize; 4], bindings: [u16; 26]) -> Found
+    requires { ⌜ Seeking (now heads) n left (now cells) m chosen bindings ⌝ }
     ensures { λ r. ⌜ Located (r .found) n (r .positions) (r .bindings)
-      (find (cellConstraints (drop (5 * h) (now (heads .entry)))) (cellConstraints (now (cells .entry)))
-      (take h chosen) (assigned bindings)) ⌝ }
+      (find (cellConstraints (drop (5 * (n - left)) (now (heads .entry)))) (cellConstraints (now (cells .entry)))
+      (take (n - left) chosen) (assigned bindings)) ⌝ }
 {
-    if h == n {
+    if left == 0 {
         return Found {
             found: true,
             positions: chosen,
             bindings,
         };
     }
+    let h = n - left;
     let a = 5 * h;
     let e = a + 5;
     let head = &heads[a..e];
@@ -81,7 +82,7 @@ pub fn find(heads: &[u16], n: usize, h: usize, cells: &[u16], m: usize, chosen: 
                 let mut more = chosen;
                 more[h] = q;
                 let settled = fit.bindings;
-                let found = find(heads, n, h + 1, cells, m, more, settled);
+                let found = find(heads, n, left - 1, cells, m, more, settled);
                 if found.found {
                     return found;
                 }
@@ -118,7 +119,7 @@ pub fn find_rule(row: &[u16], cells: &[u16], m: usize) -> Found
 {
     let n = wide(row[3]);
     let e = 6 + 5 * n;
-    find(&row[6..e], n, 0, cells, m, [0; 4], [0; 26])
+    find(&row[6..e], n, n, cells, m, [0; 4], [0; 26])
 }
 
 // The first rule that fits.

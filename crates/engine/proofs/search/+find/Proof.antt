@@ -1,7 +1,7 @@
 -- `find` meets its contract: the positions from p on give the answer for all of them. The heads not yet placed fall at each call.
 -- Assumes nothing.
 use native.Mathlib.Omega.{arith}
-use Rattle.engine.proofs.SearchLaws.{Sought, seek-done, seek-start, seek-rows, seek-next, seek-found}
+use Rattle.engine.proofs.SearchLaws.{Sought, placing, seek-done, seek-start, seek-rows, seek-next, seek-found}
 use Rattle.engine.proofs.SearchLaws.{seek-dead, seek-misfit, seek-other, seek-none}
 use Prim.Native.Nat.{ℕ, _<_, _-_}
 use borrow.Fn.Kinds.{In}
@@ -14,7 +14,7 @@ use Rattle.engine.proofs.search.+find.{statement}
 use Rattle.engine.proofs.search.+find.Tie.{close}
 
 abbrev μ-find : Measures 2 find-kinds.ps ℕ
-μ-find κs a = a .1 .0 - a .1 .1 .0
+μ-find κs a = a .1 .1 .0
 
 abbrev find-at : ℕ → In 2 find-kinds.ps
 find-at t = and 2 find-kinds.ps (is 2 find-kinds.ps μ-find t) find.Pre
@@ -23,10 +23,10 @@ abbrev find-below : ℕ → In 2 find-kinds.ps
 find-below t = and 2 find-kinds.ps (falls 2 find-kinds.ps _<_ μ-find t) find.Pre
 
 abbrev find-Inv-loop : find-lts.InvT-loop
-find-Inv-loop heads n h cells m chosen bindings a e head p₀ p = Sought heads h cells m chosen bindings p
+find-Inv-loop heads n left cells m chosen bindings h a e head p₀ p = Sought heads h cells m chosen bindings p
 
 abbrev find-μ-loop : find-lts.MeasureT-loop
-find-μ-loop heads n h cells m chosen bindings a e head p₀ p = m - p
+find-μ-loop heads n left cells m chosen bindings h a e head p₀ p = m - p
 
 find-returns : (t : ℕ) → find-lts.Need-returns (
   fit-at-reads.Asked,
@@ -34,7 +34,15 @@ find-returns : (t : ℕ) → find-lts.Need-returns (
   find-below t,
   find.Post,
 ) (find-at t) find.Post find-Inv-loop find-μ-loop
-find-returns t c = seek-done _ _ _ _ _ _ _ ((c .before .before .before .pre) .1) ((c .if1) .taken)
+find-returns t c = seek-done _ _ _ _ _ _ _ (placing _ _ _ _ _ _ _ ((c .before .before .before .pre) .1)) (omega (arith, (c .before .before .before .pre) .1, (c .if1) .taken))
+
+find-sub-h : (t : ℕ) → find-lts.Need-sub-h (
+  fit-at-reads.Asked,
+  fit-at-reads.Learnt,
+  find-below t,
+  find.Post,
+) (find-at t) find.Post find-Inv-loop find-μ-loop
+find-sub-h t c = omega arith
 
 find-mul-a : (t : ℕ) → find-lts.Need-mul-a (
   fit-at-reads.Asked,
@@ -90,7 +98,7 @@ find-loop-holds : (t : ℕ) → find-lts.Need-loop-holds (
   find-below t,
   find.Post,
 ) (find-at t) find.Post find-Inv-loop find-μ-loop
-find-loop-holds t c = seek-start _ _ _ _ _ _ _ ((c .before .before .before .before .pre) .1) (omega arith)
+find-loop-holds t c = seek-start _ _ _ _ _ _ _ (placing _ _ _ _ _ _ _ ((c .before .before .before .before .pre) .1)) (omega arith)
 
 find-mul-b : (t : ℕ) → find-lts.Need-mul-b (
   fit-at-reads.Asked,
@@ -186,7 +194,7 @@ find-fit-at-requires : (t : ℕ) → find-lts.Need-fit-at-requires (
   find-below t,
   find.Post,
 ) (find-at t) find.Post find-Inv-loop find-μ-loop
-find-fit-at-requires t c κs = seek-rows _ _ _ _ _ _ _ ((c .before .before .before .before .before .before .before .before .before .before .pre) .1) (omega arith) _ ((c .before .before .before .before .before .loop) .inv) ((c .before .before .before .before .loop-test) .taken)
+find-fit-at-requires t c κs = seek-rows _ _ _ _ _ _ _ (placing _ _ _ _ _ _ _ ((c .before .before .before .before .before .before .before .before .before .before .pre) .1)) (omega arith) _ ((c .before .before .before .before .before .loop) .inv) ((c .before .before .before .before .loop-test) .taken)
 
 find-mul-more : (t : ℕ) → find-lts.Need-mul-more (
   fit-at-reads.Asked,
@@ -204,13 +212,13 @@ find-array-write-more : (t : ℕ) → find-lts.Need-array-write-more (
 ) (find-at t) find.Post find-Inv-loop find-μ-loop
 find-array-write-more t c = omega arith
 
-find-add-find : (t : ℕ) → find-lts.Need-add-find (
+find-sub-find : (t : ℕ) → find-lts.Need-sub-find (
   fit-at-reads.Asked,
   fit-at-reads.Learnt,
   find-below t,
   find.Post,
 ) (find-at t) find.Post find-Inv-loop find-μ-loop
-find-add-find t c = omega arith
+find-sub-find t c = omega arith
 
 find-find-requires : (t : ℕ) → find-lts.Need-find-requires (
   fit-at-reads.Asked,
@@ -220,7 +228,8 @@ find-find-requires : (t : ℕ) → find-lts.Need-find-requires (
 ) (find-at t) find.Post find-Inv-loop find-μ-loop
 find-find-requires t c κs = 
     (omega (arith, (c .before .before .before .before .before .before .before .before .before .before .before .before .before .pre) .0, (c .before .before .before .before .before .before .before .before .before .before .before .before .before .pre) .1, (c .before .before .before .before .before .before .before .before .before .before .if1) .left),
-      seek-next _ _ _ _ _ _ _ ((c .before .before .before .before .before .before .before .before .before .before .before .before .before .pre) .1) (omega (arith, (c .before .before .before .before .before .before .before .before .before .before .before .before .before .pre) .1, (c .before .before .before .before .before .before .before .before .before .before .if1) .left)) _ _ ((c .before .before .fit-at) .ensures .size))
+      seek-next _ _ _ _ _ _ _ (placing _ _ _ _ _ _ _ ((c .before .before .before .before .before .before .before .before .before .before .before .before .before .pre) .1)) (omega (arith, (c .before .before .before .before .before .before .before .before .before .before .before .before .before .pre) .1, (c .before .before .before .before .before .before .before .before .before .before .if1) .left)) _ _ _
+      (omega (arith, (c .before .before .before .before .before .before .before .before .before .before .before .before .before .pre) .1)) (omega (arith, (c .before .before .before .before .before .before .before .before .before .before .before .before .before .pre) .1, (c .before .before .before .before .before .before .before .before .before .before .if1) .left)) ((c .before .before .fit-at) .ensures .size))
 
 find-returns-2 : (t : ℕ) → find-lts.Need-returns-2 (
   fit-at-reads.Asked,
@@ -229,8 +238,9 @@ find-returns-2 : (t : ℕ) → find-lts.Need-returns-2 (
   find.Post,
 ) (find-at t) find.Post find-Inv-loop find-μ-loop
 find-returns-2 t c = 
-    seek-found _ _ _ _ _ _ _ ((c .before .before .before .before .before .before .before .before .before .before .before .before .before .before .before .pre) .1) (omega (arith, (c .before .before .before .before .before .before .before .before .before .before .before .before .before .before .before .pre) .1, (c .before .before .before .before .before .before .before .before .before .before .before .before .if1) .left)) _ ((c .before .before .before .before .before .before .before .before .before .before .loop) .inv) ((c .before .before .before .before .before .before .before .before .before .loop-test) .taken) _ _
-    ((c .before .before .before .before .fit-at) .ensures) ((c .before .before .before .if3) .taken) _ _ _ ((c .before .find) .ensures) ((c .if4) .taken)
+    seek-found _ _ _ _ _ _ _ (placing _ _ _ _ _ _ _ ((c .before .before .before .before .before .before .before .before .before .before .before .before .before .before .before .pre) .1)) (omega (arith, (c .before .before .before .before .before .before .before .before .before .before .before .before .before .before .before .pre) .1, (c .before .before .before .before .before .before .before .before .before .before .before .before .if1) .left)) _ ((c .before .before .before .before .before .before .before .before .before .before .loop) .inv) ((c .before .before .before .before .before .before .before .before .before .loop-test) .taken) _ _
+    ((c .before .before .before .before .fit-at) .ensures) ((c .before .before .before .if3) .taken) _ _ _ ((c .before .before .before .before .before .before .before .before .before .before .before .before .before .before .before .args) .n - ((c .before .before .before .before .before .before .before .before .before .before .before .before .before .before .before .args) .left - 1)) ((c .before .find) .ensures)
+    (omega (arith, (c .before .before .before .before .before .before .before .before .before .before .before .before .before .before .before .pre) .1, (c .before .before .before .before .before .before .before .before .before .before .before .before .if1) .left)) ((c .if4) .taken)
 
 find-loop-less : (t : ℕ) → find-lts.Need-loop-less (
   fit-at-reads.Asked,
@@ -247,8 +257,9 @@ find-loop-again : (t : ℕ) → find-lts.Need-loop-again (
   find.Post,
 ) (find-at t) find.Post find-Inv-loop find-μ-loop
 find-loop-again t c = 
-    seek-dead _ _ _ _ _ _ _ ((c .before .before .before .before .before .before .before .before .before .before .before .before .before .before .before .pre) .1) (omega (arith, (c .before .before .before .before .before .before .before .before .before .before .before .before .before .before .before .pre) .1, (c .before .before .before .before .before .before .before .before .before .before .before .before .if1) .left)) _ ((c .before .before .before .before .before .before .before .before .before .before .loop) .inv) ((c .before .before .before .before .before .before .before .before .before .loop-test) .taken) _ _
-    ((c .before .before .before .before .fit-at) .ensures) ((c .before .before .before .if3) .taken) _ _ _ ((c .before .find) .ensures) ((c .if4) .left)
+    seek-dead _ _ _ _ _ _ _ (placing _ _ _ _ _ _ _ ((c .before .before .before .before .before .before .before .before .before .before .before .before .before .before .before .pre) .1)) (omega (arith, (c .before .before .before .before .before .before .before .before .before .before .before .before .before .before .before .pre) .1, (c .before .before .before .before .before .before .before .before .before .before .before .before .if1) .left)) _ ((c .before .before .before .before .before .before .before .before .before .before .loop) .inv) ((c .before .before .before .before .before .before .before .before .before .loop-test) .taken) _ _
+    ((c .before .before .before .before .fit-at) .ensures) ((c .before .before .before .if3) .taken) _ _ _ ((c .before .before .before .before .before .before .before .before .before .before .before .before .before .before .before .args) .n - ((c .before .before .before .before .before .before .before .before .before .before .before .before .before .before .before .args) .left - 1)) ((c .before .find) .ensures)
+    (omega (arith, (c .before .before .before .before .before .before .before .before .before .before .before .before .before .before .before .pre) .1, (c .before .before .before .before .before .before .before .before .before .before .before .before .if1) .left)) ((c .if4) .left)
 
 find-loop-less-2 : (t : ℕ) → find-lts.Need-loop-less-2 (
   fit-at-reads.Asked,
@@ -265,7 +276,7 @@ find-loop-again-2 : (t : ℕ) → find-lts.Need-loop-again-2 (
   find.Post,
 ) (find-at t) find.Post find-Inv-loop find-μ-loop
 find-loop-again-2 t c = 
-    seek-misfit _ _ _ _ _ _ _ ((c .before .before .before .before .before .before .before .before .before .before .before .before .pre) .1) (omega (arith, (c .before .before .before .before .before .before .before .before .before .before .before .before .pre) .1, (c .before .before .before .before .before .before .before .before .before .if1) .left)) _ ((c .before .before .before .before .before .before .before .loop) .inv) ((c .before .before .before .before .before .before .loop-test) .taken) _ _
+    seek-misfit _ _ _ _ _ _ _ (placing _ _ _ _ _ _ _ ((c .before .before .before .before .before .before .before .before .before .before .before .before .pre) .1)) (omega (arith, (c .before .before .before .before .before .before .before .before .before .before .before .before .pre) .1, (c .before .before .before .before .before .before .before .before .before .if1) .left)) _ ((c .before .before .before .before .before .before .before .loop) .inv) ((c .before .before .before .before .before .before .loop-test) .taken) _ _
     ((c .before .fit-at) .ensures) ((c .if3) .left)
 
 find-loop-less-3 : (t : ℕ) → find-lts.Need-loop-less-3 (
@@ -283,7 +294,7 @@ find-loop-again-3 : (t : ℕ) → find-lts.Need-loop-again-3 (
   find.Post,
 ) (find-at t) find.Post find-Inv-loop find-μ-loop
 find-loop-again-3 t c = 
-    seek-other _ _ _ _ _ _ _ ((c .before .before .before .before .before .before .before .before .before .pre) .1) (omega (arith, (c .before .before .before .before .before .before .before .before .before .pre) .1, (c .before .before .before .before .before .before .if1) .left)) _ ((c .before .before .before .before .loop) .inv) ((c .before .before .before .loop-test) .taken) ((c .if2) .left)
+    seek-other _ _ _ _ _ _ _ (placing _ _ _ _ _ _ _ ((c .before .before .before .before .before .before .before .before .before .pre) .1)) (omega (arith, (c .before .before .before .before .before .before .before .before .before .pre) .1, (c .before .before .before .before .before .before .if1) .left)) _ ((c .before .before .before .before .loop) .inv) ((c .before .before .before .loop-test) .taken) ((c .if2) .left)
 
 find-returns-3 : (t : ℕ) → find-lts.Need-returns-3 (
   fit-at-reads.Asked,
@@ -291,7 +302,7 @@ find-returns-3 : (t : ℕ) → find-lts.Need-returns-3 (
   find-below t,
   find.Post,
 ) (find-at t) find.Post find-Inv-loop find-μ-loop
-find-returns-3 t c = seek-none _ _ _ _ _ _ _ ((c .before .before .before .before .before .before .pre) .1) (omega (arith, (c .before .before .before .before .before .before .pre) .1, (c .before .before .before .if1) .left)) _ ((c .before .loop) .inv) ((c .loop-test) .left)
+find-returns-3 t c = seek-none _ _ _ _ _ _ _ (placing _ _ _ _ _ _ _ ((c .before .before .before .before .before .before .pre) .1)) (omega (arith, (c .before .before .before .before .before .before .pre) .1, (c .before .before .before .if1) .left)) _ ((c .before .loop) .inv) ((c .loop-test) .left)
 
 pub +find-spec : {M : Type 1} → statement M
 +find-spec = close μ-find λ t. find-lts.spec (
@@ -305,6 +316,7 @@ pub +find-spec : {M : Type 1} → statement M
     find-Inv-loop
     find-μ-loop
     (find-returns t)
+    (find-sub-h t)
     (find-mul-a t)
     (find-add-e t)
     (find-mul-head t)
@@ -326,7 +338,7 @@ pub +find-spec : {M : Type 1} → statement M
     (find-fit-at-requires t)
     (find-mul-more t)
     (find-array-write-more t)
-    (find-add-find t)
+    (find-sub-find t)
     (find-find-requires t)
     (find-returns-2 t)
     (find-loop-less t)
