@@ -61,11 +61,11 @@ module _ (row cells : List ℕ) (m w : ℕ) (r : Row row) (k : length cells ≡ 
   rule-located f ps b l = let k : 6 + 5 * w - 6 ≡ 5 * w = omega arith in rw (← e) (rw (k, none-placed, zeros-unassigned) at l)
 
 -- the entries of a table
-length-tabled : {A : Type 0} (f : ℕ → A) (n : ℕ) → length (tabled f n) ≡ n
+pub length-tabled : {A : Type 0} (f : ℕ → A) (n : ℕ) → length (tabled f n) ≡ n
 length-tabled f zero = refl
 length-tabled f (suc n) = length-append (tabled f n) (f n ∷ []) ∙ rw (length-tabled f n) (omega arith)
 
-getD-tabled : {A : Type 0} (f : ℕ → A) (n i : ℕ) (d : A) → i < n → getD (tabled f n) i d ≡ f i
+pub getD-tabled : {A : Type 0} (f : ℕ → A) (n i : ℕ) (d : A) → i < n → getD (tabled f n) i d ≡ f i
 getD-tabled f zero i d h = absurd (omega arith)
 getD-tabled f (suc n) i d h =
     ⊎-elim

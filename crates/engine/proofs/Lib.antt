@@ -10,3 +10,4 @@ pub mod RuleLaws
 pub mod WeightLaws
 pub mod StepLaws
 pub mod RunLaws
+pub mod GoalLaws
