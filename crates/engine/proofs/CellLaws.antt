@@ -50,13 +50,13 @@ unfolding sameTerm
 same-cell a b =
     ⊎-elim
     (λ ha. ⊎-elim
-      (λ hb. rw (cell-high a ha, cell-high b hb) (eqb-iff (a - 256) (b - 256) a b (λ e. omega arith) (λ e. omega arith)))
-      (λ hb. rw (cell-high a ha, cell-low b hb, ne-eqb a b (λ e. omega arith)))
-      (le-or-lt 256 b))
+    (λ hb. rw (cell-high a ha, cell-high b hb) (eqb-iff (a - 256) (b - 256) a b (λ e. omega arith) (λ e. omega arith)))
+    (λ hb. rw (cell-high a ha, cell-low b hb, ne-eqb a b (λ e. omega arith)))
+    (le-or-lt 256 b))
     (λ ha. ⊎-elim
-      (λ hb. rw (cell-low a ha, cell-high b hb, ne-eqb a b (λ e. omega arith)))
-      (λ hb. rw (cell-low a ha, cell-low b hb))
-      (le-or-lt 256 b))
+    (λ hb. rw (cell-low a ha, cell-high b hb, ne-eqb a b (λ e. omega arith)))
+    (λ hb. rw (cell-low a ha, cell-low b hb))
+    (le-or-lt 256 b))
     (le-or-lt 256 a)
 
 -- a stored binding extends the assignment

@@ -42,7 +42,7 @@ module _ (row cells : List ℕ) (m w : ℕ) (r : Row row) (k : length cells ≡ 
   rule-seeking =
       record {
         heads-size = length-take-le (6 + 5 * w - 6) (drop 6 row)
-          (omega (arith, length-drop 6 row, r .size, r .heads-few)) ∙ omega arith;
+            (omega (arith, length-drop 6 row, r .size, r .heads-few)) ∙ omega arith;
         few = omega (arith, r .heads-few);
         there = omega arith;
         cells-size = k;
@@ -54,8 +54,9 @@ module _ (row cells : List ℕ) (m w : ℕ) (r : Row row) (k : length cells ≡ 
   -- what it answers
   pub rule-located :
       (f : Bool) (ps b : List ℕ)
-      → Located f w ps b (find (cellConstraints (drop (5 * (w - w)) (take (6 + 5 * w - 6) (drop 6 row)))) (cellConstraints cells)
-        (take (w - w) (replicate 4 0)) (assigned (replicate 26 0)))
+      → Located f w ps b (find (cellConstraints (drop (5 * (w - w)) (take (6 + 5 * w - 6) (drop 6 row))))
+      (cellConstraints cells)
+      (take (w - w) (replicate 4 0)) (assigned (replicate 26 0)))
       → Located f (getD row 3 0) ps b (find (ruleOfRow [] row .heads) (cellConstraints cells) [] unassigned)
   unfolding ruleOfRow
   rule-located f ps b l = let k : 6 + 5 * w - 6 ≡ 5 * w = omega arith in rw (← e) (rw (k, none-placed, zeros-unassigned) at l)
@@ -89,7 +90,8 @@ pub record Choosing (rules : List ℕ) (n : ℕ) (cells : List ℕ) (i : ℕ) : 
   pub within : i ≤ n
   pub same :
       (text : List ℕ)
-      → chooseFrom i (drop i (rulesOf text rules n)) (cellConstraints cells) ≡ choose (rulesOf text rules n) (cellConstraints cells)
+      → chooseFrom i (drop i (rulesOf text rules n)) (cellConstraints cells) ≡ choose (rulesOf text rules n)
+      (cellConstraints cells)
 
 pub choosing-start : (rules : List ℕ) (n : ℕ) (cells : List ℕ) → Choosing rules n cells 0
 unfolding choose
@@ -102,7 +104,7 @@ module _ (rules : List ℕ) (n : ℕ) (cells : List ℕ) (m i : ℕ) (given : Ta
   choosing-none l =
       record {
         same = λ text. rw (drop-of-length-le (tabled (ruleOf text rules) n) {i = i}
-          (omega (arith, length-tabled (ruleOf text rules) n))) at (w .same text);
+            (omega (arith, length-tabled (ruleOf text rules) n))) at (w .same text);
         within = λ (z : false ≡ true). let y : _≡_ {A = ℕ} 0 1 = cc in absurd (omega arith);
         fits = λ (z : false ≡ true). let y : _≡_ {A = ℕ} 0 1 = cc in absurd (omega arith);
         positions-size = refl;
@@ -116,17 +118,19 @@ module _ (rules : List ℕ) (n : ℕ) (cells : List ℕ) (m i : ℕ) (given : Ta
 
     module _ (f : Bool) (ps b : List ℕ)
         (t : Located f (getD (lentRow rules i) 3 0) ps b
-          (find (ruleOfRow [] (lentRow rules i) .heads) (cellConstraints cells) [] unassigned)) where
+        (find (ruleOfRow [] (lentRow rules i) .heads) (cellConstraints cells) [] unassigned)) where
       answered :
           (text : List ℕ)
-          → foundOf f (getD (take 64 (drop (64 * i) rules)) 3 0) ps b ≡ find (ruleOf text rules i .heads) (cellConstraints cells) [] unassigned
+          → foundOf f (getD (take 64 (drop (64 * i) rules)) 3 0) ps b ≡ find (ruleOf text rules i .heads)
+          (cellConstraints cells) [] unassigned
       unfolding ruleOf ruleOfRow
       answered text = rw (row-cells i) at (t .same)
 
       -- the choice, by whether the rule of number i fits
       tried :
           (text : List ℕ)
-          → orElse (choiceOf text rules f i ps b) (chooseFrom (suc i) (drop (suc i) (rulesOf text rules n)) (cellConstraints cells))
+          → orElse (choiceOf text rules f i ps b) (chooseFrom (suc i) (drop (suc i) (rulesOf text rules n))
+          (cellConstraints cells))
           ≡ choose (rulesOf text rules n) (cellConstraints cells)
       unfolding choiceOf rulesOf chooseFrom
       tried text =

@@ -48,9 +48,9 @@ instance-acts next bindings = record { low = λ x l. rw (lt-ltb x 256 l); used =
     used x n =
         ⊎-elim
         (λ h. ⊎-elim
-          (λ k. rw (le-ltb x 256 h, le-ltb (x - 256) 26 k) n)
-          (λ k. rw (le-ltb x 256 h, lt-ltb (x - 256) 26 k) (letter x h (either (eqb (getD bindings (x - 256) 0) 0))))
-          (le-or-lt 26 (x - 256)))
+        (λ k. rw (le-ltb x 256 h, le-ltb (x - 256) 26 k) n)
+        (λ k. rw (le-ltb x 256 h, lt-ltb (x - 256) 26 k) (letter x h (either (eqb (getD bindings (x - 256) 0) 0))))
+        (le-or-lt 26 (x - 256)))
         (λ h. rw (lt-ltb x 256 h) n)
         (le-or-lt 256 x)
 
@@ -59,8 +59,8 @@ instance-acts next bindings = record { low = λ x l. rw (lt-ltb x 256 l); used =
     term x g =
         ⊎-elim
         (λ h.
-          let k : ltb (x - 256) 26 ≡ true = rw (cell-high x h) at g in
-          rw (cell-high x h, le-ltb x 256 h, k) (letter-term x h (either (eqb (getD bindings (x - 256) 0) 0))))
+        let k : ltb (x - 256) 26 ≡ true = rw (cell-high x h) at g in
+        rw (cell-high x h, le-ltb x 256 h, k) (letter-term x h (either (eqb (getD bindings (x - 256) 0) 0))))
         (λ h. rw (lt-ltb x 256 h, cell-low x h))
         (le-or-lt 256 x)
 
@@ -102,11 +102,12 @@ module _ (from to : ℕ) (start cells : List ℕ) (j : ℕ) (o : to ≤ from) (k
   moving-read l =
       let s : 5 * to + j + (5 * from - 5 * to) ≡ 5 * from + j = omega arith in
       let below : drop (5 * to + j) cells ≡ drop (5 * to + j) start =
-          rw (w .same) (drop-paste start (5 * to) (drop (5 * from) start) j (omega arith)
-            (omega (arith, length-drop (5 * from) start))) in
+      rw (w .same) (drop-paste start (5 * to) (drop (5 * from) start) j (omega arith)
+      (omega (arith, length-drop (5 * from) start))) in
       rw (getD-drop (5 * from) start j 0)
-      (rw s at (sym (getD-drop (5 * to + j) cells (5 * from - 5 * to) 0) ∙ ap (λ (r : List ℕ). getD r (5 * from - 5 * to) 0) below
-        ∙ getD-drop (5 * to + j) start (5 * from - 5 * to) 0))
+      (rw s at (sym (getD-drop (5 * to + j) cells (5 * from - 5 * to) 0) ∙ ap (λ (r : List ℕ). getD r
+      (5 * from - 5 * to) 0) below
+      ∙ getD-drop (5 * to + j) start (5 * from - 5 * to) 0))
 
   pub moving-next : j < 5 → Moving from to start (set cells (5 * to + j) (getD cells (5 * from + j) 0)) (j + 1)
   moving-next l =
@@ -114,7 +115,7 @@ module _ (from to : ℕ) (start cells : List ℕ) (j : ℕ) (o : to ≤ from) (k
         within = l;
         size = length-set cells (5 * to + j) (getD cells (5 * from + j) 0) ∙ w .size;
         same = rw (moving-read l, w .same)
-          (paste-suc start (5 * to) (drop (5 * from) start) j 0 (omega arith) (omega (arith, length-drop (5 * from) start)));
+            (paste-suc start (5 * to) (drop (5 * from) start) j 0 (omega arith) (omega (arith, length-drop (5 * from) start)));
       })
 
   pub moving-end : 5 ≤ j → cells ≡ movedRow from to start
@@ -139,7 +140,7 @@ drop-moved :
 drop-moved at s l n h k t =
     let e : at + 5 + (n - (at + 5)) ≡ n = omega arith in
     rw e at (sym (drop-drop (n - (at + 5)) (at + 5) (paste l at s 5)) ∙ ap (drop (n - (at + 5))) (drop-paste l at s 5 k t)
-      ∙ drop-drop (n - (at + 5)) (at + 5) l)
+    ∙ drop-drop (n - (at + 5)) (at + 5) l)
 
 -- a row as constraints
 row-constraints : (l : List ℕ) → 5 ≤ length l → cellConstraints (take 5 l) ≡ rowConstraint (take 5 l) ∷ []
@@ -158,7 +159,8 @@ pub record Removing (m : ℕ) (ps start cells : List ℕ) (p k : ℕ) : Type 0 w
   pub start-size : length start ≡ 5 * m
   pub size : length cells ≡ length start
   pub same :
-      cellConstraints (take (5 * k) cells) ++ without p ps (cellConstraints (drop (5 * p) cells)) ≡ without 0 ps (cellConstraints start)
+      cellConstraints (take (5 * k) cells) ++ without p ps (cellConstraints (drop (5 * p) cells)) ≡ without 0 ps
+      (cellConstraints start)
 
 pub removing-start : (m : ℕ) (ps start : List ℕ) → length start ≡ 5 * m → Removing m ps start start 0 0
 unfolding cellConstraints
@@ -211,12 +213,12 @@ module _ (m : ℕ) (ps start cells : List ℕ) (p k : ℕ) (w : Removing m ps st
         let tail : 5 ≤ length (drop (5 * p) cells) = omega (arith, length-drop (5 * p) cells) in
         let n : 5 * k + 5 ≡ 5 * suc k = omega arith in
         let front : take (5 * suc k) c ≡ take (5 * k) cells ++ take 5 (drop (5 * p) cells) =
-            rw (g, ← n) (take-paste cells (5 * k) (drop (5 * p) cells) 5 (omega arith) tail) in
+        rw (g, ← n) (take-paste cells (5 * k) (drop (5 * p) cells) 5 (omega arith) tail) in
         let behind : drop (5 * suc p) c ≡ drop (5 * suc p) cells =
-            rw g (drop-moved (5 * k) (drop (5 * p) cells) cells (5 * suc p) (omega arith) (omega arith) tail) in
+        rw g (drop-moved (5 * k) (drop (5 * p) cells) cells (5 * suc p) (omega arith) (omega arith) tail) in
         let heads : cellConstraints (take (5 * suc k) c) ≡ cellConstraints (take (5 * k) cells) ++ (this ∷ []) =
-            rw front (constraints-append k (take (5 * k) cells) (take 5 (drop (5 * p) cells))
-              (length-take-le (5 * k) cells (omega arith)) ∙ rw (row-constraints (drop (5 * p) cells) tail)) in
+        rw front (constraints-append k (take (5 * k) cells) (take 5 (drop (5 * p) cells))
+        (length-take-le (5 * k) cells (omega arith)) ∙ rw (row-constraints (drop (5 * p) cells) tail)) in
         rw (add-one p, add-one k) (record {
           within = l;
           few = omega arith;

@@ -14,7 +14,21 @@ use lib.ListN.{length, getD, take, drop, length-drop}
 use lib.Seq.{length-take-le}
 use borrow.Author.Tests.{lt-ltb, ltb-true}
 use Rattle.text.specs.Lists.{every, total, tabled}
-use Rattle.semantics.specs.Terms.{Term, con, var, Constraint, Equation, Symbol, Rule, Program, Goal, live, noSymbol, symbolAt, weight}
+use Rattle.semantics.specs.Terms.{
+  Term,
+  con,
+  var,
+  Constraint,
+  Equation,
+  Symbol,
+  Rule,
+  Program,
+  Goal,
+  live,
+  noSymbol,
+  symbolAt,
+  weight,
+}
 use Rattle.semantics.specs.Terms.{isDeclared, isBelow, isGoalOf, alphabet, isOfRule, isRuleOf, isWellFormed}
 use Rattle.semantics.specs.Strategy.{Final, normalise, entered, run}
 use Rattle.syntax.specs.Tables.{cellTerm, cellConstraints, symbolOf, symbolsOf, ruleOfRow, ruleOf, rulesOf}
@@ -33,7 +47,8 @@ isUsed (var x) = true
 unfoldable pub programOf : List ℕ → List ℕ → ℕ → List ℕ → ℕ → Program
 programOf text symbols s rules n = record { symbols = symbolsOf text symbols s; rules = rulesOf text rules n }
 
--- what the reading of a program promises: it is well formed, within its counts, its weights are positive, and its constants not 0
+-- what the reading of a program promises: it is well formed, within its counts, its weights are positive, and its constants not
+-- 0
 pub record AsRead (text symbols : List ℕ) (s : ℕ) (rules : List ℕ) (n : ℕ) : Type 0 where
   pub well-formed : isWellFormed (programOf text symbols s rules n) ≡ true
   pub few-symbols : s ≤ 32
@@ -44,7 +59,8 @@ pub record AsRead (text symbols : List ℕ) (s : ℕ) (rules : List ℕ) (n : �
   pub equations-few : (i : ℕ) → i < n → getD (take 64 (drop (64 * i) rules)) 5 0 ≤ 4
   pub used :
       (i : ℕ) → i < n
-      → every (λ (e : Equation). isUsed (e .left) && isUsed (e .right)) (ruleOfRow [] (take 64 (drop (64 * i) rules)) .equations) ≡ true
+      → every (λ (e : Equation). isUsed (e .left) && isUsed (e .right)) (ruleOfRow [] (take 64 (drop
+      (64 * i) rules)) .equations) ≡ true
 
 -- an element of a list, all of which pass a test
 every-at : {A : Type 0} (t : A → Bool) (l : List A) (i : ℕ) (d : A) → every t l ≡ true → i < length l → t (getD l i d) ≡ true
@@ -53,7 +69,8 @@ every-at t (x ∷ l) zero d h k = and-true (t x) (every t l) h .0
 every-at t (x ∷ l) (suc i) d h k = every-at t l i d (and-true (t x) (every t l) h .1) (omega arith)
 
 -- a weaker test
-every-weaker : {A : Type 0} (t u : A → Bool) (l : List A) → ((x : A) → t x ≡ true → u x ≡ true) → every t l ≡ true → every u l ≡ true
+every-weaker : {A : Type 0} (t u : A → Bool) (l : List A) → ((x : A) → t x ≡ true → u x ≡ true) → every t l ≡ true
+    → every u l ≡ true
 every-weaker t u [] f h = refl
 every-weaker t u (x ∷ l) f h =
     rw (f x (and-true (t x) (every t l) h .0), every-weaker t u l f (and-true (t x) (every t l) h .1))
@@ -64,8 +81,10 @@ every-both :
     → every t l ≡ true → every u l ≡ true → every v l ≡ true
 every-both t u v [] f h k = refl
 every-both t u v (x ∷ l) f h k =
-    rw (f x (and-true (t x) (every t l) h .0) (and-true (u x) (every u l) k .0),
-      every-both t u v l f (and-true (t x) (every t l) h .1) (and-true (u x) (every u l) k .1))
+    rw (
+      f x (and-true (t x) (every t l) h .0) (and-true (u x) (every u l) k .0),
+      every-both t u v l f (and-true (t x) (every t l) h .1) (and-true (u x) (every u l) k .1),
+    )
 
 -- a letter or a constant other than 0
 side-of : (t : Term) → isBelow alphabet t ≡ true → isUsed t ≡ true → isSide t ≡ true
@@ -97,8 +116,8 @@ module _ (text symbols : List ℕ) (s : ℕ) (rules : List ℕ) (n : ℕ) (r : A
   unfolding isDeclared
   declared-below c h =
       let l : c .symbol < length names =
-          ltb-true (c .symbol) (length names)
-          (and-true (ltb (c .symbol) (length names)) (eqb (length (c .terms)) (symbolAt names (c .symbol) .arity)) h .0) in
+      ltb-true (c .symbol) (length names)
+      (and-true (ltb (c .symbol) (length names)) (eqb (length (c .terms)) (symbolAt names (c .symbol) .arity)) h .0) in
       omega (arith, length-names)
 
   declared-low : (c : Constraint) → isDeclared names c ≡ true → isLow c ≡ true
@@ -110,8 +129,10 @@ module _ (text symbols : List ℕ) (s : ℕ) (rules : List ℕ) (n : ℕ) (r : A
   unfolding weightBy weight
   weight-same [] h = refl
   weight-same (c ∷ cs) h =
-      rw (weigh-same (c .symbol) (declared-below c (and-true (isDeclared names c) (every (isDeclared names) cs) h .0)),
-        weight-same cs (and-true (isDeclared names c) (every (isDeclared names) cs) h .1))
+      rw (
+        weigh-same (c .symbol) (declared-below c (and-true (isDeclared names c) (every (isDeclared names) cs) h .0)),
+        weight-same cs (and-true (isDeclared names c) (every (isDeclared names) cs) h .1),
+      )
 
   -- a rule of the program
   module _ (i : ℕ) (l : i < n) where
@@ -123,22 +144,31 @@ module _ (text symbols : List ℕ) (s : ℕ) (rules : List ℕ) (n : ℕ) (r : A
     rule-of =
         rw (getD-tabled (ruleOf text rules) n i (ruleOf text rules i) l) at
         (every-at (isRuleOf names) (tabled (ruleOf text rules) n) i (ruleOf text rules i) (r .well-formed)
-          (omega (arith, length-tabled (ruleOf text rules) n)))
+        (omega (arith, length-tabled (ruleOf text rules) n)))
 
     -- what its being well formed says, part by part
     parts :
         (every (isOfRule names) (ruleOfRow [] row .heads) ≡ true) × (every (isOfRule names) (ruleOfRow [] row .body) ≡ true)
-        × (every (λ (e : Equation). isBelow alphabet (e .left) && isBelow alphabet (e .right)) (ruleOfRow [] row .equations) ≡ true)
+        × (every (λ (e : Equation). isBelow alphabet (e .left) && isBelow alphabet (e .right))
+        (ruleOfRow [] row .equations) ≡ true)
         × (weight names (ruleOfRow [] row .body) < weight names (ruleOfRow [] row .heads))
     unfolding isRuleOf ruleOfRow
     parts =
-        let three = and-true (every (isOfRule names) (ruleOfRow [] row .heads) && every (isOfRule names) (ruleOfRow [] row .body)
-          && every (λ (e : Equation). isBelow alphabet (e .left) && isBelow alphabet (e .right)) (ruleOfRow [] row .equations))
-          (ltb (weight names (ruleOfRow [] row .body)) (weight names (ruleOfRow [] row .heads))) rule-of in
+        let three = and-true (every (isOfRule names) (ruleOfRow [] row .heads) && every (isOfRule names)
+        (ruleOfRow [] row .body)
+        && every (λ (e : Equation). isBelow alphabet (e .left) && isBelow alphabet (e .right)) (ruleOfRow [] row .equations))
+        (ltb (weight names (ruleOfRow [] row .body)) (weight names (ruleOfRow [] row .heads))) rule-of in
         let two = and-true (every (isOfRule names) (ruleOfRow [] row .heads) && every (isOfRule names) (ruleOfRow [] row .body))
-          (every (λ (e : Equation). isBelow alphabet (e .left) && isBelow alphabet (e .right)) (ruleOfRow [] row .equations)) (three .0) in
-        let one = and-true (every (isOfRule names) (ruleOfRow [] row .heads)) (every (isOfRule names) (ruleOfRow [] row .body)) (two .0) in
-        (one .0, one .1, two .1, ltb-true (weight names (ruleOfRow [] row .body)) (weight names (ruleOfRow [] row .heads)) (three .1))
+        (every (λ (e : Equation). isBelow alphabet (e .left) && isBelow alphabet (e .right)) (ruleOfRow [] row .equations))
+        (three .0) in
+        let one = and-true (every (isOfRule names) (ruleOfRow [] row .heads)) (every (isOfRule names) (ruleOfRow [] row .body))
+        (two .0) in (
+          one .0,
+          one .1,
+          two .1,
+          ltb-true (weight names (ruleOfRow [] row .body)) (weight names (ruleOfRow [] row .heads))
+              (three .1),
+        )
 
     of-rule : (c : Constraint) → isOfRule names c ≡ true → (isDeclared names c ≡ true) × (isLettered c ≡ true)
     unfolding isOfRule isLettered
@@ -163,18 +193,20 @@ module _ (text symbols : List ℕ) (s : ℕ) (rules : List ℕ) (n : ℕ) (r : A
           body-few = r .body-few i l;
           equations-few = r .equations-few i l;
           heads = every-weaker (isOfRule names) isLettered (ruleOfRow [] row .heads) (λ c h. of-rule c h .1) (parts .0);
-          body = every-weaker (isOfRule names) (λ (c : Constraint). isLow c && isLettered c) (ruleOfRow [] row .body) of-body (parts .1);
+          body = every-weaker (isOfRule names) (λ (c : Constraint). isLow c && isLettered c) (ruleOfRow [] row .body) of-body
+              (parts .1);
           equations = every-both (λ (e : Equation). isBelow alphabet (e .left) && isBelow alphabet (e .right))
-            (λ (e : Equation). isUsed (e .left) && isUsed (e .right)) (λ (e : Equation). isSide (e .left) && isSide (e .right))
-            (ruleOfRow [] row .equations) of-equations (parts .2) (r .used i l);
+              (λ (e : Equation). isUsed (e .left) && isUsed (e .right)) (λ (e : Equation). isSide (e .left) && isSide
+              (e .right))
+              (ruleOfRow [] row .equations) of-equations (parts .2) (r .used i l);
         }
 
     falls : weightBy weigh (ruleOfRow [] row .body) < weightBy weigh (ruleOfRow [] row .heads)
     falls =
         let body = weight-same (ruleOfRow [] row .body)
-          (every-weaker (isOfRule names) (isDeclared names) (ruleOfRow [] row .body) (λ c h. of-rule c h .0) (parts .1)) in
+        (every-weaker (isOfRule names) (isDeclared names) (ruleOfRow [] row .body) (λ c h. of-rule c h .0) (parts .1)) in
         let heads = weight-same (ruleOfRow [] row .heads)
-          (every-weaker (isOfRule names) (isDeclared names) (ruleOfRow [] row .heads) (λ c h. of-rule c h .0) (parts .0)) in
+        (every-weaker (isOfRule names) (isDeclared names) (ruleOfRow [] row .heads) (λ c h. of-rule c h .0) (parts .0)) in
         omega (arith, parts .3, body, heads)
 
   -- the engine runs the rules of such a table

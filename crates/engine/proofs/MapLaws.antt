@@ -47,9 +47,9 @@ module _ (f : ℕ → ℕ) (source start cells : List ℕ) (i : ℕ) (w : Mapped
         sizes = w .sizes;
         size = length-set cells i x ∙ w .size;
         same =
-          rw (w .same, drop-cons start i 0 (omega (arith, w .sizes)))
-          (set-at (map f (take i source)) (getD start i 0) (drop (suc i) start) x i (front (omega arith))
-          ∙ rw (take-suc source i 0 l, map-append f (take i source) (getD source i 0 ∷ []), append-assoc, e));
+            rw (w .same, drop-cons start i 0 (omega (arith, w .sizes)))
+            (set-at (map f (take i source)) (getD start i 0) (drop (suc i) start) x i (front (omega arith))
+            ∙ rw (take-suc source i 0 l, map-append f (take i source) (getD source i 0 ∷ []), append-assoc, e));
       })
 
   pub mapped-end : length source ≤ i → cells ≡ map f source
@@ -61,7 +61,8 @@ pos-of : (n : ℕ) → (n ≡ 0 → ⊥) → 1 ≤ n
 pos-of zero h = absurd (h refl)
 pos-of (suc n) h = omega arith
 
--- a map of cells that keeps what is below the variables and never makes a used cell unused, and is σ on the terms that pass a test
+-- a map of cells that keeps what is below the variables and never makes a used cell unused, and is σ on the terms that pass a
+-- test
 pub record Acts (good : Term → Bool) (f : ℕ → ℕ) (σ : Term → Term) : Type 0 where
   pub low : (x : ℕ) → x < 256 → f x ≡ x
   pub used : (x : ℕ) → (x ≡ 0 → ⊥) → f x ≡ 0 → ⊥
@@ -81,8 +82,12 @@ module _ (good : Term → Bool) (f : ℕ → ℕ) (σ : Term → Term) (a : Acts
       go more (inr e) =
           let both : (good (cellTerm x) && every good (cellTerms l)) ≡ true = rw e at h in
           let z : eqb (f x) 0 ≡ false = ne-eqb (f x) 0 (a .used x (eqb-false x 0 e)) in
-          rw (e, z, a .term x (and-true (good (cellTerm x)) (every good (cellTerms l)) both .0),
-            more (and-true (good (cellTerm x)) (every good (cellTerms l)) both .1))
+          rw (
+            e,
+            z,
+            a .term x (and-true (good (cellTerm x)) (every good (cellTerms l)) both .0),
+            more (and-true (good (cellTerm x)) (every good (cellTerms l)) both .1),
+          )
 
   -- whether a constraint's symbol is low and its terms pass the test
   abbrev pub passes : Constraint → Bool
@@ -99,11 +104,14 @@ module _ (good : Term → Bool) (f : ℕ → ℕ) (σ : Term → Term) (a : Acts
   acts-constraints (k ∷ x ∷ y ∷ z ∷ u ∷ l) h =
       let terms : List ℕ = x ∷ y ∷ z ∷ u ∷ [] in
       let first : (ltb k 256 && every good (cellTerms terms)) ≡ true =
-          and-true (ltb k 256 && every good (cellTerms terms)) (every passes (cellConstraints l)) h .0 in
+      and-true (ltb k 256 && every good (cellTerms terms)) (every passes (cellConstraints l)) h .0 in
       let both : (ltb k 256 ≡ true) × (every good (cellTerms terms) ≡ true) =
-          and-true (ltb k 256) (every good (cellTerms terms)) first in
-      rw (a .low k (ltb-true k 256 (both .0)), acts-terms terms (both .1),
-        acts-constraints l (and-true (ltb k 256 && every good (cellTerms terms)) (every passes (cellConstraints l)) h .1))
+      and-true (ltb k 256) (every good (cellTerms terms)) first in
+      rw (
+        a .low k (ltb-true k 256 (both .0)),
+        acts-terms terms (both .1),
+        acts-constraints l (and-true (ltb k 256 && every good (cellTerms terms)) (every passes (cellConstraints l)) h .1),
+      )
 
   -- whether both sides of an equation pass the test
   abbrev pub passesBoth : Equation → Bool
@@ -116,16 +124,22 @@ module _ (good : Term → Bool) (f : ℕ → ℕ) (σ : Term → Term) (a : Acts
   acts-equations (x ∷ []) h = refl
   acts-equations (x ∷ y ∷ l) h =
       let two : (good (cellTerm x) && good (cellTerm y)) ≡ true =
-          and-true (good (cellTerm x) && good (cellTerm y)) (every passesBoth (cellEquations l)) h .0 in
-      let both : (good (cellTerm x) ≡ true) × (good (cellTerm y) ≡ true) = and-true (good (cellTerm x)) (good (cellTerm y)) two in
-      rw (a .term x (both .0), a .term y (both .1),
-        acts-equations l (and-true (good (cellTerm x) && good (cellTerm y)) (every passesBoth (cellEquations l)) h .1))
+      and-true (good (cellTerm x) && good (cellTerm y)) (every passesBoth (cellEquations l)) h .0 in
+      let both : (good (cellTerm x) ≡ true) × (good (cellTerm y) ≡ true) = and-true (good (cellTerm x)) (good
+      (cellTerm y)) two in
+      rw (
+        a .term x (both .0),
+        a .term y (both .1),
+        acts-equations l (and-true (good (cellTerm x) && good (cellTerm y)) (every passesBoth (cellEquations l)) h .1),
+      )
 
   pub acts-bound : (l : List ℕ) → every good (map cellTerm l) ≡ true → map cellTerm (map f l) ≡ map σ (map cellTerm l)
   acts-bound [] h = refl
   acts-bound (x ∷ l) h =
-      rw (a .term x (and-true (good (cellTerm x)) (every good (map cellTerm l)) h .0),
-        acts-bound l (and-true (good (cellTerm x)) (every good (map cellTerm l)) h .1))
+      rw (
+        a .term x (and-true (good (cellTerm x)) (every good (map cellTerm l)) h .0),
+        acts-bound l (and-true (good (cellTerm x)) (every good (map cellTerm l)) h .1),
+      )
 
   -- used cells stay used
   pub acts-used : (l : List ℕ) → every (leb 1) l ≡ true → every (leb 1) (map f l) ≡ true

@@ -76,11 +76,15 @@ module _ (head constraint start settled : List ℕ) (i : ℕ) (w : Walk head con
   walk-head-ends l e =
       record {
         same = ⊎-elim
-          (λ t. rw t (rw (terms-none head i (omega (arith, w .rows .head-size)) e,
-            terms-none constraint i (omega (arith, w .rows .constraint-size)) (eqb-true _ _ t)) at (w .same)))
-          (λ u. rw u (rw (terms-none head i (omega (arith, w .rows .head-size)) e,
-            terms-more constraint i (omega (arith, w .rows .constraint-size)) (eqb-false _ _ u)) at (w .same)))
-          (either (eqb (getD constraint i 0) 0));
+            (λ t. rw t (rw (
+              terms-none head i (omega (arith, w .rows .head-size)) e,
+              terms-none constraint i (omega (arith, w .rows .constraint-size)) (eqb-true _ _ t),
+            ) at (w .same)))
+            (λ u. rw u (rw (
+              terms-none head i (omega (arith, w .rows .head-size)) e,
+              terms-more constraint i (omega (arith, w .rows .constraint-size)) (eqb-false _ _ u),
+            ) at (w .same)))
+            (either (eqb (getD constraint i 0) 0));
         size = w .size;
       }
 
@@ -90,8 +94,10 @@ module _ (head constraint start settled : List ℕ) (i : ℕ) (w : Walk head con
   unfolding matchTerms fitOf
   walk-constraint-ends l e t =
       record {
-        same = rw (terms-more head i (omega (arith, w .rows .head-size)) e,
-          terms-none constraint i (omega (arith, w .rows .constraint-size)) t) at (w .same);
+        same = rw (
+          terms-more head i (omega (arith, w .rows .head-size)) e,
+          terms-none constraint i (omega (arith, w .rows .constraint-size)) t,
+        ) at (w .same);
         size = w .size;
       }
 
@@ -108,8 +114,10 @@ module _ (head constraint start settled : List ℕ) (i : ℕ) (w : Walk head con
         ≡ whole head constraint start
     unfolding matchTerms
     here =
-        rw (terms-more head i (omega (arith, w .rows .head-size)) e,
-          terms-more constraint i (omega (arith, w .rows .constraint-size)) t) at (w .same)
+        rw (
+          terms-more head i (omega (arith, w .rows .head-size)) e,
+          terms-more constraint i (omega (arith, w .rows .constraint-size)) t,
+        ) at (w .same)
 
     -- the terms do not fit
     pub walk-fails :
@@ -132,7 +140,7 @@ module _ (head constraint start settled : List ℕ) (i : ℕ) (w : Walk head con
           rows = w .rows;
           size = m .size;
           letters = every-rest (isBelow alphabet) (cellTerm (getD head i 0)) (cellTerms (drop (suc i) head))
-            (rw (terms-more head i (omega (arith, w .rows .head-size)) e) at (w .letters));
+              (rw (terms-more head i (omega (arith, w .rows .head-size)) e) at (w .letters));
           same = rw (← m .same, z) at here;
         })
 
@@ -143,8 +151,10 @@ pub walk-end :
 unfolding matchTerms fitOf cellTerms
 walk-end head constraint start settled i w l =
     record {
-      same = rw (drop-of-length-le head {i = i} (omega (arith, w .rows .head-size)),
-        drop-of-length-le constraint {i = i} (omega (arith, w .rows .constraint-size))) at (w .same);
+      same = rw (
+        drop-of-length-le head {i = i} (omega (arith, w .rows .head-size)),
+        drop-of-length-le constraint {i = i} (omega (arith, w .rows .constraint-size)),
+      ) at (w .same);
       size = w .size;
     }
 

@@ -42,24 +42,34 @@ sides-used n [] k h = refl
 sides-used n (a ∷ []) k h = absurd (omega arith)
 sides-used n (a ∷ b ∷ l) k h =
     let two : (isSide (cellTerm a) && isSide (cellTerm b)) ≡ true =
-        and-true (isSide (cellTerm a) && isSide (cellTerm b)) (every sided (cellEquations l)) h .0 in
+    and-true (isSide (cellTerm a) && isSide (cellTerm b)) (every sided (cellEquations l)) h .0 in
     let both : (isSide (cellTerm a) ≡ true) × (isSide (cellTerm b) ≡ true) =
-        and-true (isSide (cellTerm a)) (isSide (cellTerm b)) two in
-    rw (side-used a (both .0), side-used b (both .1),
-      sides-used (n - 1) l (omega arith) (and-true (isSide (cellTerm a) && isSide (cellTerm b)) (every sided (cellEquations l)) h .1))
+    and-true (isSide (cellTerm a)) (isSide (cellTerm b)) two in
+    rw (
+      side-used a (both .0),
+      side-used b (both .1),
+      sides-used (n - 1) l (omega arith) (and-true (isSide (cellTerm a) && isSide (cellTerm b)) (every sided
+          (cellEquations l)) h .1),
+    )
 
 sides-below :
-    (l : List Equation) → every sided l ≡ true → every (λ (e : Equation). isBelow alphabet (e .left) && isBelow alphabet (e .right)) l ≡ true
+    (l : List Equation) → every sided l ≡ true → every (λ (e : Equation). isBelow alphabet (e .left) && isBelow alphabet
+    (e .right)) l ≡ true
 sides-below [] h = refl
 sides-below (e ∷ l) h =
-    let two : (isSide (e .left) && isSide (e .right)) ≡ true = and-true (isSide (e .left) && isSide (e .right)) (every sided l) h .0 in
+    let two : (isSide (e .left) && isSide (e .right)) ≡ true = and-true (isSide (e .left) && isSide (e .right))
+    (every sided l) h .0 in
     let both : (isSide (e .left) ≡ true) × (isSide (e .right) ≡ true) = and-true (isSide (e .left)) (isSide (e .right)) two in
-    rw (side-below (e .left) (both .0), side-below (e .right) (both .1),
-      sides-below l (and-true (isSide (e .left) && isSide (e .right)) (every sided l) h .1))
+    rw (
+      side-below (e .left) (both .0),
+      side-below (e .right) (both .1),
+      sides-below l (and-true (isSide (e .left) && isSide (e .right)) (every sided l) h .1),
+    )
 
 -- a body stands behind the constraints
 pub body-appended :
-    (row bindings : List ℕ) (next : ℕ) (cells out rest : List ℕ) (k w : ℕ) → Row row → 5 * k + 30 ≤ length cells → w ≡ getD row 4 0
+    (row bindings : List ℕ) (next : ℕ) (cells out rest : List ℕ) (k w : ℕ) → Row row → 5 * k + 30 ≤ length cells
+    → w ≡ getD row 4 0
     → out ≡ map (instanceCell next bindings) (take (26 + 5 * w - 26) (drop 26 row))
     → Appended row bindings next cells (take (5 * k) cells ++ (out ++ rest)) k (k + w)
 unfolding ruleOfRow isLettered
@@ -69,26 +79,31 @@ body-appended row bindings next cells out rest k w r room e o =
     let few : getD row 4 0 ≤ 6 = r .body-few in
     let o′ : out ≡ map (instanceCell next bindings) (take (5 * getD row 4 0) (drop 26 row)) = rw n at o in
     let body-size : length (take (5 * getD row 4 0) (drop 26 row)) ≡ 5 * getD row 4 0 =
-        length-take-le (5 * getD row 4 0) (drop 26 row) (omega (arith, length-drop 26 row, r .size)) in
+    length-take-le (5 * getD row 4 0) (drop 26 row) (omega (arith, length-drop 26 row, r .size)) in
     let size : length out ≡ 5 * w =
-        ap length o′ ∙ length-map (take (5 * getD row 4 0) (drop 26 row)) (instanceCell next bindings) ∙ body-size ∙ omega arith in
+    ap length o′ ∙ length-map (take (5 * getD row 4 0) (drop 26 row)) (instanceCell next bindings) ∙ body-size ∙ omega arith in
     let front : length (take (5 * k) cells) ≡ 5 * k = length-take-le (5 * k) cells (omega arith) in
     let part : take (5 * (k + w)) (take (5 * k) cells ++ (out ++ rest)) ≡ take (5 * k) cells ++ out =
-        rw (← append-assoc (take (5 * k) cells) out rest)
-        (take-at (take (5 * k) cells ++ out) rest (5 * (k + w)) (omega (arith, length-append (take (5 * k) cells) out))) in
+    rw (← append-assoc (take (5 * k) cells) out rest)
+    (take-at (take (5 * k) cells ++ out) rest (5 * (k + w)) (omega (arith, length-append (take (5 * k) cells) out))) in
     record {
       count = omega arith;
       same =
-        rw (part, constraints-append k (take (5 * k) cells) out front, o′,
-          acts-constraints (isBelow alphabet) (instanceCell next bindings) (instance next (assigned bindings))
-            (instance-acts next bindings) (take (5 * getD row 4 0) (drop 26 row)) (r .body));
+          rw (
+            part,
+            constraints-append k (take (5 * k) cells) out front,
+            o′,
+            acts-constraints (isBelow alphabet) (instanceCell next bindings) (instance next (assigned bindings))
+                (instance-acts next bindings) (take (5 * getD row 4 0) (drop 26 row)) (r .body),
+          );
     }
 
 -- the room for a rule's equations
 abbrev eight : List ℕ
 eight = replicate 8 0
 
-module _ (row bindings : List ℕ) (next : ℕ) (cells : List ℕ) (w : ℕ) (q : Equated row bindings next cells) (z : w ≡ getD row 5 0) where
+module _ (row bindings : List ℕ) (next : ℕ) (cells : List ℕ) (w : ℕ) (q : Equated row bindings next cells)
+    (z : w ≡ getD row 5 0) where
   few : w ≤ 4
   few = omega (arith, q .given .equations-few)
 
@@ -126,8 +141,8 @@ module _ (row bindings : List ℕ) (next : ℕ) (cells : List ℕ) (w : ℕ) (q 
         rw part (record {
           size = size;
           used = rw o (acts-used (isBelow alphabet) (instanceCell next bindings) (instance next (assigned bindings))
-            (instance-acts next bindings) (take (56 + 2 * w - 56) (drop 56 row))
-            (sides-used w (take (56 + 2 * w - 56) (drop 56 row)) source-size (rw cells-are (q .given .equations))));
+              (instance-acts next bindings) (take (56 + 2 * w - 56) (drop 56 row))
+              (sides-used w (take (56 + 2 * w - 56) (drop 56 row)) source-size (rw cells-are (q .given .equations))));
           low = q .low;
         })
 
@@ -135,8 +150,10 @@ module _ (row bindings : List ℕ) (next : ℕ) (cells : List ℕ) (w : ℕ) (q 
     unfolding ruleOfRow
     decoded =
         rw (o, cells-are)
-        (acts-equations (isBelow alphabet) (instanceCell next bindings) (instance next (assigned bindings)) (instance-acts next bindings)
-          (take (2 * getD row 5 0) (drop 56 row)) (sides-below (cellEquations (take (2 * getD row 5 0) (drop 56 row))) (q .given .equations)))
+        (acts-equations (isBelow alphabet) (instanceCell next bindings) (instance next (assigned bindings))
+        (instance-acts next bindings)
+        (take (2 * getD row 5 0) (drop 56 row)) (sides-below (cellEquations (take (2 * getD row 5 0) (drop 56 row)))
+        (q .given .equations)))
 
     -- the rule's equations are solved
     pub rule-solved :
@@ -156,7 +173,8 @@ pub low-without : (p : ℕ) (ps : List ℕ) (cs : List Constraint) → every isL
 unfolding without
 low-without p ps [] h = refl
 low-without p ps (c ∷ cs) h =
-    let more : every isLow (without (suc p) ps cs) ≡ true = low-without (suc p) ps cs (and-true (isLow c) (every isLow cs) h .1) in
+    let more : every isLow (without (suc p) ps cs) ≡ true = low-without (suc p) ps cs (and-true (isLow c)
+    (every isLow cs) h .1) in
     go (has p ps) more
   where
     go : (b : Bool) → every isLow (without (suc p) ps cs) ≡ true
@@ -169,9 +187,11 @@ pub low-body : (cs : List Constraint) → every (λ (c : Constraint). isLow c &&
 low-body [] h = refl
 low-body (c ∷ cs) h =
     let both : (isLow c && isLettered c) ≡ true =
-        and-true (isLow c && isLettered c) (every (λ (c : Constraint). isLow c && isLettered c) cs) h .0 in
-    rw (and-true (isLow c) (isLettered c) both .0,
-      low-body cs (and-true (isLow c && isLettered c) (every (λ (c : Constraint). isLow c && isLettered c) cs) h .1))
+    and-true (isLow c && isLettered c) (every (λ (c : Constraint). isLow c && isLettered c) cs) h .0 in
+    rw (
+      and-true (isLow c) (isLettered c) both .0,
+      low-body cs (and-true (isLow c && isLettered c) (every (λ (c : Constraint). isLow c && isLettered c) cs) h .1),
+    )
 
 module _ (row positions bindings : List ℕ) (next : ℕ) (cells : List ℕ) (m w : ℕ) (f : Fires row positions bindings next cells m)
     (z : w ≡ getD row 3 0) where
@@ -190,9 +210,12 @@ module _ (row positions bindings : List ℕ) (next : ℕ) (cells : List ℕ) (m 
     -- what appending the body asks
     pub fire-appends :
         Row row × (length bindings ≡ 26) × (next ≤ 65000) × (5 * k + 30 ≤ length (left ++ drop (5 * m) cells))
-    fire-appends =
-        (f .given, f .bindings-size, f .room,
-          omega (arith, removed .few, f .space, length-append left (drop (5 * m) cells), length-drop (5 * m) cells, size-left))
+    fire-appends = (
+      f .given,
+      f .bindings-size,
+      f .room,
+      omega (arith, removed .few, f .space, length-append left (drop (5 * m) cells), length-drop (5 * m) cells, size-left),
+    )
 
     module _ (c : List ℕ) (n : ℕ) (same-size : length c ≡ length (left ++ drop (5 * m) cells))
         (appended : Appended row bindings next (left ++ drop (5 * m) cells) c k n) where
@@ -210,7 +233,16 @@ module _ (row positions bindings : List ℕ) (next : ℕ) (cells : List ℕ) (m 
 
       within : 5 * n ≤ length c
       within =
-          omega (arith, few-after, f .space, same-size, length-append left (drop (5 * m) cells), length-drop (5 * m) cells, size-left)
+          omega (
+            arith,
+            few-after,
+            f .space,
+            same-size,
+            length-append left (drop (5 * m) cells),
+            length-drop
+                (5 * m) cells,
+            size-left,
+          )
 
       pub fire-lends : 5 * n ≡ length (take (5 * n) c)
       fire-lends = sym (length-take-le (5 * n) c within)
@@ -225,10 +257,12 @@ module _ (row positions bindings : List ℕ) (next : ℕ) (cells : List ℕ) (m 
             given = f .given;
             bindings-size = f .bindings-size;
             room = f .room;
-            low = rw before (every-append isLow (without 0 (take (getD row 3 0) positions) (cellConstraints (take (5 * m) cells)))
-              (map (mapTerms (instance next (assigned bindings))) (ruleOfRow [] row .body))
-              (low-without 0 (take (getD row 3 0) positions) (cellConstraints (take (5 * m) cells)) (f .low))
-              (low-kept (instance next (assigned bindings)) (ruleOfRow [] row .body) ∙ low-body (ruleOfRow [] row .body) (f .given .body)));
+            low = rw before (every-append isLow (without 0 (take (getD row 3 0) positions) (cellConstraints (take
+                (5 * m) cells)))
+                (map (mapTerms (instance next (assigned bindings))) (ruleOfRow [] row .body))
+                (low-without 0 (take (getD row 3 0) positions) (cellConstraints (take (5 * m) cells)) (f .low))
+                (low-kept (instance next (assigned bindings)) (ruleOfRow [] row .body) ∙ low-body (ruleOfRow [] row .body)
+                (f .given .body)));
           }
 
       -- the state after all
@@ -240,6 +274,6 @@ module _ (row positions bindings : List ℕ) (next : ℕ) (cells : List ℕ) (m 
       fire-done alive bound b s l solved =
           record {
             same = λ text.
-              rw (take-at s (drop (5 * n) c) (5 * n) (l ∙ sym fire-lends)) (solved .same (next + 26) ∙ rw before);
+                rw (take-at s (drop (5 * n) c) (5 * n) (l ∙ sym fire-lends)) (solved .same (next + 26) ∙ rw before);
             few = few-after;
           }

@@ -36,8 +36,11 @@ pub count-weight :
     (w : ℕ → ℕ) (cells : List ℕ) (m : ℕ) → ((k : ℕ) → 1 ≤ w k) → 5 * m ≤ length cells → m ≤ weightBy w (storeOf cells m)
 unfolding storeOf
 count-weight w cells m p l =
-    omega (arith, weight-length w p (cellConstraints (take (5 * m) cells)),
-      length-constraints m (take (5 * m) cells) (length-take-le (5 * m) cells l))
+    omega (
+      arith,
+      weight-length w p (cellConstraints (take (5 * m) cells)),
+      length-constraints m (take (5 * m) cells) (length-take-le (5 * m) cells l),
+    )
 
 -- a state in which no rule fits is the end
 normalise-rests :
@@ -66,7 +69,8 @@ module _ (rules : List ℕ) (n : ℕ) (bound cells : List ℕ) (m next : ℕ) wh
     pub numbered : number ≡ next + 26 * firings
     pub low : alive ≡ true → every isLow (storeOf cells′ count) ≡ true
     pub lighter :
-        (w : ℕ → ℕ) → Lowers w rules n → cond alive (weightBy w (storeOf cells′ count)) 0 + firings ≤ weightBy w (storeOf cells m)
+        (w : ℕ → ℕ) → Lowers w rules n → cond alive (weightBy w (storeOf cells′ count)) 0 + firings ≤ weightBy w
+        (storeOf cells m)
     pub same :
         (text : List ℕ) (fuel : ℕ) → firings ≤ fuel
         → normalise (fuel - firings) (rulesOf text rules n) (stateOf alive number bound′ (take (5 * count) cells′)) firings
@@ -86,15 +90,17 @@ module _ (rules : List ℕ) (n : ℕ) (bound cells : List ℕ) (m next : ℕ) wh
           same = λ text fuel h. let e : fuel - 0 ≡ fuel = omega arith in rw e;
         }
 
-    module _ (bound′ cells′ : List ℕ) (alive : Bool) (count number firings : ℕ) (r : Running bound′ cells′ alive count number firings) where
+    module _ (bound′ cells′ : List ℕ) (alive : Bool) (count number firings : ℕ)
+        (r : Running bound′ cells′ alive count number firings) where
       -- the state has failed
       pub running-failed : alive ≡ false → Ended rules n bound cells m next bound′ cells′ false count number firings
       unfolding stateOf
       running-failed z =
           record {
             same = λ text fuel h.
-              sym (normalise-rests (fuel - firings) (rulesOf text rules n) failed firings (failed-rests (rulesOf text rules n)))
-              ∙ rw z at (r .same text fuel h);
+                sym (normalise-rests (fuel - firings) (rulesOf text rules n) failed firings (failed-rests
+                (rulesOf text rules n)))
+                ∙ rw z at (r .same text fuel h);
             bounded = λ w lw. omega (arith, rw z at (r .lighter w lw));
             few = λ y. no-way y;
           }
@@ -104,13 +110,16 @@ module _ (rules : List ℕ) (n : ℕ) (bound cells : List ℕ) (m next : ℕ) wh
         weight-left : weightBy (s .weigh) (storeOf cells′ count) + firings ≤ 512
         weight-left =
             let k : weightBy (s .weigh) (storeOf cells′ count) + firings ≤ weightBy (s .weigh) (storeOf cells m) =
-                rw z at (r .lighter (s .weigh) (s .lowers)) in
+            rw z at (r .lighter (s .weigh) (s .lowers)) in
             omega (arith, s .light)
 
         few-now : count ≤ 512
         few-now =
-            omega (arith, weight-left,
-              count-weight (s .weigh) cells′ count (s .positive) (omega (arith, r .there, r .cells-size, s .space)))
+            omega (
+              arith,
+              weight-left,
+              count-weight (s .weigh) cells′ count (s .positive) (omega (arith, r .there, r .cells-size, s .space)),
+            )
 
         -- what a step asks
         pub running-live : Live rules n cells′ count number
@@ -130,9 +139,10 @@ module _ (rules : List ℕ) (n : ℕ) (bound cells : List ℕ) (m next : ℕ) wh
               rw (t .rests y .0, t .rests y .1)
               (record {
                 same = λ text fuel h.
-                  sym (normalise-rests (fuel - firings) (rulesOf text rules n)
-                    (live number (map cellTerm bound′) (cellConstraints (take (5 * count) cells′))) firings (t .rests y .2 text))
-                  ∙ rw z at (r .same text fuel h);
+                    sym (normalise-rests (fuel - firings) (rulesOf text rules n)
+                    (live number (map cellTerm bound′) (cellConstraints (take (5 * count) cells′))) firings
+                    (t .rests y .2 text))
+                    ∙ rw z at (r .same text fuel h);
                 bounded = λ w lw. omega (arith, rw z at (r .lighter w lw));
                 few = λ x. few-now;
               })
@@ -147,7 +157,8 @@ module _ (rules : List ℕ) (n : ℕ) (bound cells : List ℕ) (m next : ℕ) wh
 
             before :
                 (text : List ℕ) (fuel : ℕ) → suc firings ≤ fuel
-                → normalise (suc (fuel - suc firings)) (rulesOf text rules n) (live number (map cellTerm bound′) (storeOf cells′ count)) firings
+                → normalise (suc (fuel - suc firings)) (rulesOf text rules n) (live number (map cellTerm bound′)
+                (storeOf cells′ count)) firings
                 ≡ normalise fuel (rulesOf text rules n) (live next (map cellTerm bound) (storeOf cells m)) 0
             unfolding stateOf storeOf
             before text fuel h =
@@ -164,11 +175,13 @@ module _ (rules : List ℕ) (n : ℕ) (bound cells : List ℕ) (m next : ℕ) wh
                   numbered = omega (arith, r .numbered);
                   low = t .low y;
                   lighter = λ w lw.
-                    let x : weightBy w (storeOf cells′ count) + firings ≤ weightBy w (storeOf cells m) = rw z at (r .lighter w lw) in
-                    omega (arith, t .lighter y w lw);
+                      let x : weightBy w (storeOf cells′ count) + firings ≤ weightBy w (storeOf cells m) = rw z at
+                      (r .lighter w lw) in
+                      omega (arith, t .lighter y w lw);
                   same = λ text fuel h.
-                    rw (add-one firings)
-                    (sym (normalise-moves (fuel - suc firings) (rulesOf text rules n) (live number (map cellTerm bound′) (storeOf cells′ count))
+                      rw (add-one firings)
+                      (sym (normalise-moves (fuel - suc firings) (rulesOf text rules n) (live number (map cellTerm bound′)
+                      (storeOf cells′ count))
                       (stateOf a (number + 26) b (take (5 * k) c)) firings (t .moves y text))
-                    ∙ before text fuel (omega arith));
+                      ∙ before text fuel (omega arith));
                 }

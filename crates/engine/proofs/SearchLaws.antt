@@ -66,8 +66,8 @@ headAt heads h = rowConstraint (take 5 (drop (5 * h) heads))
 abbrev attempt : List ℕ → ℕ → List ℕ → List ℕ → List ℕ → ℕ → Constraint → Option Match
 attempt heads h cells chosen bindings =
     λ p c. cond (has p (take h chosen)) none
-      (bind (matchConstraint (headAt heads h) c (assigned bindings))
-      (find (cellConstraints (drop (5 * suc h) heads)) (cellConstraints cells) (take h chosen ++ (p ∷ []))))
+    (bind (matchConstraint (headAt heads h) c (assigned bindings))
+    (find (cellConstraints (drop (5 * suc h) heads)) (cellConstraints cells) (take h chosen ++ (p ∷ []))))
 
 -- the answer for all heads from h on
 abbrev answer : List ℕ → ℕ → List ℕ → List ℕ → List ℕ → Option Match
@@ -205,22 +205,25 @@ module _ (heads : List ℕ) (n h : ℕ) (cells : List ℕ) (m : ℕ) (chosen bin
         unfolding matchConstraint rowConstraint
         seek-other e =
             skip (rw (first-symbol heads h, first-symbol cells p, ne-eqb (getD heads (5 * h) 0) (getD cells (5 * p) 0) e)
-              (cond-none (has p (take h chosen))))
+            (cond-none (has p (take h chosen))))
 
         -- what the match there asks
         pub seek-rows :
             (Rows (lent heads h) (lent cells p) bindings) × (h ≤ 4) × (length chosen ≡ 4)
-        seek-rows =
-            (record {
-              head-size = lent-size heads h (omega (arith, s .heads-size));
-              constraint-size = lent-size cells p (omega (arith, s .cells-size));
-              bindings-size = s .bindings-size;
-              letters = rw (five h) seek-letters;
-            }, omega (arith, s .few), s .chosen-size)
+        seek-rows = (
+          record {
+            head-size = lent-size heads h (omega (arith, s .heads-size));
+            constraint-size = lent-size cells p (omega (arith, s .cells-size));
+            bindings-size = s .bindings-size;
+            letters = rw (five h) seek-letters;
+          },
+          omega (arith, s .few),
+          s .chosen-size,
+        )
 
         module _ (f : Bool) (b : List ℕ)
             (given : Matched f b (cond (has p (take h chosen)) none
-              (matchConstraint (rowConstraint (lent heads h)) (rowConstraint (lent cells p)) (assigned bindings)))) where
+            (matchConstraint (rowConstraint (lent heads h)) (rowConstraint (lent cells p)) (assigned bindings)))) where
           t : Matched f b (cond (has p (take h chosen)) none (matchConstraint (headAt heads h) this (assigned bindings)))
           t = rw (five h, five p) at given
 

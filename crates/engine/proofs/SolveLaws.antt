@@ -13,7 +13,21 @@ use mathlib.Core.Path.{_≡_, refl, ap, sym, fun-ext, _∙_}
 use lib.Dec.{eqb, ltb, leb}
 use lib.ListN.{length, getD, set, take, drop, length-map, drop-of-length-le}
 use lib.Seq.{drop-cons}
-use borrow.Author.Tests.{eq-eqb, ne-eqb, eqb-true, eqb-false, lt-ltb, le-ltb, le-leb, lt-leb, ltb-true, ltb-false, leb-true, not-true, not-false}
+use borrow.Author.Tests.{
+  eq-eqb,
+  ne-eqb,
+  eqb-true,
+  eqb-false,
+  lt-ltb,
+  le-ltb,
+  le-leb,
+  lt-leb,
+  ltb-true,
+  ltb-false,
+  leb-true,
+  not-true,
+  not-false,
+}
 use Rattle.text.specs.Lists.{bind, every}
 use Rattle.semantics.specs.Terms.{Term, con, var, Constraint, Equation, State, failed, live, mapTerms, mapSides}
 use Rattle.semantics.specs.Solving.{replace, unify, solve}
@@ -35,7 +49,8 @@ solve-through [] σ τ = refl
 solve-through (e ∷ es) σ τ = go (unify (τ (σ (e .left))) (τ (σ (e .right)))) (λ ρ. solve-through es σ (λ t. ρ (τ t)))
   where
     go : (u : Option (Term → Term))
-        → ((ρ : Term → Term) → solve es (λ t. ρ (τ (σ t))) ≡ Option·map (λ φ t. φ (σ t)) (solve (map (mapSides σ) es) (λ t. ρ (τ t))))
+        → ((ρ : Term → Term) → solve es (λ t. ρ (τ (σ t))) ≡ Option·map (λ φ t. φ (σ t)) (solve (map (mapSides σ) es) (λ t. ρ
+        (τ t))))
         → bind u (λ ρ. solve es (λ t. ρ (τ (σ t))))
         ≡ Option·map (λ φ t. φ (σ t)) (bind u (λ ρ. solve (map (mapSides σ) es) (λ t. ρ (τ t))))
     go none more = refl
@@ -86,6 +101,7 @@ swap-acts v t h k =
     same x e =
         let z : x ≡ v = eqb-true x v e in
         rw (e, z, cell-high v h, eq-eqb (v - 256) (v - 256) refl)
+
     other : (x : ℕ) → eqb x v ≡ false → cellTerm (swap v t x) ≡ replace (v - 256) (cellTerm t) (cellTerm x)
     other x e =
         ⊎-elim
@@ -115,7 +131,9 @@ pub record Unifier (a b : ℕ) : Type 0 where
 -- two different constants have none
 pub clash-none : (a b : ℕ) → clashes a b ≡ true → unify (cellTerm a) (cellTerm b) ≡ none
 unfolding clashes unify
-clash-none a b h = ⊎-elim (λ e. let z : false ≡ true = rw e at h in let y : _≡_ {A = ℕ} 0 1 = cc in absurd (omega arith)) other (either (eqb a b))
+clash-none a b h =
+    ⊎-elim (λ e. let z : false ≡ true = rw e at h in let y : _≡_ {A = ℕ} 0 1 = cc in absurd (omega arith)) other (either
+    (eqb a b))
   where
     other : eqb a b ≡ false → unify (cellTerm a) (cellTerm b) ≡ none
     other e =
@@ -134,30 +152,30 @@ merge-acts a b ha hb h = ⊎-elim (λ l. ⊎-elim (equal l) above (le-or-lt a b)
     above : b < a → Unifier a b
     above l =
         let k : 256 ≤ a = ⊎-elim (λ z. z)
-            (λ z. let y : true ≡ false = rw (high a b l, lt-ltb a 256 z, lt-ltb b 256 (omega arith)) at h in
-              let x : _≡_ {A = ℕ} 0 1 = cc in absurd (omega arith))
-            (le-or-lt 256 a) in
+        (λ z. let y : true ≡ false = rw (high a b l, lt-ltb a 256 z, lt-ltb b 256 (omega arith)) at h in
+        let x : _≡_ {A = ℕ} 0 1 = cc in absurd (omega arith))
+        (le-or-lt 256 a) in
         record {
           solution = replace (a - 256) (cellTerm b);
           is = ⊎-elim
-            (λ z. rw (cell-high a k, cell-high b z, lt-leb (a - 256) (b - 256) (omega arith)))
-            (λ z. rw (cell-high a k, cell-low b z))
-            (le-or-lt 256 b);
+              (λ z. rw (cell-high a k, cell-high b z, lt-leb (a - 256) (b - 256) (omega arith)))
+              (λ z. rw (cell-high a k, cell-low b z))
+              (le-or-lt 256 b);
           acts = rw (le-ltb a b (omega arith)) (swap-acts a b k hb);
         }
 
     below : a < b → Unifier a b
     below l =
         let k : 256 ≤ b = ⊎-elim (λ z. z)
-            (λ z. let y : true ≡ false = rw (ne-eqb a b (λ e. omega arith), lt-ltb b 256 z, lt-ltb a 256 (omega arith)) at h in
-              let x : _≡_ {A = ℕ} 0 1 = cc in absurd (omega arith))
-            (le-or-lt 256 b) in
+        (λ z. let y : true ≡ false = rw (ne-eqb a b (λ e. omega arith), lt-ltb b 256 z, lt-ltb a 256 (omega arith)) at h in
+        let x : _≡_ {A = ℕ} 0 1 = cc in absurd (omega arith))
+        (le-or-lt 256 b) in
         record {
           solution = replace (b - 256) (cellTerm a);
           is = ⊎-elim
-            (λ z. rw (cell-high a z, cell-high b k, le-leb (a - 256) (b - 256) (omega arith)))
-            (λ z. rw (cell-low a z, cell-high b k))
-            (le-or-lt 256 a);
+              (λ z. rw (cell-high a z, cell-high b k, le-leb (a - 256) (b - 256) (omega arith)))
+              (λ z. rw (cell-low a z, cell-high b k))
+              (le-or-lt 256 a);
           acts = rw (lt-ltb a b l) (swap-acts b a k ha);
         }
 
@@ -165,17 +183,17 @@ merge-acts a b ha hb h = ⊎-elim (λ l. ⊎-elim (equal l) above (le-or-lt a b)
     equal l m =
         let e : b ≡ a = omega arith in
         rw e (⊎-elim
-          (λ z. record {
-            solution = replace (a - 256) (cellTerm a);
-            is = rw (cell-high a z, le-leb (a - 256) (a - 256) (omega arith));
-            acts = rw (le-ltb a a (omega arith)) (swap-acts a a z ha);
-          })
-          (λ z. record {
-            solution = λ t. t;
-            is = rw (cell-low a z, eq-eqb a a refl);
-            acts = rw (le-ltb a a (omega arith)) (same-acts a);
-          })
-          (le-or-lt 256 a))
+        (λ z. record {
+          solution = replace (a - 256) (cellTerm a);
+          is = rw (cell-high a z, le-leb (a - 256) (a - 256) (omega arith));
+          acts = rw (le-ltb a a (omega arith)) (swap-acts a a z ha);
+        })
+        (λ z. record {
+          solution = λ t. t;
+          is = rw (cell-low a z, eq-eqb a a refl);
+          acts = rw (le-ltb a a (omega arith)) (same-acts a);
+        })
+        (le-or-lt 256 a))
 
 -- from nothing
 no-way : {A : Type 0} → false ≡ true → A
@@ -207,6 +225,7 @@ module _ (equations bound cells : List ℕ) where
       self : (x : ℕ) → merge a b x ≡ x
       self x =
           rw (le-ltb a b (omega arith), ← e) (⊎-elim (λ y. rw y (sym (eqb-true x a y))) (λ y. rw y) (either (eqb x a)))
+
       kept : (l : List ℕ) → l ≡ map (merge a b) l
       kept l = sym (ap (λ (f : ℕ → ℕ). map f l) (fun-ext self) ∙ map-id l)
 
@@ -231,7 +250,8 @@ module _ (equations bound cells : List ℕ) where
     unfolding clashes merge
     merged-turned r a b l m =
         record {
-          answer = m .answer ∙ rw (ne-eqb b a (λ e. omega arith), ne-eqb a b (λ e. omega arith)) (ap not (turn (ltb b 256) (ltb a 256)));
+          answer = m .answer ∙ rw (ne-eqb b a (λ e. omega arith), ne-eqb a b (λ e. omega arith)) (ap not (turn (ltb b 256)
+              (ltb a 256)));
           in-equations = λ z. rw (lt-ltb a b l) (rw (le-ltb b a (omega arith)) at (m .in-equations z));
           in-bound = λ z. rw (lt-ltb a b l) (rw (le-ltb b a (omega arith)) at (m .in-bound z));
           in-cells = λ z. rw (lt-ltb a b l) (rw (le-ltb b a (omega arith)) at (m .in-cells z));
@@ -301,14 +321,15 @@ module _ (equations bound cells : List ℕ) (n : ℕ) (equations′ bound′ cel
   solving-end h =
       record {
         same = λ next.
-          sym (rw (map-id (map cellTerm bound′), map-none (cellConstraints cells′)) refl)
-          ∙ rw (drop-of-length-le equations′ {i = 2 * i} (omega (arith, w .size))) at (w .same next);
+            sym (rw (map-id (map cellTerm bound′), map-none (cellConstraints cells′)) refl)
+            ∙ rw (drop-of-length-le equations′ {i = 2 * i} (omega (arith, w .size))) at (w .same next);
       }
 
   module _ (l : i < n) (r : Bool) (e b c : List ℕ)
       (m : Merged r (getD equations′ (2 * i) 0) (getD equations′ (2 * i + 1) 0) equations′ bound′ cells′ e b c) where
     abbrev x : ℕ
     x = getD equations′ (2 * i) 0
+
     abbrev y : ℕ
     y = getD equations′ (2 * i + 1) 0
 
@@ -322,9 +343,10 @@ module _ (equations bound cells : List ℕ) (n : ℕ) (equations′ bound′ cel
         let k : clashes x y ≡ true = not-false (clashes x y) (sym (m .answer) ∙ z) in
         record {
           same = λ next.
-            sym (settle-clash (record { left = cellTerm x; right = cellTerm y }) (cellEquations (drop (2 * suc i) equations′)) next
+              sym (settle-clash (record { left = cellTerm x; right = cellTerm y }) (cellEquations (drop
+              (2 * suc i) equations′)) next
               (map cellTerm bound′) (cellConstraints cells′) (clash-none x y k))
-            ∙ rw two at (w .same next);
+              ∙ rw two at (w .same next);
         }
 
     -- it is put in
@@ -334,21 +356,26 @@ module _ (equations bound cells : List ℕ) (n : ℕ) (equations′ bound′ cel
       where
         cells-used : (leb 1 x && (leb 1 y && every (leb 1) (drop (2 * suc i) equations′))) ≡ true
         cells-used = rw two at (w .used)
+
         later : (leb 1 y && every (leb 1) (drop (2 * suc i) equations′)) ≡ true
         later = and-true (leb 1 x) (leb 1 y && every (leb 1) (drop (2 * suc i) equations′)) cells-used .1
+
         one : (0 < x) × (0 < y)
-        one =
-            (leb-true 1 x (and-true (leb 1 x) (leb 1 y && every (leb 1) (drop (2 * suc i) equations′)) cells-used .0),
-              leb-true 1 y (and-true (leb 1 y) (every (leb 1) (drop (2 * suc i) equations′)) later .0))
+        one = (
+          leb-true 1 x (and-true (leb 1 x) (leb 1 y && every (leb 1) (drop (2 * suc i) equations′)) cells-used .0),
+          leb-true 1 y (and-true (leb 1 y) (every (leb 1) (drop (2 * suc i) equations′)) later .0),
+        )
+
         put : Unifier x y → Solving equations bound cells n e b c (suc i)
         put u =
             let ee : e ≡ map (merge x y) equations′ = m .in-equations z in
             let eb : b ≡ map (merge x y) bound′ = m .in-bound z in
             let ec : c ≡ map (merge x y) cells′ = m .in-cells z in
             let de : drop (2 * suc i) e ≡ map (merge x y) (drop (2 * suc i) equations′) =
-                rw ee (drop-map (merge x y) (2 * suc i) equations′) in
+            rw ee (drop-map (merge x y) (2 * suc i) equations′) in
             let cs : cellConstraints c ≡ map (mapTerms (u .solution)) (cellConstraints cells′) =
-                rw ec (acts-constraints anything (merge x y) (u .solution) (u .acts) cells′ (all-low (cellConstraints cells′) (w .low))) in
+            rw ec (acts-constraints anything (merge x y) (u .solution) (u .acts) cells′ (all-low (cellConstraints cells′)
+            (w .low))) in
             record {
               within = l;
               size = rw (ee, length-map) (w .size);
@@ -356,14 +383,19 @@ module _ (equations bound cells : List ℕ) (n : ℕ) (equations′ bound′ cel
               bound-size = rw (eb, length-map) (w .bound-size);
               cells-size = rw (ec, length-map) (w .cells-size);
               used = rw de (acts-used anything (merge x y) (u .solution) (u .acts) (drop (2 * suc i) equations′)
-                (and-true (leb 1 y) (every (leb 1) (drop (2 * suc i) equations′)) later .1));
+                  (and-true (leb 1 y) (every (leb 1) (drop (2 * suc i) equations′)) later .1));
               low = rw (cs, low-kept (u .solution) (cellConstraints cells′)) (w .low);
               same = λ next.
-                rw (de, cs, eb,
-                  acts-equations anything (merge x y) (u .solution) (u .acts) (drop (2 * suc i) equations′)
-                    (all-equations (cellEquations (drop (2 * suc i) equations′))),
-                  acts-bound anything (merge x y) (u .solution) (u .acts) bound′ (all-terms (map cellTerm bound′)))
-                (sym (settle-step (record { left = cellTerm x; right = cellTerm y }) (cellEquations (drop (2 * suc i) equations′))
+                  rw (
+                    de,
+                    cs,
+                    eb,
+                    acts-equations anything (merge x y) (u .solution) (u .acts) (drop (2 * suc i) equations′)
+                        (all-equations (cellEquations (drop (2 * suc i) equations′))),
+                    acts-bound anything (merge x y) (u .solution) (u .acts) bound′ (all-terms (map cellTerm bound′)),
+                  )
+                  (sym (settle-step (record { left = cellTerm x; right = cellTerm y }) (cellEquations (drop
+                  (2 * suc i) equations′))
                   (u .solution) next (map cellTerm bound′) (cellConstraints cells′) (u .is))
-                ∙ rw two at (w .same next));
+                  ∙ rw two at (w .same next));
             }

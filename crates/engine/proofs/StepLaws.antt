@@ -95,12 +95,14 @@ module _ (rules : List ℕ) (n : ℕ) (bound cells : List ℕ) (m next : ℕ) (s
         -- the constraints before the equations
         before : List Constraint
         before =
-            without 0 (take (getD row 3 0) ps) (storeOf cells m) ++ map (mapTerms (instance next (assigned b))) (ruleOfRow [] row .body)
+            without 0 (take (getD row 3 0) ps) (storeOf cells m) ++ map (mapTerms (instance next (assigned b)))
+            (ruleOfRow [] row .body)
 
         after : alive ≡ true → Settled (storeOf cells′ count) before
         unfolding fired stateOf before storeOf
         after y =
-            settled (solve (map (mapSides (instance next (assigned b))) (ruleOfRow [] row .equations)) (λ t. t)) (next + 26) _ _ _ _ _
+            settled (solve (map (mapSides (instance next (assigned b))) (ruleOfRow [] row .equations)) (λ t. t))
+            (next + 26) _ _ _ _ _
             (rw y at (done .same []))
 
         -- the heads and what is left weigh as much as all
@@ -110,7 +112,8 @@ module _ (rules : List ℕ) (n : ℕ) (bound cells : List ℕ) (m next : ℕ) (s
             ≡ weightBy w (storeOf cells m)
         unfolding foundOf storeOf
         weighs w =
-            find-lighter w (ruleOfRow [] row .heads) (cellConstraints (take (5 * m) cells)) [] unassigned _ (sym (chosen .fits z))
+            find-lighter w (ruleOfRow [] row .heads) (cellConstraints (take (5 * m) cells)) [] unassigned _ (sym
+            (chosen .fits z))
             ∙ ap (weightBy w) (without-none 0 (cellConstraints (take (5 * m) cells)))
 
         falls :
@@ -120,13 +123,19 @@ module _ (rules : List ℕ) (n : ℕ) (bound cells : List ℕ) (m next : ℕ) (s
         falls w lw false g = omega (arith, weighs w, lw .falls i (chosen .within z))
         falls w lw true g =
             let k : weightBy w (storeOf cells′ count) ≡ weightBy w before =
-                ap (weightBy w) (g refl .same) ∙ weight-map w (g refl .solution) before in
+            ap (weightBy w) (g refl .same) ∙ weight-map w (g refl .solution) before in
             let a : weightBy w before
-                  ≡ weightBy w (without 0 (take (getD row 3 0) ps) (storeOf cells m))
-                  + weightBy w (map (mapTerms (instance next (assigned b))) (ruleOfRow [] row .body)) =
-                weight-append w (without 0 (take (getD row 3 0) ps) (storeOf cells m)) _ in
-            omega (arith, weighs w, lw .falls i (chosen .within z), k, a,
-              weight-map w (instance next (assigned b)) (ruleOfRow [] row .body))
+            ≡ weightBy w (without 0 (take (getD row 3 0) ps) (storeOf cells m))
+            + weightBy w (map (mapTerms (instance next (assigned b))) (ruleOfRow [] row .body)) =
+            weight-append w (without 0 (take (getD row 3 0) ps) (storeOf cells m)) _ in
+            omega (
+              arith,
+              weighs w,
+              lw .falls i (chosen .within z),
+              k,
+              a,
+              weight-map w (instance next (assigned b)) (ruleOfRow [] row .body),
+            )
 
         -- a rule has fired
         pub step-moves : Stepped rules n bound cells m next bound′ cells′ true alive count
@@ -137,10 +146,11 @@ module _ (rules : List ℕ) (n : ℕ) (bound cells : List ℕ) (m next : ℕ) (s
               moves = λ y text. rw (← chosen .same text, z) (ap some (sym (done .same text)));
               lighter = λ y w lw. falls w lw alive after;
               low = λ y x.
-                rw (after x .same) (low-kept (after x .solution) before
-                ∙ every-append isLow (without 0 (take (getD row 3 0) ps) (storeOf cells m))
+                  rw (after x .same) (low-kept (after x .solution) before
+                  ∙ every-append isLow (without 0 (take (getD row 3 0) ps) (storeOf cells m))
                   (map (mapTerms (instance next (assigned b))) (ruleOfRow [] row .body))
                   (low-without 0 (take (getD row 3 0) ps) (storeOf cells m) (s .low))
-                  (low-kept (instance next (assigned b)) (ruleOfRow [] row .body) ∙ low-body (ruleOfRow [] row .body) (given-row .body)));
+                  (low-kept (instance next (assigned b)) (ruleOfRow [] row .body) ∙ low-body (ruleOfRow [] row .body)
+                  (given-row .body)));
               few = done .few;
             }

@@ -101,12 +101,13 @@ without-lighter w k (d ∷ cs) zero c ps e f =
 without-lighter w k (d ∷ cs) (suc i) c ps e f =
     let s : k + suc i ≡ suc k + i = omega arith in
     let more : weightBy w (without (suc k) (ps ++ ((suc k + i) ∷ [])) cs) + w (c .symbol) ≡ weightBy w (without (suc k) ps cs) =
-        without-lighter w (suc k) cs i c ps e (rw s at f) in
+    without-lighter w (suc k) cs i c ps e (rw s at f) in
     rw (has-more k (k + suc i) ps, ne-eqb k (k + suc i) (λ z. omega arith), or-no (has k ps), s) (go (has k ps) more)
   where
     go : (b : Bool)
         → weightBy w (without (suc k) (ps ++ ((suc k + i) ∷ [])) cs) + w (c .symbol) ≡ weightBy w (without (suc k) ps cs)
-        → weightBy w (cond b (without (suc k) (ps ++ ((suc k + i) ∷ [])) cs) (d ∷ without (suc k) (ps ++ ((suc k + i) ∷ [])) cs)) + w (c .symbol)
+        → weightBy w (cond b (without (suc k) (ps ++ ((suc k + i) ∷ [])) cs) (d ∷ without (suc k) (ps ++
+        ((suc k + i) ∷ [])) cs)) + w (c .symbol)
         ≡ weightBy w (cond b (without (suc k) ps cs) (d ∷ without (suc k) ps cs))
     go true more = more
     go false more = omega arith
@@ -119,7 +120,8 @@ record Placed (p : ℕ) (cs : List Constraint) (try : ℕ → Constraint → Opt
   tried : try (p + at) constraint ≡ some m
 
 first-placed :
-    (p : ℕ) (cs : List Constraint) (try : ℕ → Constraint → Option Match) (m : Match) → firstIn p cs try ≡ some m → Placed p cs try m
+    (p : ℕ) (cs : List Constraint) (try : ℕ → Constraint → Option Match) (m : Match) → firstIn p cs try ≡ some m
+    → Placed p cs try m
 unfolding firstIn
 first-placed p [] try m e = some-none m e
 first-placed p (c ∷ cs) try m e = go (first-placed (suc p) cs try m) (answer (try p c))
@@ -136,7 +138,8 @@ first-placed p (c ∷ cs) try m e = go (first-placed (suc p) cs try m) (answer (
 -- a head fits only a constraint of its own symbol
 match-symbol : (h c : Constraint) (θ end : Assignment) → matchConstraint h c θ ≡ some end → h .symbol ≡ c .symbol
 unfolding matchConstraint
-match-symbol h c θ end e = ⊎-elim (λ t. eqb-true (h .symbol) (c .symbol) t) (λ u. some-none end (rw u at e)) (either (eqb (h .symbol) (c .symbol)))
+match-symbol h c θ end e =
+    ⊎-elim (λ t. eqb-true (h .symbol) (c .symbol) t) (λ u. some-none end (rw u at e)) (either (eqb (h .symbol) (c .symbol)))
 
 -- an attempt that succeeds
 record Tried (h c : Constraint) (taken : Bool) (θ : Assignment) (k : Assignment → Option Match) (m : Match) : Type 0 where
@@ -171,19 +174,22 @@ find-lighter w (h ∷ hs) cs chosen θ m e = go (λ next end. find-lighter w hs 
   where
     placed : Placed 0 cs (λ p c. cond (has p chosen) none (bind (matchConstraint h c θ) (find hs cs (chosen ++ (p ∷ []))))) m
     placed = first-placed 0 cs _ m e
+
     inside : Tried h (placed .constraint) (has (0 + placed .at) chosen) θ (find hs cs (chosen ++ ((0 + placed .at) ∷ []))) m
     inside =
-        tried-inside h (placed .constraint) (has (0 + placed .at) chosen) θ (find hs cs (chosen ++ ((0 + placed .at) ∷ []))) m (placed .tried)
+        tried-inside h (placed .constraint) (has (0 + placed .at) chosen) θ (find hs cs (chosen ++ ((0 + placed .at) ∷ []))) m
+        (placed .tried)
+
     go : ((next : List ℕ) (end : Assignment) → find hs cs next end ≡ some m
-          → weightBy w (without 0 (m .positions) cs) + weightBy w hs ≡ weightBy w (without 0 next cs))
+        → weightBy w (without 0 (m .positions) cs) + weightBy w hs ≡ weightBy w (without 0 next cs))
         → weightBy w (without 0 (m .positions) cs) + weightBy w (h ∷ hs) ≡ weightBy w (without 0 chosen cs)
     go more =
         let one : weightBy w (without 0 (m .positions) cs) + weightBy w hs
-              ≡ weightBy w (without 0 (chosen ++ ((0 + placed .at) ∷ [])) cs) =
-            more (chosen ++ ((0 + placed .at) ∷ [])) (inside .end) (inside .later) in
+        ≡ weightBy w (without 0 (chosen ++ ((0 + placed .at) ∷ [])) cs) =
+        more (chosen ++ ((0 + placed .at) ∷ [])) (inside .end) (inside .later) in
         let two : weightBy w (without 0 (chosen ++ ((0 + placed .at) ∷ [])) cs) + w (placed .constraint .symbol)
-              ≡ weightBy w (without 0 chosen cs) =
-            without-lighter w 0 cs (placed .at) (placed .constraint) chosen (placed .stands) (inside .free) in
+        ≡ weightBy w (without 0 chosen cs) =
+        without-lighter w 0 cs (placed .at) (placed .constraint) chosen (placed .stands) (inside .free) in
         let same : w (h .symbol) ≡ w (placed .constraint .symbol) =
-            ap w (match-symbol h (placed .constraint) θ (inside .end) (inside .fits)) in
+        ap w (match-symbol h (placed .constraint) θ (inside .end) (inside .fits)) in
         omega arith

@@ -27,7 +27,8 @@ unfoldable pub foundOf : Bool → ℕ → List ℕ → List ℕ → Option Match
 foundOf found n positions bindings =
     cond found (some (record { positions = take n positions; assignment = assigned bindings })) none
 
--- n heads and m constraints of five cells each, positions for all heads but those left, and letters for the variables of those left
+-- n heads and m constraints of five cells each, positions for all heads but those left, and letters for the variables of those
+-- left
 pub record Seeking (heads : List ℕ) (n left : ℕ) (cells : List ℕ) (m : ℕ) (chosen bindings : List ℕ) : Type 0 where
   pub heads-size : length heads ≡ 5 * n
   pub few : n ≤ 4
@@ -74,9 +75,11 @@ choiceOf text rules found number positions bindings =
     (foundOf found (getD (take 64 (drop (64 * number) rules)) 3 0) positions bindings)
 
 -- the choice promises that of its definition, whatever text the names stand in
-pub record Chosen (rules : List ℕ) (n : ℕ) (cells : List ℕ) (found : Bool) (number : ℕ) (positions bindings : List ℕ) : Type 0 where
+pub record Chosen (rules : List ℕ) (n : ℕ) (cells : List ℕ) (found : Bool) (number : ℕ)
+    (positions bindings : List ℕ) : Type 0 where
   pub same :
-      (text : List ℕ) → choiceOf text rules found number positions bindings ≡ choose (rulesOf text rules n) (cellConstraints cells)
+      (text : List ℕ) → choiceOf text rules found number positions bindings ≡ choose (rulesOf text rules n)
+      (cellConstraints cells)
   pub within : found ≡ true → number < n
   pub fits :
       found ≡ true

@@ -24,7 +24,8 @@ weightBy w cs = total (λ (c : Constraint). w (c .symbol)) cs
 pub record Lowers (w : ℕ → ℕ) (rules : List ℕ) (n : ℕ) : Type 0 where
   pub falls :
       (i : ℕ) → i < n
-      → weightBy w (ruleOfRow [] (take 64 (drop (64 * i) rules)) .body) < weightBy w (ruleOfRow [] (take 64 (drop (64 * i) rules)) .heads)
+      → weightBy w (ruleOfRow [] (take 64 (drop (64 * i) rules)) .body) < weightBy w (ruleOfRow [] (take 64 (drop
+      (64 * i) rules)) .heads)
 
 -- the constraints of a live state of m constraints
 unfoldable pub storeOf : List ℕ → ℕ → List Constraint
@@ -50,7 +51,8 @@ pub record Stepped (rules : List ℕ) (n : ℕ) (bound cells : List ℕ) (m next
       → advance (rulesOf text rules n) (live next (map cellTerm bound) (storeOf cells m))
       ≡ some (stateOf alive (next + 26) bound′ (take (5 * count) cells′))
   pub lighter :
-      fired ≡ true → (w : ℕ → ℕ) → Lowers w rules n → cond alive (weightBy w (storeOf cells′ count)) 0 < weightBy w (storeOf cells m)
+      fired ≡ true → (w : ℕ → ℕ) → Lowers w rules n → cond alive (weightBy w (storeOf cells′ count)) 0 < weightBy w
+      (storeOf cells m)
   pub low : fired ≡ true → alive ≡ true → every isLow (storeOf cells′ count) ≡ true
   pub few : count ≤ m + 6
 

@@ -11,10 +11,17 @@ pub struct Step {
 }
 
 // The strategy's firing, if a rule fits.
-pub fn advance(rules: &[u16], n: usize, bound: &mut [u16], cells: &mut [u16], m: usize, next: u16) -> Step
+pub fn advance(
+    rules: &[u16],
+    n: usize,
+    bound: &mut [u16],
+    cells: &mut [u16],
+    m: usize,
+    next: u16,
+) -> Step
     requires { ⌜ Live (now rules) n (now cells) m next ⌝ }
     ensures { λ r. ⌜ Stepped (now (rules .entry)) n (now (bound .entry)) (now (cells .entry)) m next
-      (now (bound .exit)) (now (cells .exit)) (r .fired) (r .alive) (r .count) ⌝ }
+        (now (bound .exit)) (now (cells .exit)) (r .fired) (r .alive) (r .count) ⌝ }
 {
     let e = 5 * m;
     let choice = choose(rules, n, &cells[..e], m);
@@ -47,10 +54,17 @@ pub struct Final {
 }
 
 // The derivation to its end, from a live state of m constraints.
-pub fn normalise(rules: &[u16], n: usize, bound: &mut [u16], cells: &mut [u16], m: usize, next: u16) -> Final
+pub fn normalise(
+    rules: &[u16],
+    n: usize,
+    bound: &mut [u16],
+    cells: &mut [u16],
+    m: usize,
+    next: u16,
+) -> Final
     requires { ⌜ Startable (now rules) n (now cells) m next ⌝ }
     ensures { λ r. ⌜ Ended (now (rules .entry)) n (now (bound .entry)) (now (cells .entry)) m next
-      (now (bound .exit)) (now (cells .exit)) (r .alive) (r .count) (r .next) (r .firings) ⌝ }
+        (now (bound .exit)) (now (cells .exit)) (r .alive) (r .count) (r .next) (r .firings) ⌝ }
 {
     let mut alive = true;
     let mut count = m;

@@ -89,10 +89,16 @@ pub fn append_body(row: &[u16], bindings: &[u16], next: u16, cells: &mut [u16], 
 }
 
 // Solves a rule's equations in the state; false where it fails.
-pub fn solve_rule(row: &[u16], bindings: &[u16], next: u16, bound: &mut [u16], cells: &mut [u16]) -> bool
+pub fn solve_rule(
+    row: &[u16],
+    bindings: &[u16],
+    next: u16,
+    bound: &mut [u16],
+    cells: &mut [u16],
+) -> bool
     requires { ⌜ Equated (now row) (now bindings) next (now cells) ⌝ }
     ensures { λ r. ⌜ SolvedRule r (now (row .entry)) (now (bindings .entry)) next (now (bound .entry)) (now (cells .entry))
-      (now (bound .exit)) (now (cells .exit)) ⌝ }
+        (now (bound .exit)) (now (cells .exit)) ⌝ }
 {
     let n = wide(row[5]);
     let e = 56 + 2 * n;
@@ -109,10 +115,18 @@ pub struct After {
 }
 
 // The state after firing a rule at positions that fit.
-pub fn fire(row: &[u16], positions: [usize; 4], bindings: &[u16], next: u16, bound: &mut [u16], cells: &mut [u16], m: usize) -> After
+pub fn fire(
+    row: &[u16],
+    positions: [usize; 4],
+    bindings: &[u16],
+    next: u16,
+    bound: &mut [u16],
+    cells: &mut [u16],
+    m: usize,
+) -> After
     requires { ⌜ Fires (now row) positions (now bindings) next (now cells) m ⌝ }
     ensures { λ r. ⌜ Fired (now (row .entry)) positions (now (bindings .entry)) next (now (bound .entry)) (now (cells .entry)) m
-      (now (bound .exit)) (now (cells .exit)) (r .alive) (r .count) ⌝ }
+        (now (bound .exit)) (now (cells .exit)) (r .alive) (r .count) ⌝ }
 {
     let n = wide(row[3]);
     let old = 5 * m;

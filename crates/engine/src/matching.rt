@@ -45,7 +45,8 @@ pub fn match_term(head: u16, term: u16, bindings: [u16; 26]) -> Fit
 pub fn match_terms(head: &[u16], constraint: &[u16], bindings: [u16; 26]) -> Fit
     requires { ⌜ Rows (now head) (now constraint) bindings ⌝ }
     ensures { λ r. ⌜ Matched (r .fits) (r .bindings)
-      (matchTerms (rowConstraint (now (head .entry)) .terms) (rowConstraint (now (constraint .entry)) .terms) (assigned bindings)) ⌝ }
+        (matchTerms (rowConstraint (now (head .entry)) .terms) (rowConstraint (now (constraint .entry)) .terms)
+        (assigned bindings)) ⌝ }
 {
     let mut settled = bindings;
     let mut i = 1;
@@ -81,7 +82,7 @@ pub fn match_terms(head: &[u16], constraint: &[u16], bindings: [u16; 26]) -> Fit
 pub fn match_constraint(head: &[u16], constraint: &[u16], bindings: [u16; 26]) -> Fit
     requires { ⌜ Rows (now head) (now constraint) bindings ⌝ }
     ensures { λ r. ⌜ Matched (r .fits) (r .bindings)
-      (matchConstraint (rowConstraint (now (head .entry))) (rowConstraint (now (constraint .entry))) (assigned bindings)) ⌝ }
+        (matchConstraint (rowConstraint (now (head .entry))) (rowConstraint (now (constraint .entry))) (assigned bindings)) ⌝ }
 {
     if head[0] == constraint[0] {
         return match_terms(head, constraint, bindings);

@@ -37,11 +37,18 @@ pub fn is_chosen(chosen: [usize; 4], h: usize, p: usize) -> bool
 }
 
 // A head against the constraint at a position, which fits only where the position is free.
-pub fn fit_at(head: &[u16], constraint: &[u16], h: usize, p: usize, chosen: [usize; 4], bindings: [u16; 26]) -> Fit
+pub fn fit_at(
+    head: &[u16],
+    constraint: &[u16],
+    h: usize,
+    p: usize,
+    chosen: [usize; 4],
+    bindings: [u16; 26],
+) -> Fit
     requires { ⌜ Rows (now head) (now constraint) bindings × (h ≤ 4) × (length chosen ≡ 4) ⌝ }
     ensures { λ r. ⌜ Matched (r .fits) (r .bindings)
-      (cond (has p (take h chosen)) none
-      (matchConstraint (rowConstraint (now (head .entry))) (rowConstraint (now (constraint .entry))) (assigned bindings))) ⌝ }
+        (cond (has p (take h chosen)) none
+        (matchConstraint (rowConstraint (now (head .entry))) (rowConstraint (now (constraint .entry))) (assigned bindings))) ⌝ }
 {
     if is_chosen(chosen, h, p) {
         return Fit {
@@ -53,11 +60,19 @@ pub fn fit_at(head: &[u16], constraint: &[u16], h: usize, p: usize, chosen: [usi
 }
 
 // Positions for the heads that are left, each over the positions still free: the first that lets the later heads fit too.
-pub fn find(heads: &[u16], n: usize, left: usize, cells: &[u16], m: usize, chosen: [usize; 4], bindings: [u16; 26]) -> Found
+pub fn find(
+    heads: &[u16],
+    n: usize,
+    left: usize,
+    cells: &[u16],
+    m: usize,
+    chosen: [usize; 4],
+    bindings: [u16; 26],
+) -> Found
     requires { ⌜ Seeking (now heads) n left (now cells) m chosen bindings ⌝ }
     ensures { λ r. ⌜ Located (r .found) n (r .positions) (r .bindings)
-      (find (cellConstraints (drop (5 * (n - left)) (now (heads .entry)))) (cellConstraints (now (cells .entry)))
-      (take (n - left) chosen) (assigned bindings)) ⌝ }
+        (find (cellConstraints (drop (5 * (n - left)) (now (heads .entry)))) (cellConstraints (now (cells .entry)))
+        (take (n - left) chosen) (assigned bindings)) ⌝ }
 {
     if left == 0 {
         return Found {
@@ -115,7 +130,7 @@ pub fn wide(cell: u16) -> usize
 pub fn find_rule(row: &[u16], cells: &[u16], m: usize) -> Found
     requires { ⌜ Row (now row) × (length (now cells) ≡ 5 * m) ⌝ }
     ensures { λ r. ⌜ Located (r .found) (getD (now (row .entry)) 3 0) (r .positions) (r .bindings)
-      (find (ruleOfRow [] (now (row .entry)) .heads) (cellConstraints (now (cells .entry))) [] unassigned) ⌝ }
+        (find (ruleOfRow [] (now (row .entry)) .heads) (cellConstraints (now (cells .entry))) [] unassigned) ⌝ }
 {
     let n = wide(row[3]);
     let e = 6 + 5 * n;

@@ -28,7 +28,7 @@ pub fn replace_all(cells: &mut [u16], v: u16, t: u16)
 pub fn put_in(v: u16, t: u16, equations: &mut [u16], bound: &mut [u16], cells: &mut [u16]) -> bool
     requires { ⌜ t < v ⌝ }
     ensures { λ r. ⌜ Merged r v t (now (equations .entry)) (now (bound .entry)) (now (cells .entry))
-      (now (equations .exit)) (now (bound .exit)) (now (cells .exit)) ⌝ }
+        (now (equations .exit)) (now (bound .exit)) (now (cells .exit)) ⌝ }
 {
     if v < 256 {
         return false;
@@ -42,7 +42,7 @@ pub fn put_in(v: u16, t: u16, equations: &mut [u16], bound: &mut [u16], cells: &
 // One equation: of two cells the larger, if it is a variable, becomes the smaller.
 pub fn unify(a: u16, b: u16, equations: &mut [u16], bound: &mut [u16], cells: &mut [u16]) -> bool
     ensures { λ r. ⌜ Merged r a b (now (equations .entry)) (now (bound .entry)) (now (cells .entry))
-      (now (equations .exit)) (now (bound .exit)) (now (cells .exit)) ⌝ }
+        (now (equations .exit)) (now (bound .exit)) (now (cells .exit)) ⌝ }
 {
     if a == b {
         return true;
@@ -57,7 +57,7 @@ pub fn unify(a: u16, b: u16, equations: &mut [u16], bound: &mut [u16], cells: &m
 pub fn solve(equations: &mut [u16], n: usize, bound: &mut [u16], cells: &mut [u16]) -> bool
     requires { ⌜ Solvable (now equations) n (now cells) ⌝ }
     ensures { λ r. ⌜ Solved r (now (equations .entry)) (now (bound .entry)) (now (cells .entry))
-      (now (bound .exit)) (now (cells .exit)) ⌝ }
+        (now (bound .exit)) (now (cells .exit)) ⌝ }
 {
     let mut i = 0;
     while i < n {

@@ -16,25 +16,64 @@ slice-reshare-prefix-choose : tie.Need-slice-reshare-prefix-choose
 slice-reshare-prefix-choose c = search needs
 
 slice-aggregate-choose : tie.Need-slice-aggregate-choose
-slice-aggregate-choose c = step-lent ((c .before .before .before .before .args) .rules .now) ((c .before .before .before .before .args) .n) ((c .before .before .before .before .args) .bound .now) ((c .before .before .before .before .args) .cells .now) ((c .before .before .before .before .args) .m) ((c .before .before .before .before .args) .next) ((c .before .before .before .before .pre))
+slice-aggregate-choose c =
+    let args′ = c .before .before .before .before .args in
+    let pre′ = c .before .before .before .before .pre in
+    step-lent (args′ .rules .now) (args′ .n) (args′ .bound .now) (args′ .cells .now) (args′ .m) (args′ .next) pre′
 
 choose-requires : tie.Need-choose-requires
-choose-requires c κs = step-chooses ((c .before .before .before .before .args) .rules .now) ((c .before .before .before .before .args) .n) ((c .before .before .before .before .args) .bound .now) ((c .before .before .before .before .args) .cells .now) ((c .before .before .before .before .args) .m) ((c .before .before .before .before .args) .next) ((c .before .before .before .before .pre))
+choose-requires c κs =
+    let args′ = c .before .before .before .before .args in
+    let pre′ = c .before .before .before .before .pre in
+    step-chooses (args′ .rules .now) (args′ .n) (args′ .bound .now) (args′ .cells .now) (args′ .m) (args′ .next) pre′
 
 same-length : tie.Need-same-length
 same-length c = search needs
 
 returns : tie.Need-returns
-returns c = step-rests ((c .before .before .before .before .before .before .before .args) .rules .now) ((c .before .before .before .before .before .before .before .args) .n) ((c .before .before .before .before .before .before .before .args) .bound .now) ((c .before .before .before .before .before .before .before .args) .cells .now) ((c .before .before .before .before .before .before .before .args) .m) ((c .before .before .before .before .before .before .before .args) .next) ((c .before .before .before .before .before .before .before .pre)) _ _ _ _ ((c .before .before .choose) .ensures) (not-true _ ((c .if1) .taken))
+returns c =
+    let args′ = c .before .before .before .before .before .before .before .args in
+    let pre′ = c .before .before .before .before .before .before .before .pre in
+    let choose′ = c .before .before .choose in
+    let if1′ = c .if1 in
+    step-rests (args′ .rules .now) (args′ .n) (args′ .bound .now) (args′ .cells .now) (args′ .m) (args′ .next) pre′ _ _ _ _
+    (choose′ .ensures) (not-true _ (if1′ .taken))
 
 mul-a : tie.Need-mul-a
-mul-a c = omega (arith, step-row ((c .before .before .before .before .before .before .before .before .before .args) .rules .now) ((c .before .before .before .before .before .before .before .before .before .args) .n) ((c .before .before .before .before .before .before .before .before .before .args) .bound .now) ((c .before .before .before .before .before .before .before .before .before .args) .cells .now) ((c .before .before .before .before .before .before .before .before .before .args) .m) ((c .before .before .before .before .before .before .before .before .before .args) .next) ((c .before .before .before .before .before .before .before .before .before .pre)) _ _ _ _ ((c .before .before .before .before .choose) .ensures) (not-false _ ((c .before .before .if1) .left)))
+mul-a c =
+    let args′ = c .before .before .before .before .before .before .before .before .before .args in
+    let pre′ = c .before .before .before .before .before .before .before .before .before .pre in
+    let choose′ = c .before .before .before .before .choose in
+    let if1′ = c .before .before .if1 in
+    omega (
+      arith,
+      step-row (args′ .rules .now) (args′ .n) (args′ .bound .now) (args′ .cells .now) (args′ .m)
+          (args′ .next) pre′ _ _ _ _ (choose′ .ensures) (not-false _ (if1′ .left)),
+    )
 
 add-b : tie.Need-add-b
-add-b c = omega (arith, step-row ((c .before .before .before .before .before .before .before .before .before .args) .rules .now) ((c .before .before .before .before .before .before .before .before .before .args) .n) ((c .before .before .before .before .before .before .before .before .before .args) .bound .now) ((c .before .before .before .before .before .before .before .before .before .args) .cells .now) ((c .before .before .before .before .before .before .before .before .before .args) .m) ((c .before .before .before .before .before .before .before .before .before .args) .next) ((c .before .before .before .before .before .before .before .before .before .pre)) _ _ _ _ ((c .before .before .before .before .choose) .ensures) (not-false _ ((c .before .before .if1) .left)))
+add-b c =
+    let args′ = c .before .before .before .before .before .before .before .before .before .args in
+    let pre′ = c .before .before .before .before .before .before .before .before .before .pre in
+    let choose′ = c .before .before .before .before .choose in
+    let if1′ = c .before .before .if1 in
+    omega (
+      arith,
+      step-row (args′ .rules .now) (args′ .n) (args′ .bound .now) (args′ .cells .now) (args′ .m)
+          (args′ .next) pre′ _ _ _ _ (choose′ .ensures) (not-false _ (if1′ .left)),
+    )
 
 mul-fire : tie.Need-mul-fire
-mul-fire c = omega (arith, step-row ((c .before .before .before .before .before .before .before .before .before .args) .rules .now) ((c .before .before .before .before .before .before .before .before .before .args) .n) ((c .before .before .before .before .before .before .before .before .before .args) .bound .now) ((c .before .before .before .before .before .before .before .before .before .args) .cells .now) ((c .before .before .before .before .before .before .before .before .before .args) .m) ((c .before .before .before .before .before .before .before .before .before .args) .next) ((c .before .before .before .before .before .before .before .before .before .pre)) _ _ _ _ ((c .before .before .before .before .choose) .ensures) (not-false _ ((c .before .before .if1) .left)))
+mul-fire c =
+    let args′ = c .before .before .before .before .before .before .before .before .before .args in
+    let pre′ = c .before .before .before .before .before .before .before .before .before .pre in
+    let choose′ = c .before .before .before .before .choose in
+    let if1′ = c .before .before .if1 in
+    omega (
+      arith,
+      step-row (args′ .rules .now) (args′ .n) (args′ .bound .now) (args′ .cells .now) (args′ .m)
+          (args′ .next) pre′ _ _ _ _ (choose′ .ensures) (not-false _ (if1′ .left)),
+    )
 
 sub-fire : tie.Need-sub-fire
 sub-fire c = search needs
@@ -43,13 +82,26 @@ part-fire-start : tie.Need-part-fire-start
 part-fire-start c = search needs
 
 part-fire-end : tie.Need-part-fire-end
-part-fire-end c = step-row ((c .before .before .before .before .before .before .before .before .before .args) .rules .now) ((c .before .before .before .before .before .before .before .before .before .args) .n) ((c .before .before .before .before .before .before .before .before .before .args) .bound .now) ((c .before .before .before .before .before .before .before .before .before .args) .cells .now) ((c .before .before .before .before .before .before .before .before .before .args) .m) ((c .before .before .before .before .before .before .before .before .before .args) .next) ((c .before .before .before .before .before .before .before .before .before .pre)) _ _ _ _ ((c .before .before .before .before .choose) .ensures) (not-false _ ((c .before .before .if1) .left))
+part-fire-end c =
+    let args′ = c .before .before .before .before .before .before .before .before .before .args in
+    let pre′ = c .before .before .before .before .before .before .before .before .before .pre in
+    let choose′ = c .before .before .before .before .choose in
+    let if1′ = c .before .before .if1 in
+    step-row (args′ .rules .now) (args′ .n) (args′ .bound .now) (args′ .cells .now) (args′ .m) (args′ .next) pre′ _ _ _ _
+    (choose′ .ensures) (not-false _ (if1′ .left))
 
 slice-aggregate-fire : tie.Need-slice-aggregate-fire
 slice-aggregate-fire c = search needs
 
 fire-requires : tie.Need-fire-requires
-fire-requires c κs = step-fires ((c .before .before .before .before .before .before .before .before .before .before .before .before .before .args) .rules .now) ((c .before .before .before .before .before .before .before .before .before .before .before .before .before .args) .n) ((c .before .before .before .before .before .before .before .before .before .before .before .before .before .args) .bound .now) ((c .before .before .before .before .before .before .before .before .before .before .before .before .before .args) .cells .now) ((c .before .before .before .before .before .before .before .before .before .before .before .before .before .args) .m) ((c .before .before .before .before .before .before .before .before .before .before .before .before .before .args) .next) ((c .before .before .before .before .before .before .before .before .before .before .before .before .before .pre)) _ _ _ _ ((c .before .before .before .before .before .before .before .before .choose) .ensures) (not-false _ ((c .before .before .before .before .before .before .if1) .left))
+fire-requires c κs =
+    let args′ = c .before .before .before .before .before .before .before .before .before .before .before .before .before .args
+    in
+    let pre′ = c .before .before .before .before .before .before .before .before .before .before .before .before .before .pre in
+    let choose′ = c .before .before .before .before .before .before .before .before .choose in
+    let if1′ = c .before .before .before .before .before .before .if1 in
+    step-fires (args′ .rules .now) (args′ .n) (args′ .bound .now) (args′ .cells .now) (args′ .m) (args′ .next) pre′ _ _ _ _
+    (choose′ .ensures) (not-false _ (if1′ .left))
 
 same-length-2 : tie.Need-same-length-2
 same-length-2 c = search needs
@@ -58,7 +110,17 @@ same-length-3 : tie.Need-same-length-3
 same-length-3 c = search needs
 
 returns-2 : tie.Need-returns-2
-returns-2 c = step-moves ((c .before .before .before .before .before .before .before .before .before .before .before .before .before .before .before .before .before .before .args) .rules .now) ((c .before .before .before .before .before .before .before .before .before .before .before .before .before .before .before .before .before .before .args) .n) ((c .before .before .before .before .before .before .before .before .before .before .before .before .before .before .before .before .before .before .args) .bound .now) ((c .before .before .before .before .before .before .before .before .before .before .before .before .before .before .before .before .before .before .args) .cells .now) ((c .before .before .before .before .before .before .before .before .before .before .before .before .before .before .before .before .before .before .args) .m) ((c .before .before .before .before .before .before .before .before .before .before .before .before .before .before .before .before .before .before .args) .next) ((c .before .before .before .before .before .before .before .before .before .before .before .before .before .before .before .before .before .before .pre)) _ _ _ _ ((c .before .before .before .before .before .before .before .before .before .before .before .before .before .choose) .ensures) (not-false _ ((c .before .before .before .before .before .before .before .before .before .before .before .if1) .left)) _ _ _ _ ((c .before .before .before .before .fire) .ensures)
+returns-2 c =
+    let args′ = c .before .before .before .before .before .before .before .before .before .before .before .before .before
+    .before .before .before .before .before .args in
+    let pre′ = c .before .before .before .before .before .before .before .before .before .before .before .before .before .before
+    .before .before .before .before .pre in
+    let choose′ = c .before .before .before .before .before .before .before .before .before .before .before .before .before
+    .choose in
+    let if1′ = c .before .before .before .before .before .before .before .before .before .before .before .if1 in
+    let fire′ = c .before .before .before .before .fire in
+    step-moves (args′ .rules .now) (args′ .n) (args′ .bound .now) (args′ .cells .now) (args′ .m) (args′ .next) pre′ _ _ _ _
+    (choose′ .ensures) (not-false _ (if1′ .left)) _ _ _ _ (fire′ .ensures)
 
 pub advance-spec : {M : Type 1} → statement M
 advance-spec =

@@ -11,46 +11,133 @@ use Rattle.engine.proofs.derivation.normalise.Tie as tie
 use Rattle.engine.proofs.derivation.advance.Reads as advance-reads
 
 abbrev Inv-loop : tie.InvT-loop
-Inv-loop rules n bound₀ cells₀ m next alive₀ count₀ number₀ firings₀ bound cells alive count number firings = Running rules n bound₀ cells₀ m next bound cells alive count number firings
+Inv-loop rules n bound₀ cells₀ m next alive₀ count₀ number₀ firings₀ bound cells alive count number firings = Running rules n
+    bound₀ cells₀ m next bound cells alive count number firings
 
 abbrev μ-loop : tie.MeasureT-loop
 μ-loop rules n bound₀ cells₀ m next alive₀ count₀ number₀ firings₀ bound cells alive count number firings = 512 - firings
 
 loop-holds : tie.Need-loop-holds Inv-loop μ-loop
-loop-holds c = running-start ((c .before .before .before .args) .rules .now) ((c .before .before .before .args) .n) ((c .before .before .before .args) .bound .now) ((c .before .before .before .args) .cells .now) ((c .before .before .before .args) .m) ((c .before .before .before .args) .next) ((c .before .before .before .pre))
+loop-holds c =
+    let args′ = c .before .before .before .args in
+    let pre′ = c .before .before .before .pre in
+    running-start (args′ .rules .now) (args′ .n) (args′ .bound .now) (args′ .cells .now) (args′ .m) (args′ .next) pre′
 
 advance-requires : tie.Need-advance-requires Inv-loop μ-loop
-advance-requires c κs = running-live ((c .before .before .before .before .before .before .before .args) .rules .now) ((c .before .before .before .before .before .before .before .args) .n) ((c .before .before .before .before .before .before .before .args) .bound .now) ((c .before .before .before .before .before .before .before .args) .cells .now) ((c .before .before .before .before .before .before .before .args) .m) ((c .before .before .before .before .before .before .before .args) .next) ((c .before .before .before .before .before .before .before .pre)) _ _ _ _ _ _ ((c .before .before .before .loop) .inv) ((c .before .before .loop-test) .taken)
+advance-requires c κs =
+    let args′ = c .before .before .before .before .before .before .before .args in
+    let pre′ = c .before .before .before .before .before .before .before .pre in
+    let loop′ = c .before .before .before .loop in
+    let loop-test′ = c .before .before .loop-test in
+    running-live (args′ .rules .now) (args′ .n) (args′ .bound .now) (args′ .cells .now) (args′ .m)
+    (args′ .next) pre′ _ _ _ _ _ _ (loop′ .inv) (loop-test′ .taken)
 
 same-length : tie.Need-same-length Inv-loop μ-loop
-same-length c = (c .before .before .before .before .before .before .advance) .kept .1 .1 .0 ∙ (c .before .before .before .before .before .before .before .before .before .before .loop) .inv .bound-size
+same-length c =
+    let advance′ = c .before .before .before .before .before .before .advance in
+    let loop′ = c .before .before .before .before .before .before .before .before .before .before .loop in
+    advance′ .kept .1 .1 .0 ∙ loop′ .inv .bound-size
 
 same-length-2 : tie.Need-same-length-2 Inv-loop μ-loop
-same-length-2 c = (c .before .before .before .before .before .before .advance) .kept .1 .1 .1 .0 ∙ (c .before .before .before .before .before .before .before .before .before .before .loop) .inv .cells-size
+same-length-2 c =
+    let advance′ = c .before .before .before .before .before .before .advance in
+    let loop′ = c .before .before .before .before .before .before .before .before .before .before .loop in
+    advance′ .kept .1 .1 .1 .0 ∙ loop′ .inv .cells-size
 
 returns : tie.Need-returns Inv-loop μ-loop
-returns c = running-rests ((c .before .before .before .before .before .before .before .before .before .before .before .before .before .before .args) .rules .now) ((c .before .before .before .before .before .before .before .before .before .before .before .before .before .before .args) .n) ((c .before .before .before .before .before .before .before .before .before .before .before .before .before .before .args) .bound .now) ((c .before .before .before .before .before .before .before .before .before .before .before .before .before .before .args) .cells .now) ((c .before .before .before .before .before .before .before .before .before .before .before .before .before .before .args) .m) ((c .before .before .before .before .before .before .before .before .before .before .before .before .before .before .args) .next) ((c .before .before .before .before .before .before .before .before .before .before .before .before .before .before .pre)) _ _ _ _ _ _ ((c .before .before .before .before .before .before .before .before .before .before .loop) .inv) ((c .before .before .before .before .before .before .before .before .before .loop-test) .taken) _ _ _ _ _ ((c .before .before .before .before .before .before .advance) .ensures) (not-true _ ((c .if1) .taken))
+returns c =
+    let args′ = c .before .before .before .before .before .before .before .before .before .before .before .before .before
+    .before .args in
+    let pre′ = c .before .before .before .before .before .before .before .before .before .before .before .before .before .before
+    .pre in
+    let loop′ = c .before .before .before .before .before .before .before .before .before .before .loop in
+    let loop-test′ = c .before .before .before .before .before .before .before .before .before .loop-test in
+    let advance′ = c .before .before .before .before .before .before .advance in
+    let if1′ = c .if1 in
+    running-rests (args′ .rules .now) (args′ .n) (args′ .bound .now) (args′ .cells .now) (args′ .m)
+    (args′ .next) pre′ _ _ _ _ _ _ (loop′ .inv) (loop-test′ .taken) _ _ _ _ _ (advance′ .ensures) (not-true _ (if1′ .taken))
 
 add-number : tie.Need-add-number Inv-loop μ-loop
-add-number c = omega (arith, running-number ((c .before .before .before .before .before .before .before .before .before .before .before .before .before .before .args) .rules .now) ((c .before .before .before .before .before .before .before .before .before .before .before .before .before .before .args) .n) ((c .before .before .before .before .before .before .before .before .before .before .before .before .before .before .args) .bound .now) ((c .before .before .before .before .before .before .before .before .before .before .before .before .before .before .args) .cells .now) ((c .before .before .before .before .before .before .before .before .before .before .before .before .before .before .args) .m) ((c .before .before .before .before .before .before .before .before .before .before .before .before .before .before .args) .next) ((c .before .before .before .before .before .before .before .before .before .before .before .before .before .before .pre)) _ _ _ _ _ _ ((c .before .before .before .before .before .before .before .before .before .before .loop) .inv) ((c .before .before .before .before .before .before .before .before .before .loop-test) .taken) _ _ _ _ _ ((c .before .before .before .before .before .before .advance) .ensures) (not-false _ ((c .if1) .left)))
+add-number c =
+    let args′ = c .before .before .before .before .before .before .before .before .before .before .before .before .before
+    .before .args in
+    let pre′ = c .before .before .before .before .before .before .before .before .before .before .before .before .before .before
+    .pre in
+    let loop′ = c .before .before .before .before .before .before .before .before .before .before .loop in
+    let loop-test′ = c .before .before .before .before .before .before .before .before .before .loop-test in
+    let advance′ = c .before .before .before .before .before .before .advance in
+    let if1′ = c .if1 in
+    omega (
+      arith,
+      running-number (args′ .rules .now) (args′ .n) (args′ .bound .now) (args′ .cells .now) (args′ .m)
+          (args′ .next) pre′ _ _ _ _ _ _ (loop′ .inv) (loop-test′ .taken) _ _ _ _ _ (advance′ .ensures) (not-false _
+          (if1′ .left)),
+    )
 
 add-firings : tie.Need-add-firings Inv-loop μ-loop
-add-firings c = omega (arith, running-more ((c .before .before .before .before .before .before .before .before .before .before .before .before .before .before .args) .rules .now) ((c .before .before .before .before .before .before .before .before .before .before .before .before .before .before .args) .n) ((c .before .before .before .before .before .before .before .before .before .before .before .before .before .before .args) .bound .now) ((c .before .before .before .before .before .before .before .before .before .before .before .before .before .before .args) .cells .now) ((c .before .before .before .before .before .before .before .before .before .before .before .before .before .before .args) .m) ((c .before .before .before .before .before .before .before .before .before .before .before .before .before .before .args) .next) ((c .before .before .before .before .before .before .before .before .before .before .before .before .before .before .pre)) _ _ _ _ _ _ ((c .before .before .before .before .before .before .before .before .before .before .loop) .inv) ((c .before .before .before .before .before .before .before .before .before .loop-test) .taken) _ _ _ _ _ ((c .before .before .before .before .before .before .advance) .ensures) (not-false _ ((c .if1) .left)))
+add-firings c =
+    let args′ = c .before .before .before .before .before .before .before .before .before .before .before .before .before
+    .before .args in
+    let pre′ = c .before .before .before .before .before .before .before .before .before .before .before .before .before .before
+    .pre in
+    let loop′ = c .before .before .before .before .before .before .before .before .before .before .loop in
+    let loop-test′ = c .before .before .before .before .before .before .before .before .before .loop-test in
+    let advance′ = c .before .before .before .before .before .before .advance in
+    let if1′ = c .if1 in
+    omega (
+      arith,
+      running-more (args′ .rules .now) (args′ .n) (args′ .bound .now) (args′ .cells .now) (args′ .m)
+          (args′ .next) pre′ _ _ _ _ _ _ (loop′ .inv) (loop-test′ .taken) _ _ _ _ _ (advance′ .ensures) (not-false _
+          (if1′ .left)),
+    )
 
 loop-less : tie.Need-loop-less Inv-loop μ-loop
-loop-less c = omega (arith, running-more ((c .before .before .before .before .before .before .before .before .before .before .before .before .before .before .args) .rules .now) ((c .before .before .before .before .before .before .before .before .before .before .before .before .before .before .args) .n) ((c .before .before .before .before .before .before .before .before .before .before .before .before .before .before .args) .bound .now) ((c .before .before .before .before .before .before .before .before .before .before .before .before .before .before .args) .cells .now) ((c .before .before .before .before .before .before .before .before .before .before .before .before .before .before .args) .m) ((c .before .before .before .before .before .before .before .before .before .before .before .before .before .before .args) .next) ((c .before .before .before .before .before .before .before .before .before .before .before .before .before .before .pre)) _ _ _ _ _ _ ((c .before .before .before .before .before .before .before .before .before .before .loop) .inv) ((c .before .before .before .before .before .before .before .before .before .loop-test) .taken) _ _ _ _ _ ((c .before .before .before .before .before .before .advance) .ensures) (not-false _ ((c .if1) .left)))
+loop-less c =
+    let args′ = c .before .before .before .before .before .before .before .before .before .before .before .before .before
+    .before .args in
+    let pre′ = c .before .before .before .before .before .before .before .before .before .before .before .before .before .before
+    .pre in
+    let loop′ = c .before .before .before .before .before .before .before .before .before .before .loop in
+    let loop-test′ = c .before .before .before .before .before .before .before .before .before .loop-test in
+    let advance′ = c .before .before .before .before .before .before .advance in
+    let if1′ = c .if1 in
+    omega (
+      arith,
+      running-more (args′ .rules .now) (args′ .n) (args′ .bound .now) (args′ .cells .now) (args′ .m)
+          (args′ .next) pre′ _ _ _ _ _ _ (loop′ .inv) (loop-test′ .taken) _ _ _ _ _ (advance′ .ensures) (not-false _
+          (if1′ .left)),
+    )
 
 loop-again : tie.Need-loop-again Inv-loop μ-loop
-loop-again c = running-next ((c .before .before .before .before .before .before .before .before .before .before .before .before .before .before .args) .rules .now) ((c .before .before .before .before .before .before .before .before .before .before .before .before .before .before .args) .n) ((c .before .before .before .before .before .before .before .before .before .before .before .before .before .before .args) .bound .now) ((c .before .before .before .before .before .before .before .before .before .before .before .before .before .before .args) .cells .now) ((c .before .before .before .before .before .before .before .before .before .before .before .before .before .before .args) .m) ((c .before .before .before .before .before .before .before .before .before .before .before .before .before .before .args) .next) ((c .before .before .before .before .before .before .before .before .before .before .before .before .before .before .pre)) _ _ _ _ _ _ ((c .before .before .before .before .before .before .before .before .before .before .loop) .inv) ((c .before .before .before .before .before .before .before .before .before .loop-test) .taken) _ _ _ _ _ ((c .before .before .before .before .before .before .advance) .ensures) (not-false _ ((c .if1) .left)) ((c .before .before .before .before .before .before .advance) .kept .1 .1 .0) ((c .before .before .before .before .before .before .advance) .kept .1 .1 .1 .0)
+loop-again c =
+    let args′ = c .before .before .before .before .before .before .before .before .before .before .before .before .before
+    .before .args in
+    let pre′ = c .before .before .before .before .before .before .before .before .before .before .before .before .before .before
+    .pre in
+    let loop′ = c .before .before .before .before .before .before .before .before .before .before .loop in
+    let loop-test′ = c .before .before .before .before .before .before .before .before .before .loop-test in
+    let advance′ = c .before .before .before .before .before .before .advance in
+    let if1′ = c .if1 in
+    running-next (args′ .rules .now) (args′ .n) (args′ .bound .now) (args′ .cells .now) (args′ .m)
+    (args′ .next) pre′ _ _ _ _ _ _ (loop′ .inv) (loop-test′ .taken) _ _ _ _ _ (advance′ .ensures) (not-false _ (if1′ .left))
+    (advance′ .kept .1 .1 .0) (advance′ .kept .1 .1 .1 .0)
 
 same-length-3 : tie.Need-same-length-3 Inv-loop μ-loop
-same-length-3 c = (c .before .loop) .inv .bound-size
+same-length-3 c =
+    (c .before .loop) .inv .bound-size
 
 same-length-4 : tie.Need-same-length-4 Inv-loop μ-loop
-same-length-4 c = (c .before .loop) .inv .cells-size
+same-length-4 c =
+    (c .before .loop) .inv .cells-size
 
 returns-2 : tie.Need-returns-2 Inv-loop μ-loop
-returns-2 c = running-failed ((c .before .before .before .before .before .args) .rules .now) ((c .before .before .before .before .before .args) .n) ((c .before .before .before .before .before .args) .bound .now) ((c .before .before .before .before .before .args) .cells .now) ((c .before .before .before .before .before .args) .m) ((c .before .before .before .before .before .args) .next) ((c .before .before .before .before .before .pre)) _ _ _ _ _ _ ((c .before .loop) .inv) ((c .loop-test) .left)
+returns-2 c =
+    let args′ = c .before .before .before .before .before .args in
+    let pre′ = c .before .before .before .before .before .pre in
+    let loop′ = c .before .loop in
+    let loop-test′ = c .loop-test in
+    running-failed (args′ .rules .now) (args′ .n) (args′ .bound .now) (args′ .cells .now) (args′ .m)
+    (args′ .next) pre′ _ _ _ _ _ _ (loop′ .inv) (loop-test′ .left)
 
 pub normalise-spec : {M : Type 1} → statement M
 normalise-spec =

@@ -59,7 +59,11 @@ same-length : tie.Need-same-length
 same-length c = search needs
 
 returns : tie.Need-returns
-returns c = body-appended _ _ _ _ _ _ _ _ ((c .before .before .before .before .before .before .before .before .before .before .pre) .0) ((c .before .before .before .before .before .before .before .before .before .before .pre) .3) ((c .before .before .before .before .before .wide) .ensures) ((c .before .before .instantiate) .ensures)
+returns c =
+    let pre′ = c .before .before .before .before .before .before .before .before .before .before .pre in
+    let wide′ = c .before .before .before .before .before .wide in
+    let instantiate′ = c .before .before .instantiate in
+    body-appended _ _ _ _ _ _ _ _ (pre′ .0) (pre′ .3) (wide′ .ensures) (instantiate′ .ensures)
 
 pub append-body-spec : {M : Type 1} → statement M
 append-body-spec =

@@ -1,7 +1,15 @@
 -- `fire` meets its contract: remove, append, solve.
 -- Assumes nothing.
 use borrow.Author.Needs.{needs}
-use Rattle.engine.proofs.RuleLaws.{fire-lent, fire-removes, fire-appends, fire-lends, fire-within, fire-equated, fire-done}
+use Rattle.engine.proofs.RuleLaws.{
+  fire-lent,
+  fire-removes,
+  fire-appends,
+  fire-lends,
+  fire-within,
+  fire-equated,
+  fire-done,
+}
 use Rattle.engine.proofs.firing.fire.Statement.{statement}
 use Rattle.engine.proofs.firing.fire.Tie as tie
 use Rattle.engine.proofs.firing.append_body.Reads as append-body-reads
@@ -22,25 +30,56 @@ slice-relend-prefix-remove : tie.Need-slice-relend-prefix-remove
 slice-relend-prefix-remove c = search needs
 
 slice-aggregate-remove : tie.Need-slice-aggregate-remove
-slice-aggregate-remove c = fire-lent _ _ _ _ _ _ _ ((c .before .before .before .before .before .before .before .pre)) ((c .before .wide) .ensures)
+slice-aggregate-remove c =
+    let pre′ = c .before .before .before .before .before .before .before .pre in
+    let wide′ = c .before .wide in
+    fire-lent _ _ _ _ _ _ _ pre′ (wide′ .ensures)
 
 remove-requires : tie.Need-remove-requires
-remove-requires c κs = fire-removes _ _ _ _ _ _ _ ((c .before .before .before .before .before .before .before .pre)) ((c .before .wide) .ensures)
+remove-requires c κs =
+    let pre′ = c .before .before .before .before .before .before .before .pre in
+    let wide′ = c .before .wide in
+    fire-removes _ _ _ _ _ _ _ pre′ (wide′ .ensures)
 
 append-body-requires : tie.Need-append-body-requires
-append-body-requires c κs = fire-appends _ _ _ _ _ _ _ ((c .before .before .before .before .before .before .before .before .before .before .before .pre)) ((c .before .before .before .before .before .wide) .ensures) _ _ ((c .before .before .before .remove) .kept .0) ((c .before .before .before .remove) .ensures)
+append-body-requires c κs =
+    let pre′ = c .before .before .before .before .before .before .before .before .before .before .before .pre in
+    let wide′ = c .before .before .before .before .before .wide in
+    let remove′ = c .before .before .before .remove in
+    fire-appends _ _ _ _ _ _ _ pre′ (wide′ .ensures) _ _ (remove′ .kept .0) (remove′ .ensures)
 
 mul-end : tie.Need-mul-end
 mul-end c = search needs
 
 slice-relend-prefix-solve-rule : tie.Need-slice-relend-prefix-solve-rule
-slice-relend-prefix-solve-rule c = fire-within _ _ _ _ _ _ _ ((c .before .before .before .before .before .before .before .before .before .before .before .before .before .before .before .pre)) ((c .before .before .before .before .before .before .before .before .before .wide) .ensures) _ _ ((c .before .before .before .before .before .before .before .remove) .kept .0) ((c .before .before .before .before .before .before .before .remove) .ensures) _ _ ((c .before .before .before .append-body) .kept .1 .1 .1 .0) ((c .before .before .before .append-body) .ensures)
+slice-relend-prefix-solve-rule c =
+    let pre′ = c .before .before .before .before .before .before .before .before .before .before .before .before .before .before
+    .before .pre in
+    let wide′ = c .before .before .before .before .before .before .before .before .before .wide in
+    let remove′ = c .before .before .before .before .before .before .before .remove in
+    let append-body′ = c .before .before .before .append-body in
+    fire-within _ _ _ _ _ _ _ pre′ (wide′ .ensures) _ _ (remove′ .kept .0) (remove′ .ensures) _ _
+    (append-body′ .kept .1 .1 .1 .0) (append-body′ .ensures)
 
 slice-aggregate-solve-rule : tie.Need-slice-aggregate-solve-rule
-slice-aggregate-solve-rule c = fire-lends _ _ _ _ _ _ _ ((c .before .before .before .before .before .before .before .before .before .before .before .before .before .before .before .before .pre)) ((c .before .before .before .before .before .before .before .before .before .before .wide) .ensures) _ _ ((c .before .before .before .before .before .before .before .before .remove) .kept .0) ((c .before .before .before .before .before .before .before .before .remove) .ensures) _ _ ((c .before .before .before .before .append-body) .kept .1 .1 .1 .0) ((c .before .before .before .before .append-body) .ensures)
+slice-aggregate-solve-rule c =
+    let pre′ = c .before .before .before .before .before .before .before .before .before .before .before .before .before .before
+    .before .before .pre in
+    let wide′ = c .before .before .before .before .before .before .before .before .before .before .wide in
+    let remove′ = c .before .before .before .before .before .before .before .before .remove in
+    let append-body′ = c .before .before .before .before .append-body in
+    fire-lends _ _ _ _ _ _ _ pre′ (wide′ .ensures) _ _ (remove′ .kept .0) (remove′ .ensures) _ _
+    (append-body′ .kept .1 .1 .1 .0) (append-body′ .ensures)
 
 solve-rule-requires : tie.Need-solve-rule-requires
-solve-rule-requires c κs = fire-equated _ _ _ _ _ _ _ ((c .before .before .before .before .before .before .before .before .before .before .before .before .before .before .before .before .pre)) ((c .before .before .before .before .before .before .before .before .before .before .wide) .ensures) _ _ ((c .before .before .before .before .before .before .before .before .remove) .kept .0) ((c .before .before .before .before .before .before .before .before .remove) .ensures) _ _ ((c .before .before .before .before .append-body) .kept .1 .1 .1 .0) ((c .before .before .before .before .append-body) .ensures)
+solve-rule-requires c κs =
+    let pre′ = c .before .before .before .before .before .before .before .before .before .before .before .before .before .before
+    .before .before .pre in
+    let wide′ = c .before .before .before .before .before .before .before .before .before .before .wide in
+    let remove′ = c .before .before .before .before .before .before .before .before .remove in
+    let append-body′ = c .before .before .before .before .append-body in
+    fire-equated _ _ _ _ _ _ _ pre′ (wide′ .ensures) _ _ (remove′ .kept .0) (remove′ .ensures) _ _
+    (append-body′ .kept .1 .1 .1 .0) (append-body′ .ensures)
 
 same-length : tie.Need-same-length
 same-length c = search needs
@@ -49,7 +88,17 @@ same-length-2 : tie.Need-same-length-2
 same-length-2 c = search needs
 
 returns : tie.Need-returns
-returns c = fire-done _ _ _ _ _ _ _ ((c .before .before .before .before .before .before .before .before .before .before .before .before .before .before .before .before .before .before .before .before .before .pre)) ((c .before .before .before .before .before .before .before .before .before .before .before .before .before .before .before .wide) .ensures) _ _ ((c .before .before .before .before .before .before .before .before .before .before .before .before .before .remove) .kept .0) ((c .before .before .before .before .before .before .before .before .before .before .before .before .before .remove) .ensures) _ _ ((c .before .before .before .before .before .before .before .before .before .append-body) .kept .1 .1 .1 .0) ((c .before .before .before .before .before .before .before .before .before .append-body) .ensures) _ _ _ _ ((c .before .before .before .before .solve-rule) .kept .1 .1 .1 .1 .0) ((c .before .before .before .before .solve-rule) .ensures)
+returns c =
+    let pre′ = c .before .before .before .before .before .before .before .before .before .before .before .before .before .before
+    .before .before .before .before .before .before .before .pre in
+    let wide′ = c .before .before .before .before .before .before .before .before .before .before .before .before .before
+    .before .before .wide in
+    let remove′ = c .before .before .before .before .before .before .before .before .before .before .before .before .before
+    .remove in
+    let append-body′ = c .before .before .before .before .before .before .before .before .before .append-body in
+    let solve-rule′ = c .before .before .before .before .solve-rule in
+    fire-done _ _ _ _ _ _ _ pre′ (wide′ .ensures) _ _ (remove′ .kept .0) (remove′ .ensures) _ _ (append-body′ .kept .1 .1 .1 .0)
+    (append-body′ .ensures) _ _ _ _ (solve-rule′ .kept .1 .1 .1 .1 .0) (solve-rule′ .ensures)
 
 pub fire-spec : {M : Type 1} → statement M
 fire-spec =

@@ -7,7 +7,8 @@ use Rattle.engine.proofs.firing.instance.Tie as tie
 use Rattle.engine.proofs.search.wide.Reads as wide-reads
 
 returns : tie.Need-returns
-returns c = instance-low _ _ _ ((c .if1) .taken)
+returns c =
+    instance-low _ _ _ ((c .if1) .taken)
 
 wide-requires : tie.Need-wide-requires
 wide-requires c κs = search needs
@@ -22,13 +23,27 @@ add-result : tie.Need-add-result
 add-result c = search needs
 
 returns-2 : tie.Need-returns-2
-returns-2 c = instance-new _ _ _ ((c .before .before .before .before .if1) .left) _ ((c .before .before .before .wide) .ensures) ((c .before .before .if2) .taken) ((c .if3) .taken)
+returns-2 c =
+    let if1′ = c .before .before .before .before .if1 in
+    let wide′ = c .before .before .before .wide in
+    let if2′ = c .before .before .if2 in
+    let if3′ = c .if3 in
+    instance-new _ _ _ (if1′ .left) _ (wide′ .ensures) (if2′ .taken) (if3′ .taken)
 
 returns-3 : tie.Need-returns-3
-returns-3 c = instance-settled _ _ _ ((c .before .before .before .before .if1) .left) _ ((c .before .before .before .wide) .ensures) ((c .before .before .if2) .taken) ((c .if3) .left)
+returns-3 c =
+    let if1′ = c .before .before .before .before .if1 in
+    let wide′ = c .before .before .before .wide in
+    let if2′ = c .before .before .if2 in
+    let if3′ = c .if3 in
+    instance-settled _ _ _ (if1′ .left) _ (wide′ .ensures) (if2′ .taken) (if3′ .left)
 
 returns-4 : tie.Need-returns-4
-returns-4 c = instance-other _ _ _ ((c .before .before .if1) .left) _ ((c .before .wide) .ensures) ((c .if2) .left)
+returns-4 c =
+    let if1′ = c .before .before .if1 in
+    let wide′ = c .before .wide in
+    let if2′ = c .if2 in
+    instance-other _ _ _ (if1′ .left) _ (wide′ .ensures) (if2′ .left)
 
 pub instance-spec : {M : Type 1} → statement M
 instance-spec =

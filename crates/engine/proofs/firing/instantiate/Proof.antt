@@ -17,7 +17,8 @@ abbrev μ-loop : tie.MeasureT-loop
 μ-loop source bindings next out₀ i₀ out i = length source - i
 
 loop-holds : tie.Need-loop-holds Inv-loop μ-loop
-loop-holds c = mapped-start _ _ _ ((c .before .before .before .pre) .0)
+loop-holds c =
+    mapped-start _ _ _ ((c .before .before .before .pre) .0)
 
 mul-instance : tie.Need-mul-instance Inv-loop μ-loop
 mul-instance c = omega arith
@@ -26,7 +27,9 @@ shared-slice-read-instance : tie.Need-shared-slice-read-instance Inv-loop μ-loo
 shared-slice-read-instance c = omega arith
 
 instance-requires : tie.Need-instance-requires Inv-loop μ-loop
-instance-requires c κs = ((c .before .before .before .before .before .before .pre) .1, (c .before .before .before .before .before .before .pre) .2)
+instance-requires c κs =
+    let pre′ = c .before .before .before .before .before .before .pre in
+    (pre′ .1, pre′ .2)
 
 mul-out : tie.Need-mul-out Inv-loop μ-loop
 mul-out c = omega arith
@@ -41,13 +44,21 @@ loop-less : tie.Need-loop-less Inv-loop μ-loop
 loop-less c = omega arith
 
 loop-again : tie.Need-loop-again Inv-loop μ-loop
-loop-again c = mapped-next _ _ _ _ _ ((c .before .before .before .loop) .inv) _ ((c .before .before .loop-test) .taken) ((c .instance) .ensures)
+loop-again c =
+    let loop′ = c .before .before .before .loop in
+    let loop-test′ = c .before .before .loop-test in
+    let instance′ = c .instance in
+    mapped-next _ _ _ _ _ (loop′ .inv) _ (loop-test′ .taken) (instance′ .ensures)
 
 same-length : tie.Need-same-length Inv-loop μ-loop
-same-length c = (c .before .loop) .inv .size
+same-length c =
+    (c .before .loop) .inv .size
 
 returns : tie.Need-returns Inv-loop μ-loop
-returns c = mapped-end _ _ _ _ _ ((c .before .loop) .inv) ((c .loop-test) .left)
+returns c =
+    let loop′ = c .before .loop in
+    let loop-test′ = c .loop-test in
+    mapped-end _ _ _ _ _ (loop′ .inv) (loop-test′ .left)
 
 pub instantiate-spec : {M : Type 1} → statement M
 instantiate-spec =

@@ -46,13 +46,22 @@ loop-less : tie.Need-loop-less Inv-loop μ-loop
 loop-less c = omega arith
 
 loop-again : tie.Need-loop-again Inv-loop μ-loop
-loop-again c = moving-next _ _ _ _ _ ((c .before .before .before .pre) .0) ((c .before .before .before .pre) .1) ((c .before .before .loop) .inv) ((c .before .loop-test) .taken)
+loop-again c =
+    let pre′ = c .before .before .before .pre in
+    let loop′ = c .before .before .loop in
+    let loop-test′ = c .before .loop-test in
+    moving-next _ _ _ _ _ (pre′ .0) (pre′ .1) (loop′ .inv) (loop-test′ .taken)
 
 same-length : tie.Need-same-length Inv-loop μ-loop
-same-length c = (c .before .loop) .inv .size
+same-length c =
+    (c .before .loop) .inv .size
 
 returns : tie.Need-returns Inv-loop μ-loop
-returns c = moving-end _ _ _ _ _ ((c .before .before .pre) .0) ((c .before .before .pre) .1) ((c .before .loop) .inv) ((c .loop-test) .left)
+returns c =
+    let pre′ = c .before .before .pre in
+    let loop′ = c .before .loop in
+    let loop-test′ = c .loop-test in
+    moving-end _ _ _ _ _ (pre′ .0) (pre′ .1) (loop′ .inv) (loop-test′ .left)
 
 pub move-row-spec : {M : Type 1} → statement M
 move-row-spec =

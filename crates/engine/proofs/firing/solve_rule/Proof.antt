@@ -37,19 +37,37 @@ array-borrow-prefix-equations : tie.Need-array-borrow-prefix-equations
 array-borrow-prefix-equations c = search needs
 
 slice-aggregate-instantiate : tie.Need-slice-aggregate-instantiate
-slice-aggregate-instantiate c = equations-room _ _ _ _ _ ((c .before .before .before .before .before .before .before .before .pre)) ((c .before .before .wide) .ensures)
+slice-aggregate-instantiate c =
+    let pre′ = c .before .before .before .before .before .before .before .before .pre in
+    let wide′ = c .before .before .wide in
+    equations-room _ _ _ _ _ pre′ (wide′ .ensures)
 
 instantiate-requires : tie.Need-instantiate-requires
-instantiate-requires c κs = equations-asked _ _ _ _ _ ((c .before .before .before .before .before .before .before .before .pre)) ((c .before .before .wide) .ensures)
+instantiate-requires c κs =
+    let pre′ = c .before .before .before .before .before .before .before .before .pre in
+    let wide′ = c .before .before .wide in
+    equations-asked _ _ _ _ _ pre′ (wide′ .ensures)
 
 array-borrow-prefix-equations-2 : tie.Need-array-borrow-prefix-equations-2
-array-borrow-prefix-equations-2 c = equations-prefix _ _ _ _ _ ((c .before .before .before .before .before .before .before .before .before .before .pre)) ((c .before .before .before .before .wide) .ensures) _ _ ((c .before .instantiate) .ensures)
+array-borrow-prefix-equations-2 c =
+    let pre′ = c .before .before .before .before .before .before .before .before .before .before .pre in
+    let wide′ = c .before .before .before .before .wide in
+    let instantiate′ = c .before .instantiate in
+    equations-prefix _ _ _ _ _ pre′ (wide′ .ensures) _ _ (instantiate′ .ensures)
 
 slice-aggregate-solve : tie.Need-slice-aggregate-solve
-slice-aggregate-solve c = equations-lent _ _ _ _ _ ((c .before .before .before .before .before .before .before .before .before .before .before .pre)) ((c .before .before .before .before .before .wide) .ensures) _ _ ((c .before .before .instantiate) .ensures)
+slice-aggregate-solve c =
+    let pre′ = c .before .before .before .before .before .before .before .before .before .before .before .pre in
+    let wide′ = c .before .before .before .before .before .wide in
+    let instantiate′ = c .before .before .instantiate in
+    equations-lent _ _ _ _ _ pre′ (wide′ .ensures) _ _ (instantiate′ .ensures)
 
 solve-requires : tie.Need-solve-requires
-solve-requires c κs = equations-solvable _ _ _ _ _ ((c .before .before .before .before .before .before .before .before .before .before .before .before .before .pre)) ((c .before .before .before .before .before .before .before .wide) .ensures) _ _ ((c .before .before .before .before .instantiate) .ensures)
+solve-requires c κs =
+    let pre′ = c .before .before .before .before .before .before .before .before .before .before .before .before .before .pre in
+    let wide′ = c .before .before .before .before .before .before .before .wide in
+    let instantiate′ = c .before .before .before .before .instantiate in
+    equations-solvable _ _ _ _ _ pre′ (wide′ .ensures) _ _ (instantiate′ .ensures)
 
 same-length : tie.Need-same-length
 same-length c = search needs
@@ -58,7 +76,14 @@ same-length-2 : tie.Need-same-length-2
 same-length-2 c = search needs
 
 returns : tie.Need-returns
-returns c = rule-solved _ _ _ _ _ ((c .before .before .before .before .before .before .before .before .before .before .before .before .before .before .before .before .before .before .before .pre)) ((c .before .before .before .before .before .before .before .before .before .before .before .before .before .wide) .ensures) _ _ ((c .before .before .before .before .before .before .before .before .before .before .instantiate) .ensures) _ _ _ _ ((c .before .before .before .before .before .solve) .ensures)
+returns c =
+    let pre′ = c .before .before .before .before .before .before .before .before .before .before .before .before .before .before
+    .before .before .before .before .before .pre in
+    let wide′ = c .before .before .before .before .before .before .before .before .before .before .before .before .before .wide
+    in
+    let instantiate′ = c .before .before .before .before .before .before .before .before .before .before .instantiate in
+    let solve′ = c .before .before .before .before .before .solve in
+    rule-solved _ _ _ _ _ pre′ (wide′ .ensures) _ _ (instantiate′ .ensures) _ _ _ _ (solve′ .ensures)
 
 pub solve-rule-spec : {M : Type 1} → statement M
 solve-rule-spec =

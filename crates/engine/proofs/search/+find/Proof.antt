@@ -1,4 +1,5 @@
--- `find` meets its contract: the positions from p on give the answer for all of them. The heads not yet placed fall at each call.
+-- `find` meets its contract: the positions from p on give the answer for all of them. The heads not yet placed fall at each
+-- call.
 -- Assumes nothing.
 use native.Mathlib.Omega.{arith}
 use Rattle.engine.proofs.SearchLaws.{Sought, placing, seek-done, seek-start, seek-rows, seek-next, seek-found}
@@ -34,7 +35,10 @@ find-returns : (t : ℕ) → find-lts.Need-returns (
   find-below t,
   find.Post,
 ) (find-at t) find.Post find-Inv-loop find-μ-loop
-find-returns t c = seek-done _ _ _ _ _ _ _ (placing _ _ _ _ _ _ _ ((c .before .before .before .pre) .1)) (omega (arith, (c .before .before .before .pre) .1, (c .if1) .taken))
+find-returns t c =
+    let pre′ = c .before .before .before .pre in
+    let if1′ = c .if1 in
+    seek-done _ _ _ _ _ _ _ (placing _ _ _ _ _ _ _ (pre′ .1)) (omega (arith, pre′ .1, if1′ .taken))
 
 find-sub-h : (t : ℕ) → find-lts.Need-sub-h (
   fit-at-reads.Asked,
@@ -98,7 +102,8 @@ find-loop-holds : (t : ℕ) → find-lts.Need-loop-holds (
   find-below t,
   find.Post,
 ) (find-at t) find.Post find-Inv-loop find-μ-loop
-find-loop-holds t c = seek-start _ _ _ _ _ _ _ (placing _ _ _ _ _ _ _ ((c .before .before .before .before .pre) .1)) (omega arith)
+find-loop-holds t c =
+    seek-start _ _ _ _ _ _ _ (placing _ _ _ _ _ _ _ ((c .before .before .before .before .pre) .1)) (omega arith)
 
 find-mul-b : (t : ℕ) → find-lts.Need-mul-b (
   fit-at-reads.Asked,
@@ -194,7 +199,11 @@ find-fit-at-requires : (t : ℕ) → find-lts.Need-fit-at-requires (
   find-below t,
   find.Post,
 ) (find-at t) find.Post find-Inv-loop find-μ-loop
-find-fit-at-requires t c κs = seek-rows _ _ _ _ _ _ _ (placing _ _ _ _ _ _ _ ((c .before .before .before .before .before .before .before .before .before .before .pre) .1)) (omega arith) _ ((c .before .before .before .before .before .loop) .inv) ((c .before .before .before .before .loop-test) .taken)
+find-fit-at-requires t c κs =
+    let pre′ = c .before .before .before .before .before .before .before .before .before .before .pre in
+    let loop′ = c .before .before .before .before .before .loop in
+    let loop-test′ = c .before .before .before .before .loop-test in
+    seek-rows _ _ _ _ _ _ _ (placing _ _ _ _ _ _ _ (pre′ .1)) (omega arith) _ (loop′ .inv) (loop-test′ .taken)
 
 find-mul-more : (t : ℕ) → find-lts.Need-mul-more (
   fit-at-reads.Asked,
@@ -226,10 +235,15 @@ find-find-requires : (t : ℕ) → find-lts.Need-find-requires (
   find-below t,
   find.Post,
 ) (find-at t) find.Post find-Inv-loop find-μ-loop
-find-find-requires t c κs = 
-    (omega (arith, (c .before .before .before .before .before .before .before .before .before .before .before .before .before .pre) .0, (c .before .before .before .before .before .before .before .before .before .before .before .before .before .pre) .1, (c .before .before .before .before .before .before .before .before .before .before .if1) .left),
-      seek-next _ _ _ _ _ _ _ (placing _ _ _ _ _ _ _ ((c .before .before .before .before .before .before .before .before .before .before .before .before .before .pre) .1)) (omega (arith, (c .before .before .before .before .before .before .before .before .before .before .before .before .before .pre) .1, (c .before .before .before .before .before .before .before .before .before .before .if1) .left)) _ _ _
-      (omega (arith, (c .before .before .before .before .before .before .before .before .before .before .before .before .before .pre) .1)) (omega (arith, (c .before .before .before .before .before .before .before .before .before .before .before .before .before .pre) .1, (c .before .before .before .before .before .before .before .before .before .before .if1) .left)) ((c .before .before .fit-at) .ensures .size))
+find-find-requires t c κs =
+    let pre′ = c .before .before .before .before .before .before .before .before .before .before .before .before .before .pre in
+    let if1′ = c .before .before .before .before .before .before .before .before .before .before .if1 in
+    let fit-at′ = c .before .before .fit-at in (
+      omega (arith, pre′ .0, pre′ .1, if1′ .left),
+      seek-next _ _ _ _ _ _ _ (placing _ _ _ _ _ _ _ (pre′ .1)) (omega
+          (arith, pre′ .1, if1′ .left)) _ _ _ (omega (arith, pre′ .1)) (omega (arith, pre′ .1, if1′ .left))
+          (fit-at′ .ensures .size),
+    )
 
 find-returns-2 : (t : ℕ) → find-lts.Need-returns-2 (
   fit-at-reads.Asked,
@@ -237,10 +251,21 @@ find-returns-2 : (t : ℕ) → find-lts.Need-returns-2 (
   find-below t,
   find.Post,
 ) (find-at t) find.Post find-Inv-loop find-μ-loop
-find-returns-2 t c = 
-    seek-found _ _ _ _ _ _ _ (placing _ _ _ _ _ _ _ ((c .before .before .before .before .before .before .before .before .before .before .before .before .before .before .before .pre) .1)) (omega (arith, (c .before .before .before .before .before .before .before .before .before .before .before .before .before .before .before .pre) .1, (c .before .before .before .before .before .before .before .before .before .before .before .before .if1) .left)) _ ((c .before .before .before .before .before .before .before .before .before .before .loop) .inv) ((c .before .before .before .before .before .before .before .before .before .loop-test) .taken) _ _
-    ((c .before .before .before .before .fit-at) .ensures) ((c .before .before .before .if3) .taken) _ _ _ ((c .before .before .before .before .before .before .before .before .before .before .before .before .before .before .before .args) .n - ((c .before .before .before .before .before .before .before .before .before .before .before .before .before .before .before .args) .left - 1)) ((c .before .find) .ensures)
-    (omega (arith, (c .before .before .before .before .before .before .before .before .before .before .before .before .before .before .before .pre) .1, (c .before .before .before .before .before .before .before .before .before .before .before .before .if1) .left)) ((c .if4) .taken)
+find-returns-2 t c =
+    let pre′ = c .before .before .before .before .before .before .before .before .before .before .before .before .before .before
+    .before .pre in
+    let if1′ = c .before .before .before .before .before .before .before .before .before .before .before .before .if1 in
+    let loop′ = c .before .before .before .before .before .before .before .before .before .before .loop in
+    let loop-test′ = c .before .before .before .before .before .before .before .before .before .loop-test in
+    let fit-at′ = c .before .before .before .before .fit-at in
+    let if3′ = c .before .before .before .if3 in
+    let args′ = c .before .before .before .before .before .before .before .before .before .before .before .before .before
+    .before .before .args in
+    let find′ = c .before .find in
+    let if4′ = c .if4 in
+    seek-found _ _ _ _ _ _ _ (placing _ _ _ _ _ _ _ (pre′ .1)) (omega (arith, pre′ .1, if1′ .left)) _ (loop′ .inv)
+    (loop-test′ .taken) _ _ (fit-at′ .ensures) (if3′ .taken) _ _ _ (args′ .n - (args′ .left - 1)) (find′ .ensures) (omega
+    (arith, pre′ .1, if1′ .left)) (if4′ .taken)
 
 find-loop-less : (t : ℕ) → find-lts.Need-loop-less (
   fit-at-reads.Asked,
@@ -256,10 +281,21 @@ find-loop-again : (t : ℕ) → find-lts.Need-loop-again (
   find-below t,
   find.Post,
 ) (find-at t) find.Post find-Inv-loop find-μ-loop
-find-loop-again t c = 
-    seek-dead _ _ _ _ _ _ _ (placing _ _ _ _ _ _ _ ((c .before .before .before .before .before .before .before .before .before .before .before .before .before .before .before .pre) .1)) (omega (arith, (c .before .before .before .before .before .before .before .before .before .before .before .before .before .before .before .pre) .1, (c .before .before .before .before .before .before .before .before .before .before .before .before .if1) .left)) _ ((c .before .before .before .before .before .before .before .before .before .before .loop) .inv) ((c .before .before .before .before .before .before .before .before .before .loop-test) .taken) _ _
-    ((c .before .before .before .before .fit-at) .ensures) ((c .before .before .before .if3) .taken) _ _ _ ((c .before .before .before .before .before .before .before .before .before .before .before .before .before .before .before .args) .n - ((c .before .before .before .before .before .before .before .before .before .before .before .before .before .before .before .args) .left - 1)) ((c .before .find) .ensures)
-    (omega (arith, (c .before .before .before .before .before .before .before .before .before .before .before .before .before .before .before .pre) .1, (c .before .before .before .before .before .before .before .before .before .before .before .before .if1) .left)) ((c .if4) .left)
+find-loop-again t c =
+    let pre′ = c .before .before .before .before .before .before .before .before .before .before .before .before .before .before
+    .before .pre in
+    let if1′ = c .before .before .before .before .before .before .before .before .before .before .before .before .if1 in
+    let loop′ = c .before .before .before .before .before .before .before .before .before .before .loop in
+    let loop-test′ = c .before .before .before .before .before .before .before .before .before .loop-test in
+    let fit-at′ = c .before .before .before .before .fit-at in
+    let if3′ = c .before .before .before .if3 in
+    let args′ = c .before .before .before .before .before .before .before .before .before .before .before .before .before
+    .before .before .args in
+    let find′ = c .before .find in
+    let if4′ = c .if4 in
+    seek-dead _ _ _ _ _ _ _ (placing _ _ _ _ _ _ _ (pre′ .1)) (omega (arith, pre′ .1, if1′ .left)) _ (loop′ .inv)
+    (loop-test′ .taken) _ _ (fit-at′ .ensures) (if3′ .taken) _ _ _ (args′ .n - (args′ .left - 1)) (find′ .ensures) (omega
+    (arith, pre′ .1, if1′ .left)) (if4′ .left)
 
 find-loop-less-2 : (t : ℕ) → find-lts.Need-loop-less-2 (
   fit-at-reads.Asked,
@@ -275,9 +311,15 @@ find-loop-again-2 : (t : ℕ) → find-lts.Need-loop-again-2 (
   find-below t,
   find.Post,
 ) (find-at t) find.Post find-Inv-loop find-μ-loop
-find-loop-again-2 t c = 
-    seek-misfit _ _ _ _ _ _ _ (placing _ _ _ _ _ _ _ ((c .before .before .before .before .before .before .before .before .before .before .before .before .pre) .1)) (omega (arith, (c .before .before .before .before .before .before .before .before .before .before .before .before .pre) .1, (c .before .before .before .before .before .before .before .before .before .if1) .left)) _ ((c .before .before .before .before .before .before .before .loop) .inv) ((c .before .before .before .before .before .before .loop-test) .taken) _ _
-    ((c .before .fit-at) .ensures) ((c .if3) .left)
+find-loop-again-2 t c =
+    let pre′ = c .before .before .before .before .before .before .before .before .before .before .before .before .pre in
+    let if1′ = c .before .before .before .before .before .before .before .before .before .if1 in
+    let loop′ = c .before .before .before .before .before .before .before .loop in
+    let loop-test′ = c .before .before .before .before .before .before .loop-test in
+    let fit-at′ = c .before .fit-at in
+    let if3′ = c .if3 in
+    seek-misfit _ _ _ _ _ _ _ (placing _ _ _ _ _ _ _ (pre′ .1)) (omega (arith, pre′ .1, if1′ .left)) _ (loop′ .inv)
+    (loop-test′ .taken) _ _ (fit-at′ .ensures) (if3′ .left)
 
 find-loop-less-3 : (t : ℕ) → find-lts.Need-loop-less-3 (
   fit-at-reads.Asked,
@@ -293,8 +335,14 @@ find-loop-again-3 : (t : ℕ) → find-lts.Need-loop-again-3 (
   find-below t,
   find.Post,
 ) (find-at t) find.Post find-Inv-loop find-μ-loop
-find-loop-again-3 t c = 
-    seek-other _ _ _ _ _ _ _ (placing _ _ _ _ _ _ _ ((c .before .before .before .before .before .before .before .before .before .pre) .1)) (omega (arith, (c .before .before .before .before .before .before .before .before .before .pre) .1, (c .before .before .before .before .before .before .if1) .left)) _ ((c .before .before .before .before .loop) .inv) ((c .before .before .before .loop-test) .taken) ((c .if2) .left)
+find-loop-again-3 t c =
+    let pre′ = c .before .before .before .before .before .before .before .before .before .pre in
+    let if1′ = c .before .before .before .before .before .before .if1 in
+    let loop′ = c .before .before .before .before .loop in
+    let loop-test′ = c .before .before .before .loop-test in
+    let if2′ = c .if2 in
+    seek-other _ _ _ _ _ _ _ (placing _ _ _ _ _ _ _ (pre′ .1)) (omega (arith, pre′ .1, if1′ .left)) _ (loop′ .inv)
+    (loop-test′ .taken) (if2′ .left)
 
 find-returns-3 : (t : ℕ) → find-lts.Need-returns-3 (
   fit-at-reads.Asked,
@@ -302,7 +350,13 @@ find-returns-3 : (t : ℕ) → find-lts.Need-returns-3 (
   find-below t,
   find.Post,
 ) (find-at t) find.Post find-Inv-loop find-μ-loop
-find-returns-3 t c = seek-none _ _ _ _ _ _ _ (placing _ _ _ _ _ _ _ ((c .before .before .before .before .before .before .pre) .1)) (omega (arith, (c .before .before .before .before .before .before .pre) .1, (c .before .before .before .if1) .left)) _ ((c .before .loop) .inv) ((c .loop-test) .left)
+find-returns-3 t c =
+    let pre′ = c .before .before .before .before .before .before .pre in
+    let if1′ = c .before .before .before .if1 in
+    let loop′ = c .before .loop in
+    let loop-test′ = c .loop-test in
+    seek-none _ _ _ _ _ _ _ (placing _ _ _ _ _ _ _ (pre′ .1)) (omega (arith, pre′ .1, if1′ .left)) _ (loop′ .inv)
+    (loop-test′ .left)
 
 pub +find-spec : {M : Type 1} → statement M
 +find-spec = close μ-find λ t. find-lts.spec (

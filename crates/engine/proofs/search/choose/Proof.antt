@@ -2,7 +2,14 @@
 -- Assumes nothing.
 use Prim.Native.Nat.{_-_}
 use native.Mathlib.Omega.{arith}
-use Rattle.engine.proofs.ChooseLaws.{Choosing, choosing-start, choosing-none, choosing-row, choosing-next, choosing-found}
+use Rattle.engine.proofs.ChooseLaws.{
+  Choosing,
+  choosing-start,
+  choosing-none,
+  choosing-row,
+  choosing-next,
+  choosing-found,
+}
 use Rattle.engine.proofs.search.choose.Statement.{statement}
 use Rattle.engine.proofs.search.choose.Tie as tie
 use Rattle.engine.proofs.search.find_rule.Reads as find-rule-reads
@@ -35,10 +42,21 @@ part-find-rule-end : tie.Need-part-find-rule-end Inv-loop μ-loop
 part-find-rule-end c = omega arith
 
 find-rule-requires : tie.Need-find-rule-requires Inv-loop μ-loop
-find-rule-requires c κs = choosing-row _ _ _ _ _ ((c .before .before .before .before .before .pre) .0) ((c .before .before .loop) .inv) ((c .before .loop-test) .taken) ((c .before .before .before .before .before .pre) .1)
+find-rule-requires c κs =
+    let pre′ = c .before .before .before .before .before .pre in
+    let loop′ = c .before .before .loop in
+    let loop-test′ = c .before .loop-test in
+    choosing-row _ _ _ _ _ (pre′ .0) (loop′ .inv) (loop-test′ .taken) (pre′ .1)
 
 returns : tie.Need-returns Inv-loop μ-loop
-returns c = choosing-found _ _ _ ((c .before .before .before .before .before .before .before .before .before .args) .m) _ ((c .before .before .before .before .before .before .before .before .before .pre) .0) ((c .before .before .before .before .before .before .loop) .inv) ((c .before .before .before .before .before .loop-test) .taken) _ _ _ ((c .before .before .before .find-rule) .ensures) ((c .before .before .if1) .taken)
+returns c =
+    let args′ = c .before .before .before .before .before .before .before .before .before .args in
+    let pre′ = c .before .before .before .before .before .before .before .before .before .pre in
+    let loop′ = c .before .before .before .before .before .before .loop in
+    let loop-test′ = c .before .before .before .before .before .loop-test in
+    let find-rule′ = c .before .before .before .find-rule in
+    let if1′ = c .before .before .if1 in
+    choosing-found _ _ _ (args′ .m) _ (pre′ .0) (loop′ .inv) (loop-test′ .taken) _ _ _ (find-rule′ .ensures) (if1′ .taken)
 
 add-i : tie.Need-add-i Inv-loop μ-loop
 add-i c = omega arith
@@ -47,10 +65,22 @@ loop-less : tie.Need-loop-less Inv-loop μ-loop
 loop-less c = omega arith
 
 loop-again : tie.Need-loop-again Inv-loop μ-loop
-loop-again c = choosing-next _ _ _ ((c .before .before .before .before .before .before .before .args) .m) _ ((c .before .before .before .before .before .before .before .pre) .0) ((c .before .before .before .before .loop) .inv) ((c .before .before .before .loop-test) .taken) _ _ _ ((c .before .find-rule) .ensures) ((c .if1) .left)
+loop-again c =
+    let args′ = c .before .before .before .before .before .before .before .args in
+    let pre′ = c .before .before .before .before .before .before .before .pre in
+    let loop′ = c .before .before .before .before .loop in
+    let loop-test′ = c .before .before .before .loop-test in
+    let find-rule′ = c .before .find-rule in
+    let if1′ = c .if1 in
+    choosing-next _ _ _ (args′ .m) _ (pre′ .0) (loop′ .inv) (loop-test′ .taken) _ _ _ (find-rule′ .ensures) (if1′ .left)
 
 returns-2 : tie.Need-returns-2 Inv-loop μ-loop
-returns-2 c = choosing-none _ _ _ ((c .before .before .before .before .args) .m) _ ((c .before .before .before .before .pre) .0) ((c .before .loop) .inv) ((c .loop-test) .left)
+returns-2 c =
+    let args′ = c .before .before .before .before .args in
+    let pre′ = c .before .before .before .before .pre in
+    let loop′ = c .before .loop in
+    let loop-test′ = c .loop-test in
+    choosing-none _ _ _ (args′ .m) _ (pre′ .0) (loop′ .inv) (loop-test′ .left)
 
 pub choose-spec : {M : Type 1} → statement M
 choose-spec =

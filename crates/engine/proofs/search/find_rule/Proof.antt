@@ -29,10 +29,17 @@ part-find-end : tie.Need-part-find-end
 part-find-end c = search needs
 
 find-requires : tie.Need-find-requires
-find-requires c κs = rule-seeking _ _ _ _ ((c .before .before .before .before .before .pre) .0) ((c .before .before .before .before .before .pre) .1) ((c .before .wide) .ensures)
+find-requires c κs =
+    let pre′ = c .before .before .before .before .before .pre in
+    let wide′ = c .before .wide in
+    rule-seeking _ _ _ _ (pre′ .0) (pre′ .1) (wide′ .ensures)
 
 returns : tie.Need-returns
-returns c = rule-located _ _ _ _ ((c .before .before .before .before .before .before .pre) .0) ((c .before .before .before .before .before .before .pre) .1) ((c .before .before .wide) .ensures) _ _ _ ((c .find) .ensures)
+returns c =
+    let pre′ = c .before .before .before .before .before .before .pre in
+    let wide′ = c .before .before .wide in
+    let find′ = c .find in
+    rule-located _ _ _ _ (pre′ .0) (pre′ .1) (wide′ .ensures) _ _ _ (find′ .ensures)
 
 pub find-rule-spec : {M : Type 1} → statement M
 find-rule-spec =

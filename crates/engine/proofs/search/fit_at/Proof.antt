@@ -11,13 +11,21 @@ is-chosen-requires : tie.Need-is-chosen-requires
 is-chosen-requires c κs = search needs
 
 returns : tie.Need-returns
-returns c = fit-chosen _ _ _ (rw ((c .if1) .taken) at ((c .before .is-chosen) .ensures)) ((c .before .before .before .before .pre) .0 .bindings-size)
+returns c =
+    let if1′ = c .if1 in
+    let is-chosen′ = c .before .is-chosen in
+    let pre′ = c .before .before .before .before .pre in
+    fit-chosen _ _ _ (rw (if1′ .taken) at (is-chosen′ .ensures)) (pre′ .0 .bindings-size)
 
 match-constraint-requires : tie.Need-match-constraint-requires
 match-constraint-requires c κs = search needs
 
 returns-2 : tie.Need-returns-2
-returns-2 c = fit-free _ _ _ _ (rw ((c .before .if1) .left) at ((c .before .before .is-chosen) .ensures)) ((c .match-constraint) .ensures)
+returns-2 c =
+    let if1′ = c .before .if1 in
+    let is-chosen′ = c .before .before .is-chosen in
+    let match-constraint′ = c .match-constraint in
+    fit-free _ _ _ _ (rw (if1′ .left) at (is-chosen′ .ensures)) (match-constraint′ .ensures)
 
 pub fit-at-spec : {M : Type 1} → statement M
 fit-at-spec = tie.close (tie.spec is-chosen-requires returns match-constraint-requires returns-2)

@@ -22,7 +22,12 @@ array-read-if1 : tie.Need-array-read-if1 Inv-loop μ-loop
 array-read-if1 c = omega arith
 
 returns : tie.Need-returns Inv-loop μ-loop
-returns c = looking-found _ _ _ _ ((c .before .before .before .pre) .0) ((c .before .before .before .pre) .1) ((c .before .before .loop) .inv) ((c .before .loop-test) .taken) ((c .if1) .taken)
+returns c =
+    let pre′ = c .before .before .before .pre in
+    let loop′ = c .before .before .loop in
+    let loop-test′ = c .before .loop-test in
+    let if1′ = c .if1 in
+    looking-found _ _ _ _ (pre′ .0) (pre′ .1) (loop′ .inv) (loop-test′ .taken) (if1′ .taken)
 
 add-i : tie.Need-add-i Inv-loop μ-loop
 add-i c = omega arith
@@ -31,10 +36,19 @@ loop-less : tie.Need-loop-less Inv-loop μ-loop
 loop-less c = omega arith
 
 loop-again : tie.Need-loop-again Inv-loop μ-loop
-loop-again c = looking-next _ _ _ _ ((c .before .before .before .pre) .0) ((c .before .before .before .pre) .1) ((c .before .before .loop) .inv) ((c .before .loop-test) .taken) ((c .if1) .left)
+loop-again c =
+    let pre′ = c .before .before .before .pre in
+    let loop′ = c .before .before .loop in
+    let loop-test′ = c .before .loop-test in
+    let if1′ = c .if1 in
+    looking-next _ _ _ _ (pre′ .0) (pre′ .1) (loop′ .inv) (loop-test′ .taken) (if1′ .left)
 
 returns-2 : tie.Need-returns-2 Inv-loop μ-loop
-returns-2 c = looking-end _ _ _ _ ((c .before .before .pre) .0) ((c .before .before .pre) .1) ((c .before .loop) .inv) ((c .loop-test) .left)
+returns-2 c =
+    let pre′ = c .before .before .pre in
+    let loop′ = c .before .loop in
+    let loop-test′ = c .loop-test in
+    looking-end _ _ _ _ (pre′ .0) (pre′ .1) (loop′ .inv) (loop-test′ .left)
 
 pub is-chosen-spec : {M : Type 1} → statement M
 is-chosen-spec =

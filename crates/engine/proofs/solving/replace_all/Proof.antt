@@ -41,13 +41,22 @@ loop-less : tie.Need-loop-less Inv-loop μ-loop
 loop-less c = omega arith
 
 loop-again : tie.Need-loop-again Inv-loop μ-loop
-loop-again c = mapped-next _ _ _ _ _ ((c .before .before .before .loop) .inv) _ (omega (arith, (c .before .before .before .loop) .inv .size, (c .before .before .loop-test) .taken)) ((c .swapped) .ensures ∙ ap (swap _ _) (mapped-read _ _ _ _ _ ((c .before .before .before .loop) .inv) (omega (arith, (c .before .before .before .loop) .inv .size, (c .before .before .loop-test) .taken))))
+loop-again c =
+    let loop′ = c .before .before .before .loop in
+    let loop-test′ = c .before .before .loop-test in
+    let swapped′ = c .swapped in
+    mapped-next _ _ _ _ _ (loop′ .inv) _ (omega (arith, loop′ .inv .size, loop-test′ .taken)) (swapped′ .ensures ∙ ap (swap _ _)
+    (mapped-read _ _ _ _ _ (loop′ .inv) (omega (arith, loop′ .inv .size, loop-test′ .taken))))
 
 same-length : tie.Need-same-length Inv-loop μ-loop
-same-length c = (c .before .loop) .inv .size
+same-length c =
+    (c .before .loop) .inv .size
 
 returns : tie.Need-returns Inv-loop μ-loop
-returns c = mapped-end _ _ _ _ _ ((c .before .loop) .inv) (omega (arith, (c .before .loop) .inv .size, (c .loop-test) .left))
+returns c =
+    let loop′ = c .before .loop in
+    let loop-test′ = c .loop-test in
+    mapped-end _ _ _ _ _ (loop′ .inv) (omega (arith, loop′ .inv .size, loop-test′ .left))
 
 pub replace-all-spec : {M : Type 1} → statement M
 replace-all-spec =

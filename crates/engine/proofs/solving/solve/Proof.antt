@@ -16,7 +16,8 @@ abbrev μ-loop : tie.MeasureT-loop
 μ-loop equations₀ n bound₀ cells₀ i₀ equations bound cells i = n - i
 
 loop-holds : tie.Need-loop-holds Inv-loop μ-loop
-loop-holds c = solving-start _ _ _ _ ((c .before .before .before .pre))
+loop-holds c =
+    solving-start _ _ _ _ ((c .before .before .before .pre))
 
 mul-at : tie.Need-mul-at Inv-loop μ-loop
 mul-at c = omega arith
@@ -40,16 +41,35 @@ unify-requires : tie.Need-unify-requires Inv-loop μ-loop
 unify-requires c κs = tt
 
 same-length : tie.Need-same-length Inv-loop μ-loop
-same-length c = (c .before .before .before .before .before .before .before .unify) .kept .1 .1 .0 ∙ (c .before .before .before .before .before .before .before .before .before .before .before .before .before .before .loop) .inv .equations-size
+same-length c =
+    let unify′ = c .before .before .before .before .before .before .before .unify in
+    let loop′ = c .before .before .before .before .before .before .before .before .before .before .before .before .before
+    .before .loop in
+    unify′ .kept .1 .1 .0 ∙ loop′ .inv .equations-size
 
 same-length-2 : tie.Need-same-length-2 Inv-loop μ-loop
-same-length-2 c = (c .before .before .before .before .before .before .before .unify) .kept .1 .1 .1 .0 ∙ (c .before .before .before .before .before .before .before .before .before .before .before .before .before .before .loop) .inv .bound-size
+same-length-2 c =
+    let unify′ = c .before .before .before .before .before .before .before .unify in
+    let loop′ = c .before .before .before .before .before .before .before .before .before .before .before .before .before
+    .before .loop in
+    unify′ .kept .1 .1 .1 .0 ∙ loop′ .inv .bound-size
 
 same-length-3 : tie.Need-same-length-3 Inv-loop μ-loop
-same-length-3 c = (c .before .before .before .before .before .before .before .unify) .kept .1 .1 .1 .1 .0 ∙ (c .before .before .before .before .before .before .before .before .before .before .before .before .before .before .loop) .inv .cells-size
+same-length-3 c =
+    let unify′ = c .before .before .before .before .before .before .before .unify in
+    let loop′ = c .before .before .before .before .before .before .before .before .before .before .before .before .before
+    .before .loop in
+    unify′ .kept .1 .1 .1 .1 .0 ∙ loop′ .inv .cells-size
 
 returns : tie.Need-returns Inv-loop μ-loop
-returns c = solving-clash _ _ _ _ _ _ _ _ ((c .before .before .before .before .before .before .before .before .before .before .before .before .before .before .loop) .inv) ((c .before .before .before .before .before .before .before .before .before .before .before .before .before .loop-test) .taken) _ _ _ _ ((c .before .before .before .before .before .before .before .unify) .ensures) (not-true _ ((c .if1) .taken))
+returns c =
+    let loop′ = c .before .before .before .before .before .before .before .before .before .before .before .before .before
+    .before .loop in
+    let loop-test′ = c .before .before .before .before .before .before .before .before .before .before .before .before .before
+    .loop-test in
+    let unify′ = c .before .before .before .before .before .before .before .unify in
+    let if1′ = c .if1 in
+    solving-clash _ _ _ _ _ _ _ _ (loop′ .inv) (loop-test′ .taken) _ _ _ _ (unify′ .ensures) (not-true _ (if1′ .taken))
 
 add-i : tie.Need-add-i Inv-loop μ-loop
 add-i c = omega arith
@@ -58,19 +78,32 @@ loop-less : tie.Need-loop-less Inv-loop μ-loop
 loop-less c = omega arith
 
 loop-again : tie.Need-loop-again Inv-loop μ-loop
-loop-again c = solving-next _ _ _ _ _ _ _ _ ((c .before .before .before .before .before .before .before .before .before .before .before .before .before .before .loop) .inv) ((c .before .before .before .before .before .before .before .before .before .before .before .before .before .loop-test) .taken) _ _ _ _ ((c .before .before .before .before .before .before .before .unify) .ensures) (not-false _ ((c .if1) .left))
+loop-again c =
+    let loop′ = c .before .before .before .before .before .before .before .before .before .before .before .before .before
+    .before .loop in
+    let loop-test′ = c .before .before .before .before .before .before .before .before .before .before .before .before .before
+    .loop-test in
+    let unify′ = c .before .before .before .before .before .before .before .unify in
+    let if1′ = c .if1 in
+    solving-next _ _ _ _ _ _ _ _ (loop′ .inv) (loop-test′ .taken) _ _ _ _ (unify′ .ensures) (not-false _ (if1′ .left))
 
 same-length-4 : tie.Need-same-length-4 Inv-loop μ-loop
-same-length-4 c = (c .before .loop) .inv .equations-size
+same-length-4 c =
+    (c .before .loop) .inv .equations-size
 
 same-length-5 : tie.Need-same-length-5 Inv-loop μ-loop
-same-length-5 c = (c .before .loop) .inv .bound-size
+same-length-5 c =
+    (c .before .loop) .inv .bound-size
 
 same-length-6 : tie.Need-same-length-6 Inv-loop μ-loop
-same-length-6 c = (c .before .loop) .inv .cells-size
+same-length-6 c =
+    (c .before .loop) .inv .cells-size
 
 returns-2 : tie.Need-returns-2 Inv-loop μ-loop
-returns-2 c = solving-end _ _ _ _ _ _ _ _ ((c .before .loop) .inv) ((c .loop-test) .left)
+returns-2 c =
+    let loop′ = c .before .loop in
+    let loop-test′ = c .loop-test in
+    solving-end _ _ _ _ _ _ _ _ (loop′ .inv) (loop-test′ .left)
 
 pub solve-spec : {M : Type 1} → statement M
 solve-spec =

@@ -7,7 +7,8 @@ use Rattle.engine.proofs.solving.unify.Tie as tie
 use Rattle.engine.proofs.solving.put_in.Reads as put-in-reads
 
 returns : tie.Need-returns
-returns c = merged-same _ _ _ _ _ ((c .if1) .taken)
+returns c =
+    merged-same _ _ _ _ _ ((c .if1) .taken)
 
 put-in-requires : tie.Need-put-in-requires
 put-in-requires c κs = search needs
@@ -22,7 +23,10 @@ same-length-3 : tie.Need-same-length-3
 same-length-3 c = search needs
 
 returns-2 : tie.Need-returns-2
-returns-2 c = merged-turned _ _ _ _ _ _ _ _ _ ((c .before .before .before .before .before .before .before .before .before .before .if2) .taken) ((c .before .before .before .before .before .before .put-in) .ensures)
+returns-2 c =
+    let if2′ = c .before .before .before .before .before .before .before .before .before .before .if2 in
+    let put-in′ = c .before .before .before .before .before .before .put-in in
+    merged-turned _ _ _ _ _ _ _ _ _ (if2′ .taken) (put-in′ .ensures)
 
 put-in-requires-2 : tie.Need-put-in-requires-2
 put-in-requires-2 c κs = search needs
