@@ -15,7 +15,8 @@ use Rattle.semantics.specs.Overlaps.{Overlap, overlaps}
 use Rattle.semantics.specs.Verdict.{Verdict, verdict, confluent, unjoined}
 use Rattle.semantics.specs.Claims.{OneOutcome, Demand3}
 use Rattle.semantics.proofs.Configurations.{Or, inl, inr}
-use Rattle.semantics.proofs.Options.{decide, true-false, true-T}
+use Rattle.semantics.proofs.Options.{decide, true-T}
+use Rattle.semantics.proofs.Demand3.{demand-3-values}
 use Rattle.syntax.specs.Answers.{accepted}
 use Rattle.syntax.specs.Programs.{Reading, readProgram}
 use Rattle.syntax.proofs.WellFormed.{read-wellFormed}
@@ -77,3 +78,9 @@ demand-of-verdict s room r e d = go (verdict (r .program)) refl
           counted = λ h. verdict-one (d .exact .1 h .1) k;
           bounded = d .bounded;
         }
+
+-- demand 3: for every text that can be read and every room that the listing fits
+pub demand-3 :
+    (s : List ℕ) (room : ℕ) (r : Reading) → readProgram s ≡ accepted r → length (checkListing r) ≤ room → Demand3On s room r
+demand-3 s room r e l =
+    demand-of-verdict s room r (check-listed s room r e l) (demand-3-values (r .program) (read-wellFormed s e))

@@ -2,3 +2,4 @@
 pub mod Opened
 pub mod Starred
 pub mod Demand3
+pub mod Instances

@@ -1,6 +1,5 @@
 -- A fork of overlapping steps is its overlap in a context, so it is joined where the overlap is.
 --   plug-fire            firing in a context is the firing, in the context
---   fire-rest            firing leaves the rest in any order
 --   Meets                steps from two configurations to equal ones
 --   meets-peak           a fork with all its terms for a face meets where it does with less of a face
 --   meets-around         a fork meets where a fork that it is an instance of does
@@ -20,7 +19,7 @@ use Rattle.semantics.proofs.Multisets.{multiset-left}
 use Rattle.semantics.proofs.Atoms.{atom-refl, map-sub-sub, flat-sub}
 use Rattle.semantics.proofs.Links.{exchange, exchange-iso}
 use Rattle.semantics.proofs.Isos.{iso-refl, iso-sym, iso-trans, same-trans}
-use Rattle.semantics.proofs.Stepping.{fire-iso, steps-iso}
+use Rattle.semantics.proofs.Stepping.{fire-rest, fire-iso, steps-iso}
 use Rattle.semantics.proofs.Contexts.{plug-same, plug-steps}
 use Rattle.semantics.proofs.Peaks.{peakOf, around, peak-iso}
 use Rattle.semantics.proofs.Reface.{entry, reface, reface-same, reface-fire, reface-steps}
@@ -34,15 +33,6 @@ plug-fire K C r M L =
     rw flat-sub (exchange-iso (C .eqs) L (K .links) (C .face) (K .eqs) (K .store) (flat (headsOf r)) (flat M) (eqsOf r) (bodyOf r)
     (map (sub old) (map (sub new) (K .face))) (map (sub new) (K .face))
     (map-sub-sub exchange old (map (sub new) (K .face)) ∙ map-sub-sub (λ x. exchange (inl x)) new (K .face)))
-
--- firing leaves the rest in any order
-pub fire-rest :
-    (r : Rule) (C : Config) (M : List (Atom (C .Var))) {L K : List (Atom (C .Var))} → SameMultiset _≡_ L K
-    → Iso (fireC r C M L) (fireC r C M K)
-unfolding iso-refl
-fire-rest r C M s =
-    fire-iso r (iso-refl C) (pointwise-refl (atom-refl (λ t. same)) M)
-    (multiset-mono (λ a b e. subst (AtomRel (Eqv (C .eqs)) a) e (atom-refl (λ t. same) a)) s)
 
 -- steps from two configurations to equal ones
 pub record Meets (rs : List Rule) (C D : Config) : Type 1 where

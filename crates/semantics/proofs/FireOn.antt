@@ -24,7 +24,8 @@ use Rattle.semantics.proofs.Represent.{rep-iso, rep-same, rep-scoped, r
 use Rattle.semantics.proofs.Partners.{multiset-cancel}
 use Rattle.semantics.proofs.Newman.{Joined}
 use Rattle.semantics.proofs.Firings.{Fires, reach-star, star-reach}
-use Rattle.semantics.proofs.Critical.{Meets, fire-rest}
+use Rattle.semantics.proofs.Critical.{Meets}
+use Rattle.semantics.proofs.Stepping.{fire-rest}
 
 -- the atoms of reordered constraints
 pub lift-multiset : {l m : List Constraint} → SameMultiset _≡_ l m → SameMultiset _≡_ (map liftAtom l) (map liftAtom m)

@@ -24,7 +24,7 @@ use Rattle.semantics.proofs.Multisets.{all-member}
 use Rattle.semantics.proofs.Atoms.{atom-refl}
 use Rattle.semantics.proofs.Closure.{eqv-nil}
 use Rattle.semantics.proofs.Isos.{iso-refl, iso-sym, iso-trans, inconsistent-iso, same-refl, same-sym, same-inconsistent}
-use Rattle.semantics.proofs.Stepping.{fire-iso, step-iso}
+use Rattle.semantics.proofs.Stepping.{fire-rest, fire-iso, step-iso}
 use Rattle.semantics.proofs.Contexts.{steps-inconsistent}
 use Rattle.semantics.proofs.Options.{none-some, bind-some}
 use Rattle.semantics.proofs.Lifting.{down, downAtom, down-lift, liftAtom-downAtom, downAtom-liftAtom, map-inverse}
@@ -116,15 +116,6 @@ fits-down ϑ p =
     lowered : (s t : Term) → sub ϑ (lift s) ≡ lift t → instantiate (λ x. down (ϑ x)) s ≡ t
     lowered (T.con c) t e = ap down e ∙ down-lift t
     lowered (T.var x) t e = ap down e ∙ down-lift t
-
--- the rest may be reordered
-fire-rest :
-    (r : Rule) (C : Config) (M : List (Atom (C .Var))) {L K : List (Atom (C .Var))} → SameMultiset _≡_ L K
-    → Iso (fireC r C M L) (fireC r C M K)
-unfolding iso-refl
-fire-rest r C M s =
-    fire-iso r (iso-refl C) (pointwise-refl (atom-refl (λ t. same)) M)
-    (multiset-mono (λ a b e. subst (AtomRel (Eqv (C .eqs)) a) e (atom-refl (λ t. same) a)) s)
 
 -- where a rule fits matched atoms of a state, it can be fired at positions
 complete-at :

@@ -11,14 +11,15 @@ use lib.Dec.{T, eqb, eqb→eq, eqb-refl}
 use Rattle.semantics.specs.Terms.{Rule}
 use Rattle.semantics.specs.Variants.{Pointwise, empty, each, SameMultiset}
 use Rattle.semantics.proofs.Configurations.{Or, inl, inr, Member, later, Tm, con, var, Atom, Eqn, sub, subAtom, flat}
-use Rattle.semantics.proofs.Configurations.{Eqv, flip, chain, Config, AtomRel, Core, Iso, headsOf, bodyOf, eqsOf, Fits}
+use Rattle.semantics.proofs.Configurations.{Eqv, same, flip, chain, Config, AtomRel, Core, Iso, headsOf, bodyOf, eqsOf, Fits}
 use Rattle.semantics.proofs.Configurations.{fireC, Step, step, Steps, stay, go}
 use Rattle.semantics.proofs.Multisets.{pointwise-trans, pointwise-mono, pointwise-member, pointwise-map-right}
-use Rattle.semantics.proofs.Multisets.{multiset-append, multiset-pick, member-cons}
-use Rattle.semantics.proofs.Atoms.{sub-sub, atom-trans, flat-pointwise, unflat-pointwise}
+use Rattle.semantics.proofs.Multisets.{pointwise-refl, multiset-append, multiset-mono, multiset-pick, member-cons}
+use Rattle.semantics.proofs.Atoms.{sub-sub, atom-refl, atom-trans, flat-pointwise, unflat-pointwise}
 use Rattle.semantics.proofs.Closure.{eqv-sub}
 use Rattle.semantics.proofs.Cores.{Ext, ext-old, ext-old-atoms, ext-new-atoms}
 use Rattle.semantics.proofs.Links.{core-linked}
+use Rattle.semantics.proofs.Isos.{iso-refl}
 
 -- what stands where x first stands
 lookup : {Y : Type 0} → ℕ → List (Tm ℕ) → List (Tm Y) → Tm Y
@@ -126,3 +127,12 @@ steps-one s = go s stay
 pub steps-trans : {rs : List Rule} {C D B : Config} → Steps rs C D → Steps rs D B → Steps rs C B
 steps-trans stay t = t
 steps-trans (go s t) u = go s (steps-trans t u)
+
+-- firing leaves the rest in any order
+pub fire-rest :
+    (r : Rule) (C : Config) (M : List (Atom (C .Var))) {L K : List (Atom (C .Var))} → SameMultiset _≡_ L K
+    → Iso (fireC r C M L) (fireC r C M K)
+unfolding iso-refl
+fire-rest r C M s =
+    fire-iso r (iso-refl C) (pointwise-refl (atom-refl (λ t. same)) M)
+    (multiset-mono (λ a b e. subst (AtomRel (Eqv (C .eqs)) a) e (atom-refl (λ t. same) a)) s)

@@ -1,3 +1,8 @@
 -- Laws of this crate's definitions. Assumes nothing.
 pub mod Opened
 pub mod WellFormed
+pub mod Tabled
+pub mod Letters
+pub mod Constants
+pub mod Cells
+pub mod Shapes

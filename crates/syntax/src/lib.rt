@@ -1,1 +1,36 @@
-// What a program and a goal mean, from their texts. Its definitions are in specs/; the readers come with their issue.
+// What a program and a goal mean, from their texts: the readers, over the definitions in specs/.
+// They fill flat tables that the caller lends; names stay where they stand in the texts.
+mod forms;
+mod heads;
+mod names;
+mod rows;
+mod terms;
+
+// The forms of a line, by its first letter.
+pub enum LineForm {
+    Symbol,
+    Rule,
+    Head,
+    Body,
+    Equation,
+    Goal,
+    Nothing,
+}
+
+// How many constants the second text has after a line, or that they would pass the limit.
+pub enum Added {
+    Full,
+    Count(usize),
+}
+
+// Where the symbol's name of an H, B or G line starts and ends, or that the line is not of its form.
+pub enum Named {
+    Faulty,
+    At(usize, usize),
+}
+
+// The symbol's number of an H, B or G line and where its terms start, or the number that it meets.
+pub enum HeadRead {
+    Refused(u8),
+    Head(usize, usize),
+}
