@@ -1,11 +1,11 @@
--- The heads that a pairing joins (document 000, definition 3.4): the equations that are solved are those between the chosen heads,
--- and what is left of either rule are the heads that are not chosen.
+-- The heads that a pairing joins (document 000, definition 3.4): the equations that are solved are those between the chosen
+-- heads, and what is left of either rule are the heads that are not chosen.
 --   join-equated, equated-join       the equations between joined heads
 --   without-rights, without-lefts    the heads that are joined to none
 --   shifted-heads                    the second rule's heads, renamed apart
 -- Assumes nothing.
 use Prim.Native.Nat.{ℕ, zero, suc, _+_, _<_, _≤_}
-use mathlib.Core.Bool.{true, false, cond}
+use mathlib.Core.Bool.{false}
 use mathlib.Core.List.{List, [], _∷_, _++_, map}
 use mathlib.Core.Option.{some}
 use mathlib.Core.Path.{_≡_, refl, ap, fun-ext, subst, _∙_}
@@ -18,8 +18,8 @@ use Rattle.semantics.specs.Firing.{without}
 use Rattle.semantics.specs.Overlaps.{apart, equateTerms, equate, joinEquations, unjoinedHeads}
 use Rattle.semantics.specs.Published.{Equated, noTerms, EquatedAll, noConstraints, renamed}
 use Rattle.semantics.specs.Published as P
-use Rattle.semantics.specs.CriticalPairs.{lefts, rights, jointsFrom, jointsOf, picked, shifted, shiftedHeads}
-use Rattle.semantics.proofs.Configurations.{Or, inl, inr, All, none, also}
+use Rattle.semantics.specs.CriticalPairs.{lefts, rights, jointsFrom, picked, shifted, shiftedHeads}
+use Rattle.semantics.proofs.Configurations.{All, none, also}
 use Rattle.semantics.proofs.Options.{none-some, bind-some, cond-some, eqb-equal, equal-eqb, apart-eqb}
 use Rattle.semantics.proofs.Places.{some-equal, getElem-at}
 use Rattle.semantics.proofs.Pairings.{alone}
@@ -54,20 +54,21 @@ join-equated cs k (h ∷ hs) (zero ∷ ds) gs at l p =
     (λ i. ap (getElem? cs) (let z : suc k + i ≡ k + suc i = omega arith in z) ∙ at (suc i)) (omega arith) p
 join-equated cs k (h ∷ hs) (suc d ∷ ds) gs {es} at l p =
     let (g, atg, q) = bind-some (getElem? gs d)
-        (λ g. bind (equate h g) (λ es. bind (joinEquations hs ds gs) (λ more. some (es ++ more)))) p in
+    (λ g. bind (equate h g) (λ es. bind (joinEquations hs ds gs) (λ more. some (es ++ more)))) p in
     let (fs, eq, r) = bind-some (equate h g) (λ es. bind (joinEquations hs ds gs) (λ more. some (es ++ more))) q in
     let (more, rest, e) = bind-some (joinEquations hs ds gs) (λ more. some (fs ++ more)) r in
     let (sy, te) = cond-some (eqb (h .symbol) (g .symbol)) eq in
     let ih = join-equated cs (suc k) hs ds gs
-        (λ i. ap (getElem? cs) (let z : suc k + i ≡ k + suc i = omega arith in z) ∙ at (suc i)) (omega arith) rest in
+    (λ i. ap (getElem? cs) (let z : suc k + i ≡ k + suc i = omega arith in z) ∙ at (suc i)) (omega arith) rest in
     let atk : getElem? cs k ≡ some h = ap (getElem? cs) (let z : k ≡ k + 0 = omega arith in z) ∙ at 0 in
-    rw (atk, atg) (subst (EquatedAll _ _) (some-equal e) (P.EquatedAll.oneMore (eqb-equal sy) (terms-equated (h .terms) (g .terms) te) ih))
+    rw (atk, atg) (subst (EquatedAll _ _) (some-equal e)
+    (P.EquatedAll.oneMore (eqb-equal sy) (terms-equated (h .terms) (g .terms) te) ih))
 
 -- the equations between two lists begin with those between their first constraints
 equated-cons :
     {c d : Constraint} {cs ds : List Constraint} {es : List Equation} → EquatedAll (c ∷ cs) (d ∷ ds) es
     → (fs : List Equation) × (more : List Equation) × (c .symbol ≡ d .symbol) × Equated (c .terms) (d .terms) fs
-      × EquatedAll cs ds more × (fs ++ more ≡ es)
+    × EquatedAll cs ds more × (fs ++ more ≡ es)
 equated-cons (P.EquatedAll.oneMore {es} {fs} p q r) = (es, fs, p, q, r, refl)
 
 equated-nil : {es : List Equation} → EquatedAll [] [] es → [] ≡ es
@@ -77,7 +78,8 @@ equated-nil noConstraints = refl
 pub equated-join :
     (cs : List Constraint) (k : ℕ) (hs : List Constraint) {ds : List ℕ} (gs : List Constraint) {es : List Equation}
     → ((i : ℕ) → getElem? cs (k + i) ≡ getElem? hs i) → length ds ≡ length hs → All (λ d. d ≤ length gs) ds
-    → EquatedAll (picked cs (lefts (jointsFrom k ds))) (picked gs (rights (jointsFrom k ds))) es → joinEquations hs ds gs ≡ some es
+    → EquatedAll (picked cs (lefts (jointsFrom k ds))) (picked gs (rights (jointsFrom k ds))) es
+    → joinEquations hs ds gs ≡ some es
 unfolding joinEquations jointsFrom picked equate
 equated-join cs k [] gs at l none q = ap some (equated-nil q)
 equated-join cs k (h ∷ hs) gs at l none q = absurd (omega arith)
@@ -90,11 +92,12 @@ equated-join cs k (h ∷ hs) gs {es} at l (also {a = suc d} {l = ds} b bs) q =
     let atk : getElem? cs k ≡ some h = ap (getElem? cs) (let z : k ≡ k + 0 = omega arith in z) ∙ at 0 in
     let (fs, more, sy, te, rest, e) = equated-cons (rw (atk, atg) at q) in
     let ih = equated-join cs (suc k) hs gs
-        (λ i. ap (getElem? cs) (let z : suc k + i ≡ k + suc i = omega arith in z) ∙ at (suc i)) (omega arith) bs rest in
+    (λ i. ap (getElem? cs) (let z : suc k + i ≡ k + suc i = omega arith in z) ∙ at (suc i)) (omega arith) bs rest in
     rw (atg, equal-eqb sy, equated-terms te, ih) (ap some e)
 
 -- the second rule's heads that are joined to none
-pub without-rights : (k p : ℕ) (ds : List ℕ) (gs : List Constraint) → without p (rights (jointsFrom k ds)) gs ≡ unjoinedHeads (suc p) gs ds
+pub without-rights :
+    (k p : ℕ) (ds : List ℕ) (gs : List Constraint) → without p (rights (jointsFrom k ds)) gs ≡ unjoinedHeads (suc p) gs ds
 unfolding without unjoinedHeads
 without-rights k p ds [] = refl
 without-rights k p ds (g ∷ gs) = rw (has-rights p k ds, without-rights k (suc p) ds gs)

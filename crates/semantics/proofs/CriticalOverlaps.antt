@@ -5,29 +5,25 @@
 -- Assumes nothing.
 use Prim.Native.Nat.{ℕ, zero, suc, _+_, _≤_}
 use mathlib.Core.Bool.{true}
-use mathlib.Core.List.{List, [], _∷_, _++_, map}
+use mathlib.Core.List.{List, _++_, map}
 use mathlib.Core.Option.{some}
 use mathlib.Core.Path.{_≡_, refl, sym, ap, subst, subst₂, _∙_}
 use native.Mathlib.Omega.{arith}
 use lib.ListN.{length, getElem?, length-map}
-use Rattle.text.specs.Lists.{gather}
 use Rattle.semantics.specs.Terms.{Rule, Program, mapTerms, isWellFormed}
-use Rattle.semantics.specs.Solving.{solve}
 use Rattle.semantics.specs.Overlaps.{pairings, apart, joinEquations, unjoinedHeads, goalOf, Numbered, Overlap, overlapOf}
-use Rattle.semantics.specs.Overlaps.{numberedFrom, overlapsOf, overlapsAmong, overlaps}
-use Rattle.semantics.specs.CriticalPairs.{Joint, lefts, rights, Choice, jointsOf, partnersOf, picked, shiftedHeads}
-use Rattle.semantics.specs.CriticalPairs.{CriticalPair, pairOf, Critical, critical}
+use Rattle.semantics.specs.Overlaps.{overlaps}
+use Rattle.semantics.specs.CriticalPairs.{Joint, lefts, rights, Choice, jointsOf, partnersOf, picked, CriticalPair}
+use Rattle.semantics.specs.CriticalPairs.{pairOf, Critical, critical}
 use Rattle.semantics.specs.Published.{EquatedAll}
 use Rattle.semantics.specs.Correspondence.{ChoicesArePairings, OverlapsAreCriticalPairs}
-use Rattle.semantics.proofs.Configurations.{Or, inl, inr, Member, first, later, All}
+use Rattle.semantics.proofs.Configurations.{Member, first, All}
 use Rattle.semantics.proofs.Options.{none-some}
-use Rattle.semantics.proofs.Multisets.{member-append, member-cons}
 use Rattle.semantics.proofs.Places.{some-equal}
-use Rattle.semantics.proofs.Listings.{at-member, member-at, answers-member, gather-member, NoRepeat, nothing}
-use Rattle.semantics.proofs.Listings.{norepeat-append, norepeat-gather, norepeat-answers}
+use Rattle.semantics.proofs.Listings.{at-member, member-at, NoRepeat, nothing}
 use Rattle.semantics.proofs.Listings as L
-use Rattle.semantics.proofs.Enumeration.{IsPairing, member-pairings, pairings-member, norepeat-pairings, OverlapParts, overlap-parts}
-use Rattle.semantics.proofs.Enumeration.{Listed, member-overlaps, overlaps-member, norepeat-overlaps}
+use Rattle.semantics.proofs.Enumeration.{IsPairing, member-pairings, pairings-member, norepeat-pairings, OverlapParts}
+use Rattle.semantics.proofs.Enumeration.{overlap-parts, Listed, member-overlaps, overlaps-member, norepeat-overlaps}
 use Rattle.semantics.proofs.Valuations.{satisfiable-solved}
 use Rattle.semantics.proofs.Choices.{joints-partners, partners-joints, choice-pairing, pairing-choice}
 use Rattle.semantics.proofs.ChosenHeads.{equated-join, shifted-heads}
@@ -76,14 +72,15 @@ critical-overlap i j {js} (critical {es} choice equated sat) =
     let gs = map (mapTerms apart) (j .rule .heads) in
     let paired = choice-pairing m n js choice in
     let here : EquatedAll (picked hs (lefts (jointsOf ds))) (picked gs (rights (jointsOf ds))) es =
-        subst₂ (λ k g. EquatedAll (picked hs (lefts k)) (picked g (rights k)) es) (sym (back-joints m n js choice))
-        (sym (shifted-heads (j .rule))) equated in
+    subst₂ (λ k g. EquatedAll (picked hs (lefts k)) (picked g (rights k)) es) (sym (back-joints m n js choice))
+    (sym (shifted-heads (j .rule))) equated in
     let joins : joinEquations hs ds gs ≡ some es =
-        equated-join hs 0 hs gs (λ k. ap (getElem? hs) (let z : 0 + k ≡ k = omega arith in z)) (paired .long)
-        (subst (λ k. All (λ d. d ≤ k) ds) (sym (length-map (j .rule .heads) (mapTerms apart))) (paired .within)) here in
-    let (σ, solved) = satisfiable-solved es sat in
-    (record { first = i; second = j; partners = ds; goal = goalOf (map (mapTerms σ) (hs ++ unjoinedHeads 1 gs ds)) },
-    rw (joins, solved))
+    equated-join hs 0 hs gs (λ k. ap (getElem? hs) (let z : 0 + k ≡ k = omega arith in z)) (paired .long)
+    (subst (λ k. All (λ d. d ≤ k) ds) (sym (length-map (j .rule .heads) (mapTerms apart))) (paired .within)) here in
+    let (σ, solved) = satisfiable-solved es sat in (
+      record { first = i; second = j; partners = ds; goal = goalOf (map (mapTerms σ) (hs ++ unjoinedHeads 1 gs ds)) },
+      rw (joins, solved),
+    )
 
 -- it is of a choice
 critical-choice :
@@ -96,20 +93,20 @@ same-overlap :
     → o .second .number ≡ u .second .number → jointsOf (o .partners) ≡ jointsOf (u .partners) → o ≡ u
 same-overlap p o u l k a b c =
     let one : o .first ≡ u .first = λ i. record {
-          number = a i;
-          rule = some-equal (sym (l .firstRule) ∙ ap (getElem? (p .rules)) a ∙ k .firstRule) i;
-        } in
+      number = a i;
+      rule = some-equal (sym (l .firstRule) ∙ ap (getElem? (p .rules)) a ∙ k .firstRule) i;
+    } in
     let two : o .second ≡ u .second = λ i. record {
-          number = b i;
-          rule = some-equal (sym (l .secondRule) ∙ ap (getElem? (p .rules)) b ∙ k .secondRule) i;
-        } in
+      number = b i;
+      rule = some-equal (sym (l .secondRule) ∙ ap (getElem? (p .rules)) b ∙ k .secondRule) i;
+    } in
     let m = length (u .first .rule .heads) in
     let n = length (u .second .rule .heads) in
     let partners : o .partners ≡ u .partners =
-        sym (back-partners (length (o .first .rule .heads)) (length (o .second .rule .heads)) (o .partners)
-        (pairings-member (length (o .first .rule .heads)) (length (o .second .rule .heads)) (o .partners) (l .paired)))
-        ∙ (λ i. partnersOf (length (one i .rule .heads)) (c i))
-        ∙ back-partners m n (u .partners) (pairings-member m n (u .partners) (k .paired)) in
+    sym (back-partners (length (o .first .rule .heads)) (length (o .second .rule .heads)) (o .partners)
+    (pairings-member (length (o .first .rule .heads)) (length (o .second .rule .heads)) (o .partners) (l .paired)))
+    ∙ (λ i. partnersOf (length (one i .rule .heads)) (c i))
+    ∙ back-partners m n (u .partners) (pairings-member m n (u .partners) (k .paired)) in
     some-equal (sym (l .made) ∙ (λ i. overlapOf (one i) (two i) (partners i)) ∙ k .made)
 
 -- the overlaps of a well-formed program are the critical pairs of its rules
@@ -118,9 +115,11 @@ overlaps-are-critical-pairs p w = record {
   enumerated = enumerated;
   ordered = λ n o e. let l = listed n o e in (l .firstRule, l .secondRule, l .ordered);
   critical = λ n o e.
-      let l = listed n o e in
-      (pairOf (o .first .rule) (o .second .rule) (jointsOf (o .partners)) (parts-of o l .equations),
-      overlap-critical (paired-of o l) (parts-of o l), overlap-sides p w o l);
+      let l = listed n o e in (
+        pairOf (o .first .rule) (o .second .rule) (jointsOf (o .partners)) (parts-of o l .equations),
+        overlap-critical (paired-of o l) (parts-of o l),
+        overlap-sides p w o l,
+      );
   refused = λ i j n ds c at e k.
       let m = length (i .rule .heads) in
       let l = length (j .rule .heads) in
@@ -134,16 +133,20 @@ overlaps-are-critical-pairs p w = record {
   where
     listed : (n : ℕ) (o : Overlap) → getElem? (overlaps p) n ≡ some o → Listed p o
     listed n o e = overlaps-member p (at-member (overlaps p) n e)
+
     parts-of : (o : Overlap) → Listed p o → OverlapParts (o .first) (o .second) (o .partners) o
     parts-of o l = overlap-parts (o .first) (o .second) (o .partners) (l .made)
-    paired-of : (o : Overlap) → Listed p o → IsPairing (length (o .first .rule .heads)) (length (o .second .rule .heads)) (o .partners)
+
+    paired-of :
+        (o : Overlap) → Listed p o → IsPairing (length (o .first .rule .heads)) (length (o .second .rule .heads)) (o .partners)
     paired-of o l =
         pairings-member (length (o .first .rule .heads)) (length (o .second .rule .heads)) (o .partners) (l .paired)
+
     enumerated :
         (i j : ℕ) (r q : Rule) (js : List Joint) (c : CriticalPair) → getElem? (p .rules) i ≡ some r
         → getElem? (p .rules) j ≡ some q → i ≤ j → Critical r q js c
         → (n : ℕ) × (o : Overlap) × (getElem? (overlaps p) n ≡ some o) × (o .first .number ≡ i) × (o .second .number ≡ j)
-          × (jointsOf (o .partners) ≡ js)
+        × (jointsOf (o .partners) ≡ js)
     enumerated i j r q js c f g h k =
         let one : Numbered = record { number = i; rule = r } in
         let two : Numbered = record { number = j; rule = q } in
@@ -152,6 +155,11 @@ overlaps-are-critical-pairs p w = record {
         let ds = partnersOf m js in
         let (o, e) = critical-overlap one two k in
         let made = overlap-parts one two ds e .made in
-        let (x, at) = member-at (member-overlaps p i j f g h (member-pairings (choice-pairing m n js (critical-choice k))) e) in
-        (x, o, at, ap (λ (x : Overlap). x .first .number) made, ap (λ (x : Overlap). x .second .number) made,
-        ap (λ (x : Overlap). jointsOf (x .partners)) made ∙ back-joints m n js (critical-choice k))
+        let (x, at) = member-at (member-overlaps p i j f g h (member-pairings (choice-pairing m n js (critical-choice k))) e) in (
+          x,
+          o,
+          at,
+          ap (λ (x : Overlap). x .first .number) made,
+          ap (λ (x : Overlap). x .second .number) made,
+          ap (λ (x : Overlap). jointsOf (x .partners)) made ∙ back-joints m n js (critical-choice k),
+        )

@@ -1,5 +1,5 @@
--- Demand 2 for every well-formed program: firing is the published Simplify step, and the overlaps are the published critical pairs.
---   demand-2
+-- Demand 2 for every well-formed program: `demand-2-values`. Firing is the published Simplify step, and the overlaps are the
+-- published critical pairs.
 -- Assumes nothing.
 use mathlib.Core.Bool.{true}
 use mathlib.Core.Path.{_≡_}
@@ -11,8 +11,9 @@ use Rattle.semantics.proofs.Represented.{state-represents}
 use Rattle.semantics.proofs.Derived.{derive-scoped}
 use Rattle.semantics.proofs.CriticalOverlaps.{choices-are-pairings, overlaps-are-critical-pairs}
 
-pub demand-2 : (p : Program) → isWellFormed p ≡ true → Demand2 p
-demand-2 p w = record {
+-- demand 2
+pub demand-2-values : (p : Program) → isWellFormed p ≡ true → Demand2 p
+demand-2-values p w = record {
   represented = λ g es over. state-represents (derive p g es .state) (derive-scoped p g es w over);
   firing = λ g es a over goals v. firing-is-simplify p a (derive p g es .state) w (derive-scoped p g es w over) goals v;
   choices = choices-are-pairings;

@@ -7,19 +7,19 @@ use Prim.Native.Nat.{ℕ, suc, _+_}
 use mathlib.Core.Bool.{Bool, true, false, cond}
 use mathlib.Core.List.{List, [], _∷_, _++_, map}
 use mathlib.Core.Option.{Option, none, some}
-use mathlib.Core.Path.{_≡_, refl, sym, ap, subst, _∙_}
+use mathlib.Core.Path.{_≡_, refl, sym, subst, _∙_}
 use lib.ListN.{length, getElem?, length-map}
-use Rattle.text.specs.Lists.{onward, has, tabled}
-use Rattle.semantics.specs.Terms.{Term, Constraint, Rule, Program, Goal, State, failed, live, mapTerms, mapSides, isGoalOf}
-use Rattle.semantics.specs.Terms.{alphabet, isWellFormed}
+use Rattle.text.specs.Lists.{onward, has}
+use Rattle.semantics.specs.Terms.{Term, Constraint, Rule, Program, Goal, State, failed, live, mapTerms, mapSides}
+use Rattle.semantics.specs.Terms.{isGoalOf, alphabet, isWellFormed}
 use Rattle.semantics.specs.Terms as T
-use Rattle.semantics.specs.Matching.{Assignment, unassigned, matchAt}
+use Rattle.semantics.specs.Matching.{unassigned, matchAt}
 use Rattle.semantics.specs.Solving.{solve}
 use Rattle.semantics.specs.Firing.{without, instance, settle, fired, fireAt}
-use Rattle.semantics.specs.Derivations.{Event, enter, fire, Progress, become, taken, entering, firing, follow, followAll, start}
-use Rattle.semantics.specs.Derivations.{derive}
+use Rattle.semantics.specs.Derivations.{Event, enter, fire, Progress, become, taken, entering, firing, follow, followAll}
+use Rattle.semantics.specs.Derivations.{start, derive}
 use Rattle.semantics.specs.Strategy.{entered}
-use Rattle.semantics.proofs.Configurations.{TermBelow, All, also, Scoped}
+use Rattle.semantics.proofs.Configurations.{TermBelow, All, also}
 use Rattle.semantics.proofs.Configurations as C
 use Rattle.semantics.proofs.Multisets.{all-member, all-mono, all-map, all-append}
 use Rattle.semantics.proofs.Options.{none-some, bind-some}
@@ -44,7 +44,9 @@ abbrev pub Sound : ℕ → State → Type 0
 Sound k s = ScopedState s × widthOf k s
 
 -- a firing keeps the number of terms
-settle-width : (k : ℕ) (o : Option (Term → Term)) (n : ℕ) (b : List Term) (cs : List Constraint) → length b ≡ k → widthOf k (settle o n b cs)
+settle-width :
+    (k : ℕ) (o : Option (Term → Term)) (n : ℕ) (b : List Term) (cs : List Constraint) → length b ≡ k
+    → widthOf k (settle o n b cs)
 unfolding settle
 settle-width k none n b cs e = tt
 settle-width k (some σ) n b cs e = length-map b σ ∙ e
@@ -62,12 +64,14 @@ fire-width k r ps (live n b cs) h p =
 taken-sound : {k : ℕ} (c : Constraint) (s : State) → All (TermBelow k) (c .terms) → Sound k s → Sound k (taken c s)
 unfolding taken mapTerms
 taken-sound c failed h v = (tt, tt)
-taken-sound {k} c (live n b cs) h (scoped, e) =
-    (record {
-      bound = scoped .bound;
-      constraints = all-append (scoped .constraints) (also (all-map (become b) (all-mono (λ t l.
-          become-below (scoped .bound) t (subst (λ m. TermBelow m t) (sym e) l)) h)) C.none);
-    }, e)
+taken-sound {k} c (live n b cs) h (scoped, e) = (
+  record {
+    bound = scoped .bound;
+    constraints = all-append (scoped .constraints) (also (all-map (become b) (all-mono (λ t l.
+        become-below (scoped .bound) t (subst (λ m. TermBelow m t) (sym e) l)) h)) C.none);
+  },
+  e,
+)
 
 module _
     (p : Program) (w : isWellFormed p ≡ true) (g : Goal) (over : All (ConstraintBelow (g .variables)) (g .constraints)) where
@@ -93,6 +97,7 @@ module _
       after r letters none e = h
       after r letters (some t) e =
           (fireAt-scoped r ps (d .state) letters (h .0) e, fire-width (g .variables) r ps (d .state) (h .1) e)
+
       go :
           (o : Option Rule) → getElem? (p .rules) n ≡ o
           → Sound (g .variables) (onward o d (λ r. onward (fireAt r ps (d .state)) d (λ s. record {
@@ -116,5 +121,7 @@ pub derive-scoped :
     (p : Program) (g : Goal) (es : List Event) → isWellFormed p ≡ true → isGoalOf p g ≡ true → ScopedState (derive p g es .state)
 unfolding derive start entered
 derive-scoped p g es w over =
-    followAll-sound p w g (goal-below p g over) es (start g)
-    (record { bound = entered-scoped g (goal-below p g over) .bound; constraints = C.none }, tabled-length T.var (g .variables)) .0
+    followAll-sound p w g (goal-below p g over) es (start g) (
+      record { bound = entered-scoped g (goal-below p g over) .bound; constraints = C.none },
+      tabled-length T.var (g .variables),
+    ) .0

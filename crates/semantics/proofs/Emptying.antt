@@ -7,7 +7,8 @@ use mathlib.Core.List.{List, [], _∷_, _++_}
 use mathlib.Core.Path.{_≡_, refl, sym, ap, subst}
 use Rattle.semantics.specs.Terms.{Constraint, Equation}
 use Rattle.semantics.specs.Variants.{Inserted, here, there, SameMultiset, done, put}
-use Rattle.semantics.specs.Published.{Item, user, builtIn, Published, solves, introduces, Emptied, isEmpty, bySolve, byIntroduce}
+use Rattle.semantics.specs.Published.{Item, user, builtIn, Published, solves, introduces, Emptied, isEmpty, bySolve}
+use Rattle.semantics.specs.Published.{byIntroduce}
 use Rattle.semantics.proofs.Multisets.{inserted-right, multiset-refl, multiset-put, multiset-append, multiset-right}
 use Rattle.semantics.proofs.Multisets.{multiset-back}
 

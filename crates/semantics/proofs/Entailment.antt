@@ -3,28 +3,28 @@
 --   implies-fits      the heads fit
 --   fits-implies      and conversely
 -- Assumes nothing.
-use Prim.Native.Nat.{ℕ, _+_, _<_, _≤_}
+use Prim.Native.Nat.{ℕ, _+_, _≤_}
 use mathlib.Core.List.{List, [], _∷_, map}
 use mathlib.Core.Option.{some}
-use mathlib.Core.Path.{_≡_, refl, sym, ap, subst, _∙_}
+use mathlib.Core.Path.{_≡_, refl, sym, ap, _∙_}
 use native.Mathlib.Omega.{arith}
 use Rattle.semantics.specs.Terms.{Term, con, var, Constraint, Equation, Rule, mapTerms, alphabet}
 use Rattle.semantics.specs.Solving.{solve}
 use Rattle.semantics.specs.Published.{value, Hold, Satisfiable, EquatedAll, renamed, Implies, termsOfEquations}
 use Rattle.semantics.specs.Variants.{Pointwise, empty, each}
-use Rattle.semantics.proofs.Configurations.{Member, first, later, Tm, sub, Eqv, flip, chain, AtomRel, lift, liftAtom, liftEqn, headsOf}
-use Rattle.semantics.proofs.Configurations.{Fits, All, also, TermBelow}
+use Rattle.semantics.proofs.Configurations.{Member, first, later, Tm, sub, Eqv, flip, chain, AtomRel, lift, liftAtom}
+use Rattle.semantics.proofs.Configurations.{liftEqn, headsOf, Fits, All, also, TermBelow}
 use Rattle.semantics.proofs.Configurations as C
-use Rattle.semantics.proofs.Multisets.{pointwise-mono, pointwise-map, pointwise-unmap, all-member}
+use Rattle.semantics.proofs.Multisets.{pointwise-mono, pointwise-map, pointwise-unmap}
 use Rattle.semantics.proofs.Closure.{eqv-path}
 use Rattle.semantics.proofs.Lifting.{down, down-lift}
-use Rattle.semantics.proofs.SolveLaws.{Solution, solve-solution, solve-keeps}
+use Rattle.semantics.proofs.SolveLaws.{solve-solution, solve-keeps}
 use Rattle.semantics.proofs.MatchLaws.{ConstraintRel}
 use Rattle.semantics.proofs.MatchedTerms.{ConstraintBelow}
-use Rattle.semantics.proofs.Renamings.{Separates, Avoids, ConstraintAvoids, atLetters, at-letter, at-other, NumberBelow}
-use Rattle.semantics.proofs.Renamings.{beyond, beyond-member}
-use Rattle.semantics.proofs.Valuations.{hold-member, hold-members, hold-eqv, generic, generic-value, generic-holds, ConBelow}
-use Rattle.semantics.proofs.Valuations.{read, read-constant, read-above, satisfiable-solved}
+use Rattle.semantics.proofs.Renamings.{Separates, Avoids, ConstraintAvoids, atLetters, at-letter, at-other, beyond}
+use Rattle.semantics.proofs.Renamings.{beyond-member}
+use Rattle.semantics.proofs.Valuations.{hold-member, hold-members, hold-eqv, generic, generic-value, generic-holds}
+use Rattle.semantics.proofs.Valuations.{ConBelow, read, read-constant, read-above, satisfiable-solved}
 use Rattle.semantics.proofs.Equating.{Among, equated-pairs, equated-related}
 
 -- the sides of an equation are among the terms
@@ -54,6 +54,7 @@ heads-pairs ρ hs {ms} {es} q = back hs (equated-pairs q)
         → Pointwise (λ s t. Among es (renamed ρ s) t) ss ts
     terms [] empty = empty
     terms (s ∷ ss) (each i p) = each i (terms ss p)
+
     back : (hs : List Constraint) {ms : List Constraint}
         → Pointwise (ConstraintRel (Among es)) (map (mapTerms (renamed ρ)) hs) ms
         → Pointwise (ConstraintRel (λ s t. Among es (renamed ρ s) t)) hs ms
@@ -135,11 +136,11 @@ module _
   matching-fits s t (i, a) =
       let q = solve-solution bs p in
       let equal : value found (renamed ρ s) ≡ value found t =
-          hold-member (imp .equal (generic limit σ) (generic-holds limit q)) i in
+      hold-member (imp .equal (generic limit σ) (generic-holds limit q)) i in
       let below : ConBelow limit (renamed ρ s) = constant-below (renamed ρ s) (left-member i) (omega arith) in
       let kept : ConBelow limit (σ t) = solve-keeps (ConBelow limit) bs p (λ e j.
-          (constant-below (e .left) (left-member j) (omega arith), constant-below (e .right) (right-member j) (omega arith)))
-          t (constant-below t (right-member i) (omega arith)) in
+      (constant-below (e .left) (left-member j) (omega arith), constant-below (e .right) (right-member j) (omega arith)))
+      t (constant-below t (right-member i) (omega arith)) in
       chain (eqv-path (matching-read s below ∙ ap (read limit) (equal ∙ found-other t a ∙ generic-value limit q t)
       ∙ read-above limit (σ t) kept)) (flip (q .follows t))
 

@@ -6,14 +6,14 @@
 -- Assumes nothing.
 use Prim.Native.Nat.{ℕ}
 use mathlib.Core.List.{List, [], _∷_, _++_, map, map-append}
-use mathlib.Core.Path.{_≡_, refl, sym, ap, ap₂, _∙_}
+use mathlib.Core.Path.{_≡_, refl, sym, ap, _∙_}
 use Rattle.semantics.specs.Terms.{Term, Constraint, Equation}
 use Rattle.semantics.specs.Published.{Equated, noTerms, EquatedAll, noConstraints}
 use Rattle.semantics.specs.Published as P
 use Rattle.semantics.specs.Variants.{Pointwise, empty, each}
 use Rattle.semantics.proofs.Configurations.{Or, inl, inr, Member, first, later, Tm, equal, flat, lift, liftAtom, liftEqn}
-use Rattle.semantics.proofs.Multisets.{pointwise-mono, member-append, member-append-left, member-append-right, member-nil}
-use Rattle.semantics.proofs.Multisets.{member-cons}
+use Rattle.semantics.proofs.Multisets.{pointwise-mono, member-append, member-append-left, member-append-right}
+use Rattle.semantics.proofs.Multisets.{member-nil}
 use Rattle.semantics.proofs.MatchLaws.{ConstraintRel}
 
 -- the equation of two terms is among those of a list

@@ -3,33 +3,28 @@
 --   firing-is-simplify                the claim, of every state and what it represents
 -- Assumes nothing.
 use Prim.Native.Nat.{ℕ, _+_}
-use mathlib.Core.Bool.{true, _&&_}
+use mathlib.Core.Bool.{true}
 use mathlib.Core.List.{List, [], _∷_, _++_, map, map-append}
 use mathlib.Core.Option.{Option, none, some}
 use mathlib.Core.Path.{_≡_, refl, sym, ap, subst, subst₂, _∙_}
 use native.Mathlib.Omega.{arith}
-use lib.Dec.{ltb}
 use lib.ListN.{length, getElem?}
-use Rattle.text.specs.Lists.{every}
-use Rattle.semantics.specs.Terms.{Term, Constraint, Equation, Symbol, Rule, Program, State, failed, live, mapTerms, mapSides}
-use Rattle.semantics.specs.Terms.{weight, isDeclared, isBelow, alphabet, isOfRule, isRuleOf, isWellFormed}
+use Rattle.semantics.specs.Terms.{Term, Constraint, Equation, Rule, Program, State, failed, live, mapTerms, isWellFormed}
 use Rattle.semantics.specs.Terms as T
 use Rattle.semantics.specs.Solving.{solve}
 use Rattle.semantics.specs.Firing.{settle, fireAt}
 use Rattle.semantics.specs.Derivations.{NoRuleFits}
-use Rattle.semantics.specs.Variants.{Pointwise, SameMultiset, Variant}
-use Rattle.semantics.specs.Published.{Published, Satisfiable, EquatedAll, renamed, FreshFor, termsOf, bodyItems, Solve, solves}
-use Rattle.semantics.specs.Published.{Introduce, introduces, Simplify, simplifies, Emptied, normal, Represents, Goes, solving}
-use Rattle.semantics.specs.Published.{introducing, simplifying}
+use Rattle.semantics.specs.Variants.{SameMultiset, Variant}
+use Rattle.semantics.specs.Published.{Published, Satisfiable, EquatedAll, renamed, FreshFor, termsOf, bodyItems, Solve}
+use Rattle.semantics.specs.Published.{solves, Introduce, introduces, Simplify, simplifies, Emptied, normal, Represents}
+use Rattle.semantics.specs.Published.{Goes, solving, introducing, simplifying}
 use Rattle.semantics.specs.Correspondence.{FiringIsSimplify}
-use Rattle.semantics.proofs.Configurations.{Member, first, later, Atom, Config, Iso, Step, step, Fits, lift, liftAtom, liftEqn}
-use Rattle.semantics.proofs.Configurations.{headsOf, fireC, All, also, Rep}
+use Rattle.semantics.proofs.Configurations.{Member, first, later, Atom, Config, Iso, Step, step, Fits, liftAtom, liftEqn}
+use Rattle.semantics.proofs.Configurations.{headsOf, fireC, also}
 use Rattle.semantics.proofs.Configurations as C
-use Rattle.semantics.proofs.Multisets.{pointwise-mono, all-member, all-mono, multiset-map, multiset-mono, multiset-length}
-use Rattle.semantics.proofs.Options.{none-some, isBelow-below}
-use Rattle.semantics.proofs.Bools.{and-true}
+use Rattle.semantics.proofs.Multisets.{pointwise-mono, multiset-map, multiset-mono, multiset-length}
+use Rattle.semantics.proofs.Options.{none-some}
 use Rattle.semantics.proofs.Lifting.{downAtom, liftAtom-downAtom, downAtom-liftAtom, map-inverse}
-use Rattle.semantics.proofs.MatchedTerms.{ConstraintBelow}
 use Rattle.semantics.proofs.RuleLetters.{AllLetters, program-letters}
 use Rattle.semantics.proofs.Represent.{ScopedState, rep-iso, rep-fires, rep-step}
 use Rattle.semantics.proofs.Renamings.{beyond}
@@ -38,7 +33,7 @@ use Rattle.semantics.proofs.Equating.{equated-exists}
 use Rattle.semantics.proofs.Entailment.{fits-back, pairs-renamed, implies-fits, fits-implies}
 use Rattle.semantics.proofs.FreshVariants.{fresh-beyond, matched-avoids}
 use Rattle.semantics.proofs.PublishedStates.{confWith, confP, represents-rep, rep-represents}
-use Rattle.semantics.proofs.Emptying.{users, builtIns, Into, emptied-into, emptied-exists}
+use Rattle.semantics.proofs.Emptying.{users, builtIns, emptied-into, emptied-exists}
 use Rattle.semantics.proofs.SimplifyLaws.{body-users, body-builtIns, simplified-iso}
 
 -- the image of a list in two parts
@@ -76,13 +71,18 @@ simplify-iso :
     (r : Rule) (a c : Published) (ρ : ℕ → ℕ) (M L : List Constraint) (es : List Equation) → AllLetters r → a .goals ≡ []
     → FreshFor a ρ → SameMultiset _≡_ (a .userStore) (M ++ L) → EquatedAll (map (mapTerms (renamed ρ)) (r .heads)) M es
     → Emptied (record {
-      goals = a .goals ++ bodyItems ρ r; userStore = L; builtInStore = es ++ a .builtInStore; variables = a .variables }) c
+      goals = a .goals ++ bodyItems ρ r;
+      userStore = L;
+      builtInStore = es ++ a .builtInStore;
+      variables = a .variables;
+    }) c
     → Iso (fireC r (confP a) (map liftAtom M) (map liftAtom L)) (confP c)
 simplify-iso r a c ρ M L es letters empty f split equated e =
     let h = emptied-into e in
     let us = ap (λ l. users (l ++ bodyItems ρ r)) empty ∙ body-users ρ r in
     let bs = ap (λ l. builtIns (l ++ bodyItems ρ r)) empty ∙ body-builtIns ρ r in
-    subst (λ vs. Iso (fireC r (confP a) (map liftAtom M) (map liftAtom L)) (confWith (map T.var vs) (c .builtInStore) (c .userStore)))
+    subst (λ vs.
+    Iso (fireC r (confP a) (map liftAtom M) (map liftAtom L)) (confWith (map T.var vs) (c .builtInStore) (c .userStore)))
     (sym (h .variables))
     (simplified-iso r a c ρ M L es f (letters .others) (letters .heads) split equated
     (subst (λ l. SameMultiset _≡_ (c .builtInStore) (l ++ (es ++ a .builtInStore))) bs (h .solved))
@@ -98,11 +98,12 @@ simplify-step :
     {r : Rule} {a b c : Published} → AllLetters r → a .goals ≡ [] → Simplify r a b → Emptied b c
     → (D : Config) × Step (r ∷ []) (confP a) D × Iso D (confP c)
 simplify-step {r} {c} letters empty (simplifies {matched} {rest} {us} {gs} {bs} {es} {vs} ρ sat f split equated implied) e =
-    let a : Published = record { goals = gs; userStore = us; builtInStore = bs; variables = vs } in
-    (fireC r (confP a) (map liftAtom matched) (map liftAtom rest),
-    step r (map liftAtom matched) (map liftAtom rest) first (split-map liftAtom matched rest split)
-    (implies-fits r ρ (matched-avoids a ρ f rest split) sat equated implied),
-    simplify-iso r a c ρ matched rest es letters empty f split equated e)
+    let a : Published = record { goals = gs; userStore = us; builtInStore = bs; variables = vs } in (
+      fireC r (confP a) (map liftAtom matched) (map liftAtom rest),
+      step r (map liftAtom matched) (map liftAtom rest) first (split-map liftAtom matched rest split)
+          (implies-fits r ρ (matched-avoids a ρ f rest split) sat equated implied),
+      simplify-iso r a c ρ matched rest es letters empty f split equated e,
+    )
 
 -- a step of the configuration is a Simplify step
 step-simplify :
@@ -115,23 +116,30 @@ step-simplify {r} a letters empty sat (step q M L i split fits) =
     let f : FreshFor a ρ = fresh-beyond a in
     let up : (l : List (Atom ℕ)) → map liftAtom (map downAtom l) ≡ l = map-inverse downAtom liftAtom liftAtom-downAtom in
     let parts : SameMultiset _≡_ (a .userStore) (N ++ K) =
-        subst (λ l. SameMultiset _≡_ l (N ++ K)) (map-inverse liftAtom downAtom downAtom-liftAtom (a .userStore))
-        (split-map downAtom M L split) in
+    subst (λ l. SameMultiset _≡_ l (N ++ K)) (map-inverse liftAtom downAtom downAtom-liftAtom (a .userStore))
+    (split-map downAtom M L split) in
     let fit : Fits (map liftEqn (a .builtInStore)) (headsOf r) (map liftAtom N) =
-        subst₂ (λ x l. Fits (map liftEqn (a .builtInStore)) (headsOf x) l) (only i) (sym (up M)) fits in
+    subst₂ (λ x l. Fits (map liftEqn (a .builtInStore)) (headsOf x) l) (only i) (sym (up M)) fits in
     let (es, equated) = equated-exists {R = λ s t. Unit {0}} (pairs-renamed ρ (pointwise-mono (λ h c k. record {
-          symbols = k .symbols;
-          terms = pointwise-mono (λ s t e. tt) (k .terms);
-        }) (fits-back (r .heads) N (fit .fits)))) in
+      symbols = k .symbols;
+      terms = pointwise-mono (λ s t e. tt) (k .terms);
+    }) (fits-back (r .heads) N (fit .fits)))) in
     let b : Published = record {
-          goals = a .goals ++ bodyItems ρ r; userStore = K; builtInStore = es ++ a .builtInStore; variables = a .variables } in
-    let (c, e) = emptied-exists b in
-    (b, c,
-    simplifies ρ sat f parts equated
-    (fits-implies r ρ (f .apart) (letters .heads) (matched-avoids a ρ f K parts) equated fit),
-    e,
-    subst (λ x. Iso (fireC x (confP a) M L) (confP c)) (sym (only i)) (subst₂ (λ M L. Iso (fireC r (confP a) M L) (confP c)) (up M) (up L)
-    (simplify-iso r a c ρ N K es letters empty f parts equated e)))
+      goals = a .goals ++ bodyItems ρ r;
+      userStore = K;
+      builtInStore = es ++ a .builtInStore;
+      variables = a .variables;
+    } in
+    let (c, e) = emptied-exists b in (
+      b,
+      c,
+      simplifies ρ sat f parts equated
+          (fits-implies r ρ (f .apart) (letters .heads) (matched-avoids a ρ f K parts) equated fit),
+      e,
+      subst (λ x. Iso (fireC x (confP a) M L) (confP c)) (sym (only i))
+          (subst₂ (λ M L. Iso (fireC r (confP a) M L) (confP c)) (up M) (up L)
+          (simplify-iso r a c ρ N K es letters empty f parts equated e)),
+    )
 
 -- with an empty goal store there is nothing to solve or to introduce
 empty-solve : {a b : Published} → Solve a b → a .goals ≡ [] → ⊥
@@ -148,7 +156,8 @@ module _ (p : Program) (w : isWellFormed p ≡ true) (a : Published) (goals : a 
   fires-in (live m l cs) scoped v n r b c i k e =
       let letters = program-letters p n w i in
       let (D, st, I) = simplify-step letters goals k e in
-      let (q, ps, t, j, h, rep) = rep-step {rs = r ∷ []} (also (letters .others) C.none) (represents-rep a (live m l cs) scoped v) st in
+      let here = represents-rep a (live m l cs) scoped v in
+      let (q, ps, t, j, h, rep) = rep-step {rs = r ∷ []} (also (letters .others) C.none) here st in
       (ps, t, subst (λ x. fireAt x ps (live m l cs) ≡ some t) (only j) h, rep-represents c t (rep-iso rep I))
 
   published-in :

@@ -13,8 +13,8 @@ use Rattle.semantics.specs.Variants.{SameMultiset}
 use Rattle.semantics.specs.Published.{Published, Occurs, here, there, termsOf, termsOfItems, termsOfConstraints}
 use Rattle.semantics.specs.Published.{termsOfEquations, FreshFor}
 use Rattle.semantics.proofs.Configurations.{Member, first, later, All}
-use Rattle.semantics.proofs.Multisets.{member-append-left, member-append-right, all-of-members}
-use Rattle.semantics.proofs.Multisets.{multiset-partner, multiset-back}
+use Rattle.semantics.proofs.Multisets.{member-append-left, member-append-right, all-of-members, multiset-partner}
+use Rattle.semantics.proofs.Multisets.{multiset-back}
 use Rattle.semantics.proofs.Renamings.{Avoids, ConstraintAvoids, beyond, beyond-member}
 use Rattle.semantics.proofs.Entailment.{left-member, right-member}
 
@@ -73,8 +73,10 @@ module _ (p : Published) (ρ : ℕ → ℕ) (f : FreshFor p ρ) where
       (member-append-right (termsOfConstraints (p .userStore)) (member-append-right (termsOfEquations (p .builtInStore)) i))))
 
   -- of the user-defined store, in two parts
-  pub matched-avoids : {M : List Constraint} (L : List Constraint) → SameMultiset _≡_ (p .userStore) (M ++ L) → All (ConstraintAvoids ρ) M
+  pub matched-avoids :
+      {M : List Constraint} (L : List Constraint) → SameMultiset _≡_ (p .userStore) (M ++ L) → All (ConstraintAvoids ρ) M
   matched-avoids {M} L s = all-of-members M (λ c i. user-avoids c (member-same (multiset-back s) (member-append-left L i)))
 
-  pub rest-avoids : {L : List Constraint} (M : List Constraint) → SameMultiset _≡_ (p .userStore) (M ++ L) → All (ConstraintAvoids ρ) L
+  pub rest-avoids :
+      {L : List Constraint} (M : List Constraint) → SameMultiset _≡_ (p .userStore) (M ++ L) → All (ConstraintAvoids ρ) L
   rest-avoids {L} M s = all-of-members L (λ c i. user-avoids c (member-same (multiset-back s) (member-append-right M i)))

@@ -44,14 +44,19 @@ pub agreed-member :
     → Or (Member y xs) (Member y (leftover n ys ds))
 agreed-member n xs (z ∷ ys) ds a first = go (decide (has n ds))
   where
-    go : Or (has n ds ≡ true) (has n ds ≡ false) → Or (Member z xs) (Member z (cond (has n ds) (leftover (suc n) ys ds) (z ∷ leftover (suc n) ys ds)))
+    go :
+        Or (has n ds ≡ true) (has n ds ≡ false)
+        → Or (Member z xs) (Member z (cond (has n ds) (leftover (suc n) ys ds) (z ∷ leftover (suc n) ys ds)))
     go (inl h) = inl (at-member xs (placeFrom (eqb n) 0 ds) (a .0 h))
     go (inr h) = inr (rw h first)
 agreed-member {A} {y} n xs (z ∷ ys) ds a (later i) = go (agreed-member (suc n) xs ys ds (a .1) i)
   where
-    kept : (b : Bool) → Member y (leftover (suc n) ys ds) → Member y (cond b (leftover (suc n) ys ds) (z ∷ leftover (suc n) ys ds))
+    kept :
+        (b : Bool) → Member y (leftover (suc n) ys ds)
+        → Member y (cond b (leftover (suc n) ys ds) (z ∷ leftover (suc n) ys ds))
     kept true j = j
     kept false j = later j
+
     go :
         Or (Member y xs) (Member y (leftover (suc n) ys ds))
         → Or (Member y xs) (Member y (cond (has n ds) (leftover (suc n) ys ds) (z ∷ leftover (suc n) ys ds)))

@@ -2,38 +2,37 @@
 --   overlap-critical       an overlap is a critical pair, by the joints of its partners
 --   overlap-sides          and its two sides are the pair's states, under the unifier
 -- Assumes nothing.
-use Prim.Native.Nat.{ℕ, zero, suc, _+_, _<_, _≤_}
-use mathlib.Core.Bool.{Bool, true, false, cond}
-use mathlib.Core.List.{List, [], _∷_, _++_, map, map-append, map-map}
+use Prim.Native.Nat.{ℕ, _+_, _<_}
+use mathlib.Core.Bool.{true}
+use mathlib.Core.List.{List, [], _++_, map, map-append, map-map}
 use mathlib.Core.Option.{some}
-use mathlib.Core.Path.{_≡_, refl, sym, ap, ap₂, subst, subst₃, _∙_}
+use mathlib.Core.Path.{_≡_, refl, sym, ap, subst, subst₃, _∙_}
 use native.Mathlib.Omega.{arith}
 use lib.Dec.{eqb}
 use lib.ListN.{length, getElem?}
-use Rattle.text.specs.Lists.{has, placeFrom, upTo, tabled}
+use Rattle.text.specs.Lists.{has, placeFrom, tabled}
 use Rattle.semantics.specs.Terms.{Term, Constraint, Equation, Rule, Program, State, mapTerms, alphabet, isWellFormed}
 use Rattle.semantics.specs.Terms as T
 use Rattle.semantics.specs.Firing.{without}
-use Rattle.semantics.specs.Overlaps.{apart, unjoinedHeads, appearing, numbered, goalOf, Numbered, Overlap}
-use Rattle.semantics.specs.Published.{Equated, EquatedAll, renamed, user, bodyItems, Emptied, Published, Represents}
-use Rattle.semantics.specs.Published as P
-use Rattle.semantics.specs.CriticalPairs.{lefts, rights, jointsOf, picked, shifted, shiftedHeads, pairOf, Critical, critical}
-use Rattle.semantics.specs.CriticalPairs.{leftState, rightState, joined, reading, seen}
-use Rattle.semantics.specs.Correspondence.{Side, Sides}
-use Rattle.semantics.proofs.Configurations.{Or, inl, inr, Member, first, later, TermBelow, All, none, also, Rep, liftAtom, fireC, confOf}
+use Rattle.semantics.specs.Overlaps.{unjoinedHeads, appearing, numbered, goalOf, Numbered, Overlap}
+use Rattle.semantics.specs.Published.{EquatedAll, renamed, Emptied, Published, Represents}
+use Rattle.semantics.specs.CriticalPairs.{lefts, rights, jointsOf, picked, shifted, shiftedHeads, pairOf, Critical}
+use Rattle.semantics.specs.CriticalPairs.{critical, leftState, rightState, joined, reading, seen}
+use Rattle.semantics.specs.Correspondence.{Sides}
+use Rattle.semantics.proofs.Configurations.{Or, inl, inr, Member, first, TermBelow, All, Rep, liftAtom, fireC, confOf}
 use Rattle.semantics.proofs.Options.{true-false}
 use Rattle.semantics.proofs.Multisets.{member-map, member-unmap, member-append, member-append-left, member-append-right}
 use Rattle.semantics.proofs.Multisets.{all-member, all-map, all-mono, all-of-members}
 use Rattle.semantics.proofs.SolveLaws.{solve-solution, solve-keeps}
 use Rattle.semantics.proofs.MatchedTerms.{without-all}
 use Rattle.semantics.proofs.Renamings.{Separates, Avoids, ConstraintAvoids}
-use Rattle.semantics.proofs.Pairings.{leftover, alone, Agreed, leftover-map, alone-map, unjoined-leftover}
+use Rattle.semantics.proofs.Pairings.{leftover, alone, leftover-map, alone-map, unjoined-leftover}
 use Rattle.semantics.proofs.Listings.{member-at}
 use Rattle.semantics.proofs.Places.{getElem-map, getElem-at, place-stands, has-at}
 use Rattle.semantics.proofs.Appearing.{appearing-known, appearing-has, appearing-from}
 use Rattle.semantics.proofs.Enumeration.{IsPairing, OverlapParts, overlap-parts, Listed, pairings-member}
 use Rattle.semantics.proofs.JoinLaws.{join-agreed}
-use Rattle.semantics.proofs.OverlapGoals.{secondHeads, goalFirst, goalSecond, goal-variables, first-end, second-end}
+use Rattle.semantics.proofs.OverlapGoals.{secondHeads, goal-variables, first-end, second-end}
 use Rattle.semantics.proofs.Sides.{first-side, second-side}
 use Rattle.semantics.proofs.Valuations.{solved-satisfiable}
 use Rattle.semantics.proofs.RuleLetters.{AllLetters, program-letters}
@@ -41,7 +40,7 @@ use Rattle.semantics.proofs.Choices.{pairing-choice}
 use Rattle.semantics.proofs.ChosenHeads.{join-equated, without-rights, without-lefts, shifted-heads}
 use Rattle.semantics.proofs.Readings.{goalOrder, goalNumber, number-variable, InGoal}
 use Rattle.semantics.proofs.PairSides.{Within, ownHeads, OfHeads}
-use Rattle.semantics.proofs.JoinedHeads.{heads-same, agreed-member, leftover-member, alone-member, equated-sides, picked-member}
+use Rattle.semantics.proofs.JoinedHeads.{heads-same, agreed-member, leftover-member, equated-sides, picked-member}
 use Rattle.semantics.proofs.PairStates.{seen-represents}
 
 -- what is left of a list is of the list
@@ -68,7 +67,7 @@ parts-equated :
     {i j : Numbered} {ds : List ℕ} {o : Overlap} → IsPairing (length (i .rule .heads)) (length (j .rule .heads)) ds
     → (parts : OverlapParts i j ds o)
     → EquatedAll (picked (i .rule .heads) (lefts (jointsOf ds))) (picked (shiftedHeads (j .rule)) (rights (jointsOf ds)))
-      (parts .equations)
+    (parts .equations)
 unfolding jointsOf
 parts-equated {i} {j} {ds} paired parts =
     subst (λ g. EquatedAll (picked (i .rule .heads) (lefts (jointsOf ds))) (picked g (rights (jointsOf ds))) (parts .equations))
@@ -154,7 +153,7 @@ module _ (p : Program) (w : isWellFormed p ≡ true) (o : Overlap) (listed : Lis
   second-in (c, i, j) =
       let k : Member c (secondHeads (o .second)) = subst (Member c) (sym (shifted-heads two)) i in
       let agreed = join-agreed firsts ds (secondHeads (o .second)) (parts .joined) (paired .long) σ
-          (λ e m. solve-solution es (parts .solved) .joins m) in
+      (λ e m. solve-solution es (parts .solved) .joins m) in
       listed-terms c (go (agreed-member 1 (map (mapTerms σ) firsts) (map (mapTerms σ) (secondHeads (o .second))) ds agreed
       (member-map (mapTerms σ) k))) j
     where
@@ -165,8 +164,9 @@ module _ (p : Program) (w : isWellFormed p ≡ true) (o : Overlap) (listed : Lis
       go (inl m) =
           rw map-append (member-append-left (map (mapTerms σ) (unjoinedHeads 1 (secondHeads (o .second)) ds)) m)
       go {d} (inr m) =
-          rw (map-append (mapTerms σ) firsts (unjoinedHeads 1 (secondHeads (o .second)) ds), unjoined-leftover 1 (secondHeads (o .second)) ds)
-          (member-append-right (map (mapTerms σ) firsts) (subst (Member d) (leftover-map (mapTerms σ) 1 (secondHeads (o .second)) ds) m))
+          let gs = secondHeads (o .second) in
+          rw (map-append (mapTerms σ) firsts (unjoinedHeads 1 gs ds), unjoined-leftover 1 gs ds)
+          (member-append-right (map (mapTerms σ) firsts) (subst (Member d) (leftover-map (mapTerms σ) 1 gs ds) m))
 
   -- the variables of all heads are terms of the heads
   variables-of : (x : ℕ) → Member x (appearing [] (firsts ++ seconds)) → Or (Within firsts (T.var x)) (Within seconds (T.var x))
@@ -234,8 +234,12 @@ module _ (p : Program) (w : isWellFormed p ≡ true) (o : Overlap) (listed : Lis
       go : Or (Member c firsts) (Member c (unjoinedHeads 1 (secondHeads (o .second)) ds)) → HeadTerm t
       go (inl k) = inl (c, k, j)
       go (inr k) =
-          inr (c, subst (Member c) (shifted-heads two) (leftover-member 1 (secondHeads (o .second)) ds
-          (subst (Member c) (unjoined-leftover 1 (secondHeads (o .second)) ds) k)), j)
+          inr (
+            c,
+            subst (Member c) (shifted-heads two) (leftover-member 1 (secondHeads (o .second)) ds
+                (subst (Member c) (unjoined-leftover 1 (secondHeads (o .second)) ds) k)),
+            j,
+          )
 
   goal-variable : (x : ℕ) → has x (goalOrder es σ (parts .solved) beforehand) ≡ true → has x variables ≡ true
   unfolding mapTerms
@@ -259,9 +263,11 @@ module _ (p : Program) (w : isWellFormed p ≡ true) (o : Overlap) (listed : Lis
       let (x, at) = getElem-at order v (subst (λ k. v < k) (goal-variables parts) h) in
       let n = placeFrom (eqb x) 0 variables in
       let stands : getElem? variables n ≡ some x =
-          place-stands x variables (goal-variable x (has-at x order v at)) in
-      (n, ap (λ l. getElem? l n) reading-is ∙ getElem-map inGoal (map T.var variables) n (getElem-map T.var variables n stands)
-      ∙ ap some (number-variable es σ (parts .solved) beforehand v at))
+      place-stands x variables (goal-variable x (has-at x order v at)) in (
+        n,
+        ap (λ l. getElem? l n) reading-is ∙ getElem-map inGoal (map T.var variables) n (getElem-map T.var variables n stands)
+            ∙ ap some (number-variable es σ (parts .solved) beforehand v at),
+      )
 
   -- the configuration after a rule has fired in the goal
   abbrev Fired : State → Rule → ℕ → List Constraint → List Constraint → Type 1
@@ -286,9 +292,11 @@ module _ (p : Program) (w : isWellFormed p ≡ true) (o : Overlap) (listed : Lis
     where
       itself : {t : Term} → Within firsts t → Within (ownHeads one (λ x. x)) t
       itself {t} x = subst (λ cs. Within cs t) (sym (heads-same firsts)) x
+
       own-or-other : {t : Term} → Or (Within firsts t) (Within seconds t) → OfHeads (ownHeads one (λ x. x)) seconds t
       own-or-other (inl x) = inl (itself x)
       own-or-other (inr x) = inr x
+
       known : (t : Term) → OfHeads (ownHeads one (λ x. x)) seconds t → InIt t
       known t (inl x) = first-in (subst (λ cs. Within cs t) (heads-same firsts) x)
       known t (inr x) = second-in x
@@ -313,6 +321,7 @@ module _ (p : Program) (w : isWellFormed p ≡ true) (o : Overlap) (listed : Lis
       own-or-other : {t : Term} → Or (Within firsts t) (Within seconds t) → OfHeads seconds firsts t
       own-or-other (inl x) = inr x
       own-or-other (inr x) = inl x
+
       known : (t : Term) → OfHeads seconds firsts t → InIt t
       known t (inl x) = second-in x
       known t (inr x) = first-in x

@@ -4,26 +4,24 @@
 --   own-settled            a rule's own heads are what they are matched with
 --   side-iso               firing on the heads leaves what emptying a state of the critical pair leaves
 -- Assumes nothing.
-use Prim.Native.Nat.{ℕ, _<_}
+use Prim.Native.Nat.{ℕ}
 use mathlib.Core.List.{List, [], _∷_, _++_, map, append-nil}
 use mathlib.Core.Path.{_≡_, refl, sym, ap, ap₂, subst, subst₂, _∙_}
 use Rattle.semantics.specs.Terms.{Term, Constraint, Equation, Rule, mapTerms, mapSides, alphabet}
-use Rattle.semantics.specs.Terms as T
-use Rattle.semantics.specs.Variants.{Pointwise, empty, each, SameMultiset}
+use Rattle.semantics.specs.Variants.{Pointwise, each, SameMultiset}
 use Rattle.semantics.specs.Published.{Item, user, builtIn, Published, renamed, bodyItems, Emptied}
-use Rattle.semantics.proofs.Configurations.{Or, inl, inr, Member, first, later, sub, old, new, Eqv, given, same, flip, chain, Eqn, Iso}
-use Rattle.semantics.proofs.Configurations.{eqsOf, flat, headsOf, lift, liftAtom, liftEqn, TermBelow, All}
-use Rattle.semantics.proofs.Multisets.{pointwise-mono, pointwise-image, member-append, member-append-left, member-append-right}
+use Rattle.semantics.proofs.Configurations.{Or, inl, inr, Member, first, later, sub, old, new, Eqv, given, same, flip}
+use Rattle.semantics.proofs.Configurations.{chain, Eqn, Iso, eqsOf, flat, headsOf, lift, liftAtom, liftEqn, TermBelow}
+use Rattle.semantics.proofs.Configurations.{All}
+use Rattle.semantics.proofs.Multisets.{pointwise-image, member-append, member-append-left, member-append-right}
 use Rattle.semantics.proofs.Multisets.{member-map, member-unmap, all-member, all-mono, all-of-members, multiset-back}
 use Rattle.semantics.proofs.Closure.{eqv-path}
 use Rattle.semantics.proofs.Links.{linked-old, linked-new}
-use Rattle.semantics.proofs.MatchLaws.{ConstraintRel}
-use Rattle.semantics.proofs.MatchedTerms.{ConstraintBelow}
-use Rattle.semantics.proofs.Renamings.{Separates, Avoids, ConstraintAvoids}
+use Rattle.semantics.proofs.Renamings.{Separates, ConstraintAvoids}
 use Rattle.semantics.proofs.RuleLetters.{AllLetters}
 use Rattle.semantics.proofs.FreshVariants.{member-same}
-use Rattle.semantics.proofs.PublishedStates.{confWith, confP}
-use Rattle.semantics.proofs.Emptying.{users, builtIns, Into, emptied-into}
+use Rattle.semantics.proofs.PublishedStates.{confWith}
+use Rattle.semantics.proofs.Emptying.{users, builtIns, emptied-into}
 use Rattle.semantics.proofs.RenamedRules.{afterFiring, back, back-renamed, back-other, Settled, fired-heads, renamed-iso}
 use Rattle.semantics.proofs.SimplifyLaws.{body-users, body-builtIns}
 
@@ -74,7 +72,9 @@ module _ (r : Rule) (κ : ℕ → ℕ) (b : List Term) (es : List Equation) (L :
   Fixed t = Settled r κ b es own L t
 
   -- after firing on them, they are the new ones
-  own-held : {h : Constraint} {s : Term} → Member h (r .heads) → Member s (h .terms) → Eqv equations (sub new (lift s)) (sub old (lift (renamed κ s)))
+  own-held :
+      {h : Constraint} {s : Term} → Member h (r .heads) → Member s (h .terms)
+      → Eqv equations (sub new (lift s)) (sub old (lift (renamed κ s)))
   unfolding mapTerms
   own-held i j =
       image-member (renamed κ) (image-member (mapTerms (renamed κ)) (fired-heads r κ b es own L
@@ -112,15 +112,18 @@ module _ (r : Rule) (κ : ℕ → ℕ) (b : List Term) (es : List Equation) (L :
         rw k (subst₂ (Eqv equations) (sym (back-renamed κ apart (d .left) x)) (sym (back-renamed κ apart (d .right) y))
         (linked-new (flat (headsOf r)) (flat (map liftAtom own)) (eqsOf r) (map liftEqn es) (liftEqn d) (member-map liftEqn j)))
 
-    condition-held : (e : Equation) → Member e es → OfHeads own others (e .left) → OfHeads own others (e .right) → Held (e .left) (e .right)
+    condition-held :
+        (e : Equation) → Member e es → OfHeads own others (e .left) → OfHeads own others (e .right) → Held (e .left) (e .right)
     condition-held e i x y =
         chain (settled (e .left) x)
-        (chain (linked-old (flat (headsOf r)) (flat (map liftAtom own)) (eqsOf r) (map liftEqn es) (liftEqn e) (member-map liftEqn i))
+        (chain
+        (linked-old (flat (headsOf r)) (flat (map liftAtom own)) (eqsOf r) (map liftEqn es) (liftEqn e) (member-map liftEqn i))
         (flip (settled (e .right) y)))
 
     -- firing on the heads leaves the body and the rest, with the rule's equations and the condition
     pub side-iso :
-        (bs : List Equation) (us : List Constraint) → ((e : Equation) → Member e es → OfHeads own others (e .left) × OfHeads own others (e .right))
+        (bs : List Equation) (us : List Constraint)
+        → ((e : Equation) → Member e es → OfHeads own others (e .left) × OfHeads own others (e .right))
         → All (OfHeads own others) b → SameMultiset _≡_ bs (map (mapSides (renamed κ)) (r .equations) ++ es)
         → SameMultiset _≡_ us (map (mapTerms (renamed κ)) (r .body) ++ L) → Iso (afterFiring r b es own L) (confWith b bs us)
     unfolding mapTerms mapSides
@@ -152,14 +155,16 @@ pub pair-emptied :
     (r : Rule) (κ : ℕ → ℕ) (L : List Constraint) {es : List Equation} {vs : List ℕ} {c : Published}
     → Emptied (record { goals = bodyItems κ r ++ map user L; userStore = []; builtInStore = es; variables = vs }) c
     → SameMultiset _≡_ (c .builtInStore) (map (mapSides (renamed κ)) (r .equations) ++ es)
-      × SameMultiset _≡_ (c .userStore) (map (mapTerms (renamed κ)) (r .body) ++ L) × (c .variables ≡ vs)
+    × SameMultiset _≡_ (c .userStore) (map (mapTerms (renamed κ)) (r .body) ++ L) × (c .variables ≡ vs)
 pair-emptied r κ L {es} {c} e =
     let h = emptied-into e in
     let bs : builtIns (bodyItems κ r ++ map user L) ≡ map (mapSides (renamed κ)) (r .equations) =
-        builtIns-append (bodyItems κ r) (map user L)
-        ∙ ap₂ _++_ (body-builtIns κ r) (builtIns-user L) ∙ append-nil (map (mapSides (renamed κ)) (r .equations)) in
+    builtIns-append (bodyItems κ r) (map user L)
+    ∙ ap₂ _++_ (body-builtIns κ r) (builtIns-user L) ∙ append-nil (map (mapSides (renamed κ)) (r .equations)) in
     let us : users (bodyItems κ r ++ map user L) ++ [] ≡ map (mapTerms (renamed κ)) (r .body) ++ L =
-        append-nil (users (bodyItems κ r ++ map user L)) ∙ users-append (bodyItems κ r) (map user L)
-        ∙ ap₂ _++_ (body-users κ r) (users-user L) in
-    (subst (λ l. SameMultiset _≡_ (c .builtInStore) (l ++ es)) bs (h .solved),
-    subst (SameMultiset _≡_ (c .userStore)) us (h .taken), h .variables)
+    append-nil (users (bodyItems κ r ++ map user L)) ∙ users-append (bodyItems κ r) (map user L)
+    ∙ ap₂ _++_ (body-users κ r) (users-user L) in (
+      subst (λ l. SameMultiset _≡_ (c .builtInStore) (l ++ es)) bs (h .solved),
+      subst (SameMultiset _≡_ (c .userStore)) us (h .taken),
+      h .variables,
+    )

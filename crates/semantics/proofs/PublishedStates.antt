@@ -7,20 +7,20 @@
 use Prim.Native.Nat.{ℕ}
 use mathlib.Core.List.{List, [], map}
 use mathlib.Core.Option.{Option, none, some}
-use mathlib.Core.Path.{_≡_, refl, sym, ap, subst, _∙_}
+use mathlib.Core.Path.{_≡_, refl, sym, ap, _∙_}
 use Rattle.semantics.specs.Terms.{Term, Constraint, Equation, State, failed, live, mapTerms}
 use Rattle.semantics.specs.Terms as T
 use Rattle.semantics.specs.Solving.{solve}
 use Rattle.semantics.specs.Firing.{settle}
 use Rattle.semantics.specs.Variants.{Variant}
 use Rattle.semantics.specs.Published.{Published, normal, Represents}
-use Rattle.semantics.proofs.Configurations.{Tm, con, var, Eqn, sub, Eqv, same, flip, Config, Inconsistent, Iso, Member}
-use Rattle.semantics.proofs.Configurations.{lift, liftAtom, liftEqn, confOf, Rep, hasFailed, isLive}
-use Rattle.semantics.proofs.Multisets.{pointwise-map, pointwise-refl, member-unmap, multiset-of-pointwise, pointwise-image}
+use Rattle.semantics.proofs.Configurations.{Tm, con, var, Eqn, sub, Eqv, same, flip, Config, Iso, Member, lift, liftAtom}
+use Rattle.semantics.proofs.Configurations.{liftEqn, confOf, Rep, hasFailed, isLive}
+use Rattle.semantics.proofs.Multisets.{pointwise-map, member-unmap, multiset-of-pointwise, pointwise-image}
 use Rattle.semantics.proofs.Atoms.{sub-var}
 use Rattle.semantics.proofs.Closure.{eqv-path}
 use Rattle.semantics.proofs.Isos.{iso-sym, iso-trans, iso-of-maps, same-refl}
-use Rattle.semantics.proofs.SolveLaws.{Solution, solve-solution, solve-clash, solution-down}
+use Rattle.semantics.proofs.SolveLaws.{solve-solution, solve-clash, solution-down}
 use Rattle.semantics.proofs.VariantLaws.{variant-iso, iso-variant}
 use Rattle.semantics.proofs.Represent.{ScopedState, rep-same}
 
@@ -48,15 +48,19 @@ solved-iso b es cs {σ} p =
   where
     become : ℕ → Tm ℕ
     become x = lift (σ (T.var x))
+
     at : (t : Term) → sub become (lift t) ≡ lift (σ t)
     at (T.con c) = sym (ap lift (solve-solution es p .fixes c))
     at (T.var x) = refl
+
     becomes : (t : Term) → Unit {0} × Eqv [] (sub become (lift t)) (lift (σ t))
     becomes t = (tt, eqv-path (at t))
+
     held : (e : Eqn ℕ) → Member e (map liftEqn es) → Eqv [] (sub become (e .left)) (sub become (e .right))
     held e i =
         let (d, j, q) = member-unmap liftEqn es i in
         rw q (eqv-path (at (d .left) ∙ ap lift (solve-solution es p .joins j) ∙ sym (at (d .right))))
+
     undo : (t : Tm ℕ) → Eqv (map liftEqn es) (sub var (sub become t)) t
     undo (con c) = same
     undo (var x) = rw sub-var (flip (solve-solution es p .follows (T.var x)))
@@ -85,6 +89,7 @@ rep-represents p s r = go (solve (p .builtInStore) (λ t. t)) refl r
   where
     same-con : {x y : ℕ} → _≡_ {A = Term} (T.con x) (T.con y) → x ≡ y
     same-con p = cc
+
     go :
         (o : Option (Term → Term)) → solve (p .builtInStore) (λ t. t) ≡ o → {s : State} → Rep s (confP p)
         → Variant (settle o 0 (map T.var (p .variables)) (p .userStore)) s

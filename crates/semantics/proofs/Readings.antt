@@ -12,16 +12,16 @@ use native.Mathlib.Omega.{arith}
 use lib.Dec.{eqb}
 use lib.ListN.{length, getD, getElem?, length-map}
 use Rattle.text.specs.Lists.{has, placeFrom}
-use Rattle.semantics.specs.Terms.{Term, Constraint, Equation, Rule, State, failed, live, mapTerms}
+use Rattle.semantics.specs.Terms.{Term, Constraint, Equation, Rule, State, mapTerms}
 use Rattle.semantics.specs.Terms as T
 use Rattle.semantics.specs.Solving.{solve}
 use Rattle.semantics.specs.Derivations.{become}
 use Rattle.semantics.specs.Variants.{Pointwise, done}
 use Rattle.semantics.specs.Overlaps.{appearing, numbered}
 use Rattle.semantics.specs.CriticalPairs.{seen}
-use Rattle.semantics.proofs.Configurations.{Or, inl, inr, Member, Tm, con, var, Eqn, sub, Eqv, same, flip, chain, Config, AtomRel}
-use Rattle.semantics.proofs.Configurations.{Core, Iso, lift, liftAtom, liftEqn, fireC, confOf, TermBelow, All, none, also, Rep}
-use Rattle.semantics.proofs.Configurations.{hasFailed, isLive}
+use Rattle.semantics.proofs.Configurations.{Or, inl, inr, Member, Tm, con, var, Eqn, sub, Eqv, same, flip, chain, Config}
+use Rattle.semantics.proofs.Configurations.{AtomRel, Core, Iso, lift, liftAtom, liftEqn, fireC, confOf, TermBelow, All}
+use Rattle.semantics.proofs.Configurations.{none, also, Rep, hasFailed, isLive}
 use Rattle.semantics.proofs.Multisets.{pointwise-length, pointwise-sym, pointwise-map, pointwise-map-right}
 use Rattle.semantics.proofs.Multisets.{multiset-of-pointwise, member-unmap, all-mono, all-map}
 use Rattle.semantics.proofs.Closure.{eqv-path}
@@ -31,7 +31,7 @@ use Rattle.semantics.proofs.Options.{true-false}
 use Rattle.semantics.proofs.SolveLaws.{solve-solution, solution-again}
 use Rattle.semantics.proofs.MatchedTerms.{pointwise-all}
 use Rattle.semantics.proofs.Places.{getD-at, getElem-at, has-at, place-stands, place-below, place-unique}
-use Rattle.semantics.proofs.Appearing.{Known, appearing-from, appearing-distinct, numbered-below}
+use Rattle.semantics.proofs.Appearing.{Known, appearing-from, appearing-distinct}
 use Rattle.semantics.proofs.Reface.{entry, reface, reface-iso, reface-inconsistent}
 use Rattle.semantics.proofs.PublishedStates.{confWith}
 
@@ -155,6 +155,7 @@ module _ (es : List Equation) (σ : Term → Term) (p : solve es (λ t. t) ≡ s
       goalUsed : (t : Term) → Known goalOrder t → used (lift (numbered goalOrder t))
       goalUsed (T.con c) h = tt
       goalUsed (T.var x) h = place-below x goalOrder h
+
       back : (t : Term) → Known goalOrder t → sub denote (lift (numbered goalOrder t)) ≡ lift t
       back (T.con c) h = refl
       back (T.var x) h = ap var (getD-at goalOrder (placeFrom (eqb x) 0 goalOrder) 0 (place-stands x goalOrder h))
@@ -181,9 +182,9 @@ module _ (es : List Equation) (σ : Term → Term) (p : solve es (λ t. t) ≡ s
       (r : Rule) {ts : List Term} {M L : List Constraint} → All InGoal ts → All (λ c. All InGoal (c .terms)) M
       → All (λ c. All InGoal (c .terms)) L
       → Iso
-        (fireC r (confOf (map goalNumber ts) []) (map liftAtom (map (mapTerms goalNumber) M))
-        (map liftAtom (map (mapTerms goalNumber) L)))
-        (fireC r (confWith ts es []) (map liftAtom M) (map liftAtom L))
+      (fireC r (confOf (map goalNumber ts) []) (map liftAtom (map (mapTerms goalNumber) M))
+      (map liftAtom (map (mapTerms goalNumber) L)))
+      (fireC r (confWith ts es []) (map liftAtom M) (map liftAtom L))
   numbered-fire r {ts} a b c =
       fire-iso {C = confOf (map goalNumber ts) []} {D = confWith ts es []} r
       (record { R = Denotes; core = number-core; faces = denotes-terms a; stores = done }) (denotes-atoms b)

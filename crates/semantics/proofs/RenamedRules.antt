@@ -7,18 +7,18 @@
 --   renamed-iso            the two configurations are equal
 -- Assumes nothing.
 use Prim.Native.Nat.{ℕ, _<_}
-use mathlib.Core.List.{List, [], _∷_, _++_, map, map-append}
-use mathlib.Core.Path.{_≡_, refl, sym, ap, subst, subst₂, _∙_}
+use mathlib.Core.List.{List, [], _++_, map, map-append}
+use mathlib.Core.Path.{_≡_, refl, sym, ap, subst, subst₂}
 use Rattle.semantics.specs.Terms.{Term, Constraint, Equation, Rule, mapTerms, alphabet}
 use Rattle.semantics.specs.Terms as T
 use Rattle.semantics.specs.Published.{renamed}
-use Rattle.semantics.specs.Variants.{Pointwise, empty, each, SameMultiset}
-use Rattle.semantics.proofs.Configurations.{Or, inl, inr, Member, Tm, con, var, Eqn, sub, subAtom, old, new, flat, Eqv, given}
-use Rattle.semantics.proofs.Configurations.{same, Config, AtomRel, Iso, lift, liftAtom, liftEqn, headsOf, bodyOf, eqsOf, fireC}
+use Rattle.semantics.specs.Variants.{Pointwise, SameMultiset}
+use Rattle.semantics.proofs.Configurations.{Or, inl, inr, Member, Tm, con, var, Eqn, sub, subAtom, old, new, flat, Eqv}
+use Rattle.semantics.proofs.Configurations.{same, Config, AtomRel, Iso, lift, liftAtom, liftEqn, headsOf, eqsOf, fireC}
 use Rattle.semantics.proofs.Configurations.{TermBelow, All}
-use Rattle.semantics.proofs.Multisets.{pointwise-mono, pointwise-map, pointwise-append, pointwise-sym, pointwise-map-right}
-use Rattle.semantics.proofs.Multisets.{member-unmap, multiset-of-pointwise, multiset-right, multiset-back, multiset-swap}
-use Rattle.semantics.proofs.Multisets.{pointwise-unmap, multiset-map, multiset-mono}
+use Rattle.semantics.proofs.Multisets.{pointwise-mono, pointwise-map, pointwise-append, pointwise-sym}
+use Rattle.semantics.proofs.Multisets.{pointwise-map-right, member-unmap, multiset-of-pointwise, multiset-right}
+use Rattle.semantics.proofs.Multisets.{multiset-back, multiset-swap, pointwise-unmap, multiset-map, multiset-mono}
 use Rattle.semantics.proofs.Atoms.{eqn, equal-pairs, sub-var, flat-pointwise, unflat-pointwise}
 use Rattle.semantics.proofs.Closure.{Derives, eqv-path}
 use Rattle.semantics.proofs.Links.{Equates, linked-equates, derives-linked, equates-pointwise}
@@ -127,7 +127,7 @@ module _ (r : Rule) (ρ : ℕ → ℕ) (b : List Term) (bs : List Equation) (M L
 
     equations-follow :
         ((e : Equation) → Member e (r .equations)
-          → Eqv (map liftEqn bs′) (lift (renamed ρ (e .left))) (lift (renamed ρ (e .right))))
+        → Eqv (map liftEqn bs′) (lift (renamed ρ (e .left))) (lift (renamed ρ (e .right))))
         → Derives (map liftEqn bs′) (λ y. forth ρ (inr y)) (eqsOf r)
     equations-follow h e i =
         let (d, j, q) = member-unmap liftEqn (r .equations) i in
@@ -163,7 +163,7 @@ module _ (r : Rule) (ρ : ℕ → ℕ) (b : List Term) (bs : List Equation) (M L
         symbols = q .symbols;
         terms = pointwise-unmap lift lift (h .terms) (c .terms) (q .args);
       }) (pointwise-unmap liftAtom liftAtom (r .heads) M (unflat-pointwise atoms (pointwise-mono (λ h m i.
-          linked-equates (flat (headsOf r)) (flat (map liftAtom M)) (eqsOf r) (map liftEqn bs) (eqn (sub new h) (sub old m)) i)
+      linked-equates (flat (headsOf r)) (flat (map liftAtom M)) (eqsOf r) (map liftEqn bs) (eqn (sub new h) (sub old m)) i)
       (pointwise-unmap (sub new) (sub old) (flat (headsOf r)) (flat (map liftAtom M))
       (equal-pairs {P = λ s t. Unit {0}} (pointwise-map (sub new) (sub old) (flat-pointwise atoms)))))))
     where
@@ -180,7 +180,7 @@ module _ (r : Rule) (ρ : ℕ → ℕ) (b : List Term) (bs : List Equation) (M L
       (bs′ : List Equation) (us′ : List Constraint) → Separates ρ → Lettered r
       → Pointwise (ConstraintRel (λ s t. Eqv (map liftEqn bs′) (lift (renamed ρ s)) (lift t))) (r .heads) M
       → ((e : Equation) → Member e (r .equations)
-        → Eqv (map liftEqn bs′) (lift (renamed ρ (e .left))) (lift (renamed ρ (e .right))))
+      → Eqv (map liftEqn bs′) (lift (renamed ρ (e .left))) (lift (renamed ρ (e .right))))
       → ((e : Equation) → Member e bs → Eqv (map liftEqn bs′) (lift (e .left)) (lift (e .right)))
       → ((e : Equation) → Member e bs′ → Eqv equations (sub (back ρ) (lift (e .left))) (sub (back ρ) (lift (e .right))))
       → All Settled b → All (λ c. All Settled (c .terms)) L

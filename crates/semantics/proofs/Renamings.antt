@@ -12,7 +12,6 @@ use native.Mathlib.Omega.{arith}
 use lib.Dec.{eqb}
 use Rattle.text.specs.Lists.{onward}
 use Rattle.semantics.specs.Terms.{Term, con, var, Constraint, alphabet}
-use Rattle.semantics.specs.Published.{renamed}
 use Rattle.semantics.proofs.Configurations.{Or, inl, inr, Member, first, later, All}
 use Rattle.semantics.proofs.Options.{decide, true-false, none-some, eqb-equal, equal-eqb}
 
@@ -103,6 +102,7 @@ beyond-member {t} (later {b} {l} i) = below-more t (beyond-member i) (beyond-mor
     below-more : {m n : ℕ} (t : Term) → NumberBelow m t → m ≤ n → NumberBelow n t
     below-more (con c) h k = omega arith
     below-more (var x) h k = omega arith
+
     beyond-more : (b : Term) (l : List Term) → beyond l ≤ beyond (b ∷ l)
     beyond-more (con c) l = omega arith
     beyond-more (var x) l = omega arith

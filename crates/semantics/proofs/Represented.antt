@@ -1,5 +1,5 @@
--- Every state represents a published one (document 000, section 2.2): its constraints, with an equation for what each goal variable
--- has become.
+-- Every state represents a published one (document 000, section 2.2): its constraints, with an equation for what each goal
+-- variable has become.
 --   columns, names         these equations, and the variables that they are about
 --   state-represents       the published state
 -- Assumes nothing.
@@ -7,7 +7,7 @@ use Prim.Native.Nat.{ℕ, zero, suc, _+_, _-_, _<_}
 use mathlib.Core.Bool.{true, false, cond}
 use mathlib.Core.List.{List, [], _∷_, map}
 use mathlib.Core.Option.{some}
-use mathlib.Core.Path.{_≡_, refl, sym, ap, subst, _∙_}
+use mathlib.Core.Path.{_≡_, refl, sym, ap, _∙_}
 use native.Mathlib.Omega.{arith}
 use lib.Dec.{ltb, ltb→lt, lt→ltb}
 use lib.ListN.{getElem?}
@@ -15,8 +15,8 @@ use Rattle.semantics.specs.Terms.{Term, Constraint, Equation, State, fai
 use Rattle.semantics.specs.Terms as T
 use Rattle.semantics.specs.Published.{Published, Represents}
 use Rattle.semantics.specs.Variants.{Pointwise, empty, each}
-use Rattle.semantics.proofs.Configurations.{Or, inl, inr, Member, first, later, Tm, con, var, Eqn, sub, Eqv, given, same, flip, chain}
-use Rattle.semantics.proofs.Configurations.{AtomRel, Iso, lift, liftAtom, liftEqn, confOf, TermBelow, All, none, also, Scoped}
+use Rattle.semantics.proofs.Configurations.{Or, inl, inr, Member, first, later, Tm, con, var, Eqn, sub, Eqv, given, same}
+use Rattle.semantics.proofs.Configurations.{flip, chain, Iso, lift, liftAtom, liftEqn, confOf, TermBelow, Scoped}
 use Rattle.semantics.proofs.Configurations.{hasFailed, isLive}
 use Rattle.semantics.proofs.Options.{decide, none-some, true-T, T-true}
 use Rattle.semantics.proofs.Multisets.{pointwise-mono, pointwise-map, pointwise-map-right, pointwise-member, member-map}
@@ -106,11 +106,13 @@ module _ (n : ℕ) (b : List Term) (cs : List Constraint) (scoped : Scoped n b c
 
   named-iso : Iso (confOf b cs) (confWith (map T.var (names n b)) (columns n b) cs)
   named-iso =
-      iso-of-maps (confOf b cs) (confWith (map T.var (names n b)) (columns n b) cs) var put used (λ c. tt) (λ e i. elim i [ ]) held
+      iso-of-maps (confOf b cs) (confWith (map T.var (names n b)) (columns n b) cs) var put used (λ c. tt) (λ e i. elim i [ ])
+      held
       undo
-      (pointwise-map lift lift (pointwise-map-right T.var (pointwise-mono (λ t x h.
-      (below-used t (all-member (scoped .bound) (h .0)),
-      chain (eqv-path (sub-var (lift t))) (flip (given (member-map liftEqn (h .1))))))
+      (pointwise-map lift lift (pointwise-map-right T.var (pointwise-mono (λ t x h. (
+        below-used t (all-member (scoped .bound) (h .0)),
+        chain (eqv-path (sub-var (lift t))) (flip (given (member-map liftEqn (h .1)))),
+      ))
       (pointwise-member (names-columns n b)))))
       (multiset-of-pointwise (pointwise-map liftAtom liftAtom (pointwise-all (λ c h. record {
         symbols = refl;
@@ -124,9 +126,12 @@ clash = record { left = T.con 0; right = T.con 1 } ∷ []
 -- every state represents a published one whose goal store is empty
 pub state-represents : (s : State) → ScopedState s → (a : Published) × (a .goals ≡ []) × Represents a s
 state-represents failed scoped =
-    let a : Published = record { goals = []; userStore = []; builtInStore = clash; variables = [] } in
-    (a, refl, rep-represents a failed
-    (hasFailed (record { one = 0; two = 1; apart = λ e. omega arith; clash = given first })))
+    let a : Published = record { goals = []; userStore = []; builtInStore = clash; variables = [] } in (
+      a,
+      refl,
+      rep-represents a failed
+          (hasFailed (record { one = 0; two = 1; apart = λ e. omega arith; clash = given first })),
+    )
 state-represents (live n b cs) scoped =
     let a : Published = record { goals = []; userStore = cs; builtInStore = columns n b; variables = names n b } in
     (a, refl, rep-represents a (live n b cs) (isLive scoped (named-iso n b cs scoped)))

@@ -7,15 +7,14 @@ use mathlib.Core.List.{List, [], _∷_, _++_, map}
 use mathlib.Core.Path.{_≡_, refl, sym, ap, subst₂}
 use Rattle.semantics.specs.Terms.{Term, Constraint, Equation, Rule, mapTerms, mapSides, alphabet}
 use Rattle.semantics.specs.Terms as T
-use Rattle.semantics.specs.Variants.{Pointwise, SameMultiset}
-use Rattle.semantics.specs.Published.{Item, user, builtIn, Published, EquatedAll, renamed, FreshFor, bodyItems}
-use Rattle.semantics.proofs.Configurations.{Or, inl, inr, Member, sub, old, new, Eqv, given, Eqn, Iso, eqsOf, flat, headsOf}
-use Rattle.semantics.proofs.Configurations.{lift, liftAtom, liftEqn, All}
-use Rattle.semantics.proofs.Multisets.{pointwise-mono, member-append, member-append-left, member-append-right, member-map}
-use Rattle.semantics.proofs.Multisets.{member-unmap, all-member, all-mono, multiset-back}
+use Rattle.semantics.specs.Variants.{SameMultiset}
+use Rattle.semantics.specs.Published.{user, builtIn, Published, EquatedAll, renamed, FreshFor, bodyItems}
+use Rattle.semantics.proofs.Configurations.{Or, inl, inr, Member, sub, Eqv, given, Eqn, Iso, eqsOf, flat, headsOf, lift}
+use Rattle.semantics.proofs.Configurations.{liftAtom, liftEqn, All}
+use Rattle.semantics.proofs.Multisets.{pointwise-mono, member-append, member-append-left, member-append-right}
+use Rattle.semantics.proofs.Multisets.{member-map, member-unmap, all-member, all-mono, multiset-back}
 use Rattle.semantics.proofs.Closure.{eqv-path}
 use Rattle.semantics.proofs.Links.{linked-old, linked-new}
-use Rattle.semantics.proofs.MatchLaws.{ConstraintRel}
 use Rattle.semantics.proofs.MatchedTerms.{ConstraintBelow}
 use Rattle.semantics.proofs.FireLaws.{Lettered}
 use Rattle.semantics.proofs.Renamings.{Avoids}
@@ -34,6 +33,7 @@ body-users ρ r = go (r .body)
     none-left : (es : List Equation) → users (map (λ e. builtIn (mapSides (renamed ρ) e)) es) ≡ []
     none-left [] = refl
     none-left (e ∷ es) = none-left es
+
     go :
         (cs : List Constraint)
         → users (map (λ c. user (mapTerms (renamed ρ) c)) cs ++ map (λ e. builtIn (mapSides (renamed ρ) e)) (r .equations))
@@ -48,6 +48,7 @@ body-builtIns ρ r = go (r .body)
     equations : (es : List Equation) → builtIns (map (λ e. builtIn (mapSides (renamed ρ) e)) es) ≡ map (mapSides (renamed ρ)) es
     equations [] = refl
     equations (e ∷ es) = ap (mapSides (renamed ρ) e ∷_) (equations es)
+
     go :
         (cs : List Constraint)
         → builtIns (map (λ c. user (mapTerms (renamed ρ) c)) cs ++ map (λ e. builtIn (mapSides (renamed ρ) e)) (r .equations))
@@ -56,8 +57,8 @@ body-builtIns ρ r = go (r .body)
     go (c ∷ cs) = go cs
 
 module _
-    (r : Rule) (p q : Published) (ρ : ℕ → ℕ) (M L : List Constraint) (es : List Equation) (f : FreshFor p ρ) (letters : Lettered r)
-    (heads : All (ConstraintBelow alphabet) (r .heads)) (split : SameMultiset _≡_ (p .userStore) (M ++ L))
+    (r : Rule) (p q : Published) (ρ : ℕ → ℕ) (M L : List Constraint) (es : List Equation) (f : FreshFor p ρ)
+    (letters : Lettered r) (heads : All (ConstraintBelow alphabet) (r .heads)) (split : SameMultiset _≡_ (p .userStore) (M ++ L))
     (equated : EquatedAll (map (mapTerms (renamed ρ)) (r .heads)) M es)
     (solved : SameMultiset _≡_ (q .builtInStore) (map (mapSides (renamed ρ)) (r .equations) ++ (es ++ p .builtInStore)))
     (taken : SameMultiset _≡_ (q .userStore) (map (mapTerms (renamed ρ)) (r .body) ++ L)) where
@@ -87,7 +88,8 @@ module _
       equated-related {R = Held} equated (pairs-renamed ρ (pointwise-mono (λ h c k. record {
         symbols = k .symbols;
         terms = pointwise-mono (λ s t q.
-            subst₂ (Eqv equations) (sym (back-renamed ρ (f .apart) s (q .0 .1))) (sym (back-other ρ t (q .1))) (q .0 .0)) (k .terms);
+            subst₂ (Eqv equations) (sym (back-renamed ρ (f .apart) s (q .0 .1))) (sym (back-other ρ t (q .1))) (q .0 .0))
+            (k .terms);
       }) (with-right (with-left
       (fired-heads r ρ (map T.var (p .variables)) (p .builtInStore) M L (heads-pairs ρ (r .heads) equated)) heads)
       (matched-avoids p ρ f L split)))) i
@@ -105,6 +107,7 @@ module _
       stored : Or (Member e es) (Member e (p .builtInStore)) → Held (e .left) (e .right)
       stored (inl j) = heads-held e j
       stored (inr j) = store-held e j
+
       go :
           Or (Member e (map (mapSides (renamed ρ)) (r .equations))) (Member e (es ++ p .builtInStore))
           → Held (e .left) (e .right)
@@ -113,7 +116,8 @@ module _
 
   -- an equation of the new built-in store holds there
   given-there :
-      {s t : Term} → Member (record { left = s; right = t }) (map (mapSides (renamed ρ)) (r .equations) ++ (es ++ p .builtInStore))
+      {s t : Term}
+      → Member (record { left = s; right = t }) (map (mapSides (renamed ρ)) (r .equations) ++ (es ++ p .builtInStore))
       → Eqv (map liftEqn (q .builtInStore)) (lift s) (lift t)
   given-there i = given (member-map liftEqn (member-same (multiset-back solved) i))
 
@@ -127,7 +131,8 @@ module _
       (pointwise-mono (λ h c k. record {
         symbols = k .symbols;
         terms = pointwise-mono (λ s t i.
-            given-there (member-append-right (map (mapSides (renamed ρ)) (r .equations)) (member-append-left (p .builtInStore) i)))
+            given-there (member-append-right (map (mapSides (renamed ρ)) (r .equations))
+            (member-append-left (p .builtInStore) i)))
             (k .terms);
       }) (heads-pairs ρ (r .heads) equated))
       (λ e i. given-there (member-append-left (es ++ p .builtInStore) (member-map (mapSides (renamed ρ)) i)))

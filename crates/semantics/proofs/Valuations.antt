@@ -10,13 +10,14 @@ use Prim.Native.Nat.{ℕ, _+_, _-_, _<_}
 use mathlib.Core.Bool.{true, false, cond}
 use mathlib.Core.List.{List, [], _∷_, map}
 use mathlib.Core.Option.{Option, none, some}
-use mathlib.Core.Path.{_≡_, refl, sym, ap, subst, _∙_}
+use mathlib.Core.Path.{_≡_, refl, sym, ap, _∙_}
 use native.Mathlib.Omega.{arith}
 use lib.Dec.{ltb, ltb→lt, lt→ltb}
 use Rattle.semantics.specs.Terms.{Term, con, var, Equation}
 use Rattle.semantics.specs.Solving.{solve}
 use Rattle.semantics.specs.Published.{value, Hold, all, and, Satisfiable}
-use Rattle.semantics.proofs.Configurations.{Or, inl, inr, Member, first, later, Tm, Eqv, given, same, flip, chain, lift, liftEqn}
+use Rattle.semantics.proofs.Configurations.{Or, inl, inr, Member, first, later, Tm, Eqv, given, same, flip, chain, lift}
+use Rattle.semantics.proofs.Configurations.{liftEqn}
 use Rattle.semantics.proofs.Configurations as C
 use Rattle.semantics.proofs.Multisets.{member-unmap}
 use Rattle.semantics.proofs.Options.{decide, true-T, T-true}

@@ -20,8 +20,8 @@ use Rattle.semantics.specs.Derivations.{Event, derive, NoRuleFits}
 use Rattle.semantics.specs.Strategy.{entered}
 use Rattle.semantics.specs.Overlaps.{pairings, Numbered, Overlap, secondPositions, goalOf, overlapOf, overlaps}
 use Rattle.semantics.specs.Published.{Published, Simplify, Emptied, Represents, Goes}
-use Rattle.semantics.specs.CriticalPairs.{Joint, Choice, jointsOf, partnersOf, CriticalPair, Critical, leftState, rightState}
-use Rattle.semantics.specs.CriticalPairs.{joined, reading, seen}
+use Rattle.semantics.specs.CriticalPairs.{Joint, Choice, jointsOf, partnersOf, CriticalPair, Critical, leftState}
+use Rattle.semantics.specs.CriticalPairs.{rightState, joined, reading, seen}
 
 -- firing in a state is Simplify in the published state that it represents, whose goal store is empty
 pub record FiringIsSimplify (p : Program) (a : Published) (s : State) : Type 1 where
@@ -73,19 +73,19 @@ pub record Sides (o : Overlap) (js : List Joint) (c : CriticalPair) : Type 1 whe
 pub record OverlapsAreCriticalPairs (p : Program) : Type 1 where
   -- every critical pair is enumerated
   pub enumerated :
-      (i j : ℕ) (r q : Rule) (js : List Joint) (c : CriticalPair) → getElem? (p .rules) i ≡ some r → getElem? (p .rules) j ≡ some q
-      → i ≤ j → Critical r q js c
+      (i j : ℕ) (r q : Rule) (js : List Joint) (c : CriticalPair) → getElem? (p .rules) i ≡ some r
+      → getElem? (p .rules) j ≡ some q → i ≤ j → Critical r q js c
       → (n : ℕ) × (o : Overlap) × (getElem? (overlaps p) n ≡ some o) × (o .first .number ≡ i) × (o .second .number ≡ j)
-        × (jointsOf (o .partners) ≡ js)
+      × (jointsOf (o .partners) ≡ js)
   -- what is enumerated is of rules i ≤ j and a critical pair, whose states are its sides
   pub ordered :
       (n : ℕ) (o : Overlap) → getElem? (overlaps p) n ≡ some o
       → (getElem? (p .rules) (o .first .number) ≡ some (o .first .rule))
-        × (getElem? (p .rules) (o .second .number) ≡ some (o .second .rule)) × (o .first .number ≤ o .second .number)
+      × (getElem? (p .rules) (o .second .number) ≡ some (o .second .rule)) × (o .first .number ≤ o .second .number)
   pub critical :
       (n : ℕ) (o : Overlap) → getElem? (overlaps p) n ≡ some o
       → (c : CriticalPair) × Critical (o .first .rule) (o .second .rule) (jointsOf (o .partners)) c
-        × Sides o (jointsOf (o .partners)) c
+      × Sides o (jointsOf (o .partners)) c
   -- a pairing that does not unify is no critical pair
   pub refused :
       (i j : Numbered) (n : ℕ) (ds : List ℕ) (c : CriticalPair)
@@ -97,8 +97,8 @@ pub record OverlapsAreCriticalPairs (p : Program) : Type 1 where
       → o .first .number ≡ u .first .number → o .second .number ≡ u .second .number
       → jointsOf (o .partners) ≡ jointsOf (u .partners) → m ≡ n
 
--- demand 2 of a program: every state of a derivation of one of its goals represents a published state, and firing in it is Simplify
--- there; the choices of heads are the pairings; and the overlaps are the critical pairs
+-- demand 2 of a program: every state of a derivation of one of its goals represents a published state, and firing in it is
+-- Simplify there; the choices of heads are the pairings; and the overlaps are the critical pairs
 pub record Demand2 (p : Program) : Type 1 where
   pub represented :
       (g : Goal) (es : List Event) → isGoalOf p g ≡ true

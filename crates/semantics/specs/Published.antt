@@ -9,8 +9,8 @@ use mathlib.Core.List.{List, [], _∷_, _++_, map}
 use mathlib.Core.Option.{some}
 use mathlib.Core.Path.{_≡_}
 use lib.ListN.{getElem?}
-use Rattle.semantics.specs.Terms.{Term, con, var, Constraint, Equation, Rule, Program, State}
-use Rattle.semantics.specs.Terms.{mapTerms, mapSides, alphabet}
+use Rattle.semantics.specs.Terms.{Term, con, var, Constraint, Equation, Rule, Program, State, mapTerms, mapSides}
+use Rattle.semantics.specs.Terms.{alphabet}
 use Rattle.semantics.specs.Solving.{solve}
 use Rattle.semantics.specs.Firing.{settle}
 use Rattle.semantics.specs.Variants.{SameMultiset, Variant}
@@ -48,13 +48,14 @@ pub record Satisfiable (es : List Equation) : Type 0 where
 pub data Equated : List Term → List Term → List Equation → Type 0 where
   noTerms : Equated [] [] []
   oneMore :
-      {s t : Term} {ss ts : List Term} {es : List Equation} → Equated ss ts es → Equated (s ∷ ss) (t ∷ ts) (record { left = s; right = t } ∷ es)
+      {s t : Term} {ss ts : List Term} {es : List Equation} → Equated ss ts es
+      → Equated (s ∷ ss) (t ∷ ts) (record { left = s; right = t } ∷ es)
 
 pub data EquatedAll : List Constraint → List Constraint → List Equation → Type 0 where
   noConstraints : EquatedAll [] [] []
   oneMore :
-      {c d : Constraint} {cs ds : List Constraint} {es fs : List Equation} → c .symbol ≡ d .symbol → Equated (c .terms) (d .terms) es
-      → EquatedAll cs ds fs → EquatedAll (c ∷ cs) (d ∷ ds) (es ++ fs)
+      {c d : Constraint} {cs ds : List Constraint} {es fs : List Equation} → c .symbol ≡ d .symbol
+      → Equated (c .terms) (d .terms) es → EquatedAll cs ds fs → EquatedAll (c ∷ cs) (d ∷ ds) (es ++ fs)
 
 -- a renaming of a rule's variables
 unfoldable pub renamed : (ℕ → ℕ) → Term → Term
@@ -82,7 +83,8 @@ termsOfItems (builtIn e ∷ is) = e .left ∷ e .right ∷ termsOfItems is
 
 unfoldable pub termsOf : Published → List Term
 termsOf p =
-    termsOfItems (p .goals) ++ (termsOfConstraints (p .userStore) ++ (termsOfEquations (p .builtInStore) ++ map var (p .variables)))
+    termsOfItems (p .goals)
+    ++ (termsOfConstraints (p .userStore) ++ (termsOfEquations (p .builtInStore) ++ map var (p .variables)))
 
 -- a renaming makes a fresh variant of a rule: it keeps the rule's variables apart, and from those of the state
 pub record FreshFor (p : Published) (ρ : ℕ → ℕ) : Type 0 where
