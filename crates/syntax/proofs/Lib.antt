@@ -5,3 +5,6 @@ pub mod Letters
 pub mod Constants
 pub mod Cells
 pub mod Shapes
+pub mod Pasted
+pub mod Steps
+pub mod Drafts
