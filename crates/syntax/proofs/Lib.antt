@@ -8,3 +8,5 @@ pub mod Shapes
 pub mod Pasted
 pub mod Steps
 pub mod Drafts
+pub mod Grown
+pub mod Lasts

@@ -3,6 +3,7 @@
 mod forms;
 mod heads;
 mod lines;
+mod adds;
 mod names;
 mod rows;
 mod terms;

@@ -10,8 +10,6 @@ use crate::SymbolFields;
 use crate::TermsRead;
 use crate::heads::constraint_head;
 use crate::names::find_name;
-use crate::names::wide;
-use crate::rows::add_cells;
 use crate::rows::write_cells;
 use crate::terms::add_constants;
 use crate::terms::are_terms;
@@ -28,7 +26,7 @@ ghost use Rattle.syntax.specs.Read.{alphabetLetters, constraintLine, ter
 ghost use Rattle.syntax.specs.Read.{placeMeant, draftOf, lineAnswer, Sound, soundAfter};
 
 // An H or B line: numbers 4, 6 and 7, where `full` says that the rule has as many as it may.
-fn read_terms(
+pub fn read_terms(
     classes: &[u8],
     letters: &[u8],
     text: &[u8],
@@ -216,7 +214,7 @@ pub fn rule_line(
 }
 
 // Number 4 of an E line: three fields, two terms; and where they start.
-fn equation_form(classes: &[u8], line: &[u8], at: usize) -> Sides
+pub fn equation_form(classes: &[u8], line: &[u8], at: usize) -> Sides
     requires { ⌜ (now classes ≡ classTable) × (at ≤ length (now line)) ⌝ }
     ensures { λ r. ⌜ SidesIn (now (line .entry)) at r ⌝ }
 {
