@@ -169,6 +169,9 @@ module _ (text cells : List ℕ) (n a l b : ℕ) (room : 64 * n + 64 ≤ length 
   pub fresh-body : getD with-rule (64 * n + 4) 0 ≡ 0
   fresh-body = rule-inside 4 (omega arith)
 
+  pub fresh-sides : getD with-rule (64 * n + 5) 0 ≡ 0
+  fresh-sides = rule-inside 5 (omega arith)
+
 -- an R line, by the tests that decide it
 module _ (text symbols rules constants : List ℕ) (s : Stage) (place n : ℕ) (fs : List (List ℕ)) where
   abbrev e : Draft

@@ -222,9 +222,9 @@ module _ (text cells : List ℕ) (i : ℕ) (room : 64 * i + 64 ≤ length cells)
         let new : List ℕ = rowAt (grown cells i 3 (6 + 5 * h) h five room (omega arith) (omega arith) (omega arith)) i in
         let old : List ℕ = rowAt cells i in
         let kept : (j : ℕ) → j < 6 → (j ≡ 3 → ⊥) → getD new j 0 ≡ getD old j 0 =
-          row-cell-kept cells i 3 (6 + 5 * h) h five room (omega arith) (omega arith) (omega arith) in
+        row-cell-kept cells i 3 (6 + 5 * h) h five room (omega arith) (omega arith) (omega arith) in
         let behind : (n : ℕ) → n ≤ 64 → 6 + 5 * h + 5 ≤ n → drop n new ≡ drop n old =
-          drop-kept cells i 3 (6 + 5 * h) h five room (omega arith) (omega arith) (omega arith) in
+        drop-kept cells i 3 (6 + 5 * h) h five room (omega arith) (omega arith) (omega arith) in
         let count : getD old 3 0 ≡ h = row-cell cells i 3 (omega arith) ∙ sym e in
         rule-path
         (ap₂ (part text) (kept 0 (omega arith) (λ z. omega (arith, z))) (kept 1 (omega arith) (λ z. omega (arith, z))))
@@ -249,7 +249,7 @@ module _ (text cells : List ℕ) (i : ℕ) (room : 64 * i + 64 ≤ length cells)
         let new : List ℕ = rowAt (grown cells i 4 (26 + 5 * h) h five-more room (omega arith) (omega arith) (omega arith)) i in
         let old : List ℕ = rowAt cells i in
         let kept : (j : ℕ) → j < 6 → (j ≡ 4 → ⊥) → getD new j 0 ≡ getD old j 0 =
-          row-cell-kept cells i 4 (26 + 5 * h) h five-more room (omega arith) (omega arith) (omega arith) in
+        row-cell-kept cells i 4 (26 + 5 * h) h five-more room (omega arith) (omega arith) (omega arith) in
         let count : getD old 4 0 ≡ h = row-cell cells i 4 (omega arith) ∙ sym e in
         let n3 : getD old 3 0 ≡ getD cells (64 * i + 3) 0 = row-cell cells i 3 (omega arith) in
         rule-path
@@ -277,9 +277,9 @@ module _ (text cells : List ℕ) (i : ℕ) (room : 64 * i + 64 ≤ length cells)
         let new : List ℕ = rowAt (grown cells i 5 (56 + 2 * h) h two-more room (omega arith) (omega arith) (omega arith)) i in
         let old : List ℕ = rowAt cells i in
         let kept : (j : ℕ) → j < 6 → (j ≡ 5 → ⊥) → getD new j 0 ≡ getD old j 0 =
-          row-cell-kept cells i 5 (56 + 2 * h) h two-more room (omega arith) (omega arith) (omega arith) in
+        row-cell-kept cells i 5 (56 + 2 * h) h two-more room (omega arith) (omega arith) (omega arith) in
         let cut : (n m : ℕ) → 6 ≤ n → n + m ≤ 56 + 2 * h → take m (drop n new) ≡ take m (drop n old) =
-          cut-kept cells i 5 (56 + 2 * h) h two-more room (omega arith) (omega arith) (omega arith) in
+        cut-kept cells i 5 (56 + 2 * h) h two-more room (omega arith) (omega arith) (omega arith) in
         let count : getD old 5 0 ≡ h = row-cell cells i 5 (omega arith) ∙ sym e in
         let n3 : getD old 3 0 ≡ getD cells (64 * i + 3) 0 = row-cell cells i 3 (omega arith) in
         let n4 : getD old 4 0 ≡ getD cells (64 * i + 4) 0 = row-cell cells i 4 (omega arith) in

@@ -9,8 +9,9 @@ use mathlib.Core.Option.{Option, none, some}
 use Prim.Native.Nat.{ℕ, zero, suc, _+_, _-_, _*_, _≤_, _<_}
 use native.Mathlib.Omega.{arith}
 use borrow.Author.Tests.{leb-false, le-leb, lt-leb, lt-ltb, le-ltb}
-use lib.Dec.{leb, ltb}
+use lib.Dec.{leb, ltb, eqb}
 use lib.ListN.{length, take, drop, getD}
+use lib.Seq.{getD-drop}
 use Rattle.text.specs.Lists.{every}
 use Rattle.text.specs.Fields.{isTerm}
 use Rattle.text.specs.Places.{fieldsFrom}
@@ -24,6 +25,7 @@ use Rattle.syntax.specs.Programs.{withRule, readConstraint, readEquation
 use Rattle.syntax.specs.Tables.{cellTerm, cellTerms, symbolsOf, rulesOf, startsOf, constantsOf}
 use Rattle.syntax.specs.Read.{placeMeant, draftOf, Found, constraintLine, isEquationFaulty, SidesAt, roomy}
 use Rattle.syntax.proofs.Constants.{roomy-is, roomy-not}
+use Rattle.syntax.proofs.Steps.{four-list}
 use Rattle.syntax.proofs.Grown.{last-heads, last-body, last-sides}
 
 -- three tests before an answer
@@ -65,6 +67,29 @@ pub not-most : (most h : ℕ) (symbols : List Symbol) (cs fs : List (List ℕ)) 
     → accepted x ≡ constraintLine (leb most h) symbols letterNumber cs fs n → h < most
 not-most most h symbols cs fs n x e = leb-false most h (not-full (leb most h) symbols letterNumber cs fs n x e)
 
+two-list : (l : List (List ℕ)) → length l ≡ 2 → l ≡ getD l 0 [] ∷ getD l 1 [] ∷ []
+two-list [] h = absurd (omega arith)
+two-list (a ∷ []) h = absurd (omega arith)
+two-list (a ∷ b ∷ []) h = refl
+two-list (a ∷ b ∷ c ∷ l) h = absurd (omega arith)
+
+-- four cells that hold two terms
+pub cells-two : (a b c d : ℕ) (x y : Term) → cellTerms (a ∷ b ∷ c ∷ d ∷ []) ≡ x ∷ y ∷ [] → cellTerm a ∷ cellTerm b ∷ [] ≡ x ∷ y ∷ []
+unfolding cellTerms
+cells-two a b c d x y e = go (eqb a 0) (eqb b 0) (cond (eqb c 0) [] (cellTerm c ∷ cond (eqb d 0) [] (cellTerm d ∷ []))) e
+  where
+    go : (s t : Bool) (l : List Term) → cond s [] (cellTerm a ∷ cond t [] (cellTerm b ∷ l)) ≡ x ∷ y ∷ [] → cellTerm a ∷ cellTerm b ∷ [] ≡ x ∷ y ∷ []
+    go true t l q = absurd (let z : _≡_ {A = ℕ} 0 1 = cc in omega arith)
+    go false true l q = absurd (let z : _≡_ {A = ℕ} 0 1 = cc in omega arith)
+    go false false l q = cc
+
+pub sides-pair : (ts : List ℕ) (term : List ℕ → Term) (rest : List (List ℕ)) → length ts ≡ 4 → length rest ≡ 2 → cellTerms ts ≡ map term rest
+    → cellTerm (getD ts 0 0) ∷ cellTerm (getD ts 1 0) ∷ [] ≡ map term rest
+sides-pair ts term rest h k e =
+    let two : map term rest ≡ term (getD rest 0 []) ∷ term (getD rest 1 []) ∷ [] = ap (map term) (two-list rest k) in
+    cells-two (getD ts 0 0) (getD ts 1 0) (getD ts 2 0) (getD ts 3 0) (term (getD rest 0 [])) (term (getD rest 1 []))
+    (ap cellTerms (sym (four-list ts h)) ∙ e ∙ two) ∙ sym two
+
 module _ (text symbols rules constants : List ℕ) (s : Stage) (i place n : ℕ) (fs : List (List ℕ)) (q : s .rules ≡ suc i)
     (room : 64 * i + 64 ≤ length rules) where
   abbrev d : Draft
@@ -88,7 +113,7 @@ module _ (text symbols rules constants : List ℕ) (s : Stage) (i place n : ℕ)
     unfolding readForm maxHeads draftOf
     head-via =
         let count : length (lastRule (rulesOf text rules (s .rules)) .heads) ≡ h =
-          ap (λ (m : ℕ). length (lastRule (rulesOf text rules m) .heads)) q ∙ last-heads text rules i room (omega arith) ∙ sym e in
+        ap (λ (m : ℕ). length (lastRule (rulesOf text rules m) .heads)) q ∙ last-heads text rules i room (omega arith) ∙ sym e in
         via-constraint n (placeMeant place) (length (lastRule (rulesOf text rules (s .rules)) .heads)) 4 withHead fs d
         ∙ ap (λ (m : ℕ). andThen (constraintLine (leb 4 m) (symbolsOf text symbols (s .symbols)) letterNumber cs fs n)
         (λ x. accepted (withRule (placeMeant place) (withHead (x .constraint)) (x .constants) d))) count
@@ -114,7 +139,7 @@ module _ (text symbols rules constants : List ℕ) (s : Stage) (i place n : ℕ)
     unfolding readForm maxBody draftOf
     body-via =
         let count : length (lastRule (rulesOf text rules (s .rules)) .body) ≡ h =
-          ap (λ (m : ℕ). length (lastRule (rulesOf text rules m) .body)) q ∙ last-body text rules i room (omega arith) ∙ sym e in
+        ap (λ (m : ℕ). length (lastRule (rulesOf text rules m) .body)) q ∙ last-body text rules i room (omega arith) ∙ sym e in
         via-constraint n (placeMeant place) (length (lastRule (rulesOf text rules (s .rules)) .body)) 6 withBody fs d
         ∙ ap (λ (m : ℕ). andThen (constraintLine (leb 6 m) (symbolsOf text symbols (s .symbols)) letterNumber cs fs n)
         (λ x. accepted (withRule (placeMeant place) (withBody (x .constraint)) (x .constants) d))) count
@@ -132,3 +157,50 @@ module _ (text symbols rules constants : List ℕ) (s : Stage) (i place n : ℕ)
         ap accepted r
         ∙ ap (λ (a : Answer Found). andThen a (λ z. accepted (withRule (placeMeant place) (withBody (z .constraint)) (z .constants) d))) p
         ∙ sym body-via
+
+  -- an E line, by the tests that decide it
+  pub sides-faulty : isEquationFaulty fs ≡ true → refused 4 n ≡ readForm equationForm n (placeMeant place) fs d
+  unfolding readForm readEquation isEquationFaulty
+  sides-faulty e = rw e
+
+  module _ (h : ℕ) (e : h ≡ getD rules (64 * i + 5) 0) (few : h ≤ 4) (line : List ℕ) (at start : ℕ) (r : fs ≡ fieldsFrom line at)
+      (g : SidesAt line at start) where
+    sides-count : length (lastRule (rulesOf text rules (s .rules)) .equations) ≡ h
+    sides-count = ap (λ (m : ℕ). length (lastRule (rulesOf text rules m) .equations)) q ∙ last-sides text rules i room (omega arith) ∙ sym e
+
+    fine : isEquationFaulty fs ≡ false
+    fine = ap isEquationFaulty r ∙ g .fine
+
+    others : drop 1 fs ≡ fieldsFrom line start
+    others = ap (λ (l : List (List ℕ)). drop 1 l) r ∙ g .others
+
+    pub sides-full : 4 ≤ h → refused 7 n ≡ readForm equationForm n (placeMeant place) fs d
+    unfolding readForm readEquation isEquationFaulty draftOf maxEquations
+    sides-full k = rw (fine, sides-count, le-leb 4 h k)
+
+    pub sides-many : h < 4 → none ≡ roomy (constantsAfter (fieldsFrom line start) cs) → refused 7 n ≡ readForm equationForm n (placeMeant place) fs d
+    unfolding readForm readEquation isEquationFaulty draftOf maxEquations maxConstants
+    sides-many k p =
+        rw (fine, sides-count, lt-leb 4 h k, others, lt-ltb 64 (length (constantsAfter (fieldsFrom line start) cs)) (roomy-not (constantsAfter (fieldsFrom line start) cs) p))
+
+    field-of : (k : ℕ) → fieldAt (suc k) fs ≡ getD (fieldsFrom line start) k []
+    unfolding fieldAt
+    field-of k =
+        ap (λ (m : ℕ). getD fs m []) (let z : suc k ≡ 1 + k = omega arith in z) ∙ sym (getD-drop 1 fs k [])
+        ∙ ap (λ (l : List (List ℕ)). getD l k []) others
+
+    pub sides-next : (ds : List (List ℕ)) (a b : Term) (e′ : Draft) → h < 4 → some ds ≡ roomy (constantsAfter (fieldsFrom line start) cs)
+        → a ∷ b ∷ [] ≡ map (termOf letterNumber ds) (fieldsFrom line start)
+        → e′ ≡ withRule (placeMeant place) (withEquation (record { left = a; right = b })) ds d
+        → accepted e′ ≡ readForm equationForm n (placeMeant place) fs d
+    unfolding readForm readEquation isEquationFaulty draftOf maxEquations maxConstants
+    sides-next ds a b e′ k p t u =
+        let both : (constantsAfter (fieldsFrom line start) cs ≡ ds) × (length (constantsAfter (fieldsFrom line start) cs) ≤ 64) =
+        roomy-is (constantsAfter (fieldsFrom line start) cs) ds p in
+        let pair : fieldsFrom line start ≡ getD (fieldsFrom line start) 0 [] ∷ getD (fieldsFrom line start) 1 [] ∷ [] = two-list (fieldsFrom line start) (g .two) in
+        let terms : a ∷ b ∷ [] ≡ termOf letterNumber ds (fieldAt 1 fs) ∷ termOf letterNumber ds (fieldAt 2 fs) ∷ [] =
+        t ∙ ap (map (termOf letterNumber ds)) pair
+        ∙ ap₂ (λ (x y : List ℕ). termOf letterNumber ds x ∷ termOf letterNumber ds y ∷ []) (sym (field-of 0)) (sym (field-of 1)) in
+        rw (fine, sides-count, lt-leb 4 h k, others, le-ltb 64 (length (constantsAfter (fieldsFrom line start) cs)) (both .1), both .0)
+        (ap accepted (u ∙ ap₂ (λ (x y : Term). withRule (placeMeant place) (withEquation (record { left = x; right = y })) ds d)
+        (let z : a ≡ termOf letterNumber ds (fieldAt 1 fs) = cc in z) (let z : b ≡ termOf letterNumber ds (fieldAt 2 fs) = cc in z)))

@@ -234,6 +234,7 @@ pub record Sound (rules : List ℕ) (s : Stage) : Type 0 where
   pub begun : 0 < s .place → 0 < s .rules
   pub few-heads : 0 < s .rules → getD rules (64 * (s .rules - 1) + 3) 0 ≤ 4
   pub few-body : 0 < s .rules → getD rules (64 * (s .rules - 1) + 4) 0 ≤ 6
+  pub few-sides : 0 < s .rules → getD rules (64 * (s .rules - 1) + 5) 0 ≤ 4
 
 -- the same behind a line
 abbrev pub soundAfter : List ℕ → LineRead → Type 0

@@ -31,35 +31,40 @@ pub fn head_line(
     stage: Stage,
     place: u8,
 ) -> LineRead
-    requires {
-        ⌜ (now classes ≡ classTable) × (now letters ≡ alphabetLetters) × (at ≤ end) × (end ≤ length (now text))
+    requires { ⌜ (now classes ≡ classTable) × (now letters ≡ alphabetLetters) × (at ≤ end) × (end ≤ length (now text))
         × (length (now text) ≤ 16384) × (length (now symbols) ≡ 128) × (length (now rules) ≡ 2048) × (length (now constants) ≡ 128)
-        × Sound (now rules) stage × (0 < stage .rules) ⌝
-    }
-    ensures {
-        λ r. ⌜ ((n : ℕ) → lineAnswer (now (text .entry)) (now (symbols .entry)) (now (rules .exit)) (now (constants .exit)) n r
+        × Sound (now rules) stage × (0 < stage .rules) ⌝ }
+    ensures { λ r. ⌜ ((n : ℕ) → lineAnswer (now (text .entry)) (now (symbols .entry)) (now (rules .exit)) (now (constants .exit)) n r
         ≡ readForm headForm n (placeMeant place) (fieldsFrom (take end (now (text .entry))) at)
         (draftOf (now (text .entry)) (now (symbols .entry)) (now (rules .entry)) (now (constants .entry)) stage))
-        × soundAfter (now (rules .exit)) r ⌝
-    }
+        × soundAfter (now (rules .exit)) r ⌝ }
 {
     let n = stage.rules;
     let base = 64 * (n - 1);
     let h = wide(rules[base + 3]);
-    match read_terms(classes, letters, text, at, end, symbols, stage.symbols, constants, stage.constants, 4 <= h) {
+    match read_terms(
+        classes,
+        letters,
+        text,
+        at,
+        end,
+        symbols,
+        stage.symbols,
+        constants,
+        stage.constants,
+        4 <= h,
+    ) {
         TermsRead::Refused(x) => LineRead::Refused(x),
         TermsRead::Read(cells, count) => {
             let values = [cells.symbol, cells.a, cells.b, cells.c, cells.d];
             let start = 6 + 5 * h;
             add_cells(rules, base + 3, base + start, &values);
-            LineRead::Next(
-                Stage {
-                    place: place,
-                    symbols: stage.symbols,
-                    rules: n,
-                    constants: count,
-                },
-            )
+            LineRead::Next(Stage {
+                place: place,
+                symbols: stage.symbols,
+                rules: n,
+                constants: count,
+            })
         }
     }
 }
@@ -77,35 +82,40 @@ pub fn body_line(
     stage: Stage,
     place: u8,
 ) -> LineRead
-    requires {
-        ⌜ (now classes ≡ classTable) × (now letters ≡ alphabetLetters) × (at ≤ end) × (end ≤ length (now text))
+    requires { ⌜ (now classes ≡ classTable) × (now letters ≡ alphabetLetters) × (at ≤ end) × (end ≤ length (now text))
         × (length (now text) ≤ 16384) × (length (now symbols) ≡ 128) × (length (now rules) ≡ 2048) × (length (now constants) ≡ 128)
-        × Sound (now rules) stage × (0 < stage .rules) ⌝
-    }
-    ensures {
-        λ r. ⌜ ((n : ℕ) → lineAnswer (now (text .entry)) (now (symbols .entry)) (now (rules .exit)) (now (constants .exit)) n r
+        × Sound (now rules) stage × (0 < stage .rules) ⌝ }
+    ensures { λ r. ⌜ ((n : ℕ) → lineAnswer (now (text .entry)) (now (symbols .entry)) (now (rules .exit)) (now (constants .exit)) n r
         ≡ readForm bodyForm n (placeMeant place) (fieldsFrom (take end (now (text .entry))) at)
         (draftOf (now (text .entry)) (now (symbols .entry)) (now (rules .entry)) (now (constants .entry)) stage))
-        × soundAfter (now (rules .exit)) r ⌝
-    }
+        × soundAfter (now (rules .exit)) r ⌝ }
 {
     let n = stage.rules;
     let base = 64 * (n - 1);
     let h = wide(rules[base + 4]);
-    match read_terms(classes, letters, text, at, end, symbols, stage.symbols, constants, stage.constants, 6 <= h) {
+    match read_terms(
+        classes,
+        letters,
+        text,
+        at,
+        end,
+        symbols,
+        stage.symbols,
+        constants,
+        stage.constants,
+        6 <= h,
+    ) {
         TermsRead::Refused(x) => LineRead::Refused(x),
         TermsRead::Read(cells, count) => {
             let values = [cells.symbol, cells.a, cells.b, cells.c, cells.d];
             let start = 26 + 5 * h;
             add_cells(rules, base + 4, base + start, &values);
-            LineRead::Next(
-                Stage {
-                    place: place,
-                    symbols: stage.symbols,
-                    rules: n,
-                    constants: count,
-                },
-            )
+            LineRead::Next(Stage {
+                place: place,
+                symbols: stage.symbols,
+                rules: n,
+                constants: count,
+            })
         }
     }
 }
@@ -123,17 +133,13 @@ pub fn equation_line(
     stage: Stage,
     place: u8,
 ) -> LineRead
-    requires {
-        ⌜ (now classes ≡ classTable) × (now letters ≡ alphabetLetters) × (at ≤ end) × (end ≤ length (now text))
+    requires { ⌜ (now classes ≡ classTable) × (now letters ≡ alphabetLetters) × (at ≤ end) × (end ≤ length (now text))
         × (length (now text) ≤ 16384) × (length (now symbols) ≡ 128) × (length (now rules) ≡ 2048) × (length (now constants) ≡ 128)
-        × Sound (now rules) stage × (0 < stage .rules) ⌝
-    }
-    ensures {
-        λ r. ⌜ ((n : ℕ) → lineAnswer (now (text .entry)) (now (symbols .entry)) (now (rules .exit)) (now (constants .exit)) n r
+        × Sound (now rules) stage × (0 < stage .rules) ⌝ }
+    ensures { λ r. ⌜ ((n : ℕ) → lineAnswer (now (text .entry)) (now (symbols .entry)) (now (rules .exit)) (now (constants .exit)) n r
         ≡ readForm equationForm n (placeMeant place) (fieldsFrom (take end (now (text .entry))) at)
         (draftOf (now (text .entry)) (now (symbols .entry)) (now (rules .entry)) (now (constants .entry)) stage))
-        × soundAfter (now (rules .exit)) r ⌝
-    }
+        × soundAfter (now (rules .exit)) r ⌝ }
 {
     let n = stage.rules;
     let base = 64 * (n - 1);
@@ -145,21 +151,39 @@ pub fn equation_line(
             if 4 <= h {
                 return LineRead::Refused(7);
             }
-            match add_constants(classes, text, text, from, end, constants, 0, stage.constants) {
+            match add_constants(
+                classes,
+                text,
+                text,
+                from,
+                end,
+                constants,
+                0,
+                stage.constants,
+            ) {
                 Added::Full => LineRead::Refused(7),
                 Added::Count(count) => {
-                    let t = terms_of(classes, text, text, from, end, constants, 0, count, letters, 26);
+                    let t = terms_of(
+                        classes,
+                        text,
+                        text,
+                        from,
+                        end,
+                        constants,
+                        0,
+                        count,
+                        letters,
+                        26,
+                    );
                     let values = [t[0], t[1]];
                     let start = 56 + 2 * h;
                     add_cells(rules, base + 5, base + start, &values);
-                    LineRead::Next(
-                        Stage {
-                            place: place,
-                            symbols: stage.symbols,
-                            rules: n,
-                            constants: count,
-                        },
-                    )
+                    LineRead::Next(Stage {
+                        place: place,
+                        symbols: stage.symbols,
+                        rules: n,
+                        constants: count,
+                    })
                 }
             }
         }

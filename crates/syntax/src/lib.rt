@@ -1,9 +1,9 @@
 // What a program and a goal mean, from their texts: the readers, over the definitions in specs/.
 // They fill flat tables that the caller lends; names stay where they stand in the texts.
+mod adds;
 mod forms;
 mod heads;
 mod lines;
-mod adds;
 mod names;
 mod rows;
 mod terms;

@@ -71,9 +71,10 @@ add-cells-requires c κs =
     let e : h ≡ getD ((c .before .before .before .before .before .before .before .before .before .before .before .before .before .before .before .before .before .args) .rules .now) (64 * i + 4) 0 = (c .before .before .before .before .before .before .before .before .before .wide) .ensures .0 in
     let heads : getD ((c .before .before .before .before .before .before .before .before .before .before .before .before .before .before .before .before .before .args) .rules .now) (64 * i + 3) 0 ≤ 4 = (c .before .before .before .before .before .before .before .before .before .before .before .before .before .before .before .before .before .pre) .8 .few-heads ((c .before .before .before .before .before .before .before .before .before .before .before .before .before .before .before .before .before .pre) .9) in
     let body : getD ((c .before .before .before .before .before .before .before .before .before .before .before .before .before .before .before .before .before .args) .rules .now) (64 * i + 4) 0 ≤ 6 = (c .before .before .before .before .before .before .before .before .before .before .before .before .before .before .before .before .before .pre) .8 .few-body ((c .before .before .before .before .before .before .before .before .before .before .before .before .before .before .before .before .before .pre) .9) in
+    let sides : getD ((c .before .before .before .before .before .before .before .before .before .before .before .before .before .before .before .before .before .args) .rules .now) (64 * i + 5) 0 ≤ 4 = (c .before .before .before .before .before .before .before .before .before .before .before .before .before .before .before .before .before .pre) .8 .few-sides ((c .before .before .before .before .before .before .before .before .before .before .before .before .before .before .before .before .before .pre) .9) in
     let found : (n : ℕ) → accepted (record { constraint = cellsMeant ((c .before .before .before .cells) .given .0 .0); constants = constantsOf ((c .before .before .before .before .before .before .before .before .before .before .before .before .before .before .before .before .before .args) .text .now) ((c .before .before .before .before .before .before .before .before .before .before .before .before .before .before .before .before .before .args) .text .now) ((c .before .before .before .before .before .before .before .read-terms) .last .1 .1 .1 .1 .1 .1 .1 .0) 0 ((c .before .before .before .cells) .given .0 .1 .0) })
-      ≡ constraintLine (leb 6 h) (symbolsOf ((c .before .before .before .before .before .before .before .before .before .before .before .before .before .before .before .before .before .args) .text .now) ((c .before .before .before .before .before .before .before .before .before .before .before .before .before .before .before .before .before .args) .symbols .now) ((c .before .before .before .before .before .before .before .before .before .before .before .before .before .before .before .before .before .args) .stage .symbols)) letterNumber (constantsOf ((c .before .before .before .before .before .before .before .before .before .before .before .before .before .before .before .before .before .args) .text .now) ((c .before .before .before .before .before .before .before .before .before .before .before .before .before .before .before .before .before .args) .text .now) ((c .before .before .before .before .before .before .before .before .before .before .before .before .before .before .before .before .before .args) .constants .now) 0 ((c .before .before .before .before .before .before .before .before .before .before .before .before .before .before .before .before .before .args) .stage .constants)) (fieldsFrom (take ((c .before .before .before .before .before .before .before .before .before .before .before .before .before .before .before .before .before .args) .end) ((c .before .before .before .before .before .before .before .before .before .before .before .before .before .before .before .before .before .args) .text .now)) ((c .before .before .before .before .before .before .before .before .before .before .before .before .before .before .before .before .before .args) .at)) n =
-      λ n. ap (termsAnswer ((c .before .before .before .before .before .before .before .before .before .before .before .before .before .before .before .before .before .args) .text .now) ((c .before .before .before .before .before .before .before .read-terms) .last .1 .1 .1 .1 .1 .1 .1 .0) n) (sym ((c .before .before .before .cells) .given .1)) ∙ (c .before .before .before .before .before .before .before .read-terms) .ensures .0 n in
+    ≡ constraintLine (leb 6 h) (symbolsOf ((c .before .before .before .before .before .before .before .before .before .before .before .before .before .before .before .before .before .args) .text .now) ((c .before .before .before .before .before .before .before .before .before .before .before .before .before .before .before .before .before .args) .symbols .now) ((c .before .before .before .before .before .before .before .before .before .before .before .before .before .before .before .before .before .args) .stage .symbols)) letterNumber (constantsOf ((c .before .before .before .before .before .before .before .before .before .before .before .before .before .before .before .before .before .args) .text .now) ((c .before .before .before .before .before .before .before .before .before .before .before .before .before .before .before .before .before .args) .text .now) ((c .before .before .before .before .before .before .before .before .before .before .before .before .before .before .before .before .before .args) .constants .now) 0 ((c .before .before .before .before .before .before .before .before .before .before .before .before .before .before .before .before .before .args) .stage .constants)) (fieldsFrom (take ((c .before .before .before .before .before .before .before .before .before .before .before .before .before .before .before .before .before .args) .end) ((c .before .before .before .before .before .before .before .before .before .before .before .before .before .before .before .before .before .args) .text .now)) ((c .before .before .before .before .before .before .before .before .before .before .before .before .before .before .before .before .before .args) .at)) n =
+    λ n. ap (termsAnswer ((c .before .before .before .before .before .before .before .before .before .before .before .before .before .before .before .before .before .args) .text .now) ((c .before .before .before .before .before .before .before .read-terms) .last .1 .1 .1 .1 .1 .1 .1 .0) n) (sym ((c .before .before .before .cells) .given .1)) ∙ (c .before .before .before .before .before .before .before .read-terms) .ensures .0 n in
     let few : h < 6 = not-most 6 h (symbolsOf ((c .before .before .before .before .before .before .before .before .before .before .before .before .before .before .before .before .before .args) .text .now) ((c .before .before .before .before .before .before .before .before .before .before .before .before .before .before .before .before .before .args) .symbols .now) ((c .before .before .before .before .before .before .before .before .before .before .before .before .before .before .before .before .before .args) .stage .symbols)) (constantsOf ((c .before .before .before .before .before .before .before .before .before .before .before .before .before .before .before .before .before .args) .text .now) ((c .before .before .before .before .before .before .before .before .before .before .before .before .before .before .before .before .before .args) .text .now) ((c .before .before .before .before .before .before .before .before .before .before .before .before .before .before .before .before .before .args) .constants .now) 0 ((c .before .before .before .before .before .before .before .before .before .before .before .before .before .before .before .before .before .args) .stage .constants)) (fieldsFrom (take ((c .before .before .before .before .before .before .before .before .before .before .before .before .before .before .before .before .before .args) .end) ((c .before .before .before .before .before .before .before .before .before .before .before .before .before .before .before .before .before .args) .text .now)) ((c .before .before .before .before .before .before .before .before .before .before .before .before .before .before .before .before .before .args) .at)) 0 _ (found 0) in
     let fit : ((c .before .before .before .cells) .given .0 .1 .0) ≤ 64 = rw ((c .before .before .before .cells) .given .1) at ((c .before .before .before .before .before .before .before .read-terms) .ensures .1) in
     (omega arith, omega arith, omega arith)
@@ -91,8 +92,11 @@ returns c =
     let e : h ≡ getD ((c .before .before .before .before .before .before .before .before .before .before .before .before .before .before .before .args) .rules .now) (64 * i + 4) 0 = (c .before .before .before .before .before .before .before .wide) .ensures .0 in
     let heads : getD ((c .before .before .before .before .before .before .before .before .before .before .before .before .before .before .before .args) .rules .now) (64 * i + 3) 0 ≤ 4 = (c .before .before .before .before .before .before .before .before .before .before .before .before .before .before .before .pre) .8 .few-heads ((c .before .before .before .before .before .before .before .before .before .before .before .before .before .before .before .pre) .9) in
     let body : getD ((c .before .before .before .before .before .before .before .before .before .before .before .before .before .before .before .args) .rules .now) (64 * i + 4) 0 ≤ 6 = (c .before .before .before .before .before .before .before .before .before .before .before .before .before .before .before .pre) .8 .few-body ((c .before .before .before .before .before .before .before .before .before .before .before .before .before .before .before .pre) .9) in
-    (λ n. body-refused ((c .before .before .before .before .before .before .before .before .before .before .before .before .before .before .before .args) .text .now) ((c .before .before .before .before .before .before .before .before .before .before .before .before .before .before .before .args) .symbols .now) ((c .before .before .before .before .before .before .before .before .before .before .before .before .before .before .before .args) .rules .now) ((c .before .before .before .before .before .before .before .before .before .before .before .before .before .before .before .args) .constants .now) ((c .before .before .before .before .before .before .before .before .before .before .before .before .before .before .before .args) .stage) i ((c .before .before .before .before .before .before .before .before .before .before .before .before .before .before .before .args) .place) n (fieldsFrom (take ((c .before .before .before .before .before .before .before .before .before .before .before .before .before .before .before .args) .end) ((c .before .before .before .before .before .before .before .before .before .before .before .before .before .before .before .args) .text .now)) ((c .before .before .before .before .before .before .before .before .before .before .before .before .before .before .before .args) .at)) q room h e (omega arith) ((c .before .x) .given .0 .0)
-    (ap (termsAnswer ((c .before .before .before .before .before .before .before .before .before .before .before .before .before .before .before .args) .text .now) ((c .before .before .before .before .before .read-terms) .last .1 .1 .1 .1 .1 .1 .1 .0) n) (sym ((c .before .x) .given .1)) ∙ (c .before .before .before .before .before .read-terms) .ensures .0 n), omega arith)
+    let sides : getD ((c .before .before .before .before .before .before .before .before .before .before .before .before .before .before .before .args) .rules .now) (64 * i + 5) 0 ≤ 4 = (c .before .before .before .before .before .before .before .before .before .before .before .before .before .before .before .pre) .8 .few-sides ((c .before .before .before .before .before .before .before .before .before .before .before .before .before .before .before .pre) .9) in (
+      λ n. body-refused ((c .before .before .before .before .before .before .before .before .before .before .before .before .before .before .before .args) .text .now) ((c .before .before .before .before .before .before .before .before .before .before .before .before .before .before .before .args) .symbols .now) ((c .before .before .before .before .before .before .before .before .before .before .before .before .before .before .before .args) .rules .now) ((c .before .before .before .before .before .before .before .before .before .before .before .before .before .before .before .args) .constants .now) ((c .before .before .before .before .before .before .before .before .before .before .before .before .before .before .before .args) .stage) i ((c .before .before .before .before .before .before .before .before .before .before .before .before .before .before .before .args) .place) n (fieldsFrom (take ((c .before .before .before .before .before .before .before .before .before .before .before .before .before .before .before .args) .end) ((c .before .before .before .before .before .before .before .before .before .before .before .before .before .before .before .args) .text .now)) ((c .before .before .before .before .before .before .before .before .before .before .before .before .before .before .before .args) .at)) q room h e (omega arith) ((c .before .x) .given .0 .0)
+          (ap (termsAnswer ((c .before .before .before .before .before .before .before .before .before .before .before .before .before .before .before .args) .text .now) ((c .before .before .before .before .before .read-terms) .last .1 .1 .1 .1 .1 .1 .1 .0) n) (sym ((c .before .x) .given .1)) ∙ (c .before .before .before .before .before .read-terms) .ensures .0 n),
+      omega arith,
+    )
 
 same-length-2 : tie.Need-same-length-2
 same-length-2 c = search needs
@@ -110,27 +114,30 @@ returns-2 c =
     let e : h ≡ getD ((c .before .before .before .before .before .before .before .before .before .before .before .before .before .before .before .before .before .before .before .before .args) .rules .now) (64 * i + 4) 0 = (c .before .before .before .before .before .before .before .before .before .before .before .before .wide) .ensures .0 in
     let heads : getD ((c .before .before .before .before .before .before .before .before .before .before .before .before .before .before .before .before .before .before .before .before .args) .rules .now) (64 * i + 3) 0 ≤ 4 = (c .before .before .before .before .before .before .before .before .before .before .before .before .before .before .before .before .before .before .before .before .pre) .8 .few-heads ((c .before .before .before .before .before .before .before .before .before .before .before .before .before .before .before .before .before .before .before .before .pre) .9) in
     let body : getD ((c .before .before .before .before .before .before .before .before .before .before .before .before .before .before .before .before .before .before .before .before .args) .rules .now) (64 * i + 4) 0 ≤ 6 = (c .before .before .before .before .before .before .before .before .before .before .before .before .before .before .before .before .before .before .before .before .pre) .8 .few-body ((c .before .before .before .before .before .before .before .before .before .before .before .before .before .before .before .before .before .before .before .before .pre) .9) in
+    let sides : getD ((c .before .before .before .before .before .before .before .before .before .before .before .before .before .before .before .before .before .before .before .before .args) .rules .now) (64 * i + 5) 0 ≤ 4 = (c .before .before .before .before .before .before .before .before .before .before .before .before .before .before .before .before .before .before .before .before .pre) .8 .few-sides ((c .before .before .before .before .before .before .before .before .before .before .before .before .before .before .before .before .before .before .before .before .pre) .9) in
     let found : (n : ℕ) → accepted (record { constraint = cellsMeant ((c .before .before .before .before .before .before .cells) .given .0 .0); constants = constantsOf ((c .before .before .before .before .before .before .before .before .before .before .before .before .before .before .before .before .before .before .before .before .args) .text .now) ((c .before .before .before .before .before .before .before .before .before .before .before .before .before .before .before .before .before .before .before .before .args) .text .now) ((c .before .before .before .before .before .before .before .before .before .before .read-terms) .last .1 .1 .1 .1 .1 .1 .1 .0) 0 ((c .before .before .before .before .before .before .cells) .given .0 .1 .0) })
-      ≡ constraintLine (leb 6 h) (symbolsOf ((c .before .before .before .before .before .before .before .before .before .before .before .before .before .before .before .before .before .before .before .before .args) .text .now) ((c .before .before .before .before .before .before .before .before .before .before .before .before .before .before .before .before .before .before .before .before .args) .symbols .now) ((c .before .before .before .before .before .before .before .before .before .before .before .before .before .before .before .before .before .before .before .before .args) .stage .symbols)) letterNumber (constantsOf ((c .before .before .before .before .before .before .before .before .before .before .before .before .before .before .before .before .before .before .before .before .args) .text .now) ((c .before .before .before .before .before .before .before .before .before .before .before .before .before .before .before .before .before .before .before .before .args) .text .now) ((c .before .before .before .before .before .before .before .before .before .before .before .before .before .before .before .before .before .before .before .before .args) .constants .now) 0 ((c .before .before .before .before .before .before .before .before .before .before .before .before .before .before .before .before .before .before .before .before .args) .stage .constants)) (fieldsFrom (take ((c .before .before .before .before .before .before .before .before .before .before .before .before .before .before .before .before .before .before .before .before .args) .end) ((c .before .before .before .before .before .before .before .before .before .before .before .before .before .before .before .before .before .before .before .before .args) .text .now)) ((c .before .before .before .before .before .before .before .before .before .before .before .before .before .before .before .before .before .before .before .before .args) .at)) n =
-      λ n. ap (termsAnswer ((c .before .before .before .before .before .before .before .before .before .before .before .before .before .before .before .before .before .before .before .before .args) .text .now) ((c .before .before .before .before .before .before .before .before .before .before .read-terms) .last .1 .1 .1 .1 .1 .1 .1 .0) n) (sym ((c .before .before .before .before .before .before .cells) .given .1)) ∙ (c .before .before .before .before .before .before .before .before .before .before .read-terms) .ensures .0 n in
+    ≡ constraintLine (leb 6 h) (symbolsOf ((c .before .before .before .before .before .before .before .before .before .before .before .before .before .before .before .before .before .before .before .before .args) .text .now) ((c .before .before .before .before .before .before .before .before .before .before .before .before .before .before .before .before .before .before .before .before .args) .symbols .now) ((c .before .before .before .before .before .before .before .before .before .before .before .before .before .before .before .before .before .before .before .before .args) .stage .symbols)) letterNumber (constantsOf ((c .before .before .before .before .before .before .before .before .before .before .before .before .before .before .before .before .before .before .before .before .args) .text .now) ((c .before .before .before .before .before .before .before .before .before .before .before .before .before .before .before .before .before .before .before .before .args) .text .now) ((c .before .before .before .before .before .before .before .before .before .before .before .before .before .before .before .before .before .before .before .before .args) .constants .now) 0 ((c .before .before .before .before .before .before .before .before .before .before .before .before .before .before .before .before .before .before .before .before .args) .stage .constants)) (fieldsFrom (take ((c .before .before .before .before .before .before .before .before .before .before .before .before .before .before .before .before .before .before .before .before .args) .end) ((c .before .before .before .before .before .before .before .before .before .before .before .before .before .before .before .before .before .before .before .before .args) .text .now)) ((c .before .before .before .before .before .before .before .before .before .before .before .before .before .before .before .before .before .before .before .before .args) .at)) n =
+    λ n. ap (termsAnswer ((c .before .before .before .before .before .before .before .before .before .before .before .before .before .before .before .before .before .before .before .before .args) .text .now) ((c .before .before .before .before .before .before .before .before .before .before .read-terms) .last .1 .1 .1 .1 .1 .1 .1 .0) n) (sym ((c .before .before .before .before .before .before .cells) .given .1)) ∙ (c .before .before .before .before .before .before .before .before .before .before .read-terms) .ensures .0 n in
     let few : h < 6 = not-most 6 h (symbolsOf ((c .before .before .before .before .before .before .before .before .before .before .before .before .before .before .before .before .before .before .before .before .args) .text .now) ((c .before .before .before .before .before .before .before .before .before .before .before .before .before .before .before .before .before .before .before .before .args) .symbols .now) ((c .before .before .before .before .before .before .before .before .before .before .before .before .before .before .before .before .before .before .before .before .args) .stage .symbols)) (constantsOf ((c .before .before .before .before .before .before .before .before .before .before .before .before .before .before .before .before .before .before .before .before .args) .text .now) ((c .before .before .before .before .before .before .before .before .before .before .before .before .before .before .before .before .before .before .before .before .args) .text .now) ((c .before .before .before .before .before .before .before .before .before .before .before .before .before .before .before .before .before .before .before .before .args) .constants .now) 0 ((c .before .before .before .before .before .before .before .before .before .before .before .before .before .before .before .before .before .before .before .before .args) .stage .constants)) (fieldsFrom (take ((c .before .before .before .before .before .before .before .before .before .before .before .before .before .before .before .before .before .before .before .before .args) .end) ((c .before .before .before .before .before .before .before .before .before .before .before .before .before .before .before .before .before .before .before .before .args) .text .now)) ((c .before .before .before .before .before .before .before .before .before .before .before .before .before .before .before .before .before .before .before .before .args) .at)) 0 _ (found 0) in
     let fit : ((c .before .before .before .before .before .before .cells) .given .0 .1 .0) ≤ 64 = rw ((c .before .before .before .before .before .before .cells) .given .1) at ((c .before .before .before .before .before .before .before .before .before .before .read-terms) .ensures .1) in
     let grow : (c .before .before .add-cells) .last .0 ≡ grown ((c .before .before .before .before .before .before .before .before .before .before .before .before .before .before .before .before .before .before .before .before .args) .rules .now) i 4 (26 + 5 * h) h (((c .before .before .before .before .before .before .cells) .given .0 .0) .symbol ∷ ((c .before .before .before .before .before .before .cells) .given .0 .0) .a ∷ ((c .before .before .before .before .before .before .cells) .given .0 .0) .b ∷ ((c .before .before .before .before .before .before .cells) .given .0 .0) .c ∷ ((c .before .before .before .before .before .before .cells) .given .0 .0) .d ∷ []) room (omega arith) (omega arith) (omega arith) =
-      (c .before .before .add-cells) .ensures ∙ ap (λ (v : ℕ). set (paste ((c .before .before .before .before .before .before .before .before .before .before .before .before .before .before .before .before .before .before .before .before .args) .rules .now) (64 * i + (26 + 5 * h)) (((c .before .before .before .before .before .before .cells) .given .0 .0) .symbol ∷ ((c .before .before .before .before .before .before .cells) .given .0 .0) .a ∷ ((c .before .before .before .before .before .before .cells) .given .0 .0) .b ∷ ((c .before .before .before .before .before .before .cells) .given .0 .0) .c ∷ ((c .before .before .before .before .before .before .cells) .given .0 .0) .d ∷ []) 5) (64 * i + 4) (suc v)) (sym e) in
-    rw grow
-    (λ n. body-next ((c .before .before .before .before .before .before .before .before .before .before .before .before .before .before .before .before .before .before .before .before .args) .text .now) ((c .before .before .before .before .before .before .before .before .before .before .before .before .before .before .before .before .before .before .before .before .args) .symbols .now) ((c .before .before .before .before .before .before .before .before .before .before .before .before .before .before .before .before .before .before .before .before .args) .rules .now) ((c .before .before .before .before .before .before .before .before .before .before .before .before .before .before .before .before .before .before .before .before .args) .constants .now) ((c .before .before .before .before .before .before .before .before .before .before .before .before .before .before .before .before .before .before .before .before .args) .stage) i ((c .before .before .before .before .before .before .before .before .before .before .before .before .before .before .before .before .before .before .before .before .args) .place) n (fieldsFrom (take ((c .before .before .before .before .before .before .before .before .before .before .before .before .before .before .before .before .before .before .before .before .args) .end) ((c .before .before .before .before .before .before .before .before .before .before .before .before .before .before .before .before .before .before .before .before .args) .text .now)) ((c .before .before .before .before .before .before .before .before .before .before .before .before .before .before .before .before .before .before .before .before .args) .at)) q room h e (omega arith) _ _ (found n)
-    (draft-grown ((c .before .before .before .before .before .before .before .before .before .before .before .before .before .before .before .before .before .before .before .before .args) .text .now) ((c .before .before .before .before .before .before .before .before .before .before .before .before .before .before .before .before .before .before .before .before .args) .symbols .now) ((c .before .before .before .before .before .before .before .before .before .before .before .before .before .before .before .before .before .before .before .before .args) .rules .now) ((c .before .before .before .before .before .before .before .before .before .before .before .before .before .before .before .before .before .before .before .before .args) .constants .now) ((c .before .before .before .before .before .before .before .before .before .before .before .before .before .before .before .before .before .before .before .before .args) .stage) i ((c .before .before .before .before .before .before .before .before .before .before .before .before .before .before .before .before .before .before .before .before .args) .place) n (fieldsFrom (take ((c .before .before .before .before .before .before .before .before .before .before .before .before .before .before .before .before .before .before .before .before .args) .end) ((c .before .before .before .before .before .before .before .before .before .before .before .before .before .before .before .before .before .before .before .before .args) .text .now)) ((c .before .before .before .before .before .before .before .before .before .before .before .before .before .before .before .before .before .before .before .before .args) .at)) q room
-    (grown ((c .before .before .before .before .before .before .before .before .before .before .before .before .before .before .before .before .before .before .before .before .args) .rules .now) i 4 (26 + 5 * h) h (((c .before .before .before .before .before .before .cells) .given .0 .0) .symbol ∷ ((c .before .before .before .before .before .before .cells) .given .0 .0) .a ∷ ((c .before .before .before .before .before .before .cells) .given .0 .0) .b ∷ ((c .before .before .before .before .before .before .cells) .given .0 .0) .c ∷ ((c .before .before .before .before .before .before .cells) .given .0 .0) .d ∷ []) room (omega arith) (omega arith) (omega arith)) ((c .before .before .before .before .before .before .before .before .before .before .read-terms) .last .1 .1 .1 .1 .1 .1 .1 .0) ((c .before .before .before .before .before .before .cells) .given .0 .1 .0) (withBody (cellsMeant ((c .before .before .before .before .before .before .cells) .given .0 .0)))
-    (rules-grown ((c .before .before .before .before .before .before .before .before .before .before .before .before .before .before .before .before .before .before .before .before .args) .rules .now) i 4 (26 + 5 * h) h (((c .before .before .before .before .before .before .cells) .given .0 .0) .symbol ∷ ((c .before .before .before .before .before .before .cells) .given .0 .0) .a ∷ ((c .before .before .before .before .before .before .cells) .given .0 .0) .b ∷ ((c .before .before .before .before .before .before .cells) .given .0 .0) .c ∷ ((c .before .before .before .before .before .before .cells) .given .0 .0) .d ∷ []) room (omega arith) (omega arith) (omega arith) ((c .before .before .before .before .before .before .before .before .before .before .before .before .before .before .before .before .before .before .before .before .args) .text .now) (withBody (cellsMeant ((c .before .before .before .before .before .before .cells) .given .0 .0))) (body-grown ((c .before .before .before .before .before .before .before .before .before .before .before .before .before .before .before .before .before .before .before .before .args) .text .now) ((c .before .before .before .before .before .before .before .before .before .before .before .before .before .before .before .before .before .before .before .before .args) .rules .now) i room h (((c .before .before .before .before .before .before .cells) .given .0 .0) .symbol) (((c .before .before .before .before .before .before .cells) .given .0 .0) .a) (((c .before .before .before .before .before .before .cells) .given .0 .0) .b) (((c .before .before .before .before .before .before .cells) .given .0 .0) .c) (((c .before .before .before .before .before .before .cells) .given .0 .0) .d) e few heads))
-    (starts-grown ((c .before .before .before .before .before .before .before .before .before .before .before .before .before .before .before .before .before .before .before .before .args) .rules .now) i 4 (26 + 5 * h) h (((c .before .before .before .before .before .before .cells) .given .0 .0) .symbol ∷ ((c .before .before .before .before .before .before .cells) .given .0 .0) .a ∷ ((c .before .before .before .before .before .before .cells) .given .0 .0) .b ∷ ((c .before .before .before .before .before .before .cells) .given .0 .0) .c ∷ ((c .before .before .before .before .before .before .cells) .given .0 .0) .d ∷ []) room (omega arith) (omega arith) (omega arith) (λ z. omega (arith, z)))),
-    record {
-      few-symbols = (c .before .before .before .before .before .before .before .before .before .before .before .before .before .before .before .before .before .before .before .before .pre) .8 .few-symbols;
-      few-rules = (c .before .before .before .before .before .before .before .before .before .before .before .before .before .before .before .before .before .before .before .before .pre) .8 .few-rules;
-      few-constants = fit;
-      begun = λ z. (c .before .before .before .before .before .before .before .before .before .before .before .before .before .before .before .before .before .before .before .before .pre) .9;
-      few-heads = λ z. omega (arith, other-count ((c .before .before .before .before .before .before .before .before .before .before .before .before .before .before .before .before .before .before .before .before .args) .rules .now) i 4 (26 + 5 * h) h (((c .before .before .before .before .before .before .cells) .given .0 .0) .symbol ∷ ((c .before .before .before .before .before .before .cells) .given .0 .0) .a ∷ ((c .before .before .before .before .before .before .cells) .given .0 .0) .b ∷ ((c .before .before .before .before .before .before .cells) .given .0 .0) .c ∷ ((c .before .before .before .before .before .before .cells) .given .0 .0) .d ∷ []) room (omega arith) (omega arith) (omega arith) 3 (omega arith) (λ z. omega (arith, z)), heads);
-      few-body = λ z. omega (arith, counted ((c .before .before .before .before .before .before .before .before .before .before .before .before .before .before .before .before .before .before .before .before .args) .rules .now) i 4 (26 + 5 * h) h (((c .before .before .before .before .before .before .cells) .given .0 .0) .symbol ∷ ((c .before .before .before .before .before .before .cells) .given .0 .0) .a ∷ ((c .before .before .before .before .before .before .cells) .given .0 .0) .b ∷ ((c .before .before .before .before .before .before .cells) .given .0 .0) .c ∷ ((c .before .before .before .before .before .before .cells) .given .0 .0) .d ∷ []) room (omega arith) (omega arith) (omega arith), body);
-    })
+    (c .before .before .add-cells) .ensures ∙ ap (λ (v : ℕ). set (paste ((c .before .before .before .before .before .before .before .before .before .before .before .before .before .before .before .before .before .before .before .before .args) .rules .now) (64 * i + (26 + 5 * h)) (((c .before .before .before .before .before .before .cells) .given .0 .0) .symbol ∷ ((c .before .before .before .before .before .before .cells) .given .0 .0) .a ∷ ((c .before .before .before .before .before .before .cells) .given .0 .0) .b ∷ ((c .before .before .before .before .before .before .cells) .given .0 .0) .c ∷ ((c .before .before .before .before .before .before .cells) .given .0 .0) .d ∷ []) 5) (64 * i + 4) (suc v)) (sym e) in
+    rw grow (
+      λ n. body-next ((c .before .before .before .before .before .before .before .before .before .before .before .before .before .before .before .before .before .before .before .before .args) .text .now) ((c .before .before .before .before .before .before .before .before .before .before .before .before .before .before .before .before .before .before .before .before .args) .symbols .now) ((c .before .before .before .before .before .before .before .before .before .before .before .before .before .before .before .before .before .before .before .before .args) .rules .now) ((c .before .before .before .before .before .before .before .before .before .before .before .before .before .before .before .before .before .before .before .before .args) .constants .now) ((c .before .before .before .before .before .before .before .before .before .before .before .before .before .before .before .before .before .before .before .before .args) .stage) i ((c .before .before .before .before .before .before .before .before .before .before .before .before .before .before .before .before .before .before .before .before .args) .place) n (fieldsFrom (take ((c .before .before .before .before .before .before .before .before .before .before .before .before .before .before .before .before .before .before .before .before .args) .end) ((c .before .before .before .before .before .before .before .before .before .before .before .before .before .before .before .before .before .before .before .before .args) .text .now)) ((c .before .before .before .before .before .before .before .before .before .before .before .before .before .before .before .before .before .before .before .before .args) .at)) q room h e (omega arith) _ _ (found n)
+          (draft-grown ((c .before .before .before .before .before .before .before .before .before .before .before .before .before .before .before .before .before .before .before .before .args) .text .now) ((c .before .before .before .before .before .before .before .before .before .before .before .before .before .before .before .before .before .before .before .before .args) .symbols .now) ((c .before .before .before .before .before .before .before .before .before .before .before .before .before .before .before .before .before .before .before .before .args) .rules .now) ((c .before .before .before .before .before .before .before .before .before .before .before .before .before .before .before .before .before .before .before .before .args) .constants .now) ((c .before .before .before .before .before .before .before .before .before .before .before .before .before .before .before .before .before .before .before .before .args) .stage) i ((c .before .before .before .before .before .before .before .before .before .before .before .before .before .before .before .before .before .before .before .before .args) .place) n (fieldsFrom (take ((c .before .before .before .before .before .before .before .before .before .before .before .before .before .before .before .before .before .before .before .before .args) .end) ((c .before .before .before .before .before .before .before .before .before .before .before .before .before .before .before .before .before .before .before .before .args) .text .now)) ((c .before .before .before .before .before .before .before .before .before .before .before .before .before .before .before .before .before .before .before .before .args) .at)) q room
+          (grown ((c .before .before .before .before .before .before .before .before .before .before .before .before .before .before .before .before .before .before .before .before .args) .rules .now) i 4 (26 + 5 * h) h (((c .before .before .before .before .before .before .cells) .given .0 .0) .symbol ∷ ((c .before .before .before .before .before .before .cells) .given .0 .0) .a ∷ ((c .before .before .before .before .before .before .cells) .given .0 .0) .b ∷ ((c .before .before .before .before .before .before .cells) .given .0 .0) .c ∷ ((c .before .before .before .before .before .before .cells) .given .0 .0) .d ∷ []) room (omega arith) (omega arith) (omega arith)) ((c .before .before .before .before .before .before .before .before .before .before .read-terms) .last .1 .1 .1 .1 .1 .1 .1 .0) ((c .before .before .before .before .before .before .cells) .given .0 .1 .0) (withBody (cellsMeant ((c .before .before .before .before .before .before .cells) .given .0 .0)))
+          (rules-grown ((c .before .before .before .before .before .before .before .before .before .before .before .before .before .before .before .before .before .before .before .before .args) .rules .now) i 4 (26 + 5 * h) h (((c .before .before .before .before .before .before .cells) .given .0 .0) .symbol ∷ ((c .before .before .before .before .before .before .cells) .given .0 .0) .a ∷ ((c .before .before .before .before .before .before .cells) .given .0 .0) .b ∷ ((c .before .before .before .before .before .before .cells) .given .0 .0) .c ∷ ((c .before .before .before .before .before .before .cells) .given .0 .0) .d ∷ []) room (omega arith) (omega arith) (omega arith) ((c .before .before .before .before .before .before .before .before .before .before .before .before .before .before .before .before .before .before .before .before .args) .text .now) (withBody (cellsMeant ((c .before .before .before .before .before .before .cells) .given .0 .0))) (body-grown ((c .before .before .before .before .before .before .before .before .before .before .before .before .before .before .before .before .before .before .before .before .args) .text .now) ((c .before .before .before .before .before .before .before .before .before .before .before .before .before .before .before .before .before .before .before .before .args) .rules .now) i room h (((c .before .before .before .before .before .before .cells) .given .0 .0) .symbol) (((c .before .before .before .before .before .before .cells) .given .0 .0) .a) (((c .before .before .before .before .before .before .cells) .given .0 .0) .b) (((c .before .before .before .before .before .before .cells) .given .0 .0) .c) (((c .before .before .before .before .before .before .cells) .given .0 .0) .d) e few heads))
+          (starts-grown ((c .before .before .before .before .before .before .before .before .before .before .before .before .before .before .before .before .before .before .before .before .args) .rules .now) i 4 (26 + 5 * h) h (((c .before .before .before .before .before .before .cells) .given .0 .0) .symbol ∷ ((c .before .before .before .before .before .before .cells) .given .0 .0) .a ∷ ((c .before .before .before .before .before .before .cells) .given .0 .0) .b ∷ ((c .before .before .before .before .before .before .cells) .given .0 .0) .c ∷ ((c .before .before .before .before .before .before .cells) .given .0 .0) .d ∷ []) room (omega arith) (omega arith) (omega arith) (λ z. omega (arith, z)))),
+      record {
+        few-symbols = (c .before .before .before .before .before .before .before .before .before .before .before .before .before .before .before .before .before .before .before .before .pre) .8 .few-symbols;
+        few-rules = (c .before .before .before .before .before .before .before .before .before .before .before .before .before .before .before .before .before .before .before .before .pre) .8 .few-rules;
+        few-constants = fit;
+        begun = λ z. (c .before .before .before .before .before .before .before .before .before .before .before .before .before .before .before .before .before .before .before .before .pre) .9;
+        few-heads = λ z. omega (arith, other-count ((c .before .before .before .before .before .before .before .before .before .before .before .before .before .before .before .before .before .before .before .before .args) .rules .now) i 4 (26 + 5 * h) h (((c .before .before .before .before .before .before .cells) .given .0 .0) .symbol ∷ ((c .before .before .before .before .before .before .cells) .given .0 .0) .a ∷ ((c .before .before .before .before .before .before .cells) .given .0 .0) .b ∷ ((c .before .before .before .before .before .before .cells) .given .0 .0) .c ∷ ((c .before .before .before .before .before .before .cells) .given .0 .0) .d ∷ []) room (omega arith) (omega arith) (omega arith) 3 (omega arith) (λ z. omega (arith, z)), heads);
+        few-body = λ z. omega (arith, counted ((c .before .before .before .before .before .before .before .before .before .before .before .before .before .before .before .before .before .before .before .before .args) .rules .now) i 4 (26 + 5 * h) h (((c .before .before .before .before .before .before .cells) .given .0 .0) .symbol ∷ ((c .before .before .before .before .before .before .cells) .given .0 .0) .a ∷ ((c .before .before .before .before .before .before .cells) .given .0 .0) .b ∷ ((c .before .before .before .before .before .before .cells) .given .0 .0) .c ∷ ((c .before .before .before .before .before .before .cells) .given .0 .0) .d ∷ []) room (omega arith) (omega arith) (omega arith), body);
+        few-sides = λ z. omega (arith, other-count ((c .before .before .before .before .before .before .before .before .before .before .before .before .before .before .before .before .before .before .before .before .args) .rules .now) i 4 (26 + 5 * h) h (((c .before .before .before .before .before .before .cells) .given .0 .0) .symbol ∷ ((c .before .before .before .before .before .before .cells) .given .0 .0) .a ∷ ((c .before .before .before .before .before .before .cells) .given .0 .0) .b ∷ ((c .before .before .before .before .before .before .cells) .given .0 .0) .c ∷ ((c .before .before .before .before .before .before .cells) .given .0 .0) .d ∷ []) room (omega arith) (omega arith) (omega arith) 5 (omega arith) (λ z. omega (arith, z)), sides);
+      },
+    )
 
 pub body-line-spec : {M : Type 1} → statement M
 body-line-spec =

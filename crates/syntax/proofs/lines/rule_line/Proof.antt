@@ -12,7 +12,7 @@ use Rattle.text.specs.Places.{fieldsFrom}
 use Rattle.text.proofs.Cursors.{drop-take}
 use Rattle.syntax.specs.Read.{RuleAt, lineAnswer, Sound}
 use Rattle.syntax.proofs.Cells.{part-in-line}
-use Rattle.syntax.proofs.Drafts.{rule-faulty, rule-repeated, rule-full, rule-new, fresh-heads, fresh-body}
+use Rattle.syntax.proofs.Drafts.{rule-faulty, rule-repeated, rule-full, rule-new, fresh-heads, fresh-body, fresh-sides}
 use borrow.Author.Needs.{needs}
 use Rattle.syntax.proofs.lines.rule_line.Statement.{statement}
 use Rattle.syntax.proofs.lines.rule_line.Tie as tie
@@ -125,6 +125,7 @@ returns-4 c =
         begun = λ h. omega arith;
         few-heads = λ h. rw last (omega (arith, fresh-heads ((c .before .before .before .before .before .before .before .before .before .before .before .before .before .before .before .before .before .before .args) .text .now) ((c .before .before .before .before .before .before .before .before .before .before .before .before .before .before .before .before .before .before .args) .rules .now) ((c .before .before .before .before .before .before .before .before .before .before .before .before .before .before .before .before .before .before .args) .stage .rules) ((c .before .before .before .before .before .before .before .before .before .before .before .start) .given .0 .0) (((c .before .before .before .before .before .before .before .before .before .before .before .start) .given .0 .1 .0) - ((c .before .before .before .before .before .before .before .before .before .before .before .start) .given .0 .0)) ((c .before .before .before .before .before .before .before .before .before .before .before .before .before .before .before .before .before .before .args) .number) (omega (arith, (c .before .before .before .before .before .before .before .before .before .before .before .before .before .before .before .before .before .before .pre) .4, (c .before .before .before .before .before .if2) .left))));
         few-body = λ h. rw last (omega (arith, fresh-body ((c .before .before .before .before .before .before .before .before .before .before .before .before .before .before .before .before .before .before .args) .text .now) ((c .before .before .before .before .before .before .before .before .before .before .before .before .before .before .before .before .before .before .args) .rules .now) ((c .before .before .before .before .before .before .before .before .before .before .before .before .before .before .before .before .before .before .args) .stage .rules) ((c .before .before .before .before .before .before .before .before .before .before .before .start) .given .0 .0) (((c .before .before .before .before .before .before .before .before .before .before .before .start) .given .0 .1 .0) - ((c .before .before .before .before .before .before .before .before .before .before .before .start) .given .0 .0)) ((c .before .before .before .before .before .before .before .before .before .before .before .before .before .before .before .before .before .before .args) .number) (omega (arith, (c .before .before .before .before .before .before .before .before .before .before .before .before .before .before .before .before .before .before .pre) .4, (c .before .before .before .before .before .if2) .left))));
+        few-sides = λ h. rw last (omega (arith, fresh-sides ((c .before .before .before .before .before .before .before .before .before .before .before .before .before .before .before .before .before .before .args) .text .now) ((c .before .before .before .before .before .before .before .before .before .before .before .before .before .before .before .before .before .before .args) .rules .now) ((c .before .before .before .before .before .before .before .before .before .before .before .before .before .before .before .before .before .before .args) .stage .rules) ((c .before .before .before .before .before .before .before .before .before .before .before .start) .given .0 .0) (((c .before .before .before .before .before .before .before .before .before .before .before .start) .given .0 .1 .0) - ((c .before .before .before .before .before .before .before .before .before .before .before .start) .given .0 .0)) ((c .before .before .before .before .before .before .before .before .before .before .before .before .before .before .before .before .before .before .args) .number) (omega (arith, (c .before .before .before .before .before .before .before .before .before .before .before .before .before .before .before .before .before .before .pre) .4, (c .before .before .before .before .before .if2) .left))));
       }),
     )
 

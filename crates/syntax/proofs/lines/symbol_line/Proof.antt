@@ -187,6 +187,7 @@ returns-4 c =
         begun = λ h. absurd (omega (arith, h, (c .before .before .before .before .before .before .before .before .before .before .before .before .before .before .before .before .before .before .before .before .before .before .pre) .6));
         few-heads = d .few-heads;
         few-body = d .few-body;
+        few-sides = d .few-sides;
       },
     )
 
