@@ -1,22 +1,22 @@
 -- The search over cells is the search over constraints: one law for each way that the code goes.
 -- Assumes nothing.
-use Prim.Native.Nat.{ℕ, zero, suc, _+_, _-_, _*_, _≤_, _<_}
+use Prim.Native.Nat.{ℕ, suc, _+_, _-_, _*_, _≤_, _<_}
 use native.Mathlib.Omega.{arith}
 use native.Mathlib.Nat.{add-zero}
 use native.Mathlib.Numerals.{add-one}
 use mathlib.Core.Bool.{Bool, true, false, cond, _||_}
 use mathlib.Core.List.{List, [], _∷_, _++_}
-use mathlib.Core.Option.{Option, none, some}
-use mathlib.Core.Path.{_≡_, refl, ap, sym, _∙_}
+use mathlib.Core.Option.{Option, none}
+use mathlib.Core.Path.{_≡_, refl, sym, _∙_}
 use lib.Dec.{eqb}
 use lib.ListN.{length, getD, set, take, drop, length-set, drop-of-length-le, length-drop}
-use lib.Seq.{drop-cons, getD-take, length-take-le, take-suc-set, drop-drop, getD-drop}
+use lib.Seq.{drop-cons, getD-take, length-take-le, take-suc-set, getD-drop}
 use borrow.Author.Tests.{eq-eqb, ne-eqb}
 use Rattle.text.specs.Lists.{bind, orElse, has, every}
 use Rattle.semantics.specs.Terms.{Constraint, isBelow, alphabet}
-use Rattle.semantics.specs.Matching.{Assignment, matchConstraint, matchTerms}
+use Rattle.semantics.specs.Matching.{Assignment, matchConstraint}
 use Rattle.semantics.specs.Strategy.{Match, firstIn, find}
-use Rattle.syntax.specs.Tables.{cellTerms, cellConstraints}
+use Rattle.syntax.specs.Tables.{cellConstraints}
 use Rattle.engine.specs.Cells.{assigned, fitOf, rowConstraint, Rows, Matched}
 use Rattle.engine.specs.Places.{isLettered, foundOf, Seeking, Located}
 use Rattle.engine.proofs.CellLaws.{every-first, every-rest, constraints-at}

@@ -1,20 +1,19 @@
 -- One step of the strategy on cells is one step on states.
 -- Assumes nothing.
-use Prim.Native.Nat.{ℕ, zero, suc, _+_, _-_, _*_, _≤_, _<_}
+use Prim.Native.Nat.{ℕ, _+_, _*_, _≤_, _<_}
 use native.Mathlib.Omega.{arith}
 use mathlib.Core.Bool.{Bool, true, false, cond}
-use mathlib.Core.List.{List, [], _∷_, _++_, map}
-use mathlib.Core.Option.{Option, none, some, Option·map}
+use mathlib.Core.List.{List, [], _++_, map}
+use mathlib.Core.Option.{Option, none, some}
 use mathlib.Core.Path.{_≡_, refl, ap, sym, _∙_}
 use lib.ListN.{length, getD, take, drop}
 use lib.Seq.{length-take-le}
-use Rattle.text.specs.Lists.{bind, every}
-use Rattle.semantics.specs.Terms.{Term, Constraint, Rule, State, failed, live, mapTerms, mapSides}
+use Rattle.semantics.specs.Terms.{Term, Constraint, live, mapTerms, mapSides}
 use Rattle.semantics.specs.Matching.{unassigned}
 use Rattle.semantics.specs.Solving.{solve}
 use Rattle.semantics.specs.Firing.{without, instance, settle, fired}
-use Rattle.semantics.specs.Strategy.{find, choose, advance}
-use Rattle.syntax.specs.Tables.{cellTerm, cellConstraints, ruleOfRow, ruleOf, rulesOf}
+use Rattle.semantics.specs.Strategy.{advance}
+use Rattle.syntax.specs.Tables.{cellConstraints, ruleOfRow, ruleOf}
 use Rattle.engine.specs.Cells.{assigned}
 use Rattle.engine.specs.Places.{isLow, foundOf, Row, Table, choiceOf, Chosen}
 use Rattle.engine.specs.States.{stateOf, Fires, Fired}

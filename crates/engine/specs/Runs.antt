@@ -5,13 +5,13 @@
 -- Assumes nothing.
 use Prim.Native.Nat.{ℕ, _+_, _*_, _≤_, _<_}
 use mathlib.Core.Bool.{Bool, true, false, cond}
-use mathlib.Core.List.{List, [], _∷_, map}
+use mathlib.Core.List.{List, [], map}
 use mathlib.Core.Option.{none, some}
 use mathlib.Core.Path.{_≡_}
 use lib.ListN.{length, take, drop}
 use Rattle.text.specs.Lists.{total, every}
-use Rattle.semantics.specs.Terms.{Constraint, State, live}
-use Rattle.semantics.specs.Strategy.{Final, advance, normalise}
+use Rattle.semantics.specs.Terms.{Constraint, live}
+use Rattle.semantics.specs.Strategy.{advance, normalise}
 use Rattle.syntax.specs.Tables.{cellTerm, cellConstraints, ruleOfRow, rulesOf}
 use Rattle.engine.specs.Places.{isLow, Table}
 use Rattle.engine.specs.States.{stateOf}

@@ -2,10 +2,8 @@
 ghost use mathlib.Core.Path.{_≡_};
 ghost use Prim.Native.Nat.{_<_};
 ghost use lib.ListN.{length};
-ghost use Rattle.text.specs.Lists.{every};
-ghost use Rattle.semantics.specs.Terms.{isBelow, alphabet};
 ghost use Rattle.semantics.specs.Matching.{matchTerm, matchTerms, matchConstraint};
-ghost use Rattle.syntax.specs.Tables.{cellTerm, cellTerms};
+ghost use Rattle.syntax.specs.Tables.{cellTerm};
 ghost use Rattle.engine.specs.Cells.{assigned, rowConstraint, Matched, Rows};
 
 // Whether a match fits, and the bindings under which it does.
