@@ -6,10 +6,10 @@ ghost use Rattle.semantics.specs.Matching.{matchTerm, matchTerms, matchConstrai
 ghost use Rattle.syntax.specs.Tables.{cellTerm};
 ghost use Rattle.engine.specs.Cells.{assigned, rowConstraint, Matched, Rows};
 
-// Whether a match fits, and the bindings under which it does.
+// Whether a match fits, and the bindings under which it does. The array stands first, so that copies of it are aligned.
 pub struct Fit {
-    pub fits: bool,
     pub bindings: [u16; 26],
+    pub fits: bool,
 }
 
 // One term of a head against one term of a constraint: a constant fits itself only, and a variable what it is bound to.

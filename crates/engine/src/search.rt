@@ -16,9 +16,9 @@ ghost use Rattle.engine.specs.Places.{Seeking, Located, Row, Table, Chos
 
 // Whether positions were found, with them and the bindings under which the heads fit there.
 pub struct Found {
-    pub found: bool,
     pub positions: [usize; 4],
     pub bindings: [u16; 26],
+    pub found: bool,
 }
 
 // Whether a position is among the first h that are chosen.
@@ -113,10 +113,10 @@ pub fn find(
 
 // A rule that fits, by its number, and where it fits.
 pub struct Choice {
-    pub found: bool,
-    pub number: usize,
     pub positions: [usize; 4],
     pub bindings: [u16; 26],
+    pub number: usize,
+    pub found: bool,
 }
 
 // A cell as a number of the machine's width.
