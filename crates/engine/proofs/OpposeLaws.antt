@@ -6,13 +6,13 @@ use Prim.Native.Nat.{ℕ, suc, _+_, _-_, _≤_, _<_}
 use native.Mathlib.Omega.{arith}
 use native.Mathlib.Numerals.{add-one}
 use mathlib.Core.Bool.{Bool, true, false, cond, not}
-use mathlib.Core.List.{List, [], _∷_}
-use mathlib.Core.Logic.{_⊎_, inl, inr, ⊎-elim}
+use mathlib.Core.List.{List, _∷_}
+use mathlib.Core.Logic.{⊎-elim}
 use mathlib.Core.Option.{Option, none, some}
-use mathlib.Core.Path.{_≡_, refl, ap, sym, _∙_}
-use lib.Dec.{eqb, ltb}
+use mathlib.Core.Path.{_≡_, refl, _∙_}
+use lib.Dec.{eqb}
 use lib.ListN.{length, getD, drop}
-use borrow.Author.Tests.{lt-ltb, le-ltb, eq-eqb, ne-eqb, eqb-true, eqb-false, not-true}
+use borrow.Author.Tests.{lt-ltb, le-ltb, ne-eqb, eqb-true, eqb-false, not-true}
 use Rattle.text.specs.Lists.{bind, onward, every}
 use Rattle.semantics.specs.Terms.{Term, con, var, sameTerm, isBelow, alphabet}
 use Rattle.semantics.specs.Matching.{Assignment, extend, matchTerm, matchTerms, matchConstraint}
@@ -30,11 +30,13 @@ unfolding assigned
 assigned-keeps bindings x n = rw (ne-eqb (getD bindings x 0) 0 n)
 
 -- a settled variable is not settled anew
-extend-keeps : (bindings : List ℕ) (θ : Assignment) (x : ℕ) (t : Term) → Keeps bindings θ → θ x ≡ none → Keeps bindings (extend x t θ)
+extend-keeps : (bindings : List ℕ) (θ : Assignment) (x : ℕ) (t : Term) → Keeps bindings θ → θ x ≡ none → Keeps bindings
+    (extend x t θ)
 unfolding extend
 extend-keeps bindings θ x t k e y n = ⊎-elim (same y n) (λ u. rw u (k y n)) (either (eqb x y))
   where
-    same : (y : ℕ) → (getD bindings y 0 ≡ 0 → ⊥) → eqb x y ≡ true → cond (eqb x y) (some t) (θ y) ≡ some (cellTerm (getD bindings y 0))
+    same : (y : ℕ) → (getD bindings y 0 ≡ 0 → ⊥) → eqb x y ≡ true → cond (eqb x y) (some t) (θ y) ≡ some (cellTerm
+        (getD bindings y 0))
     same y n u =
         let z : x ≡ y = eqb-true x y u in
         let a : θ y ≡ none = rw z at e in
@@ -59,7 +61,9 @@ later bindings (var x) t θ k = look (θ x) refl
     test : (b : Bool) → Later bindings (cond b (some θ) none)
     test true = then θ refl k
     test false = never refl
-    look : (o : Option Term) → θ x ≡ o → Later bindings (onward o (some (extend x t θ)) (λ u. cond (sameTerm u t) (some θ) none))
+
+    look : (o : Option Term) → θ x ≡ o → Later bindings (onward o (some (extend x t θ)) (λ u. cond (sameTerm u t)
+        (some θ) none))
     look none e = then (extend x t θ) refl (extend-keeps bindings θ x t k e)
     look (some u) e = test (sameTerm u t)
 
@@ -75,6 +79,7 @@ opposed-none bindings h t θ k o = ⊎-elim high low (le-or-lt 256 h)
         let e : eqb h t ≡ false = not-true (eqb h t) (rw (lt-ltb h 256 l) at o) in
         let s : sameTerm (con h) (cellTerm t) ≡ eqb h t = rw (cell-low h l) at (same-cell h t) in
         rw (cell-low h l, s, e)
+
     high : 256 ≤ h → matchTerm (cellTerm h) (cellTerm t) θ ≡ none
     high l = ⊎-elim free bound (either (eqb (getD bindings (h - 256) 0) 0))
       where
@@ -83,10 +88,18 @@ opposed-none bindings h t θ k o = ⊎-elim high low (le-or-lt 256 h)
             let e : false ≡ true = rw (le-ltb h 256 l, z) at o in
             let c : _≡_ {A = ℕ} 0 1 = cc in
             absurd (omega arith)
+
         bound : eqb (getD bindings (h - 256) 0) 0 ≡ false → matchTerm (cellTerm h) (cellTerm t) θ ≡ none
         bound z =
-            let e : eqb (getD bindings (h - 256) 0) t ≡ false = not-true (eqb (getD bindings (h - 256) 0) t) (rw (le-ltb h 256 l, z) at o) in
-            rw (cell-high h l, k (h - 256) (eqb-false (getD bindings (h - 256) 0) 0 z), same-cell (getD bindings (h - 256) 0) t, e)
+            let e : eqb (getD bindings (h - 256) 0) t ≡ false = not-true (eqb (getD bindings (h - 256) 0) t) (rw
+            (le-ltb h 256 l, z) at o) in
+            rw (
+              cell-high h l,
+              k (h - 256) (eqb-false (getD bindings (h - 256) 0) 0 z),
+              same-cell (getD bindings
+                  (h - 256) 0) t,
+              e,
+            )
 
 module _ (bindings : List ℕ) (h t : ℕ) where
   -- a constant
@@ -135,7 +148,8 @@ searching-other head constraint bindings e = rw (ne-eqb (getD head 0 0) (getD co
 module _ (head constraint bindings : List ℕ) (i : ℕ) (w : Searching head constraint bindings i) where
   -- what never fits does not fit now
   whole :
-      Never head constraint bindings i → matchConstraint (rowConstraint head) (rowConstraint constraint) (assigned bindings) ≡ none
+      Never head constraint bindings i → matchConstraint (rowConstraint head) (rowConstraint constraint)
+      (assigned bindings) ≡ none
   unfolding matchConstraint rowConstraint
   whole n =
       rw (w .clash n (assigned bindings) (assigned-keeps bindings)) (cond-none (eqb (getD head 0 0) (getD constraint 0 0)))
@@ -164,10 +178,11 @@ module _ (head constraint bindings : List ℕ) (i : ℕ) (w : Searching head con
 
       -- the head's term is a constant or a letter
       pub searching-letter : (getD head i 0 < 282) × (length bindings ≡ 26)
-      searching-letter =
-          (below-letter (getD head i 0)
+      searching-letter = (
+        below-letter (getD head i 0)
             (every-first (isBelow alphabet) (cellTerm (getD head i 0)) (cellTerms (drop (suc i) head)) here),
-            w .rows .bindings-size)
+        w .rows .bindings-size,
+      )
 
       -- the constraint ends first
       pub searching-constraint :
@@ -197,11 +212,12 @@ module _ (head constraint bindings : List ℕ) (i : ℕ) (w : Searching head con
               within = l;
               rows = w .rows;
               letters = every-rest (isBelow alphabet) (cellTerm (getD head i 0)) (cellTerms (drop (suc i) head)) here;
-              clash = λ f. w .clash (λ θ k. split θ ∙ on f (later bindings (cellTerm (getD head i 0)) (cellTerm (getD constraint i 0)) θ k));
+              clash = λ f. w .clash (λ θ k. split θ ∙ on f (later bindings (cellTerm (getD head i 0)) (cellTerm
+                  (getD constraint i 0)) θ k));
             })
           where
             on : ((θ : Assignment) → Keeps bindings θ
-                  → matchTerms (cellTerms (drop (suc i) head)) (cellTerms (drop (suc i) constraint)) θ ≡ none)
+                → matchTerms (cellTerms (drop (suc i) head)) (cellTerms (drop (suc i) constraint)) θ ≡ none)
                 → {o : Option Assignment} → Later bindings o
                 → bind o (matchTerms (cellTerms (drop (suc i) head)) (cellTerms (drop (suc i) constraint))) ≡ none
             on f (never z) = rw z

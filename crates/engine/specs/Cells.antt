@@ -25,7 +25,8 @@ assigned bindings x = cond (eqb (getD bindings x 0) 0) none (some (cellTerm (get
 unfoldable pub fitOf : Bool → List ℕ → Option Assignment
 fitOf fits bindings = cond fits (some (assigned bindings)) none
 
--- whether what is settled speaks against a head's cell being a constraint's: another constant, or a variable that is something else
+-- whether what is settled speaks against a head's cell being a constraint's: another constant, or a variable that is something
+-- else
 unfoldable pub opposed : List ℕ → ℕ → ℕ → Bool
 opposed bindings h t =
     cond (ltb h 256) (not (eqb h t)) (cond (eqb (getD bindings (h - 256) 0) 0) false (not (eqb (getD bindings (h - 256) 0) t)))

@@ -1,6 +1,7 @@
 // The search for positions head by head, and the choice of a rule.
 use crate::matching::Fit;
 use crate::matching::match_constraint;
+use crate::matching::may_fit;
 ghost use mathlib.Core.Bool.{cond};
 ghost use mathlib.Core.List.{[]};
 ghost use mathlib.Core.Option.{none};
@@ -89,9 +90,9 @@ pub fn find(
     while p < m {
         let q = p;
         let b = 5 * q;
+        let d = b + 5;
         p += 1;
-        if heads[a] == cells[b] {
-            let d = b + 5;
+        if may_fit(head, &cells[b..d], &bindings) {
             let fit = fit_at(head, &cells[b..d], h, q, chosen, bindings);
             if fit.fits {
                 let mut more = chosen;

@@ -73,7 +73,7 @@ returns-4 c =
     let opposes′ = c .before .opposes in
     let if4′ = c .if4 in
     λ z. searching-opposed _ _ _ _ (loop′ .inv) (loop-test′ .taken) (if2′ .left) (if3′ .left) (sym (opposes′ .ensures)
-        ∙ if4′ .taken)
+    ∙ if4′ .taken)
 
 add-i : tie.Need-add-i Inv-loop μ-loop
 add-i c = omega arith
