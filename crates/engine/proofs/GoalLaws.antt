@@ -230,7 +230,7 @@ module _ (text symbols : List ℕ) (s : ℕ) (rules : List ℕ) (n : ℕ) (r : A
 
     -- a goal of weight at most 512 can be run
     pub goal-starts :
-        weight names (g .constraints) ≤ 512 → g .variables ≤ 26 → 2590 ≤ length cells → m ≤ 518
+        weight names (g .constraints) ≤ 512 → g .variables ≤ 51000 → 2590 ≤ length cells → m ≤ 518
         → Startable rules n cells m (g .variables)
     unfolding weigh
     goal-starts light few space there =
