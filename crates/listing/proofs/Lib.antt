@@ -1,2 +1,4 @@
 -- Laws of this crate's definitions. Assumes nothing.
 pub mod Opened
+pub mod Decimals
+pub mod Laying

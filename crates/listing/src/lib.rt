@@ -1,1 +1,3 @@
-// The bytes of every listing. Its definitions are in specs/; the line writer comes with its issue.
+// The bytes of a run's listing: its length first, then line by line into the lent output.
+// Each function equals the definition that its contract names, through the decodings of `syntax` and of specs/.
+pub mod writing;
