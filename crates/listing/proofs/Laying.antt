@@ -4,13 +4,13 @@
 --   placed-start, placed-byte, placed-part, placed-all      from nothing, by a byte, by a part written from the end on, to the whole
 --   placed-room, placed-fits, placed-length                 the rest of the output holds the rest of the bytes
 -- Assumes nothing.
-use mathlib.Core.Path.{_≡_, refl, sym, ap, _∙_}
+use mathlib.Core.Path.{_≡_, refl, sym, ap, _∙_, subst}
 use mathlib.Core.List.{List, [], _∷_, _++_, append-assoc, append-nil}
 use Prim.Native.Nat.{ℕ, suc, _+_, _-_, _≤_, _<_}
 use native.Mathlib.Omega.{arith}
 use native.Mathlib.Numerals.{add-one}
-use lib.ListN.{length, take, drop, getD, set, length-append, length-drop, length-set, take-append-drop}
-use lib.Seq.{take-at, drop-at, set-at, drop-cons, drop-drop, take-suc, take-add, length-take-le, append-snoc, take-length, take-append-seam}
+use lib.ListN.{length, take, drop, getD, set, length-append, length-drop, length-set, drop-of-length-le}
+use lib.Seq.{take-at, drop-at, set-at, drop-cons, drop-drop, take-suc, take-add, length-take-le, append-snoc, take-length, take-all, take-append-seam}
 use Rattle.listing.specs.Pieces.{laid, Put}
 
 -- an output keeps its length
@@ -83,8 +83,8 @@ placed-part {whole} {o} {a} {d} {e} {n} s rest p h k =
     rw k
     record {
       placed =
-        laid-then (take e whole) s o a d e (p .placed) size h
-        ∙ ap (λ (l : List ℕ). laid l o) (sym (further-take whole s rest e (p .left)));
+          laid-then (take e whole) s o a d e (p .placed) size h
+          ∙ ap (λ (l : List ℕ). laid l o) (sym (further-take whole s rest e (p .left)));
       left = further-drop whole s rest e (p .left);
       below = omega (arith, placed-count p, length-append s rest);
     }
@@ -96,8 +96,8 @@ placed-byte {whole} {o} {a} {e} b rest p h =
     let size : e ≡ length (take e whole) = sym (length-take-le e whole (p .below)) in
     record {
       placed =
-        laid-byte (take e whole) o a e b (p .placed) size (omega (arith, placed-count p))
-        ∙ ap (λ (l : List ℕ). laid l o) (sym (further-take whole (b ∷ []) rest e (p .left)));
+          laid-byte (take e whole) o a e b (p .placed) size (omega (arith, placed-count p))
+          ∙ ap (λ (l : List ℕ). laid l o) (sym (further-take whole (b ∷ []) rest e (p .left)));
       left = further-drop whole (b ∷ []) rest e (p .left);
       below = omega (arith, placed-count p);
     }
@@ -109,4 +109,60 @@ placed-all {whole} {o} {a} {e} p =
     record {
       placed = p .placed ∙ rw (end, take-length whole);
       counted = end;
+    }
+
+-- the part of an output from e on, as it is lent, and the output with that part come back as d
+abbrev pub from : ℕ → List ℕ → List ℕ
+from e a = take (length a - e) (drop e a)
+
+abbrev pub back : ℕ → List ℕ → List ℕ → List ℕ
+back e a d = take e a ++ (d ++ drop (length a - e) (drop e a))
+
+pub from-drop : (e : ℕ) (a : List ℕ) → from e a ≡ drop e a
+from-drop e a = take-all (length a - e) (drop e a) (omega (arith, length-drop e a))
+
+pub back-append : (e : ℕ) (a d : List ℕ) → back e a d ≡ take e a ++ d
+back-append e a d =
+    ap (λ (l : List ℕ). take e a ++ (d ++ l)) (drop-of-length-le (drop e a) {i = length a - e} (omega (arith, length-drop e a)))
+    ∙ ap (λ (l : List ℕ). take e a ++ l) (append-nil d)
+
+-- the lent part has room for what comes next
+pub lent-room : {whole o a : List ℕ} {e : ℕ} (s rest : List ℕ) → Placed whole o a e (s ++ rest) → length whole ≤ length o
+    → length s ≤ length (from e a)
+lent-room {whole} {o} {a} {e} s rest p h = rw (from-drop e a) (omega (arith, placed-room p h, length-append s rest))
+
+pub lent-room-last : {whole o a : List ℕ} {e : ℕ} (s : List ℕ) → Placed whole o a e s → length whole ≤ length o
+    → length s ≤ length (from e a)
+lent-room-last {whole} {o} {a} {e} s p h = rw (from-drop e a) (placed-room p h)
+
+-- the lent part comes back with what comes next
+pub lent-part : {whole o a d : List ℕ} {e n : ℕ} (s rest : List ℕ) → Placed whole o a e (s ++ rest)
+    → Put s (from e a) d n → Placed whole o (back e a d) (e + n) rest
+lent-part {whole} {o} {a} {d} {e} {n} s rest p w =
+    rw (back-append e a d) (placed-part s rest p (w .placed ∙ ap (laid s) (from-drop e a)) (w .counted))
+
+-- and with all that is left
+pub lent-last : {whole o a d : List ℕ} {e n : ℕ} (s : List ℕ) → Placed whole o a e s
+    → Put s (from e a) d n → Put whole o (back e a d) (e + n)
+lent-last {whole} {o} {a} {d} {e} {n} s p w =
+    placed-all (lent-part s [] (subst (λ (l : List ℕ). Placed whole o a e l) (sym (append-nil s)) p) w)
+
+-- a whole that was put keeps the output's length
+pub put-length : {s o a : List ℕ} {n : ℕ} → Put s o a n → length s ≤ length o → length a ≡ length o
+put-length {s} {o} {a} {n} w h = ap length (w .placed) ∙ laid-length s o h
+
+-- the same bytes by another name
+pub put-is : {s t o a : List ℕ} {n : ℕ} → s ≡ t → Put s o a n → Put t o a n
+put-is {s} {t} {o} {a} {n} e w = subst (λ (l : List ℕ). Put l o a n) e w
+
+pub placed-is : {whole o a s t : List ℕ} {e : ℕ} → s ≡ t → Placed whole o a e s → Placed whole o a e t
+placed-is {whole} {o} {a} {s} {t} {e} q p = subst (λ (l : List ℕ). Placed whole o a e l) q p
+
+-- bytes that were put are the first of a longer whole
+pub put-placed : {s o a : List ℕ} {n : ℕ} (rest : List ℕ) → Put s o a n → Placed (s ++ rest) o a n rest
+put-placed {s} {o} {a} {n} rest w =
+    record {
+      placed = w .placed ∙ ap (λ (l : List ℕ). laid l o) (sym (take-at s rest n (sym (w .counted))));
+      left = drop-at s rest n (sym (w .counted));
+      below = omega (arith, w .counted, length-append s rest);
     }

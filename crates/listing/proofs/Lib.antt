@@ -2,3 +2,5 @@
 pub mod Opened
 pub mod Decimals
 pub mod Laying
+pub mod TermLaws
+pub mod LineLaws

@@ -68,9 +68,15 @@ put-decimal-put-decimal-requires : (t : ℕ) → put-decimal-lts.Need-put-decima
   put-decimal-below t,
   put-decimal.Post,
 ) (put-decimal-at t) put-decimal.Post
-put-decimal-put-decimal-requires t c κs =
-    (omega arith, omega (arith, (c .before .before .before .pre) .1, ap length (decimal-high ((c .before .before .before .args) .n) ((c .before .if1) .left)),
-    length-append (decimal ((c .before .before .before .args) .n / 10)) ((48 + (c .before .before .before .args) .n % 10) ∷ [])))
+put-decimal-put-decimal-requires t c κs = (
+  omega arith,
+  omega (
+    arith,
+    (c .before .before .before .pre) .1,
+    ap length (decimal-high ((c .before .before .before .args) .n) ((c .before .if1) .left)),
+    length-append (decimal ((c .before .before .before .args) .n / 10)) ((48 + (c .before .before .before .args) .n % 10) ∷ []),
+  ),
+)
 
 put-decimal-cast-out-2 : (t : ℕ) → put-decimal-lts.Need-cast-out-2 (
   put-decimal-below t,
@@ -89,8 +95,14 @@ put-decimal-slice-write-out-2 : (t : ℕ) → put-decimal-lts.Need-slice-write-o
   put-decimal.Post,
 ) (put-decimal-at t) put-decimal.Post
 put-decimal-slice-write-out-2 t c =
-    omega (arith, (c .before .before .before .before .before .before .pre) .1, ap length (decimal-high ((c .before .before .before .before .before .before .args) .n) ((c .before .before .before .before .if1) .left)), (c .before .before .put-decimal) .ensures .counted, (c .before .before .put-decimal) .kept .0,
-    length-append (decimal ((c .before .before .before .before .before .before .args) .n / 10)) ((48 + (c .before .before .before .before .before .before .args) .n % 10) ∷ []))
+    omega (
+      arith,
+      (c .before .before .before .before .before .before .pre) .1,
+      ap length (decimal-high ((c .before .before .before .before .before .before .args) .n) ((c .before .before .before .before .if1) .left)),
+      (c .before .before .put-decimal) .ensures .counted,
+      (c .before .before .put-decimal) .kept .0,
+      length-append (decimal ((c .before .before .before .before .before .before .args) .n / 10)) ((48 + (c .before .before .before .before .before .before .args) .n % 10) ∷ []),
+    )
 
 put-decimal-add-result : (t : ℕ) → put-decimal-lts.Need-add-result (
   put-decimal-below t,
@@ -114,8 +126,8 @@ put-decimal-returns-2 t c =
     rw (decimal-high ((c .before .before .before .before .before .before .args) .n) ((c .before .before .before .before .if1) .left))
     (record {
       placed =
-        laid-byte (decimal ((c .before .before .before .before .before .before .args) .n / 10)) ((c .before .before .before .before .before .before .args) .out .now) ((c .before .before .put-decimal) .last .0) ((c .before .before .put-decimal) .result) (48 + (c .before .before .before .before .before .before .args) .n % 10)
-        ((c .before .before .put-decimal) .ensures .placed) ((c .before .before .put-decimal) .ensures .counted) (omega (arith, (c .before .before .before .before .before .before .pre) .1));
+          laid-byte (decimal ((c .before .before .before .before .before .before .args) .n / 10)) ((c .before .before .before .before .before .before .args) .out .now) ((c .before .before .put-decimal) .last .0) ((c .before .before .put-decimal) .result) (48 + (c .before .before .before .before .before .before .args) .n % 10)
+          ((c .before .before .put-decimal) .ensures .placed) ((c .before .before .put-decimal) .ensures .counted) (omega (arith, (c .before .before .before .before .before .before .pre) .1));
       counted = omega (arith, (c .before .before .put-decimal) .ensures .counted);
     })
 

@@ -44,7 +44,7 @@ loop-again c = (
   omega arith,
   simp length-set ((c .before .before .loop) .inv .1),
   rw (add-one ((c .before .before .loop) .i), (c .before .before .loop) .inv .2)
-  (copied-more ((c .before .before .before .args) .part .now) ((c .before .before .before .args) .out .now) ((c .before .before .loop) .i) (omega arith) (omega arith)),
+      (copied-more ((c .before .before .before .args) .part .now) ((c .before .before .before .args) .out .now) ((c .before .before .loop) .i) (omega arith) (omega arith)),
 )
 
 -- src/writing.rt:33:1
@@ -58,8 +58,8 @@ returns c =
     let end = le-antisymm ((c .before .loop) .inv .0) ((c .loop-test) .left) in
     record {
       placed =
-        (c .before .loop) .inv .2 ∙ ap (λ (k : ℕ). take k ((c .before .before .args) .part .now) ++ drop k ((c .before .before .args) .out .now)) end
-        ∙ ap (λ (l : List ℕ). l ++ drop (length ((c .before .before .args) .part .now)) ((c .before .before .args) .out .now)) (take-length ((c .before .before .args) .part .now));
+          (c .before .loop) .inv .2 ∙ ap (λ (k : ℕ). take k ((c .before .before .args) .part .now) ++ drop k ((c .before .before .args) .out .now)) end
+          ∙ ap (λ (l : List ℕ). l ++ drop (length ((c .before .before .args) .part .now)) ((c .before .before .args) .out .now)) (take-length ((c .before .before .args) .part .now));
       counted = end;
     }
 
