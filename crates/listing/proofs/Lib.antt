@@ -4,3 +4,4 @@ pub mod Decimals
 pub mod Laying
 pub mod TermLaws
 pub mod LineLaws
+pub mod NumberLaws

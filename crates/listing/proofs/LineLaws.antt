@@ -12,7 +12,8 @@ use native.Mathlib.Omega.{arith}
 use lib.ListN.{length, take, drop, getD, set, length-append, length-take, length-drop, drop-of-length-le}
 use lib.Seq.{drop-cons, drop-drop}
 use Rattle.syntax.specs.Tables.{part, symbolOf}
-use Rattle.listing.specs.Pieces.{namedAs, fieldBytes, boundBytes, rowBytes, boundsBytes, rowsBytes, Named, AllShown}
+use Rattle.listing.specs.Listing.{decimal}
+use Rattle.listing.specs.Pieces.{namedAs, fieldBytes, boundBytes, rowBytes, headBytes, boundsBytes, rowsBytes, endBytes, Named, AllShown}
 use Rattle.listing.proofs.Laying.{Placed, placed-start, placed-byte, from, from-drop}
 
 -- what is read of symbol k, w being its number: where its name starts and how many bytes it has
@@ -116,3 +117,17 @@ pub row-cut : (cells : List ℕ) (i : ℕ) → take ((5 * i + 5) - 5 * i) (drop 
 row-cut cells i =
     let five : (5 * i + 5) - 5 * i ≡ 5 = omega arith in
     rw five
+
+-- the length of the whole listing, and of one that failed
+pub head-size : (word : List ℕ) (f : ℕ) → length (headBytes word f) ≡ (length word + 1) + length (decimal f)
+unfolding headBytes
+head-size word f = omega (arith, length-append word (decimal f ++ (10 ∷ [])), length-append (decimal f) (10 ∷ []))
+
+pub end-size : (named term : ℕ → List ℕ) (f : ℕ) (letters bound cells : List ℕ)
+    → length (endBytes named term f letters bound cells)
+    ≡ ((5 + length (decimal f)) + length (boundsBytes term letters bound)) + length (rowsBytes (rowBytes named term) cells)
+unfolding endBytes
+end-size named term f letters bound cells =
+    omega (arith, head-size (69 ∷ 78 ∷ 68 ∷ 44 ∷ []) f,
+    length-append (headBytes (69 ∷ 78 ∷ 68 ∷ 44 ∷ []) f) (boundsBytes term letters bound ++ rowsBytes (rowBytes named term) cells),
+    length-append (boundsBytes term letters bound) (rowsBytes (rowBytes named term) cells))

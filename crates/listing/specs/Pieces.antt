@@ -69,6 +69,11 @@ rowsBytes line (k ∷ a ∷ b ∷ []) = []
 rowsBytes line (k ∷ a ∷ b ∷ c ∷ []) = []
 rowsBytes line (k ∷ a ∷ b ∷ c ∷ d ∷ cells) = line (k ∷ a ∷ b ∷ c ∷ d ∷ []) ++ rowsBytes line cells
 
+-- the whole listing of a state that has not failed
+unfoldable pub endBytes : (ℕ → List ℕ) → (ℕ → List ℕ) → ℕ → List ℕ → List ℕ → List ℕ → List ℕ
+endBytes named term firings letters bound cells =
+    headBytes (69 ∷ 78 ∷ 68 ∷ 44 ∷ []) firings ++ (boundsBytes term letters bound ++ rowsBytes (rowBytes named term) cells)
+
 -- what a function that counts bytes promises: their count, and that it is at most so many
 pub record Sized (bytes : List ℕ) (most count : ℕ) : Type 0 where
   pub counted : count ≡ length bytes

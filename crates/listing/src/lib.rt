@@ -4,3 +4,5 @@ pub mod blocks;
 pub mod lines;
 pub mod terms;
 pub mod writing;
+pub mod numbering;
+pub mod end;
