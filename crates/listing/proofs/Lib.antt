@@ -5,3 +5,6 @@ pub mod Laying
 pub mod TermLaws
 pub mod LineLaws
 pub mod NumberLaws
+pub mod Appearing
+pub mod Decoding
+pub mod RunLaws

@@ -128,6 +128,9 @@ pub end-size : (named term : ℕ → List ℕ) (f : ℕ) (letters bound cells : 
     ≡ ((5 + length (decimal f)) + length (boundsBytes term letters bound)) + length (rowsBytes (rowBytes named term) cells)
 unfolding endBytes
 end-size named term f letters bound cells =
-    omega (arith, head-size (69 ∷ 78 ∷ 68 ∷ 44 ∷ []) f,
-    length-append (headBytes (69 ∷ 78 ∷ 68 ∷ 44 ∷ []) f) (boundsBytes term letters bound ++ rowsBytes (rowBytes named term) cells),
-    length-append (boundsBytes term letters bound) (rowsBytes (rowBytes named term) cells))
+    omega (
+      arith,
+      head-size (69 ∷ 78 ∷ 68 ∷ 44 ∷ []) f,
+      length-append (headBytes (69 ∷ 78 ∷ 68 ∷ 44 ∷ []) f) (boundsBytes term letters bound ++ rowsBytes (rowBytes named term) cells),
+      length-append (boundsBytes term letters bound) (rowsBytes (rowBytes named term) cells),
+    )

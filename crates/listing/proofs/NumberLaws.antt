@@ -32,36 +32,36 @@ cell-variable x h = rw (le-ltb x 256 h)
 -- whether a variable stands in a list with one more
 pub has-more : (z y : ℕ) (o : List ℕ) → has z (o ++ (y ∷ [])) ≡ (has z o || eqb z y)
 has-more z y [] = go (eqb z y)
-    where
-      go : (b : Bool) → (b || false) ≡ (false || b)
-      go true = refl
-      go false = refl
+  where
+    go : (b : Bool) → (b || false) ≡ (false || b)
+    go true = refl
+    go false = refl
 has-more z y (x ∷ o) = go (eqb z x) (has-more z y o)
-    where
-      go : (b : Bool) → has z (o ++ (y ∷ [])) ≡ (has z o || eqb z y) → (b || has z (o ++ (y ∷ []))) ≡ ((b || has z o) || eqb z y)
-      go true e = refl
-      go false e = e
+  where
+    go : (b : Bool) → has z (o ++ (y ∷ [])) ≡ (has z o || eqb z y) → (b || has z (o ++ (y ∷ []))) ≡ ((b || has z o) || eqb z y)
+    go true e = refl
+    go false e = e
 
 -- its place stays where it was
 pub place-kept : (z y i : ℕ) (o : List ℕ) → has z o ≡ true → placeFrom (eqb z) i (o ++ (y ∷ [])) ≡ placeFrom (eqb z) i o
 place-kept z y i [] h = let bad : _≡_ {A = ℕ} 0 1 = cc in absurd (omega arith)
 place-kept z y i (x ∷ o) h = go (eqb z x) h (λ k. place-kept z y (suc i) o k)
-    where
-      go : (b : Bool) → (b || has z o) ≡ true
-          → (has z o ≡ true → placeFrom (eqb z) (suc i) (o ++ (y ∷ [])) ≡ placeFrom (eqb z) (suc i) o)
-          → cond b i (placeFrom (eqb z) (suc i) (o ++ (y ∷ []))) ≡ cond b i (placeFrom (eqb z) (suc i) o)
-      go true e f = refl
-      go false e f = f e
+  where
+    go : (b : Bool) → (b || has z o) ≡ true
+        → (has z o ≡ true → placeFrom (eqb z) (suc i) (o ++ (y ∷ [])) ≡ placeFrom (eqb z) (suc i) o)
+        → cond b i (placeFrom (eqb z) (suc i) (o ++ (y ∷ []))) ≡ cond b i (placeFrom (eqb z) (suc i) o)
+    go true e f = refl
+    go false e f = f e
 
 -- a new variable's place is behind the others
 pub place-new : (y i : ℕ) (o : List ℕ) → has y o ≡ false → placeFrom (eqb y) i (o ++ (y ∷ [])) ≡ i + length o
 place-new y i [] h = rw (eq-eqb y y refl) (omega arith)
 place-new y i (x ∷ o) h = go (eqb y x) h (λ k. place-new y (suc i) o k)
-    where
-      go : (b : Bool) → (b || has y o) ≡ false → (has y o ≡ false → placeFrom (eqb y) (suc i) (o ++ (y ∷ [])) ≡ suc i + length o)
-          → cond b i (placeFrom (eqb y) (suc i) (o ++ (y ∷ []))) ≡ i + suc (length o)
-      go true e f = let bad : _≡_ {A = ℕ} 0 1 = cc in absurd (omega arith)
-      go false e f = omega (arith, f e)
+  where
+    go : (b : Bool) → (b || has y o) ≡ false → (has y o ≡ false → placeFrom (eqb y) (suc i) (o ++ (y ∷ [])) ≡ suc i + length o)
+        → cond b i (placeFrom (eqb y) (suc i) (o ++ (y ∷ []))) ≡ i + suc (length o)
+    go true e f = let bad : _≡_ {A = ℕ} 0 1 = cc in absurd (omega arith)
+    go false e f = omega (arith, f e)
 
 -- the number of a variable that has appeared, and of one that has not
 pub number-seen : (order : List ℕ) (x : ℕ) → has x order ≡ true → numberIn order x ≡ suc (placeFrom (eqb x) 0 order)
@@ -75,17 +75,17 @@ number-unseen order x h = rw h
 -- a variable has appeared just where its number is not 0
 pub unseen-zero : (order : List ℕ) (x : ℕ) → numberIn order x ≡ 0 → has x order ≡ false
 unseen-zero order x h = go (has x order) refl
-    where
-      go : (b : Bool) → has x order ≡ b → has x order ≡ false
-      go true e = absurd (omega (arith, number-seen order x e))
-      go false e = e
+  where
+    go : (b : Bool) → has x order ≡ b → has x order ≡ false
+    go true e = absurd (omega (arith, number-seen order x e))
+    go false e = e
 
 pub seen-number : (order : List ℕ) (x : ℕ) → (numberIn order x ≡ 0 → ⊥) → has x order ≡ true
 seen-number order x h = go (has x order) refl
-    where
-      go : (b : Bool) → has x order ≡ b → has x order ≡ true
-      go true e = e
-      go false e = absurd (h (number-unseen order x e))
+  where
+    go : (b : Bool) → has x order ≡ b → has x order ≡ true
+    go true e = e
+    go false e = absurd (h (number-unseen order x e))
 
 -- one more variable: its number, and that of every other
 pub number-new : (order : List ℕ) (y : ℕ) → has y order ≡ false → numberIn (order ++ (y ∷ [])) y ≡ suc (length order)
@@ -95,13 +95,14 @@ number-new order y h =
 
 pub number-other : (order : List ℕ) (y z : ℕ) → (z ≡ y → ⊥) → numberIn (order ++ (y ∷ [])) z ≡ numberIn order z
 number-other order y z h = go (has z order) refl
-    where
-      same : has z (order ++ (y ∷ [])) ≡ (has z order || false)
-      same = has-more z y order ∙ rw (ne-eqb z y h)
-      go : (b : Bool) → has z order ≡ b → numberIn (order ++ (y ∷ [])) z ≡ numberIn order z
-      go true e =
-          number-seen (order ++ (y ∷ [])) z (same ∙ rw e) ∙ ap suc (place-kept z y 0 order e) ∙ sym (number-seen order z e)
-      go false e = number-unseen (order ++ (y ∷ [])) z (same ∙ rw e) ∙ sym (number-unseen order z e)
+  where
+    same : has z (order ++ (y ∷ [])) ≡ (has z order || false)
+    same = has-more z y order ∙ rw (ne-eqb z y h)
+
+    go : (b : Bool) → has z order ≡ b → numberIn (order ++ (y ∷ [])) z ≡ numberIn order z
+    go true e =
+        number-seen (order ++ (y ∷ [])) z (same ∙ rw e) ∙ ap suc (place-kept z y 0 order e) ∙ sym (number-seen order z e)
+    go false e = number-unseen (order ++ (y ∷ [])) z (same ∙ rw e) ∙ sym (number-unseen order z e)
 
 -- no variable has appeared
 pub numbering-none : (numbers : List ℕ) → ((x : ℕ) → x < length numbers → getD numbers x 0 ≡ 0) → Numbering [] numbers 0
@@ -131,27 +132,29 @@ unfolding appearingIn
 numbered-new numbers seen x w e h inside new =
     rw (cell-variable x h, ← e)
     record { next = next; few = omega arith }
-    where
-      fresh : (order : List ℕ) → Numbering order numbers seen → has (w - 256) order ≡ false
-      fresh order n = unseen-zero order (w - 256) (sym (n .each (w - 256) inside) ∙ new)
-      entry : (order : List ℕ) → Numbering order numbers seen → (b : Bool) (z : ℕ) → eqb z (w - 256) ≡ b → z < length numbers
-          → getD (set numbers (w - 256) (seen + 1)) z 0 ≡ numberIn (order ++ ((w - 256) ∷ [])) z
-      entry order n true z t k =
-          let same : z ≡ w - 256 = eqb-true z (w - 256) t in
-          rw same
-          (getD-set-same numbers (w - 256) (seen + 1) 0 inside
-          ∙ (add-one seen ∙ ap suc (n .counted) ∙ sym (number-new order (w - 256) (fresh order n))))
-      entry order n false z t k =
-          getD-set-other numbers (w - 256) z (seen + 1) 0 (eqb-false z (w - 256) t)
-          ∙ n .each z k ∙ sym (number-other order (w - 256) z (eqb-false z (w - 256) t))
-      next : (order : List ℕ) → Numbering order numbers seen
-          → Numbering (appearingIn order (var (w - 256) ∷ [])) (set numbers (w - 256) (seen + 1)) (seen + 1)
-      next order n =
-          rw (fresh order n)
-          record {
-            each = λ z k. entry order n (eqb z (w - 256)) z refl (rw (length-set numbers (w - 256) (seen + 1)) at k);
-            counted = omega (arith, n .counted, length-append order ((w - 256) ∷ []));
-          }
+  where
+    fresh : (order : List ℕ) → Numbering order numbers seen → has (w - 256) order ≡ false
+    fresh order n = unseen-zero order (w - 256) (sym (n .each (w - 256) inside) ∙ new)
+
+    entry : (order : List ℕ) → Numbering order numbers seen → (b : Bool) (z : ℕ) → eqb z (w - 256) ≡ b → z < length numbers
+        → getD (set numbers (w - 256) (seen + 1)) z 0 ≡ numberIn (order ++ ((w - 256) ∷ [])) z
+    entry order n true z t k =
+        let same : z ≡ w - 256 = eqb-true z (w - 256) t in
+        rw same
+        (getD-set-same numbers (w - 256) (seen + 1) 0 inside
+        ∙ (add-one seen ∙ ap suc (n .counted) ∙ sym (number-new order (w - 256) (fresh order n))))
+    entry order n false z t k =
+        getD-set-other numbers (w - 256) z (seen + 1) 0 (eqb-false z (w - 256) t)
+        ∙ n .each z k ∙ sym (number-other order (w - 256) z (eqb-false z (w - 256) t))
+
+    next : (order : List ℕ) → Numbering order numbers seen
+        → Numbering (appearingIn order (var (w - 256) ∷ [])) (set numbers (w - 256) (seen + 1)) (seen + 1)
+    next order n =
+        rw (fresh order n)
+        record {
+          each = λ z k. entry order n (eqb z (w - 256)) z refl (rw (length-set numbers (w - 256) (seen + 1)) at k);
+          counted = omega (arith, n .counted, length-append order ((w - 256) ∷ []));
+        }
 
 -- the terms of cells from place i on: one more, none behind a 0, none behind the last
 pub terms-more : (cells : List ℕ) (i : ℕ) → i < length cells → (getD cells i 0 ≡ 0 → ⊥)
@@ -203,22 +206,22 @@ reach-end {whole} {numbers} {seen} {left} e r =
 pub zeros-more : (numbers : List ℕ) (i : ℕ) → i < length numbers → ((x : ℕ) → x < i → getD numbers x 0 ≡ 0)
     → (x : ℕ) → x < i + 1 → getD (set numbers i 0) x 0 ≡ 0
 zeros-more numbers i h zeros x k = go (eqb x i) refl
-    where
-      go : (b : Bool) → eqb x i ≡ b → getD (set numbers i 0) x 0 ≡ 0
-      go true e = let same : x ≡ i = eqb-true x i e in rw same (getD-set-same numbers i 0 0 h)
-      go false e =
-          let other : x ≡ i → ⊥ = eqb-false x i e in
-          getD-set-other numbers i x 0 0 other ∙ zeros x (omega (arith, other))
+  where
+    go : (b : Bool) → eqb x i ≡ b → getD (set numbers i 0) x 0 ≡ 0
+    go true e = let same : x ≡ i = eqb-true x i e in rw same (getD-set-same numbers i 0 0 h)
+    go false e =
+        let other : x ≡ i → ⊥ = eqb-false x i e in
+        getD-set-other numbers i x 0 0 other ∙ zeros x (omega (arith, other))
 
 -- constraint i's terms, as they are lent
 pub terms-cut : (cells : List ℕ) (i : ℕ) → take (((5 * i + 1) + 4) - (5 * i + 1)) (drop (5 * i + 1) cells) ≡ drop 1 (take 5 (drop (5 * i) cells))
 terms-cut cells i =
     let four : ((5 * i + 1) + 4) - (5 * i + 1) ≡ 4 = omega arith in
     rw (four, ← drop-drop 1 (5 * i) cells) (behind (drop (5 * i) cells))
-    where
-      behind : (l : List ℕ) → take 4 (drop 1 l) ≡ drop 1 (take 5 l)
-      behind [] = refl
-      behind (x ∷ l) = refl
+  where
+    behind : (l : List ℕ) → take 4 (drop 1 l) ≡ drop 1 (take 5 l)
+    behind [] = refl
+    behind (x ∷ l) = refl
 
 -- five cells as a constraint
 abbrev pub rowConstraint : List ℕ → Constraint

@@ -2,3 +2,4 @@
 pub mod Listing
 pub mod Pieces
 pub mod Numbers
+pub mod Runs

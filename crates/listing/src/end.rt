@@ -25,11 +25,11 @@ pub fn end_length<'a>(
     firings: usize,
 ) -> usize
     requires { ⌜ BoundShown (now program) (now goal) (now constants) n (length (now numbers)) (now letters) (now bound)
-      × RowsShown (now program) (now goal) (now symbols) (now constants) n (length (now numbers)) (now cells) m
-      × (firings < 65536) ⌝ }
+        × RowsShown (now program) (now goal) (now symbols) (now constants) n (length (now numbers)) (now cells) m
+        × (firings < 65536) ⌝ }
     ensures { λ r. ⌜ r ≡ length (endBytes (namedAs (now (program .entry)) (now (symbols .entry)))
-      (termBytes (spelledAs (now (program .entry)) (now (goal .entry)) (now (constants .entry)) n) (now (numbers .entry)))
-      firings (now (letters .entry)) (now (bound .entry)) (now (cells .entry))) ⌝ }
+        (termBytes (spelledAs (now (program .entry)) (now (goal .entry)) (now (constants .entry)) n) (now (numbers .entry)))
+        firings (now (letters .entry)) (now (bound .entry)) (now (cells .entry))) ⌝ }
 {
     let head = 5 + digits(firings);
     let lines = bounds_length(program, goal, constants, n, numbers, letters, bound);
@@ -52,15 +52,36 @@ pub fn put_end<'a>(
     firings: usize,
 ) -> usize
     requires { ⌜ BoundShown (now program) (now goal) (now constants) n (length (now numbers)) (now letters) (now bound)
-      × RowsShown (now program) (now goal) (now symbols) (now constants) n (length (now numbers)) (now cells) m
-      × (length (endBytes (namedAs (now program) (now symbols))
-      (termBytes (spelledAs (now program) (now goal) (now constants) n) (now numbers)) firings (now letters) (now bound) (now cells))
-      ≤ length (now out)) ⌝ }
+        × RowsShown (now program) (now goal) (now symbols) (now constants) n (length (now numbers)) (now cells) m
+        × (length (endBytes (namedAs (now program) (now symbols))
+        (termBytes (spelledAs (now program) (now goal) (now constants) n) (now numbers)) firings (now letters) (now bound) (now cells))
+        ≤ length (now out)) ⌝ }
     ensures { λ r. ⌜ Put (endBytes (namedAs (now (program .entry)) (now (symbols .entry)))
-      (termBytes (spelledAs (now (program .entry)) (now (goal .entry)) (now (constants .entry)) n) (now (numbers .entry)))
-      firings (now (letters .entry)) (now (bound .entry)) (now (cells .entry))) (now (out .entry)) (now (out .exit)) r ⌝ }
+        (termBytes (spelledAs (now (program .entry)) (now (goal .entry)) (now (constants .entry)) n) (now (numbers .entry)))
+        firings (now (letters .entry)) (now (bound .entry)) (now (cells .entry))) (now (out .entry)) (now (out .exit)) r ⌝ }
 {
     let at = put_head(out, b"END,", firings);
-    let end = at + put_bounds(&mut out[at..], program, goal, constants, n, numbers, letters, bound);
-    end + put_rows(&mut out[end..], program, goal, symbols, constants, n, numbers, cells, m)
+    let end = at
+        + put_bounds(
+            &mut out[at..],
+            program,
+            goal,
+            constants,
+            n,
+            numbers,
+            letters,
+            bound,
+        );
+    end
+        + put_rows(
+            &mut out[end..],
+            program,
+            goal,
+            symbols,
+            constants,
+            n,
+            numbers,
+            cells,
+            m,
+        )
 }

@@ -39,7 +39,7 @@ pub fn number_term(numbers: &mut [u16], seen: usize, x: u16) -> usize
 pub fn number_terms(numbers: &mut [u16], before: usize, cells: &[u16]) -> usize
     requires { ⌜ Within (length (now numbers)) (now cells) × (before + length (now cells) < 65536) ⌝ }
     ensures { λ r. ⌜ Renumbered (cellTerms (now (cells .entry))) (length (now (cells .entry)))
-      (now (numbers .entry)) (now (numbers .exit)) before r ⌝ }
+        (now (numbers .entry)) (now (numbers .exit)) before r ⌝ }
 {
     let mut seen = before;
     let mut i = 0;
@@ -73,9 +73,9 @@ pub fn number_rows(numbers: &mut [u16], before: usize, cells: &[u16], m: usize) 
 // All variables of a final state: those of the goal variables' cells, then those of the constraints.
 pub fn number(numbers: &mut [u16], bound: &[u16], cells: &[u16], m: usize) -> usize
     requires { ⌜ Within (length (now numbers)) (now bound) × RowsWithin (length (now numbers)) (now cells) m
-      × (length (now bound) + 4 * m < 65536) ⌝ }
+        × (length (now bound) + 4 * m < 65536) ⌝ }
     ensures { λ r. ⌜ Numbering (appearing (appearingIn [] (cellTerms (now (bound .entry)))) (cellConstraints (now (cells .entry))))
-      (now (numbers .exit)) r ⌝ }
+        (now (numbers .exit)) r ⌝ }
 {
     clear(numbers);
     let seen = number_terms(numbers, 0, bound);

@@ -32,8 +32,16 @@ add-result-2 c =
     let at-bounds-length = c .before in
     let at-digits = at-bounds-length .before in
     let start = at-digits .before .before .before .before .before .before .before .before .before in
-    omega (arith, decimal-few (start .args .firings), at-digits .digits .ensures, start .pre .2, at-bounds-length .bounds-length .ensures .few, start .pre .0 .few,
-    c .rows-length .ensures .few, start .pre .1 .few)
+    omega (
+      arith,
+      decimal-few (start .args .firings),
+      at-digits .digits .ensures,
+      start .pre .2,
+      at-bounds-length .bounds-length .ensures .few,
+      start .pre .0 .few,
+      c .rows-length .ensures .few,
+      start .pre .1 .few,
+    )
 
 returns : tie.Need-returns
 returns c =

@@ -32,9 +32,11 @@ loop-less c =
 
 loop-again : tie.Need-loop-again Inv-loop μ-loop
 loop-again c =
-    let at-loop = c .before in
-    (rw (length-set (at-loop .loop .numbers) (at-loop .loop .i) 0) (omega arith), rw (length-set (at-loop .loop .numbers) (at-loop .loop .i) 0) (at-loop .loop .inv .1),
-    zeros-more (at-loop .loop .numbers) (at-loop .loop .i) (c .loop-test .taken) (at-loop .loop .inv .2))
+    let at-loop = c .before in (
+      rw (length-set (at-loop .loop .numbers) (at-loop .loop .i) 0) (omega arith),
+      rw (length-set (at-loop .loop .numbers) (at-loop .loop .i) 0) (at-loop .loop .inv .1),
+      zeros-more (at-loop .loop .numbers) (at-loop .loop .i) (c .loop-test .taken) (at-loop .loop .inv .2),
+    )
 
 same-length : tie.Need-same-length Inv-loop μ-loop
 same-length c =

@@ -24,9 +24,10 @@ number-rows-requires : tie.Need-number-rows-requires
 number-rows-requires c κs =
     let at-number-terms = c .before .before .before in
     let at-clear = at-number-terms .before .before .before .before in
-    let start = at-clear .before .before .before .before .before in
-    (subst (λ (k : ℕ). RowsWithin k (start .args .cells .now) (start .args .m)) (sym (at-number-terms .number-terms .kept .0 ∙ at-clear .clear .kept .0)) (start .pre .1),
-    omega (arith, start .pre .2, at-number-terms .number-terms .ensures .few))
+    let start = at-clear .before .before .before .before .before in (
+      subst (λ (k : ℕ). RowsWithin k (start .args .cells .now) (start .args .m)) (sym (at-number-terms .number-terms .kept .0 ∙ at-clear .clear .kept .0)) (start .pre .1),
+      omega (arith, start .pre .2, at-number-terms .number-terms .ensures .few),
+    )
 
 same-length : tie.Need-same-length
 same-length c = search needs

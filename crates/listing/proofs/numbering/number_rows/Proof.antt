@@ -61,10 +61,11 @@ number-terms-requires c κs =
     let at-loop = at-loop-test .before in
     let start = at-loop .before .before .before in
     let cut = terms-cut (start .args .cells .now) (at-loop .loop .i) in
-    let row = take 5 (drop (5 * (at-loop .loop .i)) (start .args .cells .now)) in
-    (subst (λ (l : List ℕ). Within (length (at-loop .loop .numbers)) l) (sym cut)
-    (subst (λ (k : ℕ). Within k (drop 1 row)) (sym (at-loop .loop .inv .2)) (start .pre .0 .rows (at-loop .loop .i) (at-loop-test .loop-test .taken))),
-    omega (arith, four-cells (start .args .cells .now) (at-loop .loop .i), at-loop .loop .inv .1, start .pre .1, at-loop-test .loop-test .taken))
+    let row = take 5 (drop (5 * (at-loop .loop .i)) (start .args .cells .now)) in (
+      subst (λ (l : List ℕ). Within (length (at-loop .loop .numbers)) l) (sym cut)
+          (subst (λ (k : ℕ). Within k (drop 1 row)) (sym (at-loop .loop .inv .2)) (start .pre .0 .rows (at-loop .loop .i) (at-loop-test .loop-test .taken))),
+      omega (arith, four-cells (start .args .cells .now) (at-loop .loop .i), at-loop .loop .inv .1, start .pre .1, at-loop-test .loop-test .taken),
+    )
 
 add-i : tie.Need-add-i Inv-loop μ-loop
 add-i c =
@@ -80,13 +81,15 @@ loop-again c =
     let at-loop = at-number-terms .before .before .before .before in
     let start = at-loop .before .before .before in
     let cut = terms-cut (start .args .cells .now) (at-loop .loop .i) in
-    let row = take 5 (drop (5 * (at-loop .loop .i)) (start .args .cells .now)) in
-    (omega arith, omega (arith, at-number-terms .number-terms .ensures .few, four-cells (start .args .cells .now) (at-loop .loop .i), at-loop .loop .inv .1),
-    at-number-terms .number-terms .kept .0 ∙ at-loop .loop .inv .2,
-    (λ order n.
-    rows-next row (cellConstraints (drop (5 * (at-loop .loop .i + 1)) (start .args .cells .now)))
-    (constraints-more (start .args .cells .now) (at-loop .loop .i) (omega (arith, start .pre .0 .size)))
-    (renumbered-is (ap cellTerms cut) (at-number-terms .number-terms .ensures)) (at-loop .loop .inv .3 order n)))
+    let row = take 5 (drop (5 * (at-loop .loop .i)) (start .args .cells .now)) in (
+      omega arith,
+      omega (arith, at-number-terms .number-terms .ensures .few, four-cells (start .args .cells .now) (at-loop .loop .i), at-loop .loop .inv .1),
+      at-number-terms .number-terms .kept .0 ∙ at-loop .loop .inv .2,
+      (λ order n.
+          rows-next row (cellConstraints (drop (5 * (at-loop .loop .i + 1)) (start .args .cells .now)))
+          (constraints-more (start .args .cells .now) (at-loop .loop .i) (omega (arith, start .pre .0 .size)))
+          (renumbered-is (ap cellTerms cut) (at-number-terms .number-terms .ensures)) (at-loop .loop .inv .3 order n)),
+    )
 
 same-length : tie.Need-same-length Inv-loop μ-loop
 same-length c =
@@ -99,8 +102,8 @@ returns c =
     let start = at-loop .before .before .before in
     record {
       next = λ order n.
-        rows-done (constraints-end (start .args .cells .now) (5 * (at-loop .loop .i)) (omega (arith, start .pre .0 .size, c .loop-test .left)))
-        (at-loop .loop .inv .3 order n);
+          rows-done (constraints-end (start .args .cells .now) (5 * (at-loop .loop .i)) (omega (arith, start .pre .0 .size, c .loop-test .left)))
+          (at-loop .loop .inv .3 order n);
     }
 
 pub number-rows-spec : {M : Type 1} → statement M

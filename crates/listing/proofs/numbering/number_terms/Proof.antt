@@ -49,9 +49,10 @@ number-term-requires : tie.Need-number-term-requires Inv-loop μ-loop
 number-term-requires c κs =
     let at-loop-test = c .before .before .before in
     let at-loop = at-loop-test .before in
-    let start = at-loop .before .before .before in
-    ((λ h. omega (arith, start .pre .0 .each (at-loop .loop .i) (at-loop-test .loop-test .taken) h, at-loop .loop .inv .2)),
-    omega (arith, at-loop .loop .inv .1, start .pre .1, at-loop-test .loop-test .taken))
+    let start = at-loop .before .before .before in (
+      (λ h. omega (arith, start .pre .0 .each (at-loop .loop .i) (at-loop-test .loop-test .taken) h, at-loop .loop .inv .2)),
+      omega (arith, at-loop .loop .inv .1, start .pre .1, at-loop-test .loop-test .taken),
+    )
 
 add-i : tie.Need-add-i Inv-loop μ-loop
 add-i c = omega arith
@@ -65,12 +66,15 @@ loop-again c =
     let at-if1 = at-number-term .before .before in
     let at-loop-test = at-if1 .before .before in
     let at-loop = at-loop-test .before in
-    let start = at-loop .before .before .before in
-    (omega arith, omega (arith, at-number-term .number-term .ensures .few, at-loop .loop .inv .1), at-number-term .number-term .kept .0 ∙ at-loop .loop .inv .2,
-    (λ order n.
-    rw (add-one (at-loop .loop .i))
-    (reach-more (getD (start .args .cells .now) (at-loop .loop .i) 0) (cellTerms (drop (suc (at-loop .loop .i)) (start .args .cells .now)))
-    (terms-more (start .args .cells .now) (at-loop .loop .i) (at-loop-test .loop-test .taken) (at-if1 .if1 .left)) (at-number-term .number-term .ensures) (at-loop .loop .inv .3 order n))))
+    let start = at-loop .before .before .before in (
+      omega arith,
+      omega (arith, at-number-term .number-term .ensures .few, at-loop .loop .inv .1),
+      at-number-term .number-term .kept .0 ∙ at-loop .loop .inv .2,
+      (λ order n.
+          rw (add-one (at-loop .loop .i))
+          (reach-more (getD (start .args .cells .now) (at-loop .loop .i) 0) (cellTerms (drop (suc (at-loop .loop .i)) (start .args .cells .now)))
+          (terms-more (start .args .cells .now) (at-loop .loop .i) (at-loop-test .loop-test .taken) (at-if1 .if1 .left)) (at-number-term .number-term .ensures) (at-loop .loop .inv .3 order n))),
+    )
 
 same-length-2 : tie.Need-same-length-2 Inv-loop μ-loop
 same-length-2 c =
