@@ -13,23 +13,23 @@ use native.Mathlib.Nat.{add-zero}
 use native.Mathlib.Numerals.{one-add}
 use lib.Dec.{ltb, eqb}
 use lib.ListN.{length, take, drop, getD, length-drop, length-take}
-use lib.Seq.{getD-drop, getD-take}
+use lib.Seq.{getD-drop, getD-take, ext-getD}
 use borrow.Author.Tests.{lt-ltb, le-ltb, ltb-true, ltb-false, ne-eqb}
 use Rattle.text.specs.Bytes.{ascii}
-use Rattle.text.specs.Lists.{every}
+use Rattle.text.specs.Lists.{every, tabled}
 use Rattle.semantics.specs.Terms.{Term, Constraint, State}
 use Rattle.semantics.specs.Overlaps.{appearingIn, appearing}
 use Rattle.syntax.specs.Tables.{cellTerm, cellTerms, cellConstraints, lettersOf}
 use Rattle.listing.specs.Listing.{decimal, fieldsBehind, lineOf, Naming, unbound, boundLines, constraintLines, stateListing, endListing}
 use Rattle.listing.specs.Pieces.{laid, spelledAs, namedAs, termBytes, headBytes, boundsBytes, rowBytes, rowsBytes, endBytes, Put}
 use Rattle.listing.specs.Pieces.{Spelt, Shown, AllShown, Named, RowShown, BoundShown, RowsShown}
-use Rattle.listing.specs.Numbers.{Numbering, Within, RowsWithin}
-use Rattle.listing.specs.Runs.{tableNaming, stateOf, runBytes, listedIn, outputAfter, ListedAs, TermCell, Listable}
+use Rattle.listing.specs.Numbers.{numberIn, numbersOf, Numbering, Within, RowsWithin}
+use Rattle.listing.specs.Runs.{tableNaming, stateOf, runBytes, listedIn, outputAfter, numbersAfter, ListedAs, TermCell, Listable}
 use Rattle.listing.specs.declared.Listed.{Listed}
 use Rattle.listing.specs.declared.Listed.the-variants.{TooShort, Written}
 use Rattle.listing.specs.declared.Counts.{Counts}
 use Rattle.listing.proofs.Appearing.{varIn, every-grows, in-terms, in-rows, grows}
-use Rattle.listing.proofs.Decoding.{letters-take, named-at, spelled-at, shown-bounds, shown-rows}
+use Rattle.listing.proofs.Decoding.{tabled-length, tabled-at, letters-take, named-at, spelled-at, shown-bounds, shown-rows}
 
 -- the cells of constraint i
 row-size : (cells : List ℕ) (i m : ℕ) → i < m → length cells ≡ 5 * m → length (take 5 (drop (5 * i) cells)) ≡ 5
@@ -163,6 +163,21 @@ end-listing {program} {goal} {symbols} {constants} {letters} {bound} {cells} {nu
     let head = lineOf (ascii "END") (decimal (k .firings) ∷ []) in
     ap (λ (r : List ℕ). head ++ (r ++ constraintLines (ascii "S") naming (unbound order) (cellConstraints cells))) bounds
     ∙ ap (λ (r : List ℕ). head ++ (boundsBytes (termBytes spelled numbers) letters bound ++ r)) rows
+
+-- the table of numbers afterwards
+pub end-numbers : {program goal symbols constants letters bound cells numbers : List ℕ} {k : Counts} {count : ℕ} (before : List ℕ)
+    → Listable program goal symbols constants letters bound cells (length before) k → length numbers ≡ length before
+    → Numbering (appearing (appearingIn [] (cellTerms bound)) (cellConstraints cells)) numbers count
+    → numbers ≡ numbersAfter false bound cells before
+unfolding numbersAfter numbersOf
+end-numbers {program} {goal} {symbols} {constants} {letters} {bound} {cells} {numbers} {k} {count} before l size numbered =
+    let all = k .own + k .more in
+    let terms : cellTerms bound ≡ map cellTerm bound =
+        terms-all bound (λ i h. term-some all (length before) (getD bound i 0) (l .bound-terms i h)) in
+    let order = appearing (appearingIn [] (cellTerms bound)) (cellConstraints cells) in
+    ext-getD 0 numbers (tabled (numberIn order) (length before)) (size ∙ sym (tabled-length (numberIn order) (length before)))
+    (λ i h. numbered .each i h ∙ sym (tabled-at (numberIn order) 0 (length before) i (omega (arith, size))))
+    ∙ ap (λ (ts : List Term). tabled (numberIn (appearing (appearingIn [] ts) (cellConstraints cells))) (length before)) terms
 
 -- the listing of a failed state
 pub failed-listing : (naming : Naming) (letters bound cells : List ℕ) (f : ℕ)

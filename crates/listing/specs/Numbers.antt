@@ -1,5 +1,6 @@
 -- The U numbers of variables in a table: entry x is 0 where variable x has not appeared, and else one more than its place.
---   numberIn, Numbering     the number of a variable, and a table that holds all of them
+--   numberIn, numbersOf     the number of a variable, and the table of all numbers
+--   Numbering               a table of them that is being filled
 --   Renumbered              what numbering more terms promises
 -- Assumes nothing.
 use Prim.Native.Nat.{ℕ, suc, _+_, _-_, _*_, _≤_, _<_}
@@ -8,13 +9,17 @@ use mathlib.Core.List.{List, [], _∷_}
 use mathlib.Core.Path.{_≡_}
 use lib.Dec.{eqb}
 use lib.ListN.{length, take, drop, getD}
-use Rattle.text.specs.Lists.{has, placeFrom}
+use Rattle.text.specs.Lists.{has, placeFrom, tabled}
 use Rattle.semantics.specs.Terms.{Term, Constraint}
 use Rattle.semantics.specs.Overlaps.{appearingIn, appearing}
 
 -- the number of variable x among those that have appeared, from 1; 0 where it has not
 unfoldable pub numberIn : List ℕ → ℕ → ℕ
 numberIn order x = cond (has x order) (suc (placeFrom (eqb x) 0 order)) 0
+
+-- the table of the numbers of v variables
+unfoldable pub numbersOf : List ℕ → ℕ → List ℕ
+numbersOf order v = tabled (numberIn order) v
 
 -- a table of the numbers of all variables, with the count of those that have appeared
 pub record Numbering (order numbers : List ℕ) (count : ℕ) : Type 0 where

@@ -1,6 +1,8 @@
 -- What the listing of a run asks and promises, over flat tables.
---   TableNaming, finalOf     what the tables name things by, and the final state that cells decode to
+--   tableNaming, stateOf     what the tables name things by, and the state that cells decode to
+--   runBytes                 the listing of a run
 --   listedIn, outputAfter    the reply for an output of some room, and every byte of the output afterwards
+--   numbersAfter             the lent table of numbers afterwards
 --   Listable                 what is asked of the tables and the cells
 -- Assumes nothing.
 use Prim.Native.Nat.{ℕ, suc, _+_, _-_, _*_, _≤_, _<_}
@@ -11,9 +13,11 @@ use lib.Dec.{ltb}
 use lib.ListN.{length, getD}
 use Rattle.semantics.specs.Terms.{State, failed, live}
 use Rattle.semantics.specs.Strategy.{Final}
+use Rattle.semantics.specs.Overlaps.{appearingIn, appearing}
 use Rattle.syntax.specs.Tables.{cellTerm, cellConstraints, symbolsOf, constantsOf, lettersOf}
 use Rattle.listing.specs.Listing.{Naming, endListing}
 use Rattle.listing.specs.Pieces.{laid}
+use Rattle.listing.specs.Numbers.{numbersOf}
 use Rattle.listing.specs.declared.Listed.{Listed}
 use Rattle.listing.specs.declared.Listed.the-variants.{TooShort, Written}
 use Rattle.listing.specs.declared.Counts.{Counts}
@@ -42,6 +46,11 @@ listedIn room bytes = cond (ltb room (length bytes)) TooShort (Written (length b
 -- every byte of the output afterwards: untouched where the listing does not fit; the listing, and then the old bytes, otherwise
 unfoldable pub outputAfter : List ℕ → List ℕ → List ℕ
 outputAfter bytes before = cond (ltb (length before) (length bytes)) before (laid bytes before)
+
+-- the lent table of numbers afterwards: untouched by a failed state, which shows no variable
+unfoldable pub numbersAfter : Bool → List ℕ → List ℕ → List ℕ → List ℕ
+numbersAfter hasFailed bound cells before =
+    cond hasFailed before (numbersOf (appearing (appearingIn [] (map cellTerm bound)) (cellConstraints cells)) (length before))
 
 -- what listing promises
 pub record ListedAs (bytes before after : List ℕ) (reply : Listed) : Type 0 where

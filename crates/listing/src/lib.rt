@@ -17,7 +17,8 @@ ghost use mathlib.Core.List.{[], _∷_};
 ghost use Prim.Native.Nat.{_<_};
 ghost use lib.ListN.{length};
 ghost use Rattle.listing.specs.Pieces.{headBytes};
-ghost use Rattle.listing.specs.Runs.{tableNaming, runBytes, Listable, RunListable, ListedAs};
+ghost use Rattle.listing.specs.Runs.{tableNaming, runBytes, numbersAfter, RunListable, ListedAs};
+ghost use mathlib.Core.Path.{_≡_};
 
 // Whether a listing was written, and how many bytes it has.
 pub enum Listed {
@@ -37,7 +38,8 @@ pub struct Counts {
 // The listing of a failed state.
 pub fn list_failed(out: &mut [u8], firings: usize) -> Listed
     requires { ⌜ firings < 65536 ⌝ }
-    ensures { λ r. ⌜ ListedAs (headBytes (70 ∷ 65 ∷ 73 ∷ 76 ∷ 69 ∷ 68 ∷ 44 ∷ []) firings) (now (out .entry)) (now (out .exit)) r ⌝ }
+    ensures { λ r. ⌜ ListedAs (headBytes (70 ∷ 65 ∷ 73 ∷ 76 ∷ 69 ∷ 68 ∷ 44 ∷ []) firings)
+      (now (out .entry)) (now (out .exit)) r ⌝ }
 {
     let size = 8 + digits(firings);
     if out.len() < size {
@@ -66,6 +68,7 @@ pub fn list_end<'a>(
         (runBytes (tableNaming (now (program .entry)) (now (goal .entry)) (now (symbols .entry)) (now (constants .entry)) counts)
         (now (letters .entry)) false 0 (now (bound .entry)) (now (cells .entry)) (counts .firings))
         (now (out .entry)) (now (out .exit)) r ⌝ }
+    ensures { λ _. ⌜ now (numbers .exit) ≡ numbersAfter false (now (bound .entry)) (now (cells .entry)) (now (numbers .entry)) ⌝ }
 {
     let n = counts.own;
     let m = counts.constraints;
@@ -124,6 +127,7 @@ pub fn list_run<'a>(
         (runBytes (tableNaming (now (program .entry)) (now (goal .entry)) (now (symbols .entry)) (now (constants .entry)) counts)
         (now (letters .entry)) failed 0 (now (bound .entry)) (now (cells .entry)) (counts .firings))
         (now (out .entry)) (now (out .exit)) r ⌝ }
+    ensures { λ _. ⌜ now (numbers .exit) ≡ numbersAfter failed (now (bound .entry)) (now (cells .entry)) (now (numbers .entry)) ⌝ }
 {
     if failed {
         let firings = counts.firings;

@@ -4,7 +4,8 @@ use Prim.Native.Nat.{ℕ}
 use borrow.Author.Needs.{needs}
 use native.Mathlib.Omega.{arith}
 use Rattle.listing.specs.Runs.{Listable}
-use Rattle.listing.proofs.RunLaws.{bound-shown, rows-shown, bound-within, rows-within, end-listing, listed-short, listed-written, listed-is}
+use Rattle.listing.proofs.RunLaws.{bound-shown, rows-shown, bound-within, rows-within, end-listing, end-numbers}
+use Rattle.listing.proofs.RunLaws.{listed-short, listed-written, listed-is}
 use Rattle.listing.proofs.list_end.Statement.{statement}
 use Rattle.listing.proofs.list_end.Tie as tie
 
@@ -18,8 +19,9 @@ end-length-requires : tie.Need-end-length-requires
 end-length-requires c κs =
     let at-number = c .before .before .before in
     let start = at-number .before .before .before .before .before .before .before .before .before .before .before in
+    let args = (start .args) in
     let asked = start .pre .live refl in
-    let listable = subst (λ (v : ℕ). Listable (start .args .program .now) (start .args .goal .now) (start .args .symbols .now) (start .args .constants .now) (start .args .letters .now) (start .args .bound .now) (start .args .cells .now) v (start .args .counts)) (sym (at-number .number .kept .0)) asked in
+    let listable = subst (λ (v : ℕ). Listable (args .program .now) (args .goal .now) (args .symbols .now) (args .constants .now) (args .letters .now) (args .bound .now) (args .cells .now) v (args .counts)) (sym (at-number .number .kept .0)) asked in
     (bound-shown listable, rows-shown listable, start .pre .firings)
 
 same-length : tie.Need-same-length
@@ -30,10 +32,12 @@ returns c =
     let at-end-length = c .before in
     let at-number = at-end-length .before .before .before .before in
     let start = at-number .before .before .before .before .before .before .before .before .before .before .before in
+    let args = (start .args) in
     let asked = start .pre .live refl in
-    let listable = subst (λ (v : ℕ). Listable (start .args .program .now) (start .args .goal .now) (start .args .symbols .now) (start .args .constants .now) (start .args .letters .now) (start .args .bound .now) (start .args .cells .now) v (start .args .counts)) (sym (at-number .number .kept .0)) asked in
+    let listable = subst (λ (v : ℕ). Listable (args .program .now) (args .goal .now) (args .symbols .now) (args .constants .now) (args .letters .now) (args .bound .now) (args .cells .now) v (args .counts)) (sym (at-number .number .kept .0)) asked in
     let same = end-listing listable (at-number .number .ensures) in
-    listed-is (sym same) (listed-short (omega (arith, at-end-length .end-length .ensures, c .if1 .taken)))
+    let numbered = end-numbers (args .numbers .now) asked (at-number .number .kept .0) (at-number .number .ensures) in
+    (listed-is (sym same) (listed-short (omega (arith, at-end-length .end-length .ensures, c .if1 .taken))), numbered)
 
 put-end-requires : tie.Need-put-end-requires
 put-end-requires c κs =
@@ -41,8 +45,9 @@ put-end-requires c κs =
     let at-end-length = at-if1 .before in
     let at-number = at-end-length .before .before .before .before in
     let start = at-number .before .before .before .before .before .before .before .before .before .before .before in
+    let args = (start .args) in
     let asked = start .pre .live refl in
-    let listable = subst (λ (v : ℕ). Listable (start .args .program .now) (start .args .goal .now) (start .args .symbols .now) (start .args .constants .now) (start .args .letters .now) (start .args .bound .now) (start .args .cells .now) v (start .args .counts)) (sym (at-number .number .kept .0)) asked in
+    let listable = subst (λ (v : ℕ). Listable (args .program .now) (args .goal .now) (args .symbols .now) (args .constants .now) (args .letters .now) (args .bound .now) (args .cells .now) v (args .counts)) (sym (at-number .number .kept .0)) asked in
     (bound-shown listable, rows-shown listable, omega (arith, at-end-length .end-length .ensures, at-if1 .if1 .left))
 
 same-length-2 : tie.Need-same-length-2
@@ -58,11 +63,13 @@ returns-2 c =
     let at-end-length = at-if1 .before in
     let at-number = at-end-length .before .before .before .before in
     let start = at-number .before .before .before .before .before .before .before .before .before .before .before in
+    let args = (start .args) in
     let asked = start .pre .live refl in
-    let listable = subst (λ (v : ℕ). Listable (start .args .program .now) (start .args .goal .now) (start .args .symbols .now) (start .args .constants .now) (start .args .letters .now) (start .args .bound .now) (start .args .cells .now) v (start .args .counts)) (sym (at-number .number .kept .0)) asked in
+    let listable = subst (λ (v : ℕ). Listable (args .program .now) (args .goal .now) (args .symbols .now) (args .constants .now) (args .letters .now) (args .bound .now) (args .cells .now) v (args .counts)) (sym (at-number .number .kept .0)) asked in
     let same = end-listing listable (at-number .number .ensures) in
-    listed-is (sym same)
-    (listed-written (omega (arith, at-end-length .end-length .ensures, at-if1 .if1 .left)) (at-end-length .end-length .ensures) (at-put-end .put-end .ensures))
+    let numbered = end-numbers (args .numbers .now) asked (at-number .number .kept .0) (at-number .number .ensures) in
+    (listed-is (sym same)
+    (listed-written (omega (arith, at-end-length .end-length .ensures, at-if1 .if1 .left)) (at-end-length .end-length .ensures) (at-put-end .put-end .ensures)), numbered)
 
 pub list-end-spec : {M : Type 1} → statement M
 list-end-spec =

@@ -1,7 +1,7 @@
 -- `listing::list_run` meets its contract. Assumes nothing.
-use mathlib.Core.Path.{sym}
+use mathlib.Core.Path.{refl, sym}
 use borrow.Author.Needs.{needs}
-use Rattle.listing.specs.Runs.{tableNaming}
+use Rattle.listing.specs.Runs.{tableNaming, numbersAfter}
 use Rattle.listing.proofs.RunLaws.{failed-listing, listed-is}
 use Rattle.listing.proofs.list_run.Statement.{statement}
 use Rattle.listing.proofs.list_run.Tie as tie
@@ -13,14 +13,16 @@ same-length : tie.Need-same-length
 same-length c = search needs
 
 returns : tie.Need-returns
+unfolding numbersAfter
 returns c =
     let at-list-failed = c .before .before in
     let at-if1 = at-list-failed .before .before in
     let start = at-if1 .before .before .before .before .before .before .before .before .before .before in
-    let naming = tableNaming (start .args .program .now) (start .args .goal .now) (start .args .symbols .now) (start .args .constants .now) (start .args .counts) in
+    let args = (start .args) in
+    let naming = tableNaming (args .program .now) (args .goal .now) (args .symbols .now) (args .constants .now) (args .counts) in
     rw (at-if1 .if1 .taken)
-    (listed-is (sym (failed-listing naming (start .args .letters .now) (start .args .bound .now) (start .args .cells .now) (start .args .counts .firings)))
-    (at-list-failed .list-failed .ensures))
+    (listed-is (sym (failed-listing naming (args .letters .now) (args .bound .now) (args .cells .now) (args .counts .firings)))
+    (at-list-failed .list-failed .ensures), refl)
 
 list-end-requires : tie.Need-list-end-requires
 list-end-requires c κs =
