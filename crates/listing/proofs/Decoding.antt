@@ -17,13 +17,15 @@ use Rattle.text.specs.Lists.{has, every, placeFrom, tabled, gather}
 use Rattle.semantics.specs.Terms.{Term, con, var, Constraint, Symbol, symbolAt, noSymbol}
 use Rattle.syntax.specs.Forms.{firstConstant}
 use Rattle.syntax.specs.Tables.{cellTerm, cellTerms, cellConstraints, symbolOf, symbolsOf, constantOf, constantsOf, lettersOf}
-use Rattle.listing.specs.Listing.{decimal, fieldsBehind, lineOf, Naming, termShown, constraintShown, constraintLines, unbound, boundLines}
+use Rattle.listing.specs.Listing.{decimal, fieldsBehind, lineOf, Naming, termShown, constraintShown, constraintLines}
+use Rattle.listing.specs.Listing.{unbound, boundLines}
 use Rattle.listing.specs.Pieces.{spelledAs, namedAs, termBytes, fieldBytes, boundBytes, rowBytes, boundsBytes, rowsBytes}
 use Rattle.listing.specs.Numbers.{Numbering, numberIn}
 use Rattle.listing.specs.Runs.{TermCell}
 use Rattle.listing.proofs.TermLaws.{term-constant, term-variable}
 use Rattle.listing.proofs.LineLaws.{rows-more, rows-end}
-use Rattle.listing.proofs.NumberLaws.{cell-constant, cell-variable, number-seen, rowConstraint, constraints-more, constraints-end}
+use Rattle.listing.proofs.NumberLaws.{cell-constant, cell-variable, number-seen, rowConstraint, constraints-more}
+use Rattle.listing.proofs.NumberLaws.{constraints-end}
 use Rattle.listing.proofs.Appearing.{varIn, and-true}
 
 -- a table's length and its entries
@@ -44,7 +46,8 @@ tabled-at {A} f d (suc n) i h = go (eqb i n) refl (tabled-at f d n i)
         List·getD-append (tabled f n) (f n ∷ []) d i (omega (arith, tabled-length f n, other)) ∙ again (omega (arith, other))
 
 -- the letters of a table, one by one
-pub letters-take : (letters : List ℕ) (n : ℕ) → n ≤ length letters → lettersOf letters n ≡ map (λ (v : ℕ). v ∷ []) (take n letters)
+pub letters-take : (letters : List ℕ) (n : ℕ) → n ≤ length letters → lettersOf letters n ≡ map (λ (v : ℕ). v ∷ [])
+    (take n letters)
 unfolding lettersOf
 letters-take letters zero h = refl
 letters-take letters (suc n) h =
@@ -57,7 +60,8 @@ letters-take letters (suc n) h =
     map-snoc (y ∷ l) x = ap (λ (r : List (List ℕ)). (y ∷ []) ∷ r) (map-snoc l x)
 
 -- a symbol's name, and a constant's spelling, from their tables
-pub named-at : (program symbols : List ℕ) (s k : ℕ) → k < s → symbolAt (symbolsOf program symbols s) k .name ≡ namedAs program symbols k
+pub named-at : (program symbols : List ℕ) (s k : ℕ) → k < s → symbolAt (symbolsOf program symbols s) k .name
+    ≡ namedAs program symbols k
 unfolding symbolAt symbolsOf namedAs
 named-at program symbols s k h = ap (λ (y : Symbol). y .name) (tabled-at (symbolOf program symbols) noSymbol s k h)
 
@@ -79,8 +83,10 @@ spelled-at program goal constants n m i h = go (ltb i n) refl
         let place : i ≡ length (tabled (constantOf program constants) n) + (i - n) =
         omega (arith, tabled-length (constantOf program constants) n) in
         let back : n + (i - n) ≡ i = omega arith in
-        ap (λ (j : ℕ). getD (tabled (constantOf program constants) n ++ tabled (λ (j : ℕ). constantOf goal constants (n + j)) m) j []) place
-        ∙ getD-append-add (tabled (constantOf program constants) n) (tabled (λ (j : ℕ). constantOf goal constants (n + j)) m) (i - n) []
+        ap (λ (j : ℕ). getD (tabled (constantOf program constants) n ++ tabled (λ (j : ℕ). constantOf goal constants (n + j)) m)
+        j []) place
+        ∙ getD-append-add (tabled (constantOf program constants) n) (tabled (λ (j : ℕ). constantOf goal constants (n + j)) m)
+        (i - n) []
         ∙ tabled-at (λ (j : ℕ). constantOf goal constants (n + j)) [] m (i - n) (omega arith)
         ∙ ap (constantOf goal constants) back
 
@@ -132,7 +138,8 @@ module _ (naming : Naming) (order numbers : List ℕ) (count s k : ℕ) (named s
           ∙ ap (λ (l : List ℕ). 44 ∷ (termBytes spelled numbers x ++ l)) (again (parts .1))
 
   -- the A lines
-  pub shown-bounds : (vs xs : List ℕ) → length xs ≤ length vs → ((i : ℕ) → i < length xs → TermCell k (length numbers) (getD xs i 0))
+  pub shown-bounds : (vs xs : List ℕ) → length xs ≤ length vs → ((i : ℕ) → i < length xs → TermCell k (length numbers)
+      (getD xs i 0))
       → every (varIn order) (map cellTerm xs) ≡ true
       → boundLines naming (unbound order) (map (λ (v : ℕ). v ∷ []) (take (length xs) vs)) (map cellTerm xs)
       ≡ boundsBytes (termBytes spelled numbers) vs xs
@@ -151,7 +158,8 @@ module _ (naming : Naming) (order numbers : List ℕ) (count s k : ℕ) (named s
   pub shown-row : (row : List ℕ) → getD row 0 0 < s
       → ((i : ℕ) → i < length (drop 1 row) → 0 < getD (drop 1 row) i 0 → TermCell k (length numbers) (getD (drop 1 row) i 0))
       → every (varIn order) (cellTerms (drop 1 row)) ≡ true
-      → lineOf (ascii "S") (constraintShown naming (unbound order) (rowConstraint row)) ≡ rowBytes named (termBytes spelled numbers) row
+      → lineOf (ascii "S") (constraintShown naming (unbound order) (rowConstraint row)) ≡ rowBytes named
+      (termBytes spelled numbers) row
   unfolding constraintShown rowBytes lineOf fieldsBehind ascii
   shown-row row symbol each inside =
       ap (λ (l : List ℕ). 83 ∷ 44 ∷ (l ++ fieldsBehind (map (termShown naming (unbound order)) (cellTerms (drop 1 row)))))
@@ -161,7 +169,8 @@ module _ (naming : Naming) (order numbers : List ℕ) (count s k : ℕ) (named s
   -- the S lines from constraint i on, n of them
   pub shown-rows : (cells : List ℕ) (m : ℕ) → length cells ≡ 5 * m
       → ((i : ℕ) → i < m → getD (take 5 (drop (5 * i) cells)) 0 0 < s)
-      → ((i : ℕ) → i < m → (j : ℕ) → j < length (drop 1 (take 5 (drop (5 * i) cells))) → 0 < getD (drop 1 (take 5 (drop (5 * i) cells))) j 0
+      → ((i : ℕ) → i < m → (j : ℕ) → j < length (drop 1 (take 5 (drop (5 * i) cells))) → 0 < getD
+      (drop 1 (take 5 (drop (5 * i) cells))) j 0
       → TermCell k (length numbers) (getD (drop 1 (take 5 (drop (5 * i) cells))) j 0))
       → (n i : ℕ) → i + n ≡ m
       → every (λ (c : Constraint). every (varIn order) (c .terms)) (cellConstraints (drop (5 * i) cells)) ≡ true
@@ -169,13 +178,18 @@ module _ (naming : Naming) (order numbers : List ℕ) (count s k : ℕ) (named s
       ≡ rowsBytes (rowBytes named (termBytes spelled numbers)) (drop (5 * i) cells)
   unfolding constraintLines
   shown-rows cells m size symbols terms zero i e inside =
-      rw (constraints-end cells (5 * i) (omega arith), rows-end (rowBytes named (termBytes spelled numbers)) cells (5 * i) (omega arith))
+      rw (
+        constraints-end cells (5 * i) (omega arith),
+        rows-end (rowBytes named (termBytes spelled numbers)) cells (5 * i)
+            (omega arith),
+      )
   shown-rows cells m size symbols terms (suc n) i e inside =
       let more = constraints-more cells i (omega arith) in
       let row = take 5 (drop (5 * i) cells) in
       let parts =
       and-true (every (varIn order) (cellTerms (drop 1 row)))
-      (every (λ (c : Constraint). every (varIn order) (c .terms)) (cellConstraints (drop (5 * (i + 1)) cells))) (rw more at inside) in
+      (every (λ (c : Constraint). every (varIn order) (c .terms)) (cellConstraints (drop (5 * (i + 1)) cells)))
+      (rw more at inside) in
       rw (more, rows-more (rowBytes named (termBytes spelled numbers)) cells i (omega arith))
       (ap (λ (l : List ℕ). l ++ constraintLines (ascii "S") naming (unbound order) (cellConstraints (drop (5 * (i + 1)) cells)))
       (shown-row row (symbols i (omega arith)) (terms i (omega arith)) (parts .0))

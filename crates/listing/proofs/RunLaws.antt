@@ -20,11 +20,14 @@ use Rattle.text.specs.Lists.{every, tabled}
 use Rattle.semantics.specs.Terms.{Term, Constraint, State}
 use Rattle.semantics.specs.Overlaps.{appearingIn, appearing}
 use Rattle.syntax.specs.Tables.{cellTerm, cellTerms, cellConstraints, lettersOf}
-use Rattle.listing.specs.Listing.{decimal, fieldsBehind, lineOf, Naming, unbound, boundLines, constraintLines, stateListing, endListing}
-use Rattle.listing.specs.Pieces.{laid, spelledAs, namedAs, termBytes, headBytes, boundsBytes, rowBytes, rowsBytes, endBytes, Put}
+use Rattle.listing.specs.Listing.{decimal, fieldsBehind, lineOf, Naming, unbound, boundLines, constraintLines}
+use Rattle.listing.specs.Listing.{stateListing, endListing}
+use Rattle.listing.specs.Pieces.{laid, spelledAs, namedAs, termBytes, headBytes, boundsBytes, rowBytes, rowsBytes}
+use Rattle.listing.specs.Pieces.{endBytes, Put}
 use Rattle.listing.specs.Pieces.{Spelt, Shown, AllShown, Named, RowShown, BoundShown, RowsShown}
 use Rattle.listing.specs.Numbers.{numberIn, numbersOf, Numbering, Within, RowsWithin}
-use Rattle.listing.specs.Runs.{tableNaming, stateOf, runBytes, listedIn, outputAfter, numbersAfter, ListedAs, TermCell, Listable}
+use Rattle.listing.specs.Runs.{tableNaming, stateOf, runBytes, listedIn, outputAfter, numbersAfter, ListedAs, TermCell}
+use Rattle.listing.specs.Runs.{Listable}
 use Rattle.listing.specs.declared.Listed.{Listed}
 use Rattle.listing.specs.declared.Listed.the-variants.{TooShort, Written}
 use Rattle.listing.specs.declared.Counts.{Counts}
@@ -37,7 +40,8 @@ row-size cells i m h e = omega (arith, length-take 5 (drop (5 * i) cells), lengt
 
 row-first : (cells : List ℕ) (i : ℕ) → getD (take 5 (drop (5 * i) cells)) 0 0 ≡ getD cells (5 * i) 0
 row-first cells i =
-    getD-take 5 (drop (5 * i) cells) 0 0 (omega arith) ∙ getD-drop (5 * i) cells 0 0 ∙ ap (λ (n : ℕ). getD cells n 0) (add-zero (5 * i))
+    getD-take 5 (drop (5 * i) cells) 0 0 (omega arith) ∙ getD-drop (5 * i) cells 0 0 ∙ ap (λ (n : ℕ). getD cells n 0)
+    (add-zero (5 * i))
 
 row-cell : (cells : List ℕ) (i j : ℕ) → j < 4 → getD (drop 1 (take 5 (drop (5 * i) cells))) j 0 ≡ getD cells (5 * i + suc j) 0
 row-cell cells i j h =
@@ -66,7 +70,12 @@ module _ {program goal symbols constants letters bound cells : List ℕ} {v : �
       → 0 < getD (drop 1 (take 5 (drop (5 * i) cells))) j 0
       → TermCell (k .own + k .more) v (getD (drop 1 (take 5 (drop (5 * i) cells))) j 0)
   row-term i h j p some =
-      let four : j < 4 = omega (arith, length-drop 1 (take 5 (drop (5 * i) cells)), row-size cells i (k .constraints) h (l .size)) in
+      let four : j < 4 = omega (
+        arith,
+        length-drop 1 (take 5 (drop (5 * i) cells)),
+        row-size cells i (k .constraints) h
+            (l .size),
+      ) in
       let same = row-cell cells i j four in
       subst (λ (x : ℕ). TermCell (k .own + k .more) v x) (sym same) (l .row-terms i j h four (omega (arith, same)))
 
@@ -136,7 +145,8 @@ pub end-listing : {program goal symbols constants letters bound cells numbers : 
     → Listable program goal symbols constants letters bound cells (length numbers) k
     → Numbering (appearing (appearingIn [] (cellTerms bound)) (cellConstraints cells)) numbers count
     → runBytes (tableNaming program goal symbols constants k) letters false 0 bound cells (k .firings)
-    ≡ endBytes (namedAs program symbols) (termBytes (spelledAs program goal constants (k .own)) numbers) (k .firings) letters bound cells
+    ≡ endBytes (namedAs program symbols) (termBytes (spelledAs program goal constants (k .own)) numbers)
+    (k .firings) letters bound cells
 unfolding runBytes endListing stateListing stateOf tableNaming endBytes headBytes lineOf fieldsBehind ascii
 end-listing {program} {goal} {symbols} {constants} {letters} {bound} {cells} {numbers} {k} {count} l numbered =
     let naming = tableNaming program goal symbols constants k in
@@ -153,11 +163,13 @@ end-listing {program} {goal} {symbols} {constants} {letters} {bound} {cells} {nu
     subst (λ (us : List Term). Numbering (appearing (appearingIn [] us) (cellConstraints cells)) numbers count) terms numbered in
     let seen : every (varIn order) ts ≡ true =
     every-grows ts (appearingIn [] ts) order (grows (cellConstraints cells) (appearingIn [] ts)) (in-terms ts []) in
-    let bounds : boundLines naming (unbound order) (lettersOf letters (length bound)) ts ≡ boundsBytes (termBytes spelled numbers) letters bound =
+    let bounds : boundLines naming (unbound order) (lettersOf letters (length bound)) ts ≡ boundsBytes
+    (termBytes spelled numbers) letters bound =
     ap (λ (vs : List (List ℕ)). boundLines naming (unbound order) vs ts) (letters-take letters (length bound) (l .lettered))
     ∙ shown-bounds naming order numbers count (k .symbols) all named spelled names spells numbering letters bound (l .lettered)
     (l .bound-terms) seen in
-    let rows : constraintLines (ascii "S") naming (unbound order) (cellConstraints cells) ≡ rowsBytes (rowBytes named (termBytes spelled numbers)) cells =
+    let rows : constraintLines (ascii "S") naming (unbound order) (cellConstraints cells) ≡ rowsBytes
+    (rowBytes named (termBytes spelled numbers)) cells =
     shown-rows naming order numbers count (k .symbols) all named spelled names spells numbering cells (k .constraints) (l .size)
     (row-symbol l) (row-term l) (k .constraints) 0 (omega arith) (in-rows (cellConstraints cells) (appearingIn [] ts)) in
     let head = lineOf (ascii "END") (decimal (k .firings) ∷ []) in
@@ -173,7 +185,7 @@ unfolding numbersAfter numbersOf
 end-numbers {program} {goal} {symbols} {constants} {letters} {bound} {cells} {numbers} {k} {count} before l size numbered =
     let all = k .own + k .more in
     let terms : cellTerms bound ≡ map cellTerm bound =
-        terms-all bound (λ i h. term-some all (length before) (getD bound i 0) (l .bound-terms i h)) in
+    terms-all bound (λ i h. term-some all (length before) (getD bound i 0) (l .bound-terms i h)) in
     let order = appearing (appearingIn [] (cellTerms bound)) (cellConstraints cells) in
     ext-getD 0 numbers (tabled (numberIn order) (length before)) (size ∙ sym (tabled-length (numberIn order) (length before)))
     (λ i h. numbered .each i h ∙ sym (tabled-at (numberIn order) 0 (length before) i (omega (arith, size))))

@@ -34,13 +34,15 @@ pub record Entry (constants : List ℕ) (x w a b : ℕ) : Type 0 where
   pub size : b ≡ getD constants (2 * (w - 32) + 1) 0
 
 -- it lies inside the program's text, or inside the goal's
-pub entry-program : {program goal constants : List ℕ} {n x w a b : ℕ} → Spelt program goal constants n x → Entry constants x w a b → w - 32 < n
+pub entry-program : {program goal constants : List ℕ} {n x w a b : ℕ} → Spelt program goal constants n x
+    → Entry constants x w a b → w - 32 < n
     → a + b ≤ length program
 entry-program {program} {goal} {constants} {n} {x} {w} {a} {b} s e h =
     let z : x - 32 < n = omega (arith, e .cell) in
     rw (e .start, e .size, e .cell) (rw (lt-ltb (x - 32) n z) at (s .within))
 
-pub entry-goal : {program goal constants : List ℕ} {n x w a b : ℕ} → Spelt program goal constants n x → Entry constants x w a b → n ≤ w - 32
+pub entry-goal : {program goal constants : List ℕ} {n x w a b : ℕ} → Spelt program goal constants n x → Entry constants x w a b
+    → n ≤ w - 32
     → a + b ≤ length goal
 entry-goal {program} {goal} {constants} {n} {x} {w} {a} {b} s e h =
     let z : n ≤ x - 32 = omega (arith, e .cell) in
@@ -64,7 +66,8 @@ spelled-goal program goal {constants} {n} {x} {w} {a} {b} e h =
     rw (le-ltb (x - 32) n z, size, e .start, e .size, e .cell)
 
 -- it has at most as many bytes as its entry says
-pub spelled-few : (program goal constants : List ℕ) (n i : ℕ) → length (spelledAs program goal constants n i) ≤ getD constants (2 * i + 1) 0
+pub spelled-few : (program goal constants : List ℕ) (n i : ℕ) → length (spelledAs program goal constants n i) ≤ getD constants
+    (2 * i + 1) 0
 unfolding spelledAs constantOf part
 spelled-few program goal constants n i =
     omega (arith, length-take (getD constants (2 * i + 1) 0) (drop (getD constants (2 * i) 0) (cond (ltb i n) program goal)))
@@ -90,7 +93,8 @@ fields-end term cells i h = rw (drop-of-length-le cells h)
 pub field-constant : {o d : List ℕ} {n : ℕ} (bytes s : List ℕ) → bytes ≡ s → length (44 ∷ bytes) ≤ length o
     → Put s (from 1 (set o 0 44)) d n → Put (44 ∷ bytes) o (back 1 (set o 0 44) d) (1 + n)
 field-constant {o} {d} {n} bytes s e h w =
-    lent-last bytes (placed-byte 44 bytes (placed-start (44 ∷ bytes) o) h) (subst (λ (l : List ℕ). Put l (from 1 (set o 0 44)) d n) (sym e) w)
+    lent-last bytes (placed-byte 44 bytes (placed-start (44 ∷ bytes) o) h)
+    (subst (λ (l : List ℕ). Put l (from 1 (set o 0 44)) d n) (sym e) w)
 
 -- a comma, U and a number, written
 pub field-variable : {o d : List ℕ} {n : ℕ} (bytes s : List ℕ) → bytes ≡ 85 ∷ s → length (44 ∷ bytes) ≤ length o
@@ -105,7 +109,13 @@ pub field-variable-room : (o bytes s : List ℕ) → bytes ≡ 85 ∷ s → leng
     → length s ≤ length (from 2 (set (set o 0 44) 1 85))
 field-variable-room o bytes s e h =
     let h' : length (44 ∷ 85 ∷ s) ≤ length o = rw e at h in
-    rw (from-drop 2 (set (set o 0 44) 1 85), length-drop 2 (set (set o 0 44) 1 85), length-set (set o 0 44) 1 85, length-set o 0 44) (omega arith)
+    rw (
+      from-drop 2 (set (set o 0 44) 1 85),
+      length-drop 2 (set (set o 0 44) 1 85),
+      length-set (set o 0 44) 1 85,
+      length-set o 0
+          44,
+    ) (omega arith)
 
 -- one more field counted
 pub fields-count : (term : ℕ → List ℕ) (cells : List ℕ) (i size more : ℕ) → i < length cells → (getD cells i 0 ≡ 0 → ⊥)

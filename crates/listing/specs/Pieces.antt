@@ -20,7 +20,8 @@ use Rattle.listing.specs.Listing.{decimal}
 unfoldable pub laid : List ℕ → List ℕ → List ℕ
 laid bytes before = bytes ++ drop (length bytes) before
 
--- what a function that writes promises: the bytes stand in the front of the output, the rest is as before, and it returns their count
+-- what a function that writes promises: the bytes stand in the front of the output, the rest is as before, and it returns
+-- their count
 pub record Put (bytes before after : List ℕ) (count : ℕ) : Type 0 where
   pub placed : after ≡ laid bytes before
   pub counted : count ≡ length bytes

@@ -37,7 +37,8 @@ stateOf hasFailed next bound cells = cond hasFailed failed (live next (map cellT
 -- the listing of a run
 unfoldable pub runBytes : Naming → List ℕ → Bool → ℕ → List ℕ → List ℕ → ℕ → List ℕ
 runBytes naming letters hasFailed next bound cells firings =
-    endListing naming (lettersOf letters (length bound)) (record { state = stateOf hasFailed next bound cells; firings = firings })
+    endListing naming (lettersOf letters (length bound))
+    (record { state = stateOf hasFailed next bound cells; firings = firings })
 
 -- the reply for an output of some room
 unfoldable pub listedIn : ℕ → List ℕ → Listed
@@ -81,7 +82,8 @@ pub record Listable (program goal symbols constants letters bound cells : List �
   pub few : length bound + 4 * k .constraints < 65536
 
 -- what the listing of a run asks
-pub record RunListable (program goal symbols constants letters bound cells : List ℕ) (v : ℕ) (hasFailed : Bool) (k : Counts) : Type 0
+pub record RunListable (program goal symbols constants letters bound cells : List ℕ) (v : ℕ) (hasFailed : Bool)
+    (k : Counts) : Type 0
   where
     pub firings : k .firings < 65536
     pub live : hasFailed ≡ false → Listable program goal symbols constants letters bound cells v k

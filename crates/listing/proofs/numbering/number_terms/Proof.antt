@@ -1,4 +1,5 @@
--- `listing::numbering::number_terms` meets its contract: from the numbers so far, the terms left lead to the whole order. Assumes nothing.
+-- `listing::numbering::number_terms` meets its contract: from the numbers so far, the terms left lead to the whole order.
+-- Assumes nothing.
 use mathlib.Core.Path.{_≡_, refl, _∙_}
 use mathlib.Core.List.{List}
 use Prim.Native.Nat.{ℕ, suc, _+_, _-_, _≤_}
@@ -41,7 +42,8 @@ returns c =
     let at-loop = at-loop-test .before in
     let start = at-loop .before .before .before in
     record {
-      next = λ order n. reach-end (terms-stop (start .args .cells .now) (at-loop .loop .i) (at-loop-test .loop-test .taken) (c .if1 .taken)) (at-loop .loop .inv .3 order n);
+      next = λ order n. reach-end (terms-stop (start .args .cells .now) (at-loop .loop .i) (at-loop-test .loop-test .taken)
+          (c .if1 .taken)) (at-loop .loop .inv .3 order n);
       few = omega (arith, at-loop .loop .inv .1, at-loop .loop .inv .0);
     }
 
@@ -72,8 +74,10 @@ loop-again c =
       at-number-term .number-term .kept .0 ∙ at-loop .loop .inv .2,
       (λ order n.
           rw (add-one (at-loop .loop .i))
-          (reach-more (getD (start .args .cells .now) (at-loop .loop .i) 0) (cellTerms (drop (suc (at-loop .loop .i)) (start .args .cells .now)))
-          (terms-more (start .args .cells .now) (at-loop .loop .i) (at-loop-test .loop-test .taken) (at-if1 .if1 .left)) (at-number-term .number-term .ensures) (at-loop .loop .inv .3 order n))),
+          (reach-more (getD (start .args .cells .now) (at-loop .loop .i) 0)
+          (cellTerms (drop (suc (at-loop .loop .i)) (start .args .cells .now)))
+          (terms-more (start .args .cells .now) (at-loop .loop .i) (at-loop-test .loop-test .taken) (at-if1 .if1 .left))
+          (at-number-term .number-term .ensures) (at-loop .loop .inv .3 order n))),
     )
 
 same-length-2 : tie.Need-same-length-2 Inv-loop μ-loop
@@ -86,7 +90,8 @@ returns-2 c =
     let at-loop = c .before in
     let start = at-loop .before .before .before in
     record {
-      next = λ order n. reach-end (terms-end (start .args .cells .now) (at-loop .loop .i) (c .loop-test .left)) (at-loop .loop .inv .3 order n);
+      next = λ order n. reach-end (terms-end (start .args .cells .now) (at-loop .loop .i) (c .loop-test .left))
+          (at-loop .loop .inv .3 order n);
       few = omega (arith, at-loop .loop .inv .1, at-loop .loop .inv .0);
     }
 
