@@ -10,3 +10,4 @@ pub mod Steps
 pub mod Drafts
 pub mod Grown
 pub mod Lasts
+pub mod Whole
