@@ -11,3 +11,4 @@ pub mod Drafts
 pub mod Grown
 pub mod Lasts
 pub mod Whole
+pub mod Weights

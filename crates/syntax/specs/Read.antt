@@ -15,7 +15,7 @@ use Prim.Native.Nat.{ℕ, zero, suc, _+_, _-_, _*_, _≤_, _<_}
 use mathlib.Core.Bool.{Bool, true, false, cond, not, _||_}
 use mathlib.Core.List.{List, [], _∷_}
 use mathlib.Core.Option.{Option, none, some}
-use lib.Dec.{ltb, eqb}
+use lib.Dec.{leb, ltb, eqb}
 use lib.ListN.{length, getD, take, drop}
 use Rattle.text.specs.Lists.{every, tabled}
 use Rattle.text.specs.Fields.{isName, isTerm, isNumberIn}
@@ -263,6 +263,16 @@ linesSound rules (linesRead s) = Sound rules s
 -- the weight of the symbol of a number among k, 0 where none has it
 unfoldable pub weightAt : List ℕ → ℕ → ℕ → ℕ
 weightAt symbols k s = cond (ltb s k) (getD symbols (4 * s + 3) 0) 0
+
+-- a number met at line n, or 0 for none
+unfoldable pub met : ℕ → ℕ → Answer ℕ
+met zero n = accepted 0
+met (suc x) n = refused (suc x) n
+
+-- a rule with its R line: number 8, then 9
+unfoldable pub ruleTests : List terms.Symbol → terms.Rule → ℕ → Answer ℕ
+ruleTests symbols r n =
+    refuseIf (eqb (length (r .heads)) 0) 8 n (refuseIf (leb (terms.weight symbols (r .heads)) (terms.weight symbols (r .body))) 9 n (accepted 0))
 
 -- the code's answer to the rules
 unfoldable pub rulesAnswer : RulesRead → Answer ℕ

@@ -1,37 +1,35 @@
+-- `syntax::program::weight_at` meets its contract. Assumes nothing.
+use borrow.Author.Needs.{needs}
+use mathlib.Core.Path.{_≡_, sym, ap, _∙_}
+use native.Mathlib.Omega.{arith}
+use borrow.Author.Tests.{lt-ltb, le-ltb}
+use Rattle.syntax.specs.Read.{weightAt}
 use borrow.Author.Needs.{needs}
 use Rattle.syntax.proofs.program.weight_at.Statement.{statement}
 use Rattle.syntax.proofs.program.weight_at.Tie as tie
-use Rattle.syntax.proofs.program.weight_at.Reads as reads
-use Rattle.syntax.proofs.program.weight_at.Lts as lts
-use Rattle.syntax.proofs.names.wide.Reads as wide-reads
 
--- src/program.rt:150:29
 mul-wide : tie.Need-mul-wide
 mul-wide c = search needs
 
--- src/program.rt:150:29
 add-wide : tie.Need-add-wide
 add-wide c = search needs
 
--- src/program.rt:150:21
 mul-wide-2 : tie.Need-mul-wide-2
 mul-wide-2 c = search needs
 
--- src/program.rt:150:21
 shared-slice-read-wide : tie.Need-shared-slice-read-wide
 shared-slice-read-wide c = search needs
 
--- src/program.rt:150:9
 wide-requires : tie.Need-wide-requires
 wide-requires c κs = search needs
 
--- src/program.rt:150:9
 returns : tie.Need-returns
-returns c = ?
+unfolding weightAt
+returns c = (rw (lt-ltb ((c .before .before .before .before .args) .s) ((c .before .before .before .before .args) .k) ((c .before .before .if1) .taken)) ((c .wide) .ensures .0), (c .wide) .ensures .1)
 
--- src/program.rt:145:1
 returns-2 : tie.Need-returns-2
-returns-2 c = ?
+unfolding weightAt
+returns-2 c = (rw (le-ltb ((c .before .before .args) .s) ((c .before .before .args) .k) ((c .if1) .left)), omega arith)
 
 pub weight-at-spec : {M : Type 1} → statement M
 weight-at-spec =

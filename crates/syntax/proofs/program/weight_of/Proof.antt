@@ -1,59 +1,64 @@
+-- `syntax::program::weight_of` meets its contract: the sum so far and the weight of the cells left make the whole. Assumes nothing.
+use borrow.Author.Needs.{needs}
+use mathlib.Core.Path.{_≡_, refl, sym, ap, _∙_}
+use Prim.Native.Nat.{ℕ, _≤_, _<_, _+_, _-_, _*_}
+use native.Mathlib.Omega.{arith}
+use lib.ListN.{length, drop, getD}
+use Rattle.text.specs.Lists.{total}
+use Rattle.semantics.specs.Terms.{Constraint}
+use Rattle.syntax.specs.Tables.{cellConstraints}
+use Rattle.syntax.specs.Read.{weightAt}
+use Rattle.syntax.proofs.Weights.{cells-step, cells-end}
 use Rattle.syntax.proofs.program.weight_of.Statement.{statement}
 use Rattle.syntax.proofs.program.weight_of.Tie as tie
-use Rattle.syntax.proofs.program.weight_of.Reads as reads
-use Rattle.syntax.proofs.program.weight_of.Lts as lts
-use Rattle.syntax.proofs.names.wide.Reads as wide-reads
-use Rattle.syntax.proofs.program.weight_at.Reads as weight-at-reads
 
 abbrev Inv-loop : tie.InvT-loop
-Inv-loop symbols k cells sum₀ at₀ sum at = ?
+Inv-loop symbols k cells sum₀ at₀ sum at =
+    (at ≤ length cells) × (sum ≤ 65536 * at)
+    × (sum + total (λ (x : Constraint). weightAt symbols k (x .symbol)) (cellConstraints (drop at cells))
+    ≡ total (λ (x : Constraint). weightAt symbols k (x .symbol)) (cellConstraints cells))
 
 abbrev μ-loop : tie.MeasureT-loop
-μ-loop symbols k cells sum₀ at₀ sum at = ?
+μ-loop symbols k cells sum₀ at₀ sum at = length cells - at
 
--- src/program.rt:162:5
 loop-holds : tie.Need-loop-holds Inv-loop μ-loop
-loop-holds c = ?
+loop-holds c = (omega arith, omega arith, omega arith)
 
--- src/program.rt:162:11
 add-loop : tie.Need-add-loop Inv-loop μ-loop
-add-loop c = ?
+add-loop c = record { fits = omega (arith, (c .loop) .inv .0, (c .before .before .before .pre) .1) }
 
--- src/program.rt:163:22
 mul-wide : tie.Need-mul-wide Inv-loop μ-loop
-mul-wide c = ?
+mul-wide c = record { fits = omega (arith, (c .loop-test) .taken, (c .before .before .before .before .pre) .1) }
 
--- src/program.rt:163:22
 shared-slice-read-wide : tie.Need-shared-slice-read-wide Inv-loop μ-loop
-shared-slice-read-wide c = ?
+shared-slice-read-wide c = omega (arith, (c .before .loop-test) .taken)
 
--- src/program.rt:163:13
 wide-requires : tie.Need-wide-requires Inv-loop μ-loop
-wide-requires c κs = ?
+wide-requires c κs = search needs
 
--- src/program.rt:164:16
 weight-at-requires : tie.Need-weight-at-requires Inv-loop μ-loop
-weight-at-requires c κs = ?
+weight-at-requires c κs = (c .before .before .before .before .before .before .pre) .0
 
--- src/program.rt:164:9
 add-sum : tie.Need-add-sum Inv-loop μ-loop
-add-sum c = ?
+add-sum c = record { fits = omega (arith, (c .before .before .before .before .loop) .inv .0, (c .before .before .before .before .loop) .inv .1, (c .weight-at) .ensures .1, (c .before .before .before .before .before .before .before .pre) .1) }
 
--- src/program.rt:165:9
 add-at : tie.Need-add-at Inv-loop μ-loop
-add-at c = ?
+add-at c = record { fits = omega (arith, (c .before .before .before .loop-test) .taken, (c .before .before .before .before .before .before .before .pre) .1) }
 
--- src/program.rt:162:5
 loop-less : tie.Need-loop-less Inv-loop μ-loop
-loop-less c = ?
+loop-less c = omega (arith, (c .before .before .before .loop-test) .taken)
 
--- src/program.rt:162:5
 loop-again : tie.Need-loop-again Inv-loop μ-loop
-loop-again c = ?
+loop-again c =
+    let here : (c .weight-at) .result ≡ weightAt ((c .before .before .before .before .before .before .before .args) .symbols .now) ((c .before .before .before .before .before .before .before .args) .k) (getD ((c .before .before .before .before .before .before .before .args) .cells .now) ((c .before .before .before .before .loop) .at) 0) =
+      (c .weight-at) .ensures .0 ∙ ap (weightAt ((c .before .before .before .before .before .before .before .args) .symbols .now) ((c .before .before .before .before .before .before .before .args) .k)) ((c .before .wide) .ensures .0) in
+    (omega (arith, (c .before .before .before .loop-test) .taken), omega (arith, (c .before .before .before .before .loop) .inv .1, (c .weight-at) .ensures .1),
+    omega (arith, here, (c .before .before .before .before .loop) .inv .2, cells-step ((c .before .before .before .before .before .before .before .args) .cells .now) ((c .before .before .before .before .loop) .at) (weightAt ((c .before .before .before .before .before .before .before .args) .symbols .now) ((c .before .before .before .before .before .before .before .args) .k)) ((c .before .before .before .loop-test) .taken)))
 
--- src/program.rt:156:1
 returns : tie.Need-returns Inv-loop μ-loop
-returns c = ?
+returns c =
+    (omega (arith, (c .before .loop) .inv .2, cells-end ((c .before .before .before .before .args) .cells .now) ((c .before .loop) .at) (weightAt ((c .before .before .before .before .args) .symbols .now) ((c .before .before .before .before .args) .k)) ((c .loop-test) .left)),
+    omega (arith, (c .before .loop) .inv .0, (c .before .loop) .inv .1))
 
 pub weight-of-spec : {M : Type 1} → statement M
 weight-of-spec =
