@@ -63,9 +63,9 @@ none-at text cells k s h = List·getD-eq-default (symbolsOf text cells k) noSymb
 weight-is : (text cells : List ℕ) (k s : ℕ) → symbolAt (symbolsOf text cells k) s .weight ≡ weightAt cells k s
 unfolding weightAt symbolOf
 weight-is text cells k s = elim (decLt s k) [
-    yes h ↦ ap (λ (t : Symbol). t .weight) (symbol-at text cells k s h) ∙ sym (ap (λ (b : Bool). cond b (getD cells (4 * s + 3) 0) 0) (lt-ltb s k h))
+  | yes h ↦ ap (λ (t : Symbol). t .weight) (symbol-at text cells k s h) ∙ sym (ap (λ (b : Bool). cond b (getD cells (4 * s + 3) 0) 0) (lt-ltb s k h))
   | no h ↦ ap (λ (t : Symbol). t .weight) (none-at text cells k s (omega (arith, h))) ∙ sym (ap (λ (b : Bool). cond b (getD cells (4 * s + 3) 0) 0) (le-ltb s k (omega (arith, h))))
-  ]
+]
 
 pub weights-are : (text cells : List ℕ) (k : ℕ) (cs : List Constraint) → weight (symbolsOf text cells k) cs ≡ total (λ (x : Constraint). weightAt cells k (x .symbol)) cs
 unfolding weight

@@ -9,13 +9,14 @@ use mathlib.Core.Bool.{Bool, true, false, cond}
 use mathlib.Core.List.{List, [], _∷_}
 use mathlib.Core.Option.{Option, none, some}
 use Prim.Native.Nat.{ℕ, zero, suc, _+_, _-_, _≤_, _<_}
+use native.Mathlib.Nat.{zero-add}
 use native.Mathlib.Decide.{decLt}
 use native.Mathlib.Omega.{arith}
 use borrow.Author.Tests.{lt-ltb, le-ltb}
 use lib.Dec.{ltb}
 use lib.ListN.{length, take, drop, drop-of-length-le}
 use lib.Seq.{length-take-le, length-slice}
-use Rattle.text.specs.Lists.{onward}
+use Rattle.text.specs.Lists.{onward, tabled}
 use Rattle.text.specs.Lines.{Line, lines, lineIsFaulty}
 use Rattle.text.specs.Fields.{fields}
 use Rattle.text.specs.Places.{before, lineAt, fieldsFrom}
@@ -24,18 +25,20 @@ use Rattle.text.proofs.Forms.{faulty-empty}
 use Rattle.syntax.specs.Answers.{Answer, refused, accepted, refuseIf, andThen}
 use Rattle.syntax.specs.Forms.{Form, Place, inSymbols, inHeads, inBody, inEquations, symbolForm, headForm, bodyForm, equationForm, formOf}
 use Rattle.syntax.specs.Forms.{placeAfter, fieldAt}
-use Rattle.syntax.specs.Programs.{Draft, readForm, readLine, readLines}
+use Rattle.syntax.specs.Programs.{Draft, Reading, maxText, blank, readForm, readLine, readLines, checkRules, readProgram}
+use Rattle.syntax.specs.Tables.{constantOf, constantsOf}
 use Rattle.syntax.specs.Read.{placeMeant, placeAnswer}
+use Rattle.syntax.proofs.Tabled.{tabled-same}
 
 pub some-bytes : (s : List ℕ) (start end : ℕ) → start ≤ end → end ≤ length s → lineIsFaulty (lineAt s start end) ≡ false → start < end
 unfolding lineAt
 some-bytes s start end h k e = elim (decLt start end) [
-    yes p ↦ p
+  | yes p ↦ p
   | no p ↦
       let z : true ≡ false =
-        sym (faulty-empty (drop start (take end s)) (ltb end (length s)) (omega (arith, length-slice start end s k, p))) ∙ e in
+      sym (faulty-empty (drop start (take end s)) (ltb end (length s)) (omega (arith, length-slice start end s k, p))) ∙ e in
       absurd (let y : _≡_ {A = ℕ} 0 1 = cc in omega arith)
-  ]
+]
 
 module _ (s : List ℕ) (start end n : ℕ) (d : Draft) where
   pub line-faulty : lineIsFaulty (lineAt s start end) ≡ true → refused 2 n ≡ readLine n (lineAt s start end) d
@@ -51,7 +54,7 @@ module _ (s : List ℕ) (start end n : ℕ) (d : Draft) where
     unfolding readLine lineAt
     opened =
         let same : formOf (fieldAt 0 (fields (drop start (take end s)))) ≡ form =
-          ap (λ (fs : List (List ℕ)). formOf (fieldAt 0 fs)) fields-are ∙ sym f in
+        ap (λ (fs : List (List ℕ)). formOf (fieldAt 0 fs)) fields-are ∙ sym f in
         ap (λ (b : Bool). refuseIf b 2 n (onward (placeAfter (formOf (fieldAt 0 (fields (drop start (take end s))))) (d .place)) (refused 3 n)
         (λ place. readForm (formOf (fieldAt 0 (fields (drop start (take end s))))) n place (fields (drop start (take end s))) d))) e
         ∙ ap₂ (λ (g : Form) (fs : List (List ℕ)). onward (placeAfter g (d .place)) (refused 3 n) (λ place. readForm g n place fs d)) same fields-are
@@ -60,7 +63,7 @@ module _ (s : List ℕ) (start end n : ℕ) (d : Draft) where
     unfolding placeAnswer
     line-placeless p q r =
         let none-is : placeAfter form (d .place) ≡ none =
-          sym q ∙ ap (λ (b : Bool). cond b (some (placeMeant p)) none) (le-ltb p 4 (omega arith)) in
+        sym q ∙ ap (λ (b : Bool). cond b (some (placeMeant p)) none) (le-ltb p 4 (omega arith)) in
         sym (opened ∙ ap (λ (o : Option Place). onward o (refused 3 n) (λ place. readForm form n place (fieldsFrom (take end s) start) d)) none-is)
 
     pub line-formed : (p : ℕ) → placeAnswer p ≡ placeAfter form (d .place) → p ≤ 3
@@ -68,7 +71,7 @@ module _ (s : List ℕ) (start end n : ℕ) (d : Draft) where
     unfolding placeAnswer
     line-formed p q r =
         let some-is : placeAfter form (d .place) ≡ some (placeMeant p) =
-          sym q ∙ ap (λ (b : Bool). cond b (some (placeMeant p)) none) (lt-ltb p 4 (omega arith)) in
+        sym q ∙ ap (λ (b : Bool). cond b (some (placeMeant p)) none) (lt-ltb p 4 (omega arith)) in
         sym (opened ∙ ap (λ (o : Option Place). onward o (refused 3 n) (λ place. readForm form n place (fieldsFrom (take end s) start) d)) some-is)
 
 -- a place that a line leads to
@@ -134,3 +137,40 @@ module _ (s : List ℕ) (start end n : ℕ) (d : Draft) (h : start < length s) (
 pub lines-end : (s : List ℕ) (start n : ℕ) (d : Draft) → length s ≤ start → accepted d ≡ readLines n d (lines (drop start s))
 unfolding readLines lines
 lines-end s start n d h = rw (drop-of-length-le s h)
+
+-- the program that a draft holds
+unfoldable pub readingFrom : Draft → Reading
+readingFrom d = record { program = record { symbols = d .symbols; rules = d .rules }; constants = d .constants }
+
+-- a program's text, by what decides it
+program-short : (s : List ℕ) → length s ≤ 16384
+    → readProgram s ≡ andThen (readLines 1 blank (lines s)) (λ d. andThen (checkRules (d .symbols) (d .rules) (d .starts)) (λ _. accepted (readingFrom d)))
+unfolding readProgram maxText readingFrom
+program-short s h = rw (le-ltb 16384 (length s) h)
+
+pub program-long : (s : List ℕ) → 16384 < length s → refused 1 0 ≡ readProgram s
+unfolding readProgram maxText
+program-long s h = rw (lt-ltb 16384 (length s) h)
+
+module _ (s : List ℕ) (h : length s ≤ 16384) where
+  abbrev checked : Draft → Answer Reading
+  checked d = andThen (checkRules (d .symbols) (d .rules) (d .starts)) (λ _. accepted (readingFrom d))
+
+  pub program-lines : (x n : ℕ) → refused x n ≡ readLines 1 blank (lines s) → refused x n ≡ readProgram s
+  program-lines x n e = ap (λ (a : Answer Draft). andThen a checked) e ∙ sym (program-short s h)
+
+  module _ (d : Draft) (e : accepted d ≡ readLines 1 blank (lines s)) where
+    checks : checked d ≡ readProgram s
+    checks = ap (λ (a : Answer Draft). andThen a checked) e ∙ sym (program-short s h)
+
+    pub program-rules : (x n : ℕ) → refused x n ≡ checkRules (d .symbols) (d .rules) (d .starts) → refused x n ≡ readProgram s
+    program-rules x n q = ap (λ (a : Answer ℕ). andThen a (λ _. accepted (readingFrom d))) q ∙ checks
+
+    pub program-read : (y : ℕ) → accepted y ≡ checkRules (d .symbols) (d .rules) (d .starts) → accepted (readingFrom d) ≡ readProgram s
+    program-read y q = ap (λ (a : Answer ℕ). andThen a (λ _. accepted (readingFrom d))) q ∙ checks
+
+-- the constants of a program, as one table
+pub constants-alone : (text cells : List ℕ) (m : ℕ) → constantsOf text text cells 0 m ≡ tabled (constantOf text cells) m
+unfolding constantsOf
+constants-alone text cells m =
+    tabled-same (λ i. constantOf text cells (0 + i)) (constantOf text cells) m (λ i h. ap (constantOf text cells) (zero-add i))

@@ -1,11 +1,11 @@
 // What a program and a goal mean, from their texts: the readers, over the definitions in specs/.
 // They fill flat tables that the caller lends; names stay where they stand in the texts.
 mod adds;
-mod program;
 mod forms;
 mod heads;
 mod lines;
-mod names;
+pub mod names;
+pub mod program;
 mod rows;
 mod terms;
 

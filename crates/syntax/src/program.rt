@@ -42,24 +42,53 @@ fn read_form(
     form: LineForm,
     place: u8,
 ) -> LineRead
-    requires {
-        ⌜ (now classes ≡ classTable) × (now letters ≡ alphabetLetters) × (at ≤ end) × (end ≤ length (now text))
+    requires { ⌜ (now classes ≡ classTable) × (now letters ≡ alphabetLetters) × (at ≤ end) × (end ≤ length (now text))
         × (length (now text) ≤ 16384) × (length (now symbols) ≡ 128) × (length (now rules) ≡ 2048) × (length (now constants) ≡ 128)
-        × Sound (now rules) stage × (place < 4) × (placeAnswer place ≡ placeAfter (formMeant form) (placeMeant (stage .place))) ⌝
-    }
-    ensures {
-        λ r. ⌜ (lineAnswer (now (text .entry)) (now (symbols .exit)) (now (rules .exit)) (now (constants .exit)) number r
+        × Sound (now rules) stage × (place < 4) × (placeAnswer place ≡ placeAfter (formMeant form) (placeMeant (stage .place))) ⌝ }
+    ensures { λ r. ⌜ (lineAnswer (now (text .entry)) (now (symbols .exit)) (now (rules .exit)) (now (constants .exit)) number r
         ≡ readForm (formMeant form) number (placeMeant place) (fieldsFrom (take end (now (text .entry))) at)
         (draftOf (now (text .entry)) (now (symbols .entry)) (now (rules .entry)) (now (constants .entry)) stage))
-        × soundAfter (now (rules .exit)) r ⌝
-    }
+        × soundAfter (now (rules .exit)) r ⌝ }
 {
     match form {
         LineForm::Symbol => symbol_line(classes, text, at, end, symbols, stage, place),
         LineForm::Rule => rule_line(classes, text, at, end, number, rules, stage, place),
-        LineForm::Head => head_line(classes, letters, text, at, end, symbols, rules, constants, stage, place),
-        LineForm::Body => body_line(classes, letters, text, at, end, symbols, rules, constants, stage, place),
-        LineForm::Equation => equation_line(classes, letters, text, at, end, symbols, rules, constants, stage, place),
+        LineForm::Head => head_line(
+            classes,
+            letters,
+            text,
+            at,
+            end,
+            symbols,
+            rules,
+            constants,
+            stage,
+            place,
+        ),
+        LineForm::Body => body_line(
+            classes,
+            letters,
+            text,
+            at,
+            end,
+            symbols,
+            rules,
+            constants,
+            stage,
+            place,
+        ),
+        LineForm::Equation => equation_line(
+            classes,
+            letters,
+            text,
+            at,
+            end,
+            symbols,
+            rules,
+            constants,
+            stage,
+            place,
+        ),
         LineForm::Goal => LineRead::Refused(3),
         LineForm::Nothing => LineRead::Refused(3),
     }
@@ -78,17 +107,13 @@ fn read_line(
     constants: &mut [u16],
     stage: Stage,
 ) -> LineRead
-    requires {
-        ⌜ (now classes ≡ classTable) × (now letters ≡ alphabetLetters) × (at ≤ end) × (end ≤ length (now text))
+    requires { ⌜ (now classes ≡ classTable) × (now letters ≡ alphabetLetters) × (at ≤ end) × (end ≤ length (now text))
         × (length (now text) ≤ 16384) × (length (now symbols) ≡ 128) × (length (now rules) ≡ 2048) × (length (now constants) ≡ 128)
-        × Sound (now rules) stage ⌝
-    }
-    ensures {
-        λ r. ⌜ (lineAnswer (now (text .entry)) (now (symbols .exit)) (now (rules .exit)) (now (constants .exit)) number r
+        × Sound (now rules) stage ⌝ }
+    ensures { λ r. ⌜ (lineAnswer (now (text .entry)) (now (symbols .exit)) (now (rules .exit)) (now (constants .exit)) number r
         ≡ readLine number (lineAt (now (text .entry)) at end)
         (draftOf (now (text .entry)) (now (symbols .entry)) (now (rules .entry)) (now (constants .entry)) stage))
-        × soundAfter (now (rules .exit)) r ⌝
-    }
+        × soundAfter (now (rules .exit)) r ⌝ }
 {
     if text::is_faulty_line(classes, text, at, end) {
         return LineRead::Refused(2);
@@ -100,7 +125,20 @@ fn read_line(
     if 3 < place {
         return LineRead::Refused(3);
     }
-    read_form(classes, letters, text, at, end, number, symbols, rules, constants, stage, form, place)
+    read_form(
+        classes,
+        letters,
+        text,
+        at,
+        end,
+        number,
+        symbols,
+        rules,
+        constants,
+        stage,
+        form,
+        place,
+    )
 }
 
 // The lines of a text in order.
@@ -112,14 +150,10 @@ fn read_lines(
     rules: &mut [u16],
     constants: &mut [u16],
 ) -> LinesRead
-    requires {
-        ⌜ (now classes ≡ classTable) × (now letters ≡ alphabetLetters) × (length (now text) ≤ 16384)
-        × (length (now symbols) ≡ 128) × (length (now rules) ≡ 2048) × (length (now constants) ≡ 128) ⌝
-    }
-    ensures {
-        λ r. ⌜ (linesAnswer (now (text .entry)) (now (symbols .exit)) (now (rules .exit)) (now (constants .exit)) r
-        ≡ readLines 1 blank (lines (now (text .entry)))) × linesSound (now (rules .exit)) r ⌝
-    }
+    requires { ⌜ (now classes ≡ classTable) × (now letters ≡ alphabetLetters) × (length (now text) ≤ 16384)
+        × (length (now symbols) ≡ 128) × (length (now rules) ≡ 2048) × (length (now constants) ≡ 128) ⌝ }
+    ensures { λ r. ⌜ (linesAnswer (now (text .entry)) (now (symbols .exit)) (now (rules .exit)) (now (constants .exit)) r
+        ≡ readLines 1 blank (lines (now (text .entry)))) × linesSound (now (rules .exit)) r ⌝ }
 {
     let mut at = 0;
     let mut number: u16 = 1;
@@ -131,7 +165,18 @@ fn read_lines(
     };
     while at < text.len() {
         let end = text::line_end(text, at);
-        match read_line(classes, letters, text, at, end, number, symbols, rules, constants, stage) {
+        match read_line(
+            classes,
+            letters,
+            text,
+            at,
+            end,
+            number,
+            symbols,
+            rules,
+            constants,
+            stage,
+        ) {
             LineRead::Refused(x) => {
                 return LinesRead::Refused(x, number);
             }
@@ -184,9 +229,7 @@ fn prefix_of(cells: &[u16], n: usize) -> &[u16]
 // Numbers 8 and 9 of a rule's row: it has a head, and its heads weigh more than its body; 0 where it meets neither.
 fn rule_fault(symbols: &[u16], k: usize, row: &[u16]) -> u8
     requires { ⌜ (4 * k ≤ length (now symbols)) × (length (now row) ≡ 64) ⌝ }
-    ensures {
-        λ r. ⌜ ((text : List ℕ) (n : ℕ) → met r n ≡ ruleTests (symbolsOf text (now (symbols .entry)) k) (ruleOfRow text (now (row .entry))) n) ⌝
-    }
+    ensures { λ r. ⌜ ((text : List ℕ) (n : ℕ) → met r n ≡ ruleTests (symbolsOf text (now (symbols .entry)) k) (ruleOfRow text (now (row .entry))) n) ⌝ }
 {
     let h = wide(row[3]);
     let b = wide(row[4]);
@@ -204,10 +247,8 @@ fn rule_fault(symbols: &[u16], k: usize, row: &[u16]) -> u8
 // The rules in order: numbers 8 and 9.
 fn check_rules(symbols: &[u16], k: usize, rules: &[u16], n: usize) -> RulesRead
     requires { ⌜ (4 * k ≤ length (now symbols)) × (64 * n ≤ length (now rules)) × (n ≤ 32) ⌝ }
-    ensures {
-        λ r. ⌜ ((text : List ℕ) → rulesAnswer r ≡ checkRules (symbolsOf text (now (symbols .entry)) k)
-        (rulesOf text (now (rules .entry)) n) (startsOf (now (rules .entry)) n)) ⌝
-    }
+    ensures { λ r. ⌜ ((text : List ℕ) → rulesAnswer r ≡ checkRules (symbolsOf text (now (symbols .entry)) k)
+        (rulesOf text (now (rules .entry)) n) (startsOf (now (rules .entry)) n)) ⌝ }
 {
     let mut i = 0;
     while i < n {
@@ -223,12 +264,15 @@ fn check_rules(symbols: &[u16], k: usize, rules: &[u16], n: usize) -> RulesRead
 }
 
 // A program's text into the lent tables: number 1, its lines in order, then its rules in order.
-pub fn read_program(text: &[u8], symbols: &mut [u16], rules: &mut [u16], constants: &mut [u16]) -> ProgramRead
+pub fn read_program(
+    text: &[u8],
+    symbols: &mut [u16],
+    rules: &mut [u16],
+    constants: &mut [u16],
+) -> ProgramRead
     requires { ⌜ (length (now symbols) ≡ 128) × (length (now rules) ≡ 2048) × (length (now constants) ≡ 128) ⌝ }
-    ensures {
-        λ r. ⌜ programAnswer (now (text .entry)) (now (symbols .exit)) (now (rules .exit)) (now (constants .exit)) r
-        ≡ readProgram (now (text .entry)) ⌝
-    }
+    ensures { λ r. ⌜ programAnswer (now (text .entry)) (now (symbols .exit)) (now (rules .exit)) (now (constants .exit)) r
+        ≡ readProgram (now (text .entry)) ⌝ }
 {
     if 16384 < text.len() {
         return ProgramRead::Refused(1, 0);
@@ -242,13 +286,11 @@ pub fn read_program(text: &[u8], symbols: &mut [u16], rules: &mut [u16], constan
             let n = stage.rules;
             match check_rules(symbols, k, rules, n) {
                 RulesRead::Refused(x, number) => ProgramRead::Refused(x, number),
-                RulesRead::Fine => ProgramRead::Accepted(
-                    Counts {
-                        symbols: k,
-                        rules: n,
-                        constants: stage.constants,
-                    },
-                ),
+                RulesRead::Fine => ProgramRead::Accepted(Counts {
+                    symbols: k,
+                    rules: n,
+                    constants: stage.constants,
+                }),
             }
         }
     }

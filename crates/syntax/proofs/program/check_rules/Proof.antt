@@ -45,9 +45,11 @@ part-rule-fault-end : tie.Need-part-rule-fault-end Inv-loop μ-loop
 part-rule-fault-end c = search needs
 
 rule-fault-requires : tie.Need-rule-fault-requires Inv-loop μ-loop
-rule-fault-requires c κs =
-    ((c .before .before .before .before .before .pre) .0, length-take-le (64 * (c .before .before .loop) .i + 64 - 64 * (c .before .before .loop) .i) (drop (64 * (c .before .before .loop) .i) ((c .before .before .before .before .before .args) .rules .now)) (omega (arith, length-drop (64 * (c .before .before .loop) .i) ((c .before .before .before .before .before .args) .rules .now), (c .before .loop-test) .taken, (c .before .before .before .before .before .pre) .1))
-    ∙ (let z : 64 * (c .before .before .loop) .i + 64 - 64 * (c .before .before .loop) .i ≡ 64 = omega arith in z))
+rule-fault-requires c κs = (
+  (c .before .before .before .before .before .pre) .0,
+  length-take-le (64 * (c .before .before .loop) .i + 64 - 64 * (c .before .before .loop) .i) (drop (64 * (c .before .before .loop) .i) ((c .before .before .before .before .before .args) .rules .now)) (omega (arith, length-drop (64 * (c .before .before .loop) .i) ((c .before .before .before .before .before .args) .rules .now), (c .before .loop-test) .taken, (c .before .before .before .before .before .pre) .1))
+      ∙ (let z : 64 * (c .before .before .loop) .i + 64 - 64 * (c .before .before .loop) .i ≡ 64 = omega arith in z),
+)
 
 add-t15 : tie.Need-add-t15 Inv-loop μ-loop
 add-t15 c = search needs
@@ -74,12 +76,14 @@ loop-less c = search needs
 
 loop-again : tie.Need-loop-again Inv-loop μ-loop
 unfolding ruleOf
-loop-again c =
-    (omega arith, λ text. rw (add-one ((c .before .before .before .before .loop) .i))
-    (check-next text ((c .before .before .before .before .before .before .before .args) .symbols .now) ((c .before .before .before .before .before .before .before .args) .rules .now) ((c .before .before .before .before .before .before .before .args) .k) ((c .before .before .before .before .before .before .before .args) .n) ((c .before .before .before .before .loop) .i) ((c .before .before .before .loop-test) .taken) ((c .before .rule-fault) .result)
-    ((c .before .rule-fault) .ensures text (getD ((c .before .before .before .before .before .before .before .args) .rules .now) (64 * (c .before .before .before .before .loop) .i + 2) 0)
-    ∙ ap (λ (m : ℕ). ruleTests (symbolsOf text ((c .before .before .before .before .before .before .before .args) .symbols .now) ((c .before .before .before .before .before .before .before .args) .k)) (ruleOfRow text (take m (drop (64 * (c .before .before .before .before .loop) .i) ((c .before .before .before .before .before .before .before .args) .rules .now))))
-    (getD ((c .before .before .before .before .before .before .before .args) .rules .now) (64 * (c .before .before .before .before .loop) .i + 2) 0)) (let z : 64 * (c .before .before .before .before .loop) .i + 64 - 64 * (c .before .before .before .before .loop) .i ≡ 64 = omega arith in z)) ((c .if1) .left) ∙ (c .before .before .before .before .loop) .inv .1 text))
+loop-again c = (
+  omega arith,
+  λ text. rw (add-one ((c .before .before .before .before .loop) .i))
+      (check-next text ((c .before .before .before .before .before .before .before .args) .symbols .now) ((c .before .before .before .before .before .before .before .args) .rules .now) ((c .before .before .before .before .before .before .before .args) .k) ((c .before .before .before .before .before .before .before .args) .n) ((c .before .before .before .before .loop) .i) ((c .before .before .before .loop-test) .taken) ((c .before .rule-fault) .result)
+      ((c .before .rule-fault) .ensures text (getD ((c .before .before .before .before .before .before .before .args) .rules .now) (64 * (c .before .before .before .before .loop) .i + 2) 0)
+      ∙ ap (λ (m : ℕ). ruleTests (symbolsOf text ((c .before .before .before .before .before .before .before .args) .symbols .now) ((c .before .before .before .before .before .before .before .args) .k)) (ruleOfRow text (take m (drop (64 * (c .before .before .before .before .loop) .i) ((c .before .before .before .before .before .before .before .args) .rules .now))))
+      (getD ((c .before .before .before .before .before .before .before .args) .rules .now) (64 * (c .before .before .before .before .loop) .i + 2) 0)) (let z : 64 * (c .before .before .before .before .loop) .i + 64 - 64 * (c .before .before .before .before .loop) .i ≡ 64 = omega arith in z)) ((c .if1) .left) ∙ (c .before .before .before .before .loop) .inv .1 text),
+)
 
 returns-2 : tie.Need-returns-2 Inv-loop μ-loop
 unfolding rulesAnswer

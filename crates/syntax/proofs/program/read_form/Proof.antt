@@ -30,27 +30,54 @@ enum-told-3 c = search needs
 
 head-line-requires : tie.Need-head-line-requires
 unfolding formMeant
-head-line-requires c κs =
-    ((c .before .before .before .before .before .before .before .before .before .before .before .pre) .0, (c .before .before .before .before .before .before .before .before .before .before .before .pre) .1, (c .before .before .before .before .before .before .before .before .before .before .before .pre) .2, (c .before .before .before .before .before .before .before .before .before .before .before .pre) .3, (c .before .before .before .before .before .before .before .before .before .before .before .pre) .4, (c .before .before .before .before .before .before .before .before .before .before .before .pre) .5, (c .before .before .before .before .before .before .before .before .before .before .before .pre) .6, (c .before .before .before .before .before .before .before .before .before .before .before .pre) .7, (c .before .before .before .before .before .before .before .before .before .before .before .pre) .8,
-    (c .before .before .before .before .before .before .before .before .before .before .before .pre) .8 .begun (begun-head ((c .before .before .before .before .before .before .before .before .before .before .before .args) .place) ((c .before .before .before .before .before .before .before .before .before .before .before .args) .stage .place) ((c .before .before .before .before .before .before .before .before .before .before .before .pre) .10 ∙ ap (λ (f : LineForm). placeAfter (formMeant f) (placeMeant ((c .before .before .before .before .before .before .before .before .before .before .before .args) .stage .place))) ((c .before .before .before .enum-told3) .given .1)) ((c .before .before .before .before .before .before .before .before .before .before .before .pre) .9)))
+head-line-requires c κs = (
+  (c .before .before .before .before .before .before .before .before .before .before .before .pre) .0,
+  (c .before .before .before .before .before .before .before .before .before .before .before .pre) .1,
+  (c .before .before .before .before .before .before .before .before .before .before .before .pre) .2,
+  (c .before .before .before .before .before .before .before .before .before .before .before .pre) .3,
+  (c .before .before .before .before .before .before .before .before .before .before .before .pre) .4,
+  (c .before .before .before .before .before .before .before .before .before .before .before .pre) .5,
+  (c .before .before .before .before .before .before .before .before .before .before .before .pre) .6,
+  (c .before .before .before .before .before .before .before .before .before .before .before .pre) .7,
+  (c .before .before .before .before .before .before .before .before .before .before .before .pre) .8,
+  (c .before .before .before .before .before .before .before .before .before .before .before .pre) .8 .begun (begun-head ((c .before .before .before .before .before .before .before .before .before .before .before .args) .place) ((c .before .before .before .before .before .before .before .before .before .before .before .args) .stage .place) ((c .before .before .before .before .before .before .before .before .before .before .before .pre) .10 ∙ ap (λ (f : LineForm). placeAfter (formMeant f) (placeMeant ((c .before .before .before .before .before .before .before .before .before .before .before .args) .stage .place))) ((c .before .before .before .enum-told3) .given .1)) ((c .before .before .before .before .before .before .before .before .before .before .before .pre) .9)),
+)
 
 enum-told-4 : tie.Need-enum-told-4
 enum-told-4 c = search needs
 
 body-line-requires : tie.Need-body-line-requires
 unfolding formMeant
-body-line-requires c κs =
-    ((c .before .before .before .before .before .before .before .before .before .before .before .pre) .0, (c .before .before .before .before .before .before .before .before .before .before .before .pre) .1, (c .before .before .before .before .before .before .before .before .before .before .before .pre) .2, (c .before .before .before .before .before .before .before .before .before .before .before .pre) .3, (c .before .before .before .before .before .before .before .before .before .before .before .pre) .4, (c .before .before .before .before .before .before .before .before .before .before .before .pre) .5, (c .before .before .before .before .before .before .before .before .before .before .before .pre) .6, (c .before .before .before .before .before .before .before .before .before .before .before .pre) .7, (c .before .before .before .before .before .before .before .before .before .before .before .pre) .8,
-    (c .before .before .before .before .before .before .before .before .before .before .before .pre) .8 .begun (begun-body ((c .before .before .before .before .before .before .before .before .before .before .before .args) .place) ((c .before .before .before .before .before .before .before .before .before .before .before .args) .stage .place) ((c .before .before .before .before .before .before .before .before .before .before .before .pre) .10 ∙ ap (λ (f : LineForm). placeAfter (formMeant f) (placeMeant ((c .before .before .before .before .before .before .before .before .before .before .before .args) .stage .place))) ((c .before .before .before .enum-told4) .given .1)) ((c .before .before .before .before .before .before .before .before .before .before .before .pre) .9)))
+body-line-requires c κs = (
+  (c .before .before .before .before .before .before .before .before .before .before .before .pre) .0,
+  (c .before .before .before .before .before .before .before .before .before .before .before .pre) .1,
+  (c .before .before .before .before .before .before .before .before .before .before .before .pre) .2,
+  (c .before .before .before .before .before .before .before .before .before .before .before .pre) .3,
+  (c .before .before .before .before .before .before .before .before .before .before .before .pre) .4,
+  (c .before .before .before .before .before .before .before .before .before .before .before .pre) .5,
+  (c .before .before .before .before .before .before .before .before .before .before .before .pre) .6,
+  (c .before .before .before .before .before .before .before .before .before .before .before .pre) .7,
+  (c .before .before .before .before .before .before .before .before .before .before .before .pre) .8,
+  (c .before .before .before .before .before .before .before .before .before .before .before .pre) .8 .begun (begun-body ((c .before .before .before .before .before .before .before .before .before .before .before .args) .place) ((c .before .before .before .before .before .before .before .before .before .before .before .args) .stage .place) ((c .before .before .before .before .before .before .before .before .before .before .before .pre) .10 ∙ ap (λ (f : LineForm). placeAfter (formMeant f) (placeMeant ((c .before .before .before .before .before .before .before .before .before .before .before .args) .stage .place))) ((c .before .before .before .enum-told4) .given .1)) ((c .before .before .before .before .before .before .before .before .before .before .before .pre) .9)),
+)
 
 enum-told-5 : tie.Need-enum-told-5
 enum-told-5 c = search needs
 
 equation-line-requires : tie.Need-equation-line-requires
 unfolding formMeant
-equation-line-requires c κs =
-    ((c .before .before .before .before .before .before .before .before .before .before .before .pre) .0, (c .before .before .before .before .before .before .before .before .before .before .before .pre) .1, (c .before .before .before .before .before .before .before .before .before .before .before .pre) .2, (c .before .before .before .before .before .before .before .before .before .before .before .pre) .3, (c .before .before .before .before .before .before .before .before .before .before .before .pre) .4, (c .before .before .before .before .before .before .before .before .before .before .before .pre) .5, (c .before .before .before .before .before .before .before .before .before .before .before .pre) .6, (c .before .before .before .before .before .before .before .before .before .before .before .pre) .7, (c .before .before .before .before .before .before .before .before .before .before .before .pre) .8,
-    (c .before .before .before .before .before .before .before .before .before .before .before .pre) .8 .begun (begun-sides ((c .before .before .before .before .before .before .before .before .before .before .before .args) .place) ((c .before .before .before .before .before .before .before .before .before .before .before .args) .stage .place) ((c .before .before .before .before .before .before .before .before .before .before .before .pre) .10 ∙ ap (λ (f : LineForm). placeAfter (formMeant f) (placeMeant ((c .before .before .before .before .before .before .before .before .before .before .before .args) .stage .place))) ((c .before .before .before .enum-told5) .given .1)) ((c .before .before .before .before .before .before .before .before .before .before .before .pre) .9)))
+equation-line-requires c κs = (
+  (c .before .before .before .before .before .before .before .before .before .before .before .pre) .0,
+  (c .before .before .before .before .before .before .before .before .before .before .before .pre) .1,
+  (c .before .before .before .before .before .before .before .before .before .before .before .pre) .2,
+  (c .before .before .before .before .before .before .before .before .before .before .before .pre) .3,
+  (c .before .before .before .before .before .before .before .before .before .before .before .pre) .4,
+  (c .before .before .before .before .before .before .before .before .before .before .before .pre) .5,
+  (c .before .before .before .before .before .before .before .before .before .before .before .pre) .6,
+  (c .before .before .before .before .before .before .before .before .before .before .before .pre) .7,
+  (c .before .before .before .before .before .before .before .before .before .before .before .pre) .8,
+  (c .before .before .before .before .before .before .before .before .before .before .before .pre) .8 .begun (begun-sides ((c .before .before .before .before .before .before .before .before .before .before .before .args) .place) ((c .before .before .before .before .before .before .before .before .before .before .before .args) .stage .place) ((c .before .before .before .before .before .before .before .before .before .before .before .pre) .10 ∙ ap (λ (f : LineForm). placeAfter (formMeant f) (placeMeant ((c .before .before .before .before .before .before .before .before .before .before .before .args) .stage .place))) ((c .before .before .before .enum-told5) .given .1)) ((c .before .before .before .before .before .before .before .before .before .before .before .pre) .9)),
+)
 
 enum-told-6 : tie.Need-enum-told-6
 enum-told-6 c = search needs

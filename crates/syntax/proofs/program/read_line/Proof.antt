@@ -23,18 +23,23 @@ slice-aggregate-line c = sym (length-take-le ((c .before .before .before .before
 
 form-at-requires : tie.Need-form-at-requires
 form-at-requires c κs =
-    omega (arith, length-take-le ((c .before .before .before .before .before .before .before .before .before .args) .end) ((c .before .before .before .before .before .before .before .before .before .args) .text .now) ((c .before .before .before .before .before .before .before .before .before .pre) .3),
-    some-bytes ((c .before .before .before .before .before .before .before .before .before .args) .text .now) ((c .before .before .before .before .before .before .before .before .before .args) .at) ((c .before .before .before .before .before .before .before .before .before .args) .end) ((c .before .before .before .before .before .before .before .before .before .pre) .2) ((c .before .before .before .before .before .before .before .before .before .pre) .3) (sym ((c .before .before .is-faulty-line) .ensures) ∙ (c .before .if1) .left))
+    omega (
+      arith,
+      length-take-le ((c .before .before .before .before .before .before .before .before .before .args) .end) ((c .before .before .before .before .before .before .before .before .before .args) .text .now) ((c .before .before .before .before .before .before .before .before .before .pre) .3),
+      some-bytes ((c .before .before .before .before .before .before .before .before .before .args) .text .now) ((c .before .before .before .before .before .before .before .before .before .args) .at) ((c .before .before .before .before .before .before .before .before .before .args) .end) ((c .before .before .before .before .before .before .before .before .before .pre) .2) ((c .before .before .before .before .before .before .before .before .before .pre) .3) (sym ((c .before .before .is-faulty-line) .ensures) ∙ (c .before .if1) .left),
+    )
 
 place-after-requires : tie.Need-place-after-requires
 place-after-requires c κs = search needs
 
 returns-2 : tie.Need-returns-2
 unfolding lineAnswer draftOf
-returns-2 c =
-    (line-placeless ((c .before .before .before .before .before .before .before .before .before .before .before .before .args) .text .now) ((c .before .before .before .before .before .before .before .before .before .before .before .before .args) .at) ((c .before .before .before .before .before .before .before .before .before .before .before .before .args) .end) ((c .before .before .before .before .before .before .before .before .before .before .before .before .args) .number) (draftOf ((c .before .before .before .before .before .before .before .before .before .before .before .before .args) .text .now) ((c .before .before .before .before .before .before .before .before .before .before .before .before .args) .symbols .now) ((c .before .before .before .before .before .before .before .before .before .before .before .before .args) .rules .now) ((c .before .before .before .before .before .before .before .before .before .before .before .before .args) .constants .now) ((c .before .before .before .before .before .before .before .before .before .before .before .before .args) .stage)) ((c .before .before .before .before .before .before .before .before .before .before .before .before .pre) .2) ((c .before .before .before .before .before .before .before .before .before .before .before .before .pre) .3)
-    (sym ((c .before .before .before .before .before .is-faulty-line) .ensures) ∙ (c .before .before .before .before .if1) .left) (formMeant ((c .before .before .form-at) .result)) ((c .before .before .form-at) .ensures) ((c .before .place-after) .result) ((c .before .place-after) .ensures)
-    ((c .if2) .taken), omega arith)
+returns-2 c = (
+  line-placeless ((c .before .before .before .before .before .before .before .before .before .before .before .before .args) .text .now) ((c .before .before .before .before .before .before .before .before .before .before .before .before .args) .at) ((c .before .before .before .before .before .before .before .before .before .before .before .before .args) .end) ((c .before .before .before .before .before .before .before .before .before .before .before .before .args) .number) (draftOf ((c .before .before .before .before .before .before .before .before .before .before .before .before .args) .text .now) ((c .before .before .before .before .before .before .before .before .before .before .before .before .args) .symbols .now) ((c .before .before .before .before .before .before .before .before .before .before .before .before .args) .rules .now) ((c .before .before .before .before .before .before .before .before .before .before .before .before .args) .constants .now) ((c .before .before .before .before .before .before .before .before .before .before .before .before .args) .stage)) ((c .before .before .before .before .before .before .before .before .before .before .before .before .pre) .2) ((c .before .before .before .before .before .before .before .before .before .before .before .before .pre) .3)
+      (sym ((c .before .before .before .before .before .is-faulty-line) .ensures) ∙ (c .before .before .before .before .if1) .left) (formMeant ((c .before .before .form-at) .result)) ((c .before .before .form-at) .ensures) ((c .before .place-after) .result) ((c .before .place-after) .ensures)
+      ((c .if2) .taken),
+  omega arith,
+)
 
 read-form-requires : tie.Need-read-form-requires
 read-form-requires c κs =
@@ -51,10 +56,12 @@ same-length-3 c = search needs
 
 returns-3 : tie.Need-returns-3
 unfolding draftOf
-returns-3 c =
-    ((c .before .before .before .before .before .before .read-form) .ensures .0 ∙ line-formed ((c .before .before .before .before .before .before .before .before .before .before .before .before .before .before .before .before .before .before .before .before .before .before .args) .text .now) ((c .before .before .before .before .before .before .before .before .before .before .before .before .before .before .before .before .before .before .before .before .before .before .args) .at) ((c .before .before .before .before .before .before .before .before .before .before .before .before .before .before .before .before .before .before .before .before .before .before .args) .end) ((c .before .before .before .before .before .before .before .before .before .before .before .before .before .before .before .before .before .before .before .before .before .before .args) .number) (draftOf ((c .before .before .before .before .before .before .before .before .before .before .before .before .before .before .before .before .before .before .before .before .before .before .args) .text .now) ((c .before .before .before .before .before .before .before .before .before .before .before .before .before .before .before .before .before .before .before .before .before .before .args) .symbols .now) ((c .before .before .before .before .before .before .before .before .before .before .before .before .before .before .before .before .before .before .before .before .before .before .args) .rules .now) ((c .before .before .before .before .before .before .before .before .before .before .before .before .before .before .before .before .before .before .before .before .before .before .args) .constants .now) ((c .before .before .before .before .before .before .before .before .before .before .before .before .before .before .before .before .before .before .before .before .before .before .args) .stage)) ((c .before .before .before .before .before .before .before .before .before .before .before .before .before .before .before .before .before .before .before .before .before .before .pre) .2) ((c .before .before .before .before .before .before .before .before .before .before .before .before .before .before .before .before .before .before .before .before .before .before .pre) .3)
-    (sym ((c .before .before .before .before .before .before .before .before .before .before .before .before .before .before .before .is-faulty-line) .ensures) ∙ (c .before .before .before .before .before .before .before .before .before .before .before .before .before .before .if1) .left) (formMeant ((c .before .before .before .before .before .before .before .before .before .before .before .before .form-at) .result)) ((c .before .before .before .before .before .before .before .before .before .before .before .before .form-at) .ensures) ((c .before .before .before .before .before .before .before .before .before .before .before .place-after) .result) ((c .before .before .before .before .before .before .before .before .before .before .before .place-after) .ensures)
-    ((c .before .before .before .before .before .before .before .before .before .before .if2) .left), (c .before .before .before .before .before .before .read-form) .ensures .1)
+returns-3 c = (
+  (c .before .before .before .before .before .before .read-form) .ensures .0 ∙ line-formed ((c .before .before .before .before .before .before .before .before .before .before .before .before .before .before .before .before .before .before .before .before .before .before .args) .text .now) ((c .before .before .before .before .before .before .before .before .before .before .before .before .before .before .before .before .before .before .before .before .before .before .args) .at) ((c .before .before .before .before .before .before .before .before .before .before .before .before .before .before .before .before .before .before .before .before .before .before .args) .end) ((c .before .before .before .before .before .before .before .before .before .before .before .before .before .before .before .before .before .before .before .before .before .before .args) .number) (draftOf ((c .before .before .before .before .before .before .before .before .before .before .before .before .before .before .before .before .before .before .before .before .before .before .args) .text .now) ((c .before .before .before .before .before .before .before .before .before .before .before .before .before .before .before .before .before .before .before .before .before .before .args) .symbols .now) ((c .before .before .before .before .before .before .before .before .before .before .before .before .before .before .before .before .before .before .before .before .before .before .args) .rules .now) ((c .before .before .before .before .before .before .before .before .before .before .before .before .before .before .before .before .before .before .before .before .before .before .args) .constants .now) ((c .before .before .before .before .before .before .before .before .before .before .before .before .before .before .before .before .before .before .before .before .before .before .args) .stage)) ((c .before .before .before .before .before .before .before .before .before .before .before .before .before .before .before .before .before .before .before .before .before .before .pre) .2) ((c .before .before .before .before .before .before .before .before .before .before .before .before .before .before .before .before .before .before .before .before .before .before .pre) .3)
+      (sym ((c .before .before .before .before .before .before .before .before .before .before .before .before .before .before .before .is-faulty-line) .ensures) ∙ (c .before .before .before .before .before .before .before .before .before .before .before .before .before .before .if1) .left) (formMeant ((c .before .before .before .before .before .before .before .before .before .before .before .before .form-at) .result)) ((c .before .before .before .before .before .before .before .before .before .before .before .before .form-at) .ensures) ((c .before .before .before .before .before .before .before .before .before .before .before .place-after) .result) ((c .before .before .before .before .before .before .before .before .before .before .before .place-after) .ensures)
+      ((c .before .before .before .before .before .before .before .before .before .before .if2) .left),
+  (c .before .before .before .before .before .before .read-form) .ensures .1,
+)
 
 pub read-line-spec : {M : Type 1} → statement M
 read-line-spec =

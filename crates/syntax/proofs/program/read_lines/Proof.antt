@@ -23,17 +23,23 @@ abbrev μ-loop : tie.MeasureT-loop
 
 loop-holds : tie.Need-loop-holds Inv-loop μ-loop
 unfolding draftOf blank symbolsOf rulesOf startsOf constantsOf placeMeant
-loop-holds c =
-    ((c .before .before .before .before .before .before .pre) .3, (c .before .before .before .before .before .before .pre) .4, (c .before .before .before .before .before .before .pre) .5, omega arith, omega arith,
-    record {
-      few-symbols = omega arith;
-      few-rules = omega arith;
-      few-constants = omega arith;
-      begun = λ h. absurd (omega (arith, h));
-      few-heads = λ h. absurd (omega (arith, h));
-      few-body = λ h. absurd (omega (arith, h));
-      few-sides = λ h. absurd (omega (arith, h));
-    }, refl)
+loop-holds c = (
+  (c .before .before .before .before .before .before .pre) .3,
+  (c .before .before .before .before .before .before .pre) .4,
+  (c .before .before .before .before .before .before .pre) .5,
+  omega arith,
+  omega arith,
+  record {
+    few-symbols = omega arith;
+    few-rules = omega arith;
+    few-constants = omega arith;
+    begun = λ h. absurd (omega (arith, h));
+    few-heads = λ h. absurd (omega (arith, h));
+    few-body = λ h. absurd (omega (arith, h));
+    few-sides = λ h. absurd (omega (arith, h));
+  },
+  refl,
+)
 
 line-end-requires : tie.Need-line-end-requires Inv-loop μ-loop
 line-end-requires c κs = omega (arith, (c .loop-test) .taken)
@@ -56,10 +62,12 @@ same-length-3 c = (c .before .before .before .before .before .before .before .be
 
 returns : tie.Need-returns Inv-loop μ-loop
 unfolding lineAnswer linesAnswer
-returns c =
-    (lines-refused ((c .before .before .before .before .before .before .before .before .before .before .before .before .before .before .before .before .before .before .before .before .before .before .args) .text .now) ((c .before .before .before .before .before .before .before .before .before .before .before .before .before .before .before .loop) .at) ((c .before .before .before .before .before .before .before .before .before .before .before .before .before .line-end) .result) ((c .before .before .before .before .before .before .before .before .before .before .before .before .before .before .before .loop) .number) (draftOf ((c .before .before .before .before .before .before .before .before .before .before .before .before .before .before .before .before .before .before .before .before .before .before .args) .text .now) ((c .before .before .before .before .before .before .before .before .before .before .before .before .before .before .before .loop) .symbols) ((c .before .before .before .before .before .before .before .before .before .before .before .before .before .before .before .loop) .rules) ((c .before .before .before .before .before .before .before .before .before .before .before .before .before .before .before .loop) .constants) ((c .before .before .before .before .before .before .before .before .before .before .before .before .before .before .before .loop) .stage)) ((c .before .before .before .before .before .before .before .before .before .before .before .before .before .before .loop-test) .taken) ((c .before .before .before .before .before .before .before .before .before .before .before .before .before .line-end) .ensures .0)
-    ((c .before .x) .given .0 .0) ((c .before .before .before .before .before .before .before .before .before .before .before .before .before .before .before .loop) .number)
-    (ap (lineAnswer ((c .before .before .before .before .before .before .before .before .before .before .before .before .before .before .before .before .before .before .before .before .before .before .args) .text .now) ((c .before .before .before .before .before .before .before .before .before .read-line) .last .1 .1 .1 .1 .1 .1 .0) ((c .before .before .before .before .before .before .before .before .before .read-line) .last .1 .1 .1 .1 .1 .1 .1 .0) ((c .before .before .before .before .before .before .before .before .before .read-line) .last .1 .1 .1 .1 .1 .1 .1 .1 .0) ((c .before .before .before .before .before .before .before .before .before .before .before .before .before .before .before .loop) .number)) (sym ((c .before .x) .given .1)) ∙ (c .before .before .before .before .before .before .before .before .before .read-line) .ensures .0) ∙ (c .before .before .before .before .before .before .before .before .before .before .before .before .before .before .before .loop) .inv .6, omega arith)
+returns c = (
+  lines-refused ((c .before .before .before .before .before .before .before .before .before .before .before .before .before .before .before .before .before .before .before .before .before .before .args) .text .now) ((c .before .before .before .before .before .before .before .before .before .before .before .before .before .before .before .loop) .at) ((c .before .before .before .before .before .before .before .before .before .before .before .before .before .line-end) .result) ((c .before .before .before .before .before .before .before .before .before .before .before .before .before .before .before .loop) .number) (draftOf ((c .before .before .before .before .before .before .before .before .before .before .before .before .before .before .before .before .before .before .before .before .before .before .args) .text .now) ((c .before .before .before .before .before .before .before .before .before .before .before .before .before .before .before .loop) .symbols) ((c .before .before .before .before .before .before .before .before .before .before .before .before .before .before .before .loop) .rules) ((c .before .before .before .before .before .before .before .before .before .before .before .before .before .before .before .loop) .constants) ((c .before .before .before .before .before .before .before .before .before .before .before .before .before .before .before .loop) .stage)) ((c .before .before .before .before .before .before .before .before .before .before .before .before .before .before .loop-test) .taken) ((c .before .before .before .before .before .before .before .before .before .before .before .before .before .line-end) .ensures .0)
+      ((c .before .x) .given .0 .0) ((c .before .before .before .before .before .before .before .before .before .before .before .before .before .before .before .loop) .number)
+      (ap (lineAnswer ((c .before .before .before .before .before .before .before .before .before .before .before .before .before .before .before .before .before .before .before .before .before .before .args) .text .now) ((c .before .before .before .before .before .before .before .before .before .read-line) .last .1 .1 .1 .1 .1 .1 .0) ((c .before .before .before .before .before .before .before .before .before .read-line) .last .1 .1 .1 .1 .1 .1 .1 .0) ((c .before .before .before .before .before .before .before .before .before .read-line) .last .1 .1 .1 .1 .1 .1 .1 .1 .0) ((c .before .before .before .before .before .before .before .before .before .before .before .before .before .before .before .loop) .number)) (sym ((c .before .x) .given .1)) ∙ (c .before .before .before .before .before .before .before .before .before .read-line) .ensures .0) ∙ (c .before .before .before .before .before .before .before .before .before .before .before .before .before .before .before .loop) .inv .6,
+  omega arith,
+)
 
 enum-known-next : tie.Need-enum-known-next Inv-loop μ-loop
 enum-known-next c = search needs
@@ -76,13 +84,16 @@ loop-less c = omega (arith, (c .before .before .before .before .before .before .
 loop-again : tie.Need-loop-again Inv-loop μ-loop
 unfolding lineAnswer
 loop-again c =
-    rw (add-one ((c .before .before .before .before .before .before .before .before .before .before .before .before .before .line-end) .result), add-one ((c .before .before .before .before .before .before .before .before .before .before .before .before .before .before .before .loop) .number))
-    ((c .before .before .before .before .before .before .before .before .before .read-line) .kept .1 .1 .1 .1 .1 .1 .0 ∙ (c .before .before .before .before .before .before .before .before .before .before .before .before .before .before .before .loop) .inv .0, (c .before .before .before .before .before .before .before .before .before .read-line) .kept .1 .1 .1 .1 .1 .1 .1 .0 ∙ (c .before .before .before .before .before .before .before .before .before .before .before .before .before .before .before .loop) .inv .1,
-    (c .before .before .before .before .before .before .before .before .before .read-line) .kept .1 .1 .1 .1 .1 .1 .1 .1 .0 ∙ (c .before .before .before .before .before .before .before .before .before .before .before .before .before .before .before .loop) .inv .2,
-    omega (arith, (c .before .before .before .before .before .before .before .before .before .before .before .before .before .line-end) .ensures .2), omega (arith, (c .before .before .before .before .before .before .before .before .before .before .before .before .before .line-end) .ensures .1, (c .before .before .before .before .before .before .before .before .before .before .before .before .before .before .before .loop) .inv .4),
-    rw ((c .before .next) .given .1) at ((c .before .before .before .before .before .before .before .before .before .read-line) .ensures .1),
-    lines-next ((c .before .before .before .before .before .before .before .before .before .before .before .before .before .before .before .before .before .before .before .before .before .before .args) .text .now) ((c .before .before .before .before .before .before .before .before .before .before .before .before .before .before .before .loop) .at) ((c .before .before .before .before .before .before .before .before .before .before .before .before .before .line-end) .result) ((c .before .before .before .before .before .before .before .before .before .before .before .before .before .before .before .loop) .number) (draftOf ((c .before .before .before .before .before .before .before .before .before .before .before .before .before .before .before .before .before .before .before .before .before .before .args) .text .now) ((c .before .before .before .before .before .before .before .before .before .before .before .before .before .before .before .loop) .symbols) ((c .before .before .before .before .before .before .before .before .before .before .before .before .before .before .before .loop) .rules) ((c .before .before .before .before .before .before .before .before .before .before .before .before .before .before .before .loop) .constants) ((c .before .before .before .before .before .before .before .before .before .before .before .before .before .before .before .loop) .stage)) ((c .before .before .before .before .before .before .before .before .before .before .before .before .before .before .loop-test) .taken) ((c .before .before .before .before .before .before .before .before .before .before .before .before .before .line-end) .ensures .0) _
-    (ap (lineAnswer ((c .before .before .before .before .before .before .before .before .before .before .before .before .before .before .before .before .before .before .before .before .before .before .args) .text .now) ((c .before .before .before .before .before .before .before .before .before .read-line) .last .1 .1 .1 .1 .1 .1 .0) ((c .before .before .before .before .before .before .before .before .before .read-line) .last .1 .1 .1 .1 .1 .1 .1 .0) ((c .before .before .before .before .before .before .before .before .before .read-line) .last .1 .1 .1 .1 .1 .1 .1 .1 .0) ((c .before .before .before .before .before .before .before .before .before .before .before .before .before .before .before .loop) .number)) (sym ((c .before .next) .given .1)) ∙ (c .before .before .before .before .before .before .before .before .before .read-line) .ensures .0) ∙ (c .before .before .before .before .before .before .before .before .before .before .before .before .before .before .before .loop) .inv .6)
+    rw (add-one ((c .before .before .before .before .before .before .before .before .before .before .before .before .before .line-end) .result), add-one ((c .before .before .before .before .before .before .before .before .before .before .before .before .before .before .before .loop) .number)) (
+      (c .before .before .before .before .before .before .before .before .before .read-line) .kept .1 .1 .1 .1 .1 .1 .0 ∙ (c .before .before .before .before .before .before .before .before .before .before .before .before .before .before .before .loop) .inv .0,
+      (c .before .before .before .before .before .before .before .before .before .read-line) .kept .1 .1 .1 .1 .1 .1 .1 .0 ∙ (c .before .before .before .before .before .before .before .before .before .before .before .before .before .before .before .loop) .inv .1,
+      (c .before .before .before .before .before .before .before .before .before .read-line) .kept .1 .1 .1 .1 .1 .1 .1 .1 .0 ∙ (c .before .before .before .before .before .before .before .before .before .before .before .before .before .before .before .loop) .inv .2,
+      omega (arith, (c .before .before .before .before .before .before .before .before .before .before .before .before .before .line-end) .ensures .2),
+      omega (arith, (c .before .before .before .before .before .before .before .before .before .before .before .before .before .line-end) .ensures .1, (c .before .before .before .before .before .before .before .before .before .before .before .before .before .before .before .loop) .inv .4),
+      rw ((c .before .next) .given .1) at ((c .before .before .before .before .before .before .before .before .before .read-line) .ensures .1),
+      lines-next ((c .before .before .before .before .before .before .before .before .before .before .before .before .before .before .before .before .before .before .before .before .before .before .args) .text .now) ((c .before .before .before .before .before .before .before .before .before .before .before .before .before .before .before .loop) .at) ((c .before .before .before .before .before .before .before .before .before .before .before .before .before .line-end) .result) ((c .before .before .before .before .before .before .before .before .before .before .before .before .before .before .before .loop) .number) (draftOf ((c .before .before .before .before .before .before .before .before .before .before .before .before .before .before .before .before .before .before .before .before .before .before .args) .text .now) ((c .before .before .before .before .before .before .before .before .before .before .before .before .before .before .before .loop) .symbols) ((c .before .before .before .before .before .before .before .before .before .before .before .before .before .before .before .loop) .rules) ((c .before .before .before .before .before .before .before .before .before .before .before .before .before .before .before .loop) .constants) ((c .before .before .before .before .before .before .before .before .before .before .before .before .before .before .before .loop) .stage)) ((c .before .before .before .before .before .before .before .before .before .before .before .before .before .before .loop-test) .taken) ((c .before .before .before .before .before .before .before .before .before .before .before .before .before .line-end) .ensures .0) _
+          (ap (lineAnswer ((c .before .before .before .before .before .before .before .before .before .before .before .before .before .before .before .before .before .before .before .before .before .before .args) .text .now) ((c .before .before .before .before .before .before .before .before .before .read-line) .last .1 .1 .1 .1 .1 .1 .0) ((c .before .before .before .before .before .before .before .before .before .read-line) .last .1 .1 .1 .1 .1 .1 .1 .0) ((c .before .before .before .before .before .before .before .before .before .read-line) .last .1 .1 .1 .1 .1 .1 .1 .1 .0) ((c .before .before .before .before .before .before .before .before .before .before .before .before .before .before .before .loop) .number)) (sym ((c .before .next) .given .1)) ∙ (c .before .before .before .before .before .before .before .before .before .read-line) .ensures .0) ∙ (c .before .before .before .before .before .before .before .before .before .before .before .before .before .before .before .loop) .inv .6,
+    )
 
 same-length-4 : tie.Need-same-length-4 Inv-loop μ-loop
 same-length-4 c = (c .before .loop) .inv .0 ∙ sym ((c .before .before .before .before .before .before .before .before .pre) .3)

@@ -47,9 +47,17 @@ prefix-of-requires : tie.Need-prefix-of-requires
 prefix-of-requires c κs = search needs
 
 weight-of-requires : tie.Need-weight-of-requires
-weight-of-requires c κs =
-    ((c .before .before .before .before .before .before .before .before .before .pre) .0, omega (arith, ap (λ (l : List ℕ). length l) ((c .prefix-of) .ensures), length-take (5 * (c .before .before .before .before .before .wide) .result) (take (length ((c .before .before .before .before .before .before .before .before .before .args) .row .now) - 6) (drop 6 ((c .before .before .before .before .before .before .before .before .before .args) .row .now))),
-    length-take (length ((c .before .before .before .before .before .before .before .before .before .args) .row .now) - 6) (drop 6 ((c .before .before .before .before .before .before .before .before .before .args) .row .now)), length-drop 6 ((c .before .before .before .before .before .before .before .before .before .args) .row .now), (c .before .before .before .before .before .before .before .before .before .pre) .1))
+weight-of-requires c κs = (
+  (c .before .before .before .before .before .before .before .before .before .pre) .0,
+  omega (
+    arith,
+    ap (λ (l : List ℕ). length l) ((c .prefix-of) .ensures),
+    length-take (5 * (c .before .before .before .before .before .wide) .result) (take (length ((c .before .before .before .before .before .before .before .before .before .args) .row .now) - 6) (drop 6 ((c .before .before .before .before .before .before .before .before .before .args) .row .now))),
+    length-take (length ((c .before .before .before .before .before .before .before .before .before .args) .row .now) - 6) (drop 6 ((c .before .before .before .before .before .before .before .before .before .args) .row .now)),
+    length-drop 6 ((c .before .before .before .before .before .before .before .before .before .args) .row .now),
+    (c .before .before .before .before .before .before .before .before .before .pre) .1,
+  ),
+)
 
 sub-prefix-of-2 : tie.Need-sub-prefix-of-2
 sub-prefix-of-2 c = search needs
@@ -67,9 +75,17 @@ prefix-of-requires-2 : tie.Need-prefix-of-requires-2
 prefix-of-requires-2 c κs = search needs
 
 weight-of-requires-2 : tie.Need-weight-of-requires-2
-weight-of-requires-2 c κs =
-    ((c .before .before .before .before .before .before .before .before .before .before .before .before .pre) .0, omega (arith, ap (λ (l : List ℕ). length l) ((c .prefix-of2) .ensures), length-take (5 * (c .before .before .before .before .before .before .wide2) .result) (take (length ((c .before .before .before .before .before .before .before .before .before .before .before .before .args) .row .now) - 26) (drop 26 ((c .before .before .before .before .before .before .before .before .before .before .before .before .args) .row .now))),
-    length-take (length ((c .before .before .before .before .before .before .before .before .before .before .before .before .args) .row .now) - 26) (drop 26 ((c .before .before .before .before .before .before .before .before .before .before .before .before .args) .row .now)), length-drop 26 ((c .before .before .before .before .before .before .before .before .before .before .before .before .args) .row .now), (c .before .before .before .before .before .before .before .before .before .before .before .before .pre) .1))
+weight-of-requires-2 c κs = (
+  (c .before .before .before .before .before .before .before .before .before .before .before .before .pre) .0,
+  omega (
+    arith,
+    ap (λ (l : List ℕ). length l) ((c .prefix-of2) .ensures),
+    length-take (5 * (c .before .before .before .before .before .before .wide2) .result) (take (length ((c .before .before .before .before .before .before .before .before .before .before .before .before .args) .row .now) - 26) (drop 26 ((c .before .before .before .before .before .before .before .before .before .before .before .before .args) .row .now))),
+    length-take (length ((c .before .before .before .before .before .before .before .before .before .before .before .before .args) .row .now) - 26) (drop 26 ((c .before .before .before .before .before .before .before .before .before .before .before .before .args) .row .now)),
+    length-drop 26 ((c .before .before .before .before .before .before .before .before .before .before .before .before .args) .row .now),
+    (c .before .before .before .before .before .before .before .before .before .before .before .before .pre) .1,
+  ),
+)
 
 returns-2 : tie.Need-returns-2
 unfolding ruleOfRow
@@ -77,11 +93,11 @@ returns-2 c =
     λ text n. tests-nine text ((c .before .before .before .before .before .before .before .before .before .before .before .before .before .before .args) .symbols .now) ((c .before .before .before .before .before .before .before .before .before .before .before .before .before .before .args) .row .now) ((c .before .before .before .before .before .before .before .before .before .before .before .before .before .before .args) .k) ((c .before .before .before .before .before .before .before .before .before .before .wide) .result) ((c .before .before .before .before .before .before .before .before .wide2) .result) ((c .before .before .before .before .before .before .before .before .before .before .wide) .ensures .0) ((c .before .before .before .before .before .before .before .before .wide2) .ensures .0) ((c .before .before .before .before .before .before .before .before .before .before .before .before .before .before .pre) .1) n
     ((c .before .before .before .before .weight-of) .result) ((c .before .weight-of2) .result)
     ((c .before .before .before .before .weight-of) .ensures .0 ∙ ap (λ (l : List ℕ). total (λ (x : Constraint). weightAt ((c .before .before .before .before .before .before .before .before .before .before .before .before .before .before .args) .symbols .now) ((c .before .before .before .before .before .before .before .before .before .before .before .before .before .before .args) .k) (x .symbol)) (cellConstraints l))
-      ((c .before .before .before .before .before .prefix-of) .ensures ∙ ap (λ (l : List ℕ). take (5 * (c .before .before .before .before .before .before .before .before .before .before .wide) .result) l) (take-all (length ((c .before .before .before .before .before .before .before .before .before .before .before .before .before .before .args) .row .now) - 6) (drop 6 ((c .before .before .before .before .before .before .before .before .before .before .before .before .before .before .args) .row .now)) (omega (arith, length-drop 6 ((c .before .before .before .before .before .before .before .before .before .before .before .before .before .before .args) .row .now))))
-      ∙ ap (λ (n : ℕ). take (5 * n) (drop 6 ((c .before .before .before .before .before .before .before .before .before .before .before .before .before .before .args) .row .now))) ((c .before .before .before .before .before .before .before .before .before .before .wide) .ensures .0)))
+    ((c .before .before .before .before .before .prefix-of) .ensures ∙ ap (λ (l : List ℕ). take (5 * (c .before .before .before .before .before .before .before .before .before .before .wide) .result) l) (take-all (length ((c .before .before .before .before .before .before .before .before .before .before .before .before .before .before .args) .row .now) - 6) (drop 6 ((c .before .before .before .before .before .before .before .before .before .before .before .before .before .before .args) .row .now)) (omega (arith, length-drop 6 ((c .before .before .before .before .before .before .before .before .before .before .before .before .before .before .args) .row .now))))
+    ∙ ap (λ (n : ℕ). take (5 * n) (drop 6 ((c .before .before .before .before .before .before .before .before .before .before .before .before .before .before .args) .row .now))) ((c .before .before .before .before .before .before .before .before .before .before .wide) .ensures .0)))
     ((c .before .weight-of2) .ensures .0 ∙ ap (λ (l : List ℕ). total (λ (x : Constraint). weightAt ((c .before .before .before .before .before .before .before .before .before .before .before .before .before .before .args) .symbols .now) ((c .before .before .before .before .before .before .before .before .before .before .before .before .before .before .args) .k) (x .symbol)) (cellConstraints l))
-      ((c .before .before .prefix-of2) .ensures ∙ ap (λ (l : List ℕ). take (5 * (c .before .before .before .before .before .before .before .before .wide2) .result) l) (take-all (length ((c .before .before .before .before .before .before .before .before .before .before .before .before .before .before .args) .row .now) - 26) (drop 26 ((c .before .before .before .before .before .before .before .before .before .before .before .before .before .before .args) .row .now)) (omega (arith, length-drop 26 ((c .before .before .before .before .before .before .before .before .before .before .before .before .before .before .args) .row .now))))
-      ∙ ap (λ (n : ℕ). take (5 * n) (drop 26 ((c .before .before .before .before .before .before .before .before .before .before .before .before .before .before .args) .row .now))) ((c .before .before .before .before .before .before .before .before .wide2) .ensures .0)))
+    ((c .before .before .prefix-of2) .ensures ∙ ap (λ (l : List ℕ). take (5 * (c .before .before .before .before .before .before .before .before .wide2) .result) l) (take-all (length ((c .before .before .before .before .before .before .before .before .before .before .before .before .before .before .args) .row .now) - 26) (drop 26 ((c .before .before .before .before .before .before .before .before .before .before .before .before .before .before .args) .row .now)) (omega (arith, length-drop 26 ((c .before .before .before .before .before .before .before .before .before .before .before .before .before .before .args) .row .now))))
+    ∙ ap (λ (n : ℕ). take (5 * n) (drop 26 ((c .before .before .before .before .before .before .before .before .before .before .before .before .before .before .args) .row .now))) ((c .before .before .before .before .before .before .before .before .wide2) .ensures .0)))
     (omega (arith, (c .before .before .before .before .before .before .before .if1) .left)) ((c .if2) .taken)
 
 returns-3 : tie.Need-returns-3
@@ -90,11 +106,11 @@ returns-3 c =
     λ text n. tests-none text ((c .before .before .before .before .before .before .before .before .before .before .before .before .before .before .args) .symbols .now) ((c .before .before .before .before .before .before .before .before .before .before .before .before .before .before .args) .row .now) ((c .before .before .before .before .before .before .before .before .before .before .before .before .before .before .args) .k) ((c .before .before .before .before .before .before .before .before .before .before .wide) .result) ((c .before .before .before .before .before .before .before .before .wide2) .result) ((c .before .before .before .before .before .before .before .before .before .before .wide) .ensures .0) ((c .before .before .before .before .before .before .before .before .wide2) .ensures .0) ((c .before .before .before .before .before .before .before .before .before .before .before .before .before .before .pre) .1) n
     ((c .before .before .before .before .weight-of) .result) ((c .before .weight-of2) .result)
     ((c .before .before .before .before .weight-of) .ensures .0 ∙ ap (λ (l : List ℕ). total (λ (x : Constraint). weightAt ((c .before .before .before .before .before .before .before .before .before .before .before .before .before .before .args) .symbols .now) ((c .before .before .before .before .before .before .before .before .before .before .before .before .before .before .args) .k) (x .symbol)) (cellConstraints l))
-      ((c .before .before .before .before .before .prefix-of) .ensures ∙ ap (λ (l : List ℕ). take (5 * (c .before .before .before .before .before .before .before .before .before .before .wide) .result) l) (take-all (length ((c .before .before .before .before .before .before .before .before .before .before .before .before .before .before .args) .row .now) - 6) (drop 6 ((c .before .before .before .before .before .before .before .before .before .before .before .before .before .before .args) .row .now)) (omega (arith, length-drop 6 ((c .before .before .before .before .before .before .before .before .before .before .before .before .before .before .args) .row .now))))
-      ∙ ap (λ (n : ℕ). take (5 * n) (drop 6 ((c .before .before .before .before .before .before .before .before .before .before .before .before .before .before .args) .row .now))) ((c .before .before .before .before .before .before .before .before .before .before .wide) .ensures .0)))
+    ((c .before .before .before .before .before .prefix-of) .ensures ∙ ap (λ (l : List ℕ). take (5 * (c .before .before .before .before .before .before .before .before .before .before .wide) .result) l) (take-all (length ((c .before .before .before .before .before .before .before .before .before .before .before .before .before .before .args) .row .now) - 6) (drop 6 ((c .before .before .before .before .before .before .before .before .before .before .before .before .before .before .args) .row .now)) (omega (arith, length-drop 6 ((c .before .before .before .before .before .before .before .before .before .before .before .before .before .before .args) .row .now))))
+    ∙ ap (λ (n : ℕ). take (5 * n) (drop 6 ((c .before .before .before .before .before .before .before .before .before .before .before .before .before .before .args) .row .now))) ((c .before .before .before .before .before .before .before .before .before .before .wide) .ensures .0)))
     ((c .before .weight-of2) .ensures .0 ∙ ap (λ (l : List ℕ). total (λ (x : Constraint). weightAt ((c .before .before .before .before .before .before .before .before .before .before .before .before .before .before .args) .symbols .now) ((c .before .before .before .before .before .before .before .before .before .before .before .before .before .before .args) .k) (x .symbol)) (cellConstraints l))
-      ((c .before .before .prefix-of2) .ensures ∙ ap (λ (l : List ℕ). take (5 * (c .before .before .before .before .before .before .before .before .wide2) .result) l) (take-all (length ((c .before .before .before .before .before .before .before .before .before .before .before .before .before .before .args) .row .now) - 26) (drop 26 ((c .before .before .before .before .before .before .before .before .before .before .before .before .before .before .args) .row .now)) (omega (arith, length-drop 26 ((c .before .before .before .before .before .before .before .before .before .before .before .before .before .before .args) .row .now))))
-      ∙ ap (λ (n : ℕ). take (5 * n) (drop 26 ((c .before .before .before .before .before .before .before .before .before .before .before .before .before .before .args) .row .now))) ((c .before .before .before .before .before .before .before .before .wide2) .ensures .0)))
+    ((c .before .before .prefix-of2) .ensures ∙ ap (λ (l : List ℕ). take (5 * (c .before .before .before .before .before .before .before .before .wide2) .result) l) (take-all (length ((c .before .before .before .before .before .before .before .before .before .before .before .before .before .before .args) .row .now) - 26) (drop 26 ((c .before .before .before .before .before .before .before .before .before .before .before .before .before .before .args) .row .now)) (omega (arith, length-drop 26 ((c .before .before .before .before .before .before .before .before .before .before .before .before .before .before .args) .row .now))))
+    ∙ ap (λ (n : ℕ). take (5 * n) (drop 26 ((c .before .before .before .before .before .before .before .before .before .before .before .before .before .before .args) .row .now))) ((c .before .before .before .before .before .before .before .before .wide2) .ensures .0)))
     (omega (arith, (c .before .before .before .before .before .before .before .if1) .left)) ((c .if2) .left)
 
 pub rule-fault-spec : {M : Type 1} → statement M

@@ -51,14 +51,17 @@ loop-less c = omega (arith, (c .before .before .before .loop-test) .taken)
 loop-again : tie.Need-loop-again Inv-loop μ-loop
 loop-again c =
     let here : (c .weight-at) .result ≡ weightAt ((c .before .before .before .before .before .before .before .args) .symbols .now) ((c .before .before .before .before .before .before .before .args) .k) (getD ((c .before .before .before .before .before .before .before .args) .cells .now) ((c .before .before .before .before .loop) .at) 0) =
-      (c .weight-at) .ensures .0 ∙ ap (weightAt ((c .before .before .before .before .before .before .before .args) .symbols .now) ((c .before .before .before .before .before .before .before .args) .k)) ((c .before .wide) .ensures .0) in
-    (omega (arith, (c .before .before .before .loop-test) .taken), omega (arith, (c .before .before .before .before .loop) .inv .1, (c .weight-at) .ensures .1),
-    omega (arith, here, (c .before .before .before .before .loop) .inv .2, cells-step ((c .before .before .before .before .before .before .before .args) .cells .now) ((c .before .before .before .before .loop) .at) (weightAt ((c .before .before .before .before .before .before .before .args) .symbols .now) ((c .before .before .before .before .before .before .before .args) .k)) ((c .before .before .before .loop-test) .taken)))
+    (c .weight-at) .ensures .0 ∙ ap (weightAt ((c .before .before .before .before .before .before .before .args) .symbols .now) ((c .before .before .before .before .before .before .before .args) .k)) ((c .before .wide) .ensures .0) in (
+      omega (arith, (c .before .before .before .loop-test) .taken),
+      omega (arith, (c .before .before .before .before .loop) .inv .1, (c .weight-at) .ensures .1),
+      omega (arith, here, (c .before .before .before .before .loop) .inv .2, cells-step ((c .before .before .before .before .before .before .before .args) .cells .now) ((c .before .before .before .before .loop) .at) (weightAt ((c .before .before .before .before .before .before .before .args) .symbols .now) ((c .before .before .before .before .before .before .before .args) .k)) ((c .before .before .before .loop-test) .taken)),
+    )
 
 returns : tie.Need-returns Inv-loop μ-loop
-returns c =
-    (omega (arith, (c .before .loop) .inv .2, cells-end ((c .before .before .before .before .args) .cells .now) ((c .before .loop) .at) (weightAt ((c .before .before .before .before .args) .symbols .now) ((c .before .before .before .before .args) .k)) ((c .loop-test) .left)),
-    omega (arith, (c .before .loop) .inv .0, (c .before .loop) .inv .1))
+returns c = (
+  omega (arith, (c .before .loop) .inv .2, cells-end ((c .before .before .before .before .args) .cells .now) ((c .before .loop) .at) (weightAt ((c .before .before .before .before .args) .symbols .now) ((c .before .before .before .before .args) .k)) ((c .loop-test) .left)),
+  omega (arith, (c .before .loop) .inv .0, (c .before .loop) .inv .1),
+)
 
 pub weight-of-spec : {M : Type 1} → statement M
 weight-of-spec =
