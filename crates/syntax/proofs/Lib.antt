@@ -11,3 +11,5 @@ pub mod Steps
 pub mod Drafts
 pub mod Grown
 pub mod Lasts
+pub mod Whole
+pub mod Weights

@@ -6,6 +6,8 @@
 --   constraintLine, termsAnswer           an H, B or G line, and the code's answer to it
 --   SymbolIn, RuleIn, SidesIn             what is found of a K, R or E line: number 4
 --   draftOf, lineAnswer, Sound            what the tables hold behind a line, and the code's answer to a line
+--   linesAnswer, rulesAnswer              the code's answer to all lines, and to the rules
+--   programAnswer                         the code's answer to a program's text
 -- Assumes nothing.
 use mathlib.Core.Path.{_≡_}
 use mathlib.Core.Logic.{_⊎_}
@@ -13,7 +15,7 @@ use Prim.Native.Nat.{ℕ, zero, suc, _+_, _-_, _*_, _≤_, _<_}
 use mathlib.Core.Bool.{Bool, true, false, cond, not, _||_}
 use mathlib.Core.List.{List, [], _∷_}
 use mathlib.Core.Option.{Option, none, some}
-use lib.Dec.{ltb, eqb}
+use lib.Dec.{leb, ltb, eqb}
 use lib.ListN.{length, getD, take, drop}
 use Rattle.text.specs.Lists.{every, tabled}
 use Rattle.text.specs.Fields.{isName, isTerm, isNumberIn}
@@ -41,10 +43,17 @@ use Rattle.syntax.specs.declared.Sides.the-variants.{Faulty as sidesFaul
 use Rattle.syntax.specs.declared.Stage.{Stage}
 use Rattle.syntax.specs.declared.LineRead.{LineRead}
 use Rattle.syntax.specs.declared.LineRead.the-variants.{Refused as lineRefused, Next}
+use Rattle.syntax.specs.declared.LinesRead.{LinesRead}
+use Rattle.syntax.specs.declared.LinesRead.the-variants.{Refused as linesRefused, Read as linesRead}
+use Rattle.syntax.specs.declared.RulesRead.{RulesRead}
+use Rattle.syntax.specs.declared.RulesRead.the-variants.{Refused as rulesRefused, Fine}
+use Rattle.syntax.specs.declared.Counts.{Counts}
+use Rattle.syntax.specs.declared.ProgramRead.{ProgramRead}
+use Rattle.syntax.specs.declared.ProgramRead.the-variants.{Refused as programRefused, Accepted}
 use Rattle.syntax.specs.Answers.{Answer, refused, accepted, refuseIf}
 use Rattle.syntax.specs.Forms.{constantsAfter, constraintOf}
-use Rattle.syntax.specs.Programs.{maxConstants, Draft}
-use Rattle.syntax.specs.Tables.{cellTerms, part, symbolsOf, rulesOf, startsOf, constantsOf}
+use Rattle.syntax.specs.Programs.{maxConstants, Draft, Reading}
+use Rattle.syntax.specs.Tables.{cellTerms, part, symbolsOf, rulesOf, startsOf, constantOf, constantsOf}
 
 -- the form that the code's form stands for
 unfoldable pub formMeant : LineForm → Form
@@ -240,3 +249,45 @@ pub record Sound (rules : List ℕ) (s : Stage) : Type 0 where
 abbrev pub soundAfter : List ℕ → LineRead → Type 0
 soundAfter rules (lineRefused x) = 0 ≤ x
 soundAfter rules (Next s) = Sound rules s
+
+-- the code's answer to all lines of a text
+unfoldable pub linesAnswer : List ℕ → List ℕ → List ℕ → List ℕ → LinesRead → Answer Draft
+linesAnswer text symbols rules constants (linesRefused x n) = refused x n
+linesAnswer text symbols rules constants (linesRead s) = accepted (draftOf text symbols rules constants s)
+
+-- the counts behind all lines
+abbrev pub linesSound : List ℕ → LinesRead → Type 0
+linesSound rules (linesRefused x n) = 0 ≤ x
+linesSound rules (linesRead s) = Sound rules s
+
+-- the weight of the symbol of a number among k, 0 where none has it
+unfoldable pub weightAt : List ℕ → ℕ → ℕ → ℕ
+weightAt symbols k s = cond (ltb s k) (getD symbols (4 * s + 3) 0) 0
+
+-- a number met at line n, or 0 for none
+unfoldable pub met : ℕ → ℕ → Answer ℕ
+met zero n = accepted 0
+met (suc x) n = refused (suc x) n
+
+-- a rule with its R line: number 8, then 9
+unfoldable pub ruleTests : List terms.Symbol → terms.Rule → ℕ → Answer ℕ
+ruleTests symbols r n =
+    refuseIf (eqb (length (r .heads)) 0) 8 n (refuseIf (leb (terms.weight symbols (r .heads)) (terms.weight symbols (r .body))) 9 n (accepted 0))
+
+-- the code's answer to the rules
+unfoldable pub rulesAnswer : RulesRead → Answer ℕ
+rulesAnswer (rulesRefused x n) = refused x n
+rulesAnswer Fine = accepted 0
+
+-- the program that the tables hold
+unfoldable pub readingOf : List ℕ → List ℕ → List ℕ → List ℕ → Counts → Reading
+readingOf text symbols rules constants c =
+    record {
+      program = record { symbols = symbolsOf text symbols (c .symbols); rules = rulesOf text rules (c .rules) };
+      constants = tabled (constantOf text constants) (c .constants);
+    }
+
+-- the code's answer to a program's text
+unfoldable pub programAnswer : List ℕ → List ℕ → List ℕ → List ℕ → ProgramRead → Answer Reading
+programAnswer text symbols rules constants (programRefused x n) = refused x n
+programAnswer text symbols rules constants (Accepted c) = accepted (readingOf text symbols rules constants c)

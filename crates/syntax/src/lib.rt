@@ -4,7 +4,8 @@ mod adds;
 mod forms;
 mod heads;
 mod lines;
-mod names;
+pub mod names;
+pub mod program;
 mod rows;
 mod terms;
 
@@ -76,4 +77,29 @@ pub struct Stage {
 pub enum LineRead {
     Refused(u8),
     Next(Stage),
+}
+
+// All lines as read: where reading stands behind them, or the number that one meets and its line.
+pub enum LinesRead {
+    Refused(u8, u16),
+    Read(Stage),
+}
+
+// The rules as checked: the number that one meets and its R line, or none.
+pub enum RulesRead {
+    Refused(u8, u16),
+    Fine,
+}
+
+// How many symbols, rules and constants a program has.
+pub struct Counts {
+    pub symbols: usize,
+    pub rules: usize,
+    pub constants: usize,
+}
+
+// A program as read: its counts, or the number that it meets and the line, 0 where no line is meant.
+pub enum ProgramRead {
+    Refused(u8, u16),
+    Accepted(Counts),
 }
