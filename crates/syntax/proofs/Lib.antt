@@ -10,3 +10,7 @@ pub mod Steps
 pub mod Drafts
 pub mod Grown
 pub mod Lasts
+pub mod GoalLetters
+pub mod GoalCells
+pub mod GoalTerms
+pub mod GoalSteps
