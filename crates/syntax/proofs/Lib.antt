@@ -13,3 +13,7 @@ pub mod Grown
 pub mod Lasts
 pub mod Whole
 pub mod Weights
+pub mod GoalLetters
+pub mod GoalCells
+pub mod GoalTerms
+pub mod GoalSteps

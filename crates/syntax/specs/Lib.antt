@@ -5,3 +5,4 @@ pub mod Programs
 pub mod Goals
 pub mod Tables
 pub mod Read
+pub mod ReadGoal

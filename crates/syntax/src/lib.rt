@@ -2,12 +2,17 @@
 // They fill flat tables that the caller lends; names stay where they stand in the texts.
 mod adds;
 mod forms;
+mod goal;
 mod heads;
 mod lines;
 pub mod names;
 pub mod program;
 mod rows;
 mod terms;
+
+pub use goal::GoalCounts;
+pub use goal::GoalRead;
+pub use goal::read_goal;
 
 // The forms of a line, by its first letter.
 pub enum LineForm {
