@@ -8,8 +8,9 @@ use Rattle.listing.specs.Pieces.{laid, spelledAs, namedAs, termBytes, fi
 use Rattle.listing.specs.Pieces.{boundsBytes, rowsBytes, endBytes}
 use Rattle.listing.specs.Numbers.{numberIn, numbersOf}
 use Rattle.listing.specs.Runs.{tableNaming, stateOf, runBytes, listedIn, outputAfter, numbersAfter}
+use Rattle.listing.specs.Runs.{isTermOf, isConstraintOf}
 
 -- a name to say on an `unfolding` line
 unfoldable pub opened : ℕ
-unfolding decimalFrom decimal fieldsBehind lineOf termShown constraintShown constraintLines unbound overlapVariable boundLines stateListing endListing pairLines verdictListing laid spelledAs namedAs termBytes fieldBytes boundBytes rowBytes headBytes boundsBytes rowsBytes endBytes numberIn numbersOf tableNaming stateOf runBytes listedIn outputAfter numbersAfter
+unfolding decimalFrom decimal fieldsBehind lineOf termShown constraintShown constraintLines unbound overlapVariable boundLines stateListing endListing pairLines verdictListing laid spelledAs namedAs termBytes fieldBytes boundBytes rowBytes headBytes boundsBytes rowsBytes endBytes numberIn numbersOf tableNaming stateOf runBytes listedIn outputAfter numbersAfter isTermOf isConstraintOf
 opened = 0

@@ -9,11 +9,9 @@ use mathlib.Core.Bool.{Bool, true, false, cond}
 use mathlib.Core.List.{List, [], _∷_, _++_, map}
 use Prim.Native.Nat.{ℕ, suc, _+_, _-_, _*_, _≤_, _<_}
 use native.Mathlib.Omega.{arith}
-use native.Mathlib.Nat.{add-zero}
-use native.Mathlib.Numerals.{one-add}
 use lib.Dec.{ltb, eqb}
 use lib.ListN.{length, take, drop, getD, length-drop, length-take}
-use lib.Seq.{getD-drop, getD-take, ext-getD}
+use lib.Seq.{ext-getD}
 use borrow.Author.Tests.{lt-ltb, le-ltb, ltb-true, ltb-false, ne-eqb}
 use Rattle.text.specs.Bytes.{ascii}
 use Rattle.text.specs.Lists.{every, tabled}
@@ -32,23 +30,12 @@ use Rattle.listing.specs.declared.Listed.{Listed}
 use Rattle.listing.specs.declared.Listed.the-variants.{TooShort, Written}
 use Rattle.listing.specs.declared.Counts.{Counts}
 use Rattle.listing.proofs.Appearing.{varIn, every-grows, in-terms, in-rows, grows}
+use Rattle.listing.proofs.StateLaws.{terms-cell, row-listed}
 use Rattle.listing.proofs.Decoding.{tabled-length, tabled-at, letters-take, named-at, spelled-at, shown-bounds, shown-rows}
 
 -- the cells of constraint i
 row-size : (cells : List ℕ) (i m : ℕ) → i < m → length cells ≡ 5 * m → length (take 5 (drop (5 * i) cells)) ≡ 5
 row-size cells i m h e = omega (arith, length-take 5 (drop (5 * i) cells), length-drop (5 * i) cells)
-
-row-first : (cells : List ℕ) (i : ℕ) → getD (take 5 (drop (5 * i) cells)) 0 0 ≡ getD cells (5 * i) 0
-row-first cells i =
-    getD-take 5 (drop (5 * i) cells) 0 0 (omega arith) ∙ getD-drop (5 * i) cells 0 0 ∙ ap (λ (n : ℕ). getD cells n 0)
-    (add-zero (5 * i))
-
-row-cell : (cells : List ℕ) (i j : ℕ) → j < 4 → getD (drop 1 (take 5 (drop (5 * i) cells))) j 0 ≡ getD cells (5 * i + suc j) 0
-row-cell cells i j h =
-    getD-drop 1 (take 5 (drop (5 * i) cells)) j 0
-    ∙ getD-take 5 (drop (5 * i) cells) (1 + j) 0 (omega arith)
-    ∙ getD-drop (5 * i) cells (1 + j) 0
-    ∙ ap (λ (n : ℕ). getD cells (5 * i + n) 0) (one-add j)
 
 module _ {program goal symbols constants letters bound cells : List ℕ} {v : ℕ} {k : Counts}
     (l : Listable program goal symbols constants letters bound cells v k) where
@@ -65,22 +52,17 @@ module _ {program goal symbols constants letters bound cells : List ℕ} {v : �
             within = l .spellings (x - 32) (omega (arith, bounds .0, bounds .1));
           }
 
-  -- the terms of constraint i
-  pub row-term : (i : ℕ) → i < k .constraints → (j : ℕ) → j < length (drop 1 (take 5 (drop (5 * i) cells)))
+  -- the symbol and the terms of constraint i
+  row-symbol : (i : ℕ) → i < k .constraints → getD (take 5 (drop (5 * i) cells)) 0 0 < k .symbols
+  row-symbol i h = row-listed (k .symbols) (k .own + k .more) v cells (k .constraints) i (l .size) h (l .rows) .0
+
+  row-term : (i : ℕ) → i < k .constraints → (j : ℕ) → j < length (drop 1 (take 5 (drop (5 * i) cells)))
+      → ((n : ℕ) → n < j → 0 < getD (drop 1 (take 5 (drop (5 * i) cells))) n 0)
       → 0 < getD (drop 1 (take 5 (drop (5 * i) cells))) j 0
       → TermCell (k .own + k .more) v (getD (drop 1 (take 5 (drop (5 * i) cells))) j 0)
-  row-term i h j p some =
-      let four : j < 4 = omega (
-        arith,
-        length-drop 1 (take 5 (drop (5 * i) cells)),
-        row-size cells i (k .constraints) h
-            (l .size),
-      ) in
-      let same = row-cell cells i j four in
-      subst (λ (x : ℕ). TermCell (k .own + k .more) v x) (sym same) (l .row-terms i j h four (omega (arith, same)))
-
-  pub row-symbol : (i : ℕ) → i < k .constraints → getD (take 5 (drop (5 * i) cells)) 0 0 < k .symbols
-  row-symbol i h = rw (row-first cells i) (l .row-symbols i h)
+  row-term i h =
+      terms-cell (k .own + k .more) v (drop 1 (take 5 (drop (5 * i) cells)))
+      (row-listed (k .symbols) (k .own + k .more) v cells (k .constraints) i (l .size) h (l .rows) .1)
 
   -- what the A lines ask
   pub bound-shown : BoundShown program goal constants (k .own) v letters bound
@@ -107,20 +89,20 @@ module _ {program goal symbols constants letters bound cells : List ℕ} {v : �
                 };
             terms =
                 record {
-                  each = λ j p some.
-                      cell-shown (getD (drop 1 (take 5 (drop (5 * i) cells))) j 0) (row-term i h j p some);
+                  each = λ j p front some.
+                      cell-shown (getD (drop 1 (take 5 (drop (5 * i) cells))) j 0) (row-term i h j p front some);
                 };
           }
 
   -- what numbering asks
   pub bound-within : Within v bound
-  bound-within = record { each = λ i h high. l .bound-terms i h .variable high }
+  bound-within = record { each = λ i h front high. l .bound-terms i h .variable high }
 
   pub rows-within : RowsWithin v cells (k .constraints)
   rows-within =
       record {
         size = l .size;
-        rows = λ i h. record { each = λ j p high. row-term i h j p (omega (arith, high)) .variable high };
+        rows = λ i h. record { each = λ j p front high. row-term i h j p front (omega (arith, high)) .variable high };
       }
 
 -- cells that are not 0 are all terms
@@ -171,7 +153,7 @@ end-listing {program} {goal} {symbols} {constants} {letters} {bound} {cells} {nu
     let rows : constraintLines (ascii "S") naming (unbound order) (cellConstraints cells) ≡ rowsBytes
     (rowBytes named (termBytes spelled numbers)) cells =
     shown-rows naming order numbers count (k .symbols) all named spelled names spells numbering cells (k .constraints) (l .size)
-    (row-symbol l) (row-term l) (k .constraints) 0 (omega arith) (in-rows (cellConstraints cells) (appearingIn [] ts)) in
+    (k .constraints) 0 (omega arith) (l .rows) (in-rows (cellConstraints cells) (appearingIn [] ts)) in
     let head = lineOf (ascii "END") (decimal (k .firings) ∷ []) in
     ap (λ (r : List ℕ). head ++ (r ++ constraintLines (ascii "S") naming (unbound order) (cellConstraints cells))) bounds
     ∙ ap (λ (r : List ℕ). head ++ (boundsBytes (termBytes spelled numbers) letters bound ++ r)) rows

@@ -2,6 +2,7 @@
 --   term-constant, term-variable        a cell is a constant or a variable
 --   spelled-program, spelled-goal       a constant is a part of the program's text, or of the goal's
 --   fields-more, fields-stop, fields-end      the fields of cells from place i on
+--   front-more                          one more cell before the first 0
 --   field-constant, field-variable      a comma and a term, written
 -- Assumes nothing.
 use mathlib.Core.Path.{_≡_, refl, sym, ap, _∙_, subst}
@@ -12,7 +13,7 @@ use native.Mathlib.Omega.{arith}
 use lib.Dec.{ltb, eqb}
 use lib.ListN.{length, take, drop, getD, set, length-take, length-set, length-append, length-drop, drop-of-length-le}
 use lib.Seq.{drop-cons, drop-nil, length-take-le}
-use borrow.Author.Tests.{lt-ltb, le-ltb, eq-eqb, ne-eqb}
+use borrow.Author.Tests.{lt-ltb, le-ltb, eq-eqb, ne-eqb, eqb-true, eqb-false}
 use Rattle.syntax.specs.Tables.{part, constantOf}
 use Rattle.listing.specs.Listing.{decimal}
 use Rattle.listing.specs.Pieces.{spelledAs, termBytes, fieldBytes, Put, laid, Spelt}
@@ -88,6 +89,15 @@ fields-stop term cells i h k = rw (drop-cons cells i 0 h, eq-eqb (getD cells i 0
 pub fields-end : (term : ℕ → List ℕ) (cells : List ℕ) (i : ℕ) → length cells ≤ i → fieldBytes term (drop i cells) ≡ 10 ∷ []
 unfolding fieldBytes
 fields-end term cells i h = rw (drop-of-length-le cells h)
+
+-- one more cell before the first 0
+pub front-more : (cells : List ℕ) (i : ℕ) → (getD cells i 0 ≡ 0 → ⊥) → ((j : ℕ) → j < i → 0 < getD cells j 0)
+    → (j : ℕ) → j < i + 1 → 0 < getD cells j 0
+front-more cells i some front j h = go (eqb j i) refl
+  where
+    go : (b : Bool) → eqb j i ≡ b → 0 < getD cells j 0
+    go true e = let same : j ≡ i = eqb-true j i e in rw same (omega (arith, some))
+    go false e = front j (omega (arith, eqb-false j i e))
 
 -- a comma and a constant s, written
 pub field-constant : {o d : List ℕ} {n : ℕ} (bytes s : List ℕ) → bytes ≡ s → length (44 ∷ bytes) ≤ length o

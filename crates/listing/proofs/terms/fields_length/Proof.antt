@@ -1,11 +1,11 @@
 -- `listing::terms::fields_length` meets its contract: what is counted and what is left make up the whole. Assumes nothing.
 use mathlib.Core.Path.{_≡_, refl, ap}
-use Prim.Native.Nat.{_+_, _-_, _*_, _≤_}
+use Prim.Native.Nat.{ℕ, _+_, _-_, _*_, _≤_, _<_}
 use native.Mathlib.Omega.{arith}
 use native.Mathlib.Numerals.{add-one}
-use lib.ListN.{length, drop}
+use lib.ListN.{length, drop, getD}
 use Rattle.listing.specs.Pieces.{spelledAs, termBytes, fieldBytes}
-use Rattle.listing.proofs.TermLaws.{fields-stop, fields-end, fields-count}
+use Rattle.listing.proofs.TermLaws.{fields-stop, fields-end, fields-count, front-more}
 use Rattle.listing.proofs.terms.fields_length.Statement.{statement}
 use Rattle.listing.proofs.terms.fields_length.Tie as tie
 
@@ -14,12 +14,13 @@ Inv-loop program goal constants n numbers cells size₀ i₀ size i =
     (i ≤ length cells) × (size ≤ 1 + 65538 * i)
     × (size + length (fieldBytes (termBytes (spelledAs program goal constants n) numbers) (drop i cells))
     ≡ 1 + length (fieldBytes (termBytes (spelledAs program goal constants n) numbers) cells))
+    × ((j : ℕ) → j < i → 0 < getD cells j 0)
 
 abbrev μ-loop : tie.MeasureT-loop
 μ-loop program goal constants n numbers cells size₀ i₀ size i = length cells - i
 
 loop-holds : tie.Need-loop-holds Inv-loop μ-loop
-loop-holds c = (omega arith, omega arith, refl)
+loop-holds c = (omega arith, omega arith, refl, λ j h. absurd (omega arith))
 
 mul-x : tie.Need-mul-x Inv-loop μ-loop
 mul-x c = omega arith
@@ -47,7 +48,7 @@ term-length-requires c κs =
     let at-loop-test = c .before .before in
     let at-loop = at-loop-test .before in
     let start = at-loop .before .before .before .before .before .before in
-    start .pre .0 .each (at-loop .loop .i) (at-loop-test .loop-test .taken) (omega (arith, c .if1 .left))
+    start .pre .0 .each (at-loop .loop .i) (at-loop-test .loop-test .taken) (at-loop .loop .inv .3) (omega (arith, c .if1 .left))
 
 add-size : tie.Need-add-size Inv-loop μ-loop
 add-size c = omega (arith, c .term-length .ensures .few)
@@ -78,6 +79,7 @@ loop-again c =
           (fields-count term (start .args .cells .now) (at-loop .loop .i) (at-loop .loop .size) (c .term-length .result)
           (at-loop-test .loop-test .taken) (at-if1 .if1 .left)
           (c .term-length .ensures .counted) (at-loop .loop .inv .2)),
+      front-more (start .args .cells .now) (at-loop .loop .i) (at-if1 .if1 .left) (at-loop .loop .inv .3),
     )
 
 returns-2 : tie.Need-returns-2 Inv-loop μ-loop

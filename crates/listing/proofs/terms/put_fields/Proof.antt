@@ -1,13 +1,13 @@
 -- `listing::terms::put_fields` meets its contract: the fields up to i are placed, the others are left. Assumes nothing.
 use mathlib.Core.List.{[], _∷_}
-use Prim.Native.Nat.{suc, _-_, _≤_}
+use Prim.Native.Nat.{ℕ, suc, _-_, _≤_, _<_}
 use native.Mathlib.Omega.{arith}
 use native.Mathlib.Numerals.{add-one}
 use lib.ListN.{length, getD, drop}
 use Rattle.listing.specs.Pieces.{spelledAs, termBytes, fieldBytes}
 use Rattle.listing.proofs.Laying.{Placed, placed-start, placed-is, placed-byte, placed-all, placed-length}
 use Rattle.listing.proofs.Laying.{placed-count, lent-part, lent-room}
-use Rattle.listing.proofs.TermLaws.{fields-more, fields-stop, fields-end}
+use Rattle.listing.proofs.TermLaws.{fields-more, fields-stop, fields-end, front-more}
 use Rattle.listing.proofs.terms.put_fields.Statement.{statement}
 use Rattle.listing.proofs.terms.put_fields.Tie as tie
 
@@ -16,12 +16,13 @@ Inv-loop out₀ program goal constants n numbers cells end₀ i₀ out end i =
     (i ≤ length cells)
     × Placed (fieldBytes (termBytes (spelledAs program goal constants n) numbers) cells) out₀ out end
     (fieldBytes (termBytes (spelledAs program goal constants n) numbers) (drop i cells))
+    × ((j : ℕ) → j < i → 0 < getD cells j 0)
 
 abbrev μ-loop : tie.MeasureT-loop
 μ-loop out₀ program goal constants n numbers cells end₀ i₀ out end i = length cells - i
 
 loop-holds : tie.Need-loop-holds Inv-loop μ-loop
-loop-holds c = (omega arith, placed-start _ _)
+loop-holds c = (omega arith, placed-start _ _, λ j h. absurd (omega arith))
 
 mul-x : tie.Need-mul-x Inv-loop μ-loop
 mul-x c = omega arith
@@ -110,7 +111,8 @@ put-field-requires c κs =
     let rest = fieldBytes term (drop (suc (at-loop .loop .i)) (start .args .cells .now)) in
     let more = placed-is (fields-more term (start .args .cells .now) (at-loop .loop .i) (at-loop-test .loop-test .taken)
     (at-if1 .if1 .left)) (at-loop .loop .inv .1) in (
-      start .pre .0 .each (at-loop .loop .i) (at-loop-test .loop-test .taken) (omega (arith, at-if1 .if1 .left)),
+      start .pre .0 .each (at-loop .loop .i) (at-loop-test .loop-test .taken) (at-loop .loop .inv .2)
+          (omega (arith, at-if1 .if1 .left)),
       lent-room
           (44 ∷ term x) rest more (start .pre .1),
     )
@@ -148,8 +150,11 @@ loop-again c =
     let x = getD (start .args .cells .now) (at-loop .loop .i) 0 in
     let rest = fieldBytes term (drop (suc (at-loop .loop .i)) (start .args .cells .now)) in
     let more = placed-is (fields-more term (start .args .cells .now) (at-loop .loop .i) (at-loop-test .loop-test .taken)
-    (at-if1 .if1 .left)) (at-loop .loop .inv .1) in
-    (omega arith, rw (add-one (at-loop .loop .i)) (lent-part (44 ∷ term x) rest more (at-put-field .put-field .ensures)))
+    (at-if1 .if1 .left)) (at-loop .loop .inv .1) in (
+      omega arith,
+      rw (add-one (at-loop .loop .i)) (lent-part (44 ∷ term x) rest more (at-put-field .put-field .ensures)),
+      front-more (start .args .cells .now) (at-loop .loop .i) (at-if1 .if1 .left) (at-loop .loop .inv .2),
+    )
 
 slice-write-out-2 : tie.Need-slice-write-out-2 Inv-loop μ-loop
 slice-write-out-2 c =
