@@ -2,20 +2,19 @@
 --   same-cell        two cells are the same term where they are the same cell
 --   assigned-set     a stored binding extends the assignment
 -- Assumes nothing.
-use Prim.Native.Nat.{ℕ, zero, suc, _+_, _-_, _*_, _≤_, _<_}
+use Prim.Native.Nat.{ℕ, suc, _+_, _-_, _*_, _≤_, _<_}
 use native.Mathlib.Omega.{arith}
-use mathlib.Core.Bool.{Bool, true, false, cond, _&&_}
+use mathlib.Core.Bool.{Bool, true, false, _&&_}
 use mathlib.Core.List.{List, [], _∷_}
 use mathlib.Core.Logic.{_⊎_, inl, inr, ⊎-elim}
-use mathlib.Core.Option.{Option, none, some}
-use mathlib.Core.Path.{_≡_, refl, ap, sym, fun-ext, _∙_}
-use lib.Dec.{eqb, ltb, leb}
+use mathlib.Core.Path.{_≡_, refl, sym, fun-ext, _∙_}
+use lib.Dec.{eqb, leb}
 use lib.ListN.{length, getD, set, take, drop, length-drop}
 use lib.Seq.{getD-set-same, getD-set-other, drop-cons, drop-drop}
 use borrow.Author.Tests.{lt-ltb, le-ltb, eq-eqb, ne-eqb, eqb-true, eqb-false, leb-true, leb-false, ltb-true}
 use Rattle.text.specs.Lists.{every}
-use Rattle.semantics.specs.Terms.{Term, con, var, sameTerm, isBelow, alphabet}
-use Rattle.semantics.specs.Matching.{Assignment, extend}
+use Rattle.semantics.specs.Terms.{con, var, sameTerm, isBelow, alphabet}
+use Rattle.semantics.specs.Matching.{extend}
 use Rattle.syntax.specs.Tables.{cellTerm, cellTerms, cellConstraints}
 use Rattle.engine.specs.Cells.{assigned, rowConstraint}
 

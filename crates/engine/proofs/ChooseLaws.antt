@@ -3,20 +3,18 @@
 use Prim.Native.Nat.{ℕ, zero, suc, _+_, _-_, _*_, _≤_, _<_}
 use native.Mathlib.Omega.{arith}
 use native.Mathlib.Numerals.{add-one}
-use mathlib.Core.Bool.{Bool, true, false, cond}
-use mathlib.Core.List.{List, [], _∷_, _++_}
+use mathlib.Core.Bool.{Bool, true, false}
+use mathlib.Core.List.{List, [], _∷_}
 use mathlib.Core.Logic.{⊎-elim}
-use mathlib.Core.Option.{Option, none, some, Option·map}
-use mathlib.Core.Path.{_≡_, refl, ap, sym, fun-ext, _∙_}
+use mathlib.Core.Path.{_≡_, refl, fun-ext, _∙_}
 use lib.ListN.{length, getD, take, drop, replicate, length-append, length-drop, drop-of-length-le, List·getD-append}
-use lib.Seq.{drop-cons, length-take-le, getD-append-seam, getD-at}
-use Rattle.text.specs.Lists.{orElse, tabled, every}
-use Rattle.semantics.specs.Terms.{Constraint, Rule}
-use Rattle.semantics.specs.Matching.{Assignment, unassigned}
-use Rattle.semantics.specs.Strategy.{Match, Choice, find, chooseFrom, choose}
+use lib.Seq.{drop-cons, length-take-le, getD-at}
+use Rattle.text.specs.Lists.{orElse, tabled}
+use Rattle.semantics.specs.Matching.{unassigned}
+use Rattle.semantics.specs.Strategy.{find, chooseFrom, choose}
 use Rattle.syntax.specs.Tables.{cellConstraints, ruleOfRow, ruleOf, rulesOf}
 use Rattle.engine.specs.Cells.{assigned}
-use Rattle.engine.specs.Places.{isLettered, foundOf, Seeking, Located, Row, Table, choiceOf, Chosen}
+use Rattle.engine.specs.Places.{foundOf, Seeking, Located, Row, Table, choiceOf, Chosen}
 use Rattle.engine.proofs.CellLaws.{le-or-lt}
 
 -- no cell of zeros is settled

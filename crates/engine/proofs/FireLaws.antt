@@ -1,21 +1,19 @@
 -- Firing on cells is firing on constraints: copying, removing and instantiating.
 -- Assumes nothing.
-use Prim.Native.Nat.{ℕ, zero, suc, _+_, _-_, _*_, _≤_, _<_}
+use Prim.Native.Nat.{ℕ, suc, _+_, _-_, _*_, _≤_, _<_}
 use native.Mathlib.Omega.{arith}
 use native.Mathlib.Numerals.{add-one}
-use mathlib.Core.Bool.{Bool, true, false, cond, not, _&&_}
-use mathlib.Core.List.{List, [], _∷_, _++_, map, append-assoc, append-nil}
+use mathlib.Core.Bool.{true, false, cond}
+use mathlib.Core.List.{List, [], _∷_, _++_, append-assoc, append-nil}
 use mathlib.Core.Logic.{_⊎_, inl, inr, ⊎-elim}
-use mathlib.Core.Option.{Option, none, some}
 use mathlib.Core.Path.{_≡_, refl, ap, sym, _∙_}
-use lib.Dec.{eqb, ltb, leb}
-use lib.ListN.{length, getD, set, take, drop, length-set, length-append, length-take, length-drop, drop-of-length-le}
-use lib.Seq.{paste, paste-zero, paste-suc, length-paste, take-paste, drop-paste, getD-drop, drop-drop, take-append-le}
-use lib.Seq.{take-all, length-take-le, take-take}
-use borrow.Author.Tests.{eq-eqb, ne-eqb, eqb-true, eqb-false, lt-ltb, le-ltb, ltb-true}
-use Rattle.text.specs.Lists.{onward, has, every}
-use Rattle.semantics.specs.Terms.{Term, con, var, Constraint, isBelow, alphabet}
-use Rattle.semantics.specs.Matching.{Assignment}
+use lib.Dec.{eqb, ltb}
+use lib.ListN.{length, getD, set, take, drop, length-set, length-drop, drop-of-length-le}
+use lib.Seq.{paste, paste-zero, paste-suc, length-paste, take-paste, drop-paste, getD-drop, drop-drop}
+use lib.Seq.{length-take-le}
+use borrow.Author.Tests.{ne-eqb, eqb-false, lt-ltb, le-ltb}
+use Rattle.text.specs.Lists.{onward, has}
+use Rattle.semantics.specs.Terms.{var, Constraint, isBelow, alphabet}
 use Rattle.semantics.specs.Firing.{without, instance}
 use Rattle.syntax.specs.Tables.{cellTerm, cellConstraints}
 use Rattle.engine.specs.Cells.{assigned, rowConstraint, instanceCell, movedRow}

@@ -6,14 +6,14 @@
 -- Assumes nothing.
 use Prim.Native.Nat.{ℕ, zero, suc, _+_, _*_, _≤_, _<_, max}
 use native.Mathlib.Omega.{arith}
-use mathlib.Core.Bool.{Bool, true, false, _&&_}
-use mathlib.Core.List.{List, [], _∷_, _++_, map}
-use mathlib.Core.Path.{_≡_, refl, ap, sym, _∙_}
+use mathlib.Core.Bool.{Bool, true, _&&_}
+use mathlib.Core.List.{List, [], _∷_, map}
+use mathlib.Core.Path.{_≡_, refl, _∙_}
 use lib.Dec.{eqb, ltb, leb}
 use lib.ListN.{length, getD, take, drop, length-drop}
 use lib.Seq.{length-take-le}
 use borrow.Author.Tests.{lt-ltb, ltb-true}
-use Rattle.text.specs.Lists.{every, total, tabled}
+use Rattle.text.specs.Lists.{every, tabled}
 use Rattle.semantics.specs.Terms.{
   Term,
   con,
@@ -30,8 +30,8 @@ use Rattle.semantics.specs.Terms.{
   weight,
 }
 use Rattle.semantics.specs.Terms.{isDeclared, isBelow, isGoalOf, alphabet, isOfRule, isRuleOf, isWellFormed}
-use Rattle.semantics.specs.Strategy.{Final, normalise, entered, run}
-use Rattle.syntax.specs.Tables.{cellTerm, cellConstraints, symbolOf, symbolsOf, ruleOfRow, ruleOf, rulesOf}
+use Rattle.semantics.specs.Strategy.{entered, run}
+use Rattle.syntax.specs.Tables.{cellTerm, symbolOf, symbolsOf, ruleOfRow, ruleOf, rulesOf}
 use Rattle.engine.specs.Places.{isLettered, isSide, isLow, Row, Table}
 use Rattle.engine.specs.States.{stateOf}
 use Rattle.engine.specs.Runs.{weightBy, Lowers, storeOf, Startable, Ended}
@@ -230,7 +230,7 @@ module _ (text symbols : List ℕ) (s : ℕ) (rules : List ℕ) (n : ℕ) (r : A
 
     -- a goal of weight at most 512 can be run
     pub goal-starts :
-        weight names (g .constraints) ≤ 512 → g .variables ≤ 26 → 2590 ≤ length cells → m ≤ 518
+        weight names (g .constraints) ≤ 512 → g .variables ≤ 51000 → 2590 ≤ length cells → m ≤ 518
         → Startable rules n cells m (g .variables)
     unfolding weigh
     goal-starts light few space there =

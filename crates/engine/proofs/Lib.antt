@@ -1,6 +1,7 @@
 -- Laws of the engine's cells. Assumes nothing.
 pub mod CellLaws
 pub mod MatchLaws
+pub mod OpposeLaws
 pub mod SearchLaws
 pub mod ChooseLaws
 pub mod MapLaws

@@ -1,19 +1,19 @@
 -- Matching cells is matching terms: one law for each way that the code goes.
 -- Assumes nothing.
-use Prim.Native.Nat.{ℕ, zero, suc, _+_, _-_, _≤_, _<_}
+use Prim.Native.Nat.{ℕ, suc, _+_, _-_, _≤_, _<_}
 use native.Mathlib.Omega.{arith}
-use mathlib.Core.Bool.{Bool, true, false, cond}
-use mathlib.Core.List.{List, [], _∷_}
-use mathlib.Core.Option.{Option, none, some}
+use mathlib.Core.Bool.{Bool, true, false}
+use mathlib.Core.List.{List}
+use mathlib.Core.Option.{Option, some}
 use mathlib.Core.Path.{_≡_, refl, ap, sym, _∙_}
-use lib.Dec.{eqb, ltb}
+use lib.Dec.{eqb}
 use lib.ListN.{length, getD, set, drop, length-set, drop-of-length-le}
 use borrow.Author.Tests.{eq-eqb, ne-eqb, eqb-true, eqb-false}
 use native.Mathlib.Numerals.{add-one}
 use mathlib.Core.Logic.{⊎-elim}
 use Rattle.text.specs.Lists.{bind, every}
-use Rattle.semantics.specs.Terms.{Term, con, var, sameTerm, isBelow, alphabet}
-use Rattle.semantics.specs.Matching.{Assignment, extend, matchTerm, matchTerms, matchConstraint}
+use Rattle.semantics.specs.Terms.{con, sameTerm, isBelow, alphabet}
+use Rattle.semantics.specs.Matching.{Assignment, matchTerm, matchTerms, matchConstraint}
 use Rattle.syntax.specs.Tables.{cellTerm, cellTerms}
 use Rattle.engine.specs.Cells.{assigned, fitOf, rowConstraint, Rows, Matched}
 use Rattle.engine.proofs.CellLaws.{either, every-first, every-rest, cell-low, cell-high, same-cell, assigned-set}

@@ -1,23 +1,23 @@
 -- A rule's body and equations, from cells; and the firing that they make up.
 -- Assumes nothing.
-use Prim.Native.Nat.{ℕ, zero, suc, _+_, _-_, _*_, _≤_, _<_}
+use Prim.Native.Nat.{ℕ, suc, _+_, _-_, _*_, _≤_}
 use native.Mathlib.Omega.{arith}
 use mathlib.Core.Bool.{Bool, true, false, cond, _&&_}
 use mathlib.Core.List.{List, [], _∷_, _++_, map, append-assoc}
-use mathlib.Core.Logic.{_⊎_, inl, inr, ⊎-elim}
+use mathlib.Core.Logic.{⊎-elim}
 use mathlib.Core.Path.{_≡_, refl, ap, sym, _∙_}
-use lib.Dec.{eqb, ltb, leb}
+use lib.Dec.{leb}
 use lib.ListN.{length, getD, take, drop, replicate, length-append, length-drop, length-map}
 use lib.Seq.{take-append-le, length-take-le, take-at}
 use borrow.Author.Tests.{le-leb}
 use Rattle.text.specs.Lists.{has, every}
 use Rattle.semantics.specs.Terms.{Term, con, var, Constraint, Equation, mapTerms, mapSides, isBelow, alphabet}
-use Rattle.semantics.specs.Firing.{without, instance, settle, fired}
+use Rattle.semantics.specs.Firing.{without, instance, fired}
 use Rattle.syntax.specs.Tables.{cellTerm, cellConstraints, cellEquations, ruleOfRow}
 use Rattle.engine.specs.Cells.{assigned, instanceCell}
 use Rattle.engine.specs.Places.{isLettered, isSide, isLow, Row}
-use Rattle.engine.specs.States.{stateOf, Solvable, Solved, Removed, Appended, Equated, SolvedRule, Fires, Fired}
-use Rattle.engine.proofs.CellLaws.{and-true, le-or-lt, cell-low, cell-high}
+use Rattle.engine.specs.States.{Solvable, Solved, Removed, Appended, Equated, SolvedRule, Fires, Fired}
+use Rattle.engine.proofs.CellLaws.{and-true, le-or-lt, cell-low}
 use Rattle.engine.proofs.MapLaws.{low-kept, acts-constraints, acts-equations, acts-used}
 use Rattle.engine.proofs.FireLaws.{instance-acts, constraints-append}
 

@@ -2,17 +2,16 @@
 -- Assumes nothing.
 use Prim.Native.Nat.{ℕ, zero, suc, _+_, _-_, _*_, _≤_, _<_}
 use native.Mathlib.Omega.{arith}
-use native.Mathlib.Nat.{add-zero}
 use native.Mathlib.Numerals.{add-one}
 use mathlib.Core.Bool.{Bool, true, false, cond}
-use mathlib.Core.List.{List, [], _∷_, _++_, map}
-use mathlib.Core.Option.{Option, none, some}
-use mathlib.Core.Path.{_≡_, refl, ap, sym, _∙_}
+use mathlib.Core.List.{List, [], _∷_, map}
+use mathlib.Core.Option.{none, some}
+use mathlib.Core.Path.{_≡_, refl, sym, _∙_}
 use lib.ListN.{length, take}
 use lib.Seq.{length-take-le}
 use Rattle.text.specs.Lists.{every}
-use Rattle.semantics.specs.Terms.{Constraint, Rule, State, failed, live}
-use Rattle.semantics.specs.Strategy.{Final, advance, normalise}
+use Rattle.semantics.specs.Terms.{Rule, State, failed, live}
+use Rattle.semantics.specs.Strategy.{advance, normalise}
 use Rattle.syntax.specs.Tables.{cellTerm, cellConstraints, rulesOf}
 use Rattle.engine.specs.Places.{isLow}
 use Rattle.engine.specs.States.{stateOf}

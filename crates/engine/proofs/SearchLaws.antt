@@ -1,22 +1,21 @@
 -- The search over cells is the search over constraints: one law for each way that the code goes.
 -- Assumes nothing.
-use Prim.Native.Nat.{ℕ, zero, suc, _+_, _-_, _*_, _≤_, _<_}
+use Prim.Native.Nat.{ℕ, suc, _+_, _-_, _*_, _≤_, _<_}
 use native.Mathlib.Omega.{arith}
-use native.Mathlib.Nat.{add-zero}
 use native.Mathlib.Numerals.{add-one}
 use mathlib.Core.Bool.{Bool, true, false, cond, _||_}
 use mathlib.Core.List.{List, [], _∷_, _++_}
-use mathlib.Core.Option.{Option, none, some}
-use mathlib.Core.Path.{_≡_, refl, ap, sym, _∙_}
+use mathlib.Core.Option.{Option, none}
+use mathlib.Core.Path.{_≡_, refl, sym, _∙_}
 use lib.Dec.{eqb}
 use lib.ListN.{length, getD, set, take, drop, length-set, drop-of-length-le, length-drop}
-use lib.Seq.{drop-cons, getD-take, length-take-le, take-suc-set, drop-drop, getD-drop}
+use lib.Seq.{drop-cons, getD-take, length-take-le, take-suc-set}
 use borrow.Author.Tests.{eq-eqb, ne-eqb}
 use Rattle.text.specs.Lists.{bind, orElse, has, every}
 use Rattle.semantics.specs.Terms.{Constraint, isBelow, alphabet}
-use Rattle.semantics.specs.Matching.{Assignment, matchConstraint, matchTerms}
+use Rattle.semantics.specs.Matching.{Assignment, matchConstraint}
 use Rattle.semantics.specs.Strategy.{Match, firstIn, find}
-use Rattle.syntax.specs.Tables.{cellTerms, cellConstraints}
+use Rattle.syntax.specs.Tables.{cellConstraints}
 use Rattle.engine.specs.Cells.{assigned, fitOf, rowConstraint, Rows, Matched}
 use Rattle.engine.specs.Places.{isLettered, foundOf, Seeking, Located}
 use Rattle.engine.proofs.CellLaws.{every-first, every-rest, constraints-at}
@@ -101,10 +100,6 @@ five i = omega arith
 
 lent-size : (l : List ℕ) (i : ℕ) → 5 * i + 5 ≤ length l → length (lent l i) ≡ 5
 lent-size l i h = rw (five i) (length-take-le 5 (drop (5 * i) l) (omega (arith, length-drop (5 * i) l)))
-
--- a row's first cell
-first-symbol : (l : List ℕ) (i : ℕ) → getD (take 5 (drop (5 * i) l)) 0 0 ≡ getD l (5 * i) 0
-first-symbol l i = getD-take 5 (drop (5 * i) l) 0 0 (omega arith) ∙ getD-drop (5 * i) l 0 0 ∙ rw add-zero
 
 -- what the search asks, by the number of heads that are placed
 pub record Placing (heads : List ℕ) (n h : ℕ) (cells : List ℕ) (m : ℕ) (chosen bindings : List ℕ) : Type 0 where
@@ -200,12 +195,13 @@ module _ (heads : List ℕ) (n h : ℕ) (cells : List ℕ) (m : ℕ) (chosen bin
         skip : attempt heads h cells chosen bindings p this ≡ none → Sought heads h cells m chosen bindings (p + 1)
         skip e = rw (add-one p) (record { within = k; same = rw e at split })
 
-        -- the constraint there has another symbol
-        pub seek-other : (getD heads (5 * h) 0 ≡ getD cells (5 * p) 0 → ⊥) → Sought heads h cells m chosen bindings (p + 1)
-        unfolding matchConstraint rowConstraint
-        seek-other e =
-            skip (rw (first-symbol heads h, first-symbol cells p, ne-eqb (getD heads (5 * h) 0) (getD cells (5 * p) 0) e)
-            (cond-none (has p (take h chosen))))
+        -- the head does not fit the constraint there
+        pub seek-unfit :
+            matchConstraint (rowConstraint (lent heads h)) (rowConstraint (lent cells p)) (assigned bindings) ≡ none
+            → Sought heads h cells m chosen bindings (p + 1)
+        seek-unfit e =
+            let none-here : matchConstraint (headAt heads h) this (assigned bindings) ≡ none = rw (five h, five p) at e in
+            skip (rw none-here (cond-none (has p (take h chosen))))
 
         -- what the match there asks
         pub seek-rows :

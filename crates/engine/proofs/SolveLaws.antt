@@ -5,13 +5,13 @@
 use Prim.Native.Nat.{ℕ, zero, suc, _+_, _-_, _*_, _≤_, _<_}
 use native.Mathlib.Omega.{arith}
 use native.Mathlib.Numerals.{add-one}
-use mathlib.Core.Bool.{Bool, true, false, cond, not, _&&_}
-use mathlib.Core.List.{List, [], _∷_, _++_, map, map-map, map-id}
-use mathlib.Core.Logic.{_⊎_, inl, inr, ⊎-elim}
+use mathlib.Core.Bool.{Bool, true, false, not, _&&_}
+use mathlib.Core.List.{List, [], _∷_, map, map-map, map-id}
+use mathlib.Core.Logic.{⊎-elim}
 use mathlib.Core.Option.{Option, none, some, Option·map}
 use mathlib.Core.Path.{_≡_, refl, ap, sym, fun-ext, _∙_}
 use lib.Dec.{eqb, ltb, leb}
-use lib.ListN.{length, getD, set, take, drop, length-map, drop-of-length-le}
+use lib.ListN.{length, getD, drop, length-map, drop-of-length-le}
 use lib.Seq.{drop-cons}
 use borrow.Author.Tests.{
   eq-eqb,
@@ -29,7 +29,7 @@ use borrow.Author.Tests.{
   not-false,
 }
 use Rattle.text.specs.Lists.{bind, every}
-use Rattle.semantics.specs.Terms.{Term, con, var, Constraint, Equation, State, failed, live, mapTerms, mapSides}
+use Rattle.semantics.specs.Terms.{Term, Constraint, Equation, failed, live, mapTerms, mapSides}
 use Rattle.semantics.specs.Solving.{replace, unify, solve}
 use Rattle.semantics.specs.Firing.{settle}
 use Rattle.syntax.specs.Tables.{cellTerm, cellConstraints, cellEquations}

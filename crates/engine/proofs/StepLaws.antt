@@ -1,20 +1,19 @@
 -- One step of the strategy on cells is one step on states.
 -- Assumes nothing.
-use Prim.Native.Nat.{ℕ, zero, suc, _+_, _-_, _*_, _≤_, _<_}
+use Prim.Native.Nat.{ℕ, _+_, _*_, _≤_, _<_}
 use native.Mathlib.Omega.{arith}
 use mathlib.Core.Bool.{Bool, true, false, cond}
-use mathlib.Core.List.{List, [], _∷_, _++_, map}
-use mathlib.Core.Option.{Option, none, some, Option·map}
+use mathlib.Core.List.{List, [], _++_, map}
+use mathlib.Core.Option.{Option, none, some}
 use mathlib.Core.Path.{_≡_, refl, ap, sym, _∙_}
 use lib.ListN.{length, getD, take, drop}
 use lib.Seq.{length-take-le}
-use Rattle.text.specs.Lists.{bind, every}
-use Rattle.semantics.specs.Terms.{Term, Constraint, Rule, State, failed, live, mapTerms, mapSides}
+use Rattle.semantics.specs.Terms.{Term, Constraint, live, mapTerms, mapSides}
 use Rattle.semantics.specs.Matching.{unassigned}
 use Rattle.semantics.specs.Solving.{solve}
 use Rattle.semantics.specs.Firing.{without, instance, settle, fired}
-use Rattle.semantics.specs.Strategy.{find, choose, advance}
-use Rattle.syntax.specs.Tables.{cellTerm, cellConstraints, ruleOfRow, ruleOf, rulesOf}
+use Rattle.semantics.specs.Strategy.{advance}
+use Rattle.syntax.specs.Tables.{cellConstraints, ruleOfRow, ruleOf}
 use Rattle.engine.specs.Cells.{assigned}
 use Rattle.engine.specs.Places.{isLow, foundOf, Row, Table, choiceOf, Chosen}
 use Rattle.engine.specs.States.{stateOf, Fires, Fired}
@@ -48,8 +47,10 @@ module _ (rules : List ℕ) (n : ℕ) (bound cells : List ℕ) (m next : ℕ) (s
   pub step-lent : 5 * m ≡ length (take (5 * m) cells)
   step-lent = sym (length-take-le (5 * m) cells (omega (arith, s .space)))
 
-  pub step-chooses : Table rules n × (length (take (5 * m) cells) ≡ 5 * m)
-  step-chooses = (s .table, sym step-lent)
+  -- the choice may be lent any first rules of the table
+  pub step-chooses : (k : ℕ) → k ≤ n → Table rules k × (length (take (5 * m) cells) ≡ 5 * m)
+  step-chooses k h =
+      (record { size = omega (arith, s .table .size); rows = λ i l. s .table .rows i (omega arith) }, sym step-lent)
 
   module _ (f : Bool) (i : ℕ) (ps b : List ℕ) (chosen : Chosen rules n (take (5 * m) cells) f i ps b) where
     -- no rule fits

@@ -7,15 +7,15 @@ use native.Mathlib.Nat.{add-zero}
 use native.Mathlib.Omega.{arith}
 use mathlib.Core.Bool.{Bool, true, false, cond, _||_}
 use mathlib.Core.List.{List, [], _∷_, _++_, map}
-use mathlib.Core.Logic.{_⊎_, inl, inr, ⊎-elim}
+use mathlib.Core.Logic.{⊎-elim}
 use mathlib.Core.Option.{Option, none, some}
 use mathlib.Core.Path.{_≡_, refl, ap, sym, _∙_}
 use lib.Dec.{eqb}
 use lib.ListN.{length, getElem?}
 use borrow.Author.Tests.{eq-eqb, ne-eqb, eqb-true}
-use Rattle.text.specs.Lists.{bind, orElse, has, total}
+use Rattle.text.specs.Lists.{bind, has}
 use Rattle.semantics.specs.Terms.{Term, Constraint, mapTerms}
-use Rattle.semantics.specs.Matching.{Assignment, unassigned, matchTerms, matchConstraint}
+use Rattle.semantics.specs.Matching.{Assignment, matchConstraint}
 use Rattle.semantics.specs.Firing.{without}
 use Rattle.semantics.specs.Strategy.{Match, firstIn, find}
 use Rattle.engine.specs.Runs.{weightBy}

@@ -5,8 +5,8 @@
 --   instanceCell         a cell of a rule's body, in the state
 -- Assumes nothing.
 use Prim.Native.Nat.{ℕ, _+_, _-_, _*_}
-use mathlib.Core.Bool.{Bool, true, false, cond, _&&_}
-use mathlib.Core.List.{List, [], _∷_}
+use mathlib.Core.Bool.{Bool, true, false, cond, not, _&&_}
+use mathlib.Core.List.{List}
 use mathlib.Core.Option.{Option, none, some}
 use mathlib.Core.Path.{_≡_}
 use lib.Dec.{eqb, ltb}
@@ -24,6 +24,12 @@ assigned bindings x = cond (eqb (getD bindings x 0) 0) none (some (cellTerm (get
 -- what matching answers: whether it fits, and the bindings under which it does
 unfoldable pub fitOf : Bool → List ℕ → Option Assignment
 fitOf fits bindings = cond fits (some (assigned bindings)) none
+
+-- whether what is settled speaks against a head's cell being a constraint's: another constant, or a variable that is something
+-- else
+unfoldable pub opposed : List ℕ → ℕ → ℕ → Bool
+opposed bindings h t =
+    cond (ltb h 256) (not (eqb h t)) (cond (eqb (getD bindings (h - 256) 0) 0) false (not (eqb (getD bindings (h - 256) 0) t)))
 
 -- five cells as a constraint
 unfoldable pub rowConstraint : List ℕ → Constraint

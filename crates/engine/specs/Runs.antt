@@ -5,13 +5,13 @@
 -- Assumes nothing.
 use Prim.Native.Nat.{ℕ, _+_, _*_, _≤_, _<_}
 use mathlib.Core.Bool.{Bool, true, false, cond}
-use mathlib.Core.List.{List, [], _∷_, map}
+use mathlib.Core.List.{List, [], map}
 use mathlib.Core.Option.{none, some}
 use mathlib.Core.Path.{_≡_}
 use lib.ListN.{length, take, drop}
 use Rattle.text.specs.Lists.{total, every}
-use Rattle.semantics.specs.Terms.{Constraint, State, live}
-use Rattle.semantics.specs.Strategy.{Final, advance, normalise}
+use Rattle.semantics.specs.Terms.{Constraint, live}
+use Rattle.semantics.specs.Strategy.{advance, normalise}
 use Rattle.syntax.specs.Tables.{cellTerm, cellConstraints, ruleOfRow, rulesOf}
 use Rattle.engine.specs.Places.{isLow, Table}
 use Rattle.engine.specs.States.{stateOf}
@@ -56,12 +56,13 @@ pub record Stepped (rules : List ℕ) (n : ℕ) (bound cells : List ℕ) (m next
   pub low : fired ≡ true → alive ≡ true → every isLow (storeOf cells′ count) ≡ true
   pub few : count ≤ m + 6
 
--- what the derivation asks: room for 518 constraints, and a weighing of at most 512 that every rule lowers
+-- what the derivation asks: room for 518 constraints and for 512 times 26 variables, and a weighing of at most 512 that every rule
+-- lowers
 pub record Startable (rules : List ℕ) (n : ℕ) (cells : List ℕ) (m next : ℕ) : Type 0 where
   pub table : Table rules n
   pub space : 2590 ≤ length cells
   pub there : m ≤ 518
-  pub room : next ≤ 26
+  pub room : next ≤ 51000
   pub low : every isLow (storeOf cells m) ≡ true
   pub weigh : ℕ → ℕ
   pub positive : (k : ℕ) → 1 ≤ weigh k

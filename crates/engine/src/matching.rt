@@ -1,17 +1,17 @@
 // Matching a head of a rule against a constraint, under bindings of the rule's variables by value.
+ghost use mathlib.Core.Bool.{false};
+ghost use mathlib.Core.Option.{none};
 ghost use mathlib.Core.Path.{_≡_};
 ghost use Prim.Native.Nat.{_<_};
 ghost use lib.ListN.{length};
-ghost use Rattle.text.specs.Lists.{every};
-ghost use Rattle.semantics.specs.Terms.{isBelow, alphabet};
 ghost use Rattle.semantics.specs.Matching.{matchTerm, matchTerms, matchConstraint};
-ghost use Rattle.syntax.specs.Tables.{cellTerm, cellTerms};
-ghost use Rattle.engine.specs.Cells.{assigned, rowConstraint, Matched, Rows};
+ghost use Rattle.syntax.specs.Tables.{cellTerm};
+ghost use Rattle.engine.specs.Cells.{assigned, rowConstraint, opposed, Matched, Rows};
 
-// Whether a match fits, and the bindings under which it does.
+// Whether a match fits, and the bindings under which it does. The array stands first, so that copies of it are aligned.
 pub struct Fit {
-    pub fits: bool,
     pub bindings: [u16; 26],
+    pub fits: bool,
 }
 
 // One term of a head against one term of a constraint: a constant fits itself only, and a variable what it is bound to.
@@ -91,4 +91,48 @@ pub fn match_constraint(head: &[u16], constraint: &[u16], bindings: [u16; 26]) -
         fits: false,
         bindings,
     }
+}
+
+// Whether what is settled already speaks against a head's term being a constraint's.
+pub fn opposes(head: u16, term: u16, bindings: &[u16]) -> bool
+    requires { ⌜ (head < 282) × (length (now bindings) ≡ 26) ⌝ }
+    ensures { λ r. ⌜ r ≡ opposed (now (bindings .entry)) head term ⌝ }
+{
+    if head < 256 {
+        return head != term;
+    }
+    let x = (head - 256) as usize;
+    let settled = bindings[x];
+    if settled == 0 {
+        return false;
+    }
+    settled != term
+}
+
+// Whether a head may be a constraint: false only where it does not fit. It copies nothing, so the search asks it first.
+pub fn may_fit(head: &[u16], constraint: &[u16], bindings: &[u16]) -> bool
+    requires { ⌜ Rows (now head) (now constraint) (now bindings) ⌝ }
+    ensures { λ r. ⌜ (r ≡ false
+        → matchConstraint (rowConstraint (now (head .entry))) (rowConstraint (now (constraint .entry)))
+        (assigned (now (bindings .entry))) ≡ none) ⌝ }
+{
+    if head[0] != constraint[0] {
+        return false;
+    }
+    let mut i = 1;
+    while i < 5 {
+        let h = head[i];
+        let t = constraint[i];
+        if h == 0 {
+            return t == 0;
+        }
+        if t == 0 {
+            return false;
+        }
+        if opposes(h, t, bindings) {
+            return false;
+        }
+        i += 1;
+    }
+    true
 }

@@ -1,6 +1,7 @@
 // The search for positions head by head, and the choice of a rule.
 use crate::matching::Fit;
 use crate::matching::match_constraint;
+use crate::matching::may_fit;
 ghost use mathlib.Core.Bool.{cond};
 ghost use mathlib.Core.List.{[]};
 ghost use mathlib.Core.Option.{none};
@@ -16,9 +17,9 @@ ghost use Rattle.engine.specs.Places.{Seeking, Located, Row, Table, Chos
 
 // Whether positions were found, with them and the bindings under which the heads fit there.
 pub struct Found {
-    pub found: bool,
     pub positions: [usize; 4],
     pub bindings: [u16; 26],
+    pub found: bool,
 }
 
 // Whether a position is among the first h that are chosen.
@@ -89,9 +90,9 @@ pub fn find(
     while p < m {
         let q = p;
         let b = 5 * q;
+        let d = b + 5;
         p += 1;
-        if heads[a] == cells[b] {
-            let d = b + 5;
+        if may_fit(head, &cells[b..d], &bindings) {
             let fit = fit_at(head, &cells[b..d], h, q, chosen, bindings);
             if fit.fits {
                 let mut more = chosen;
@@ -113,10 +114,10 @@ pub fn find(
 
 // A rule that fits, by its number, and where it fits.
 pub struct Choice {
-    pub found: bool,
-    pub number: usize,
     pub positions: [usize; 4],
     pub bindings: [u16; 26],
+    pub number: usize,
+    pub found: bool,
 }
 
 // A cell as a number of the machine's width.

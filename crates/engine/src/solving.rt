@@ -2,7 +2,6 @@
 ghost use mathlib.Core.List.{map};
 ghost use mathlib.Core.Path.{_≡_};
 ghost use Prim.Native.Nat.{_<_, _*_};
-ghost use lib.ListN.{length};
 ghost use Rattle.engine.specs.Cells.{swap};
 ghost use Rattle.engine.specs.States.{Merged, Solvable, Solved};
 

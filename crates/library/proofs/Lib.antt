@@ -1,5 +1,6 @@
 -- Laws of this crate's definitions, the starred cases, and demand 3 on bytes. Assumes nothing.
 pub mod Opened
 pub mod Starred
+pub mod Demand2
 pub mod Demand3
 pub mod Instances

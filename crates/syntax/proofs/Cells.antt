@@ -10,7 +10,7 @@ use Prim.Native.Nat.{ℕ, zero, suc, _+_, _-_, _*_, _≤_, _<_}
 use native.Mathlib.Omega.{arith}
 use borrow.Author.Tests.{lt-ltb, le-ltb, ne-eqb, eq-eqb}
 use lib.Dec.{ltb, eqb}
-use lib.ListN.{length, take, drop, getD, set, length-set, length-append, take-append-drop}
+use lib.ListN.{length, take, drop, getD, set, length-set, length-append, length-take, take-append-drop}
 use lib.Seq.{take-take, length-take-le, take-suc-set, getD-set-other, getD-drop}
 use Rattle.text.specs.Lists.{every, placeOf}
 use Rattle.text.specs.Fields.{isName, isVariable, isTerm}
@@ -19,7 +19,7 @@ use Rattle.text.proofs.Laws.{variable-none}
 use Rattle.text.proofs.Cursors.{field-at, drop-take}
 use Rattle.semantics.specs.Terms.{Term, con, var}
 use Rattle.syntax.specs.Forms.{termOf, firstConstant}
-use Rattle.syntax.specs.Tables.{cellTerm, cellTerms}
+use Rattle.syntax.specs.Tables.{cellTerm, cellTerms, part}
 use Rattle.syntax.proofs.Tabled.{map-append}
 
 -- the field of a line that starts at a place, as a part of the text
@@ -160,3 +160,17 @@ pub field-cut : (l : List ℕ) (start stop : ℕ) → start ≤ length l → sto
     → fieldsFrom l start ≡ take (stop - start) (drop start l) ∷ fieldsFrom l (suc stop)
 field-cut l start stop h e =
     field-at l start stop h e ∙ ap (λ (f : List ℕ). f ∷ fieldsFrom l (suc stop)) (drop-take start stop l (omega arith))
+
+-- a field of a line as a part of the text, and by its start
+pub part-in-line : (s : List ℕ) (start stop end : ℕ) → start ≤ stop → stop ≤ end
+    → take (stop - start) (drop start (take end s)) ≡ part s start (stop - start)
+unfolding part
+part-in-line s start stop end h k =
+    ap (λ (l : List ℕ). take (stop - start) l) (drop-take start end s (omega arith))
+    ∙ take-take (stop - start) (end - start) (drop start s) (omega arith)
+
+pub field-part : (line : List ℕ) (a b e : ℕ) → b ≡ suc a → b ≤ e → drop (suc a) (take e line) ≡ take (e - b) (drop b line)
+field-part line a b e q h = ap (λ (n : ℕ). drop n (take e line)) (sym q) ∙ drop-take b e line h
+
+pub part-short : (line : List ℕ) (b e : ℕ) → e ≤ b + 2 → length (take (e - b) (drop b line)) ≤ 2
+part-short line b e h = omega (arith, length-take (e - b) (drop b line))

@@ -6,3 +6,8 @@ pub mod Letters
 pub mod Constants
 pub mod Cells
 pub mod Shapes
+pub mod Pasted
+pub mod Steps
+pub mod Drafts
+pub mod Grown
+pub mod Lasts

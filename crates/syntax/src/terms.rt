@@ -125,9 +125,9 @@ pub fn terms_of(
     requires { ⌜ (now classes ≡ classTable) × (length (now cells) ≡ 128) × (n + m ≤ 64) × (v ≤ 26) × (v ≤ length (now letters))
         × (at ≤ end + 1) × (end ≤ length (now second)) × (length (fieldsFrom (take end (now second)) at) ≤ 4)
         × (every isTerm (fieldsFrom (take end (now second)) at) ≡ true) ⌝ }
-    ensures { λ r. ⌜ cellTerms r ≡ map (termOf (λ g. placeOf g (lettersOf (now (letters .entry)) v))
+    ensures { λ r. ⌜ (cellTerms r ≡ map (termOf (λ g. placeOf g (lettersOf (now (letters .entry)) v))
         (constantsOf (now (first .entry)) (now (second .entry)) (now (cells .entry)) n m))
-        (fieldsFrom (take end (now (second .entry))) at) ⌝ }
+        (fieldsFrom (take end (now (second .entry))) at)) × (length r ≡ 4) ⌝ }
 {
     let line = &second[..end];
     let mut r = [0u16; 4];

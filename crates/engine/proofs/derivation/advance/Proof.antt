@@ -25,7 +25,8 @@ choose-requires : tie.Need-choose-requires
 choose-requires c κs =
     let args′ = c .before .before .before .before .args in
     let pre′ = c .before .before .before .before .pre in
-    step-chooses (args′ .rules .now) (args′ .n) (args′ .bound .now) (args′ .cells .now) (args′ .m) (args′ .next) pre′
+    step-chooses (args′ .rules .now) (args′ .n) (args′ .bound .now) (args′ .cells .now) (args′ .m) (args′ .next) pre′ _
+    (omega arith)
 
 same-length : tie.Need-same-length
 same-length c = search needs

@@ -2,7 +2,6 @@
 -- Assumes nothing.
 use Prim.Native.Nat.{_-_}
 use native.Mathlib.Omega.{arith}
-use mathlib.Core.Path.{_≡_}
 use lib.ListN.{length}
 use Rattle.engine.specs.Cells.{instanceCell}
 use Rattle.engine.proofs.MapLaws.{Mapped, mapped-start, mapped-next, mapped-end}

@@ -2,7 +2,7 @@
 -- Assumes nothing.
 use Prim.Native.Nat.{_-_}
 use native.Mathlib.Omega.{arith}
-use mathlib.Core.Path.{_≡_, _∙_, ap, refl}
+use mathlib.Core.Path.{_∙_, ap, refl}
 use lib.ListN.{length}
 use Rattle.engine.specs.Cells.{swap}
 use Rattle.engine.proofs.MapLaws.{Mapped, mapped-start, mapped-read, mapped-next, mapped-end}

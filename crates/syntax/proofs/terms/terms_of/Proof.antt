@@ -121,12 +121,14 @@ loop-again c =
 
 returns : tie.Need-returns Inv-loop μ-loop
 returns c =
-    let sized : length (take ((c .before .before .before .before .before .before .before .before .args) .end) ((c .before .before .before .before .before .before .before .before .args) .second .now)) ≡ (c .before .before .before .before .before .before .before .before .args) .end = length-take-le ((c .before .before .before .before .before .before .before .before .args) .end) ((c .before .before .before .before .before .before .before .before .args) .second .now) ((c .before .before .before .before .before .before .before .before .pre) .6) in
-    filled-end (termFor ((c .before .before .before .before .before .before .before .before .args) .first .now) ((c .before .before .before .before .before .before .before .before .args) .second .now) ((c .before .before .before .before .before .before .before .before .args) .cells .now) ((c .before .before .before .before .before .before .before .before .args) .n) ((c .before .before .before .before .before .before .before .before .args) .m) ((c .before .before .before .before .before .before .before .before .args) .letters .now) ((c .before .before .before .before .before .before .before .before .args) .v))
-    (map (termFor ((c .before .before .before .before .before .before .before .before .args) .first .now) ((c .before .before .before .before .before .before .before .before .args) .second .now) ((c .before .before .before .before .before .before .before .before .args) .cells .now) ((c .before .before .before .before .before .before .before .before .args) .n) ((c .before .before .before .before .before .before .before .before .args) .m) ((c .before .before .before .before .before .before .before .before .args) .letters .now) ((c .before .before .before .before .before .before .before .before .args) .v))
-    (fieldsFrom (take ((c .before .before .before .before .before .before .before .before .args) .end) ((c .before .before .before .before .before .before .before .before .args) .second .now)) ((c .before .before .before .before .before .before .before .before .args) .at)))
-    ((c .before .loop) .r) ((c .before .loop) .j) (fieldsFrom (take ((c .before .before .before .before .before .before .before .before .args) .end) ((c .before .before .before .before .before .before .before .before .args) .second .now)) ((c .before .loop) .start)) ((c .before .loop) .inv .2)
-    (fields-out (take ((c .before .before .before .before .before .before .before .before .args) .end) ((c .before .before .before .before .before .before .before .before .args) .second .now)) ((c .before .loop) .start) (omega (arith, (c .loop-test) .left)))
+    let sized : length (take ((c .before .before .before .before .before .before .before .before .args) .end) ((c .before .before .before .before .before .before .before .before .args) .second .now)) ≡ (c .before .before .before .before .before .before .before .before .args) .end = length-take-le ((c .before .before .before .before .before .before .before .before .args) .end) ((c .before .before .before .before .before .before .before .before .args) .second .now) ((c .before .before .before .before .before .before .before .before .pre) .6) in (
+      filled-end (termFor ((c .before .before .before .before .before .before .before .before .args) .first .now) ((c .before .before .before .before .before .before .before .before .args) .second .now) ((c .before .before .before .before .before .before .before .before .args) .cells .now) ((c .before .before .before .before .before .before .before .before .args) .n) ((c .before .before .before .before .before .before .before .before .args) .m) ((c .before .before .before .before .before .before .before .before .args) .letters .now) ((c .before .before .before .before .before .before .before .before .args) .v))
+          (map (termFor ((c .before .before .before .before .before .before .before .before .args) .first .now) ((c .before .before .before .before .before .before .before .before .args) .second .now) ((c .before .before .before .before .before .before .before .before .args) .cells .now) ((c .before .before .before .before .before .before .before .before .args) .n) ((c .before .before .before .before .before .before .before .before .args) .m) ((c .before .before .before .before .before .before .before .before .args) .letters .now) ((c .before .before .before .before .before .before .before .before .args) .v))
+          (fieldsFrom (take ((c .before .before .before .before .before .before .before .before .args) .end) ((c .before .before .before .before .before .before .before .before .args) .second .now)) ((c .before .before .before .before .before .before .before .before .args) .at)))
+          ((c .before .loop) .r) ((c .before .loop) .j) (fieldsFrom (take ((c .before .before .before .before .before .before .before .before .args) .end) ((c .before .before .before .before .before .before .before .before .args) .second .now)) ((c .before .loop) .start)) ((c .before .loop) .inv .2)
+          (fields-out (take ((c .before .before .before .before .before .before .before .before .args) .end) ((c .before .before .before .before .before .before .before .before .args) .second .now)) ((c .before .loop) .start) (omega (arith, (c .loop-test) .left))),
+      (c .before .loop) .inv .2 .sized,
+    )
 
 pub terms-of-spec : {M : Type 1} → statement M
 terms-of-spec =
