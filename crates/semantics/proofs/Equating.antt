@@ -2,16 +2,13 @@
 -- terms one by one.
 --   equated-pairs, equated-related     from the equations to pairs of terms, and back
 --   equated-exists                     where there are equations
---   equated-lift                       the equations, as those between all terms of one list and all terms of the other
 -- Assumes nothing.
-use Prim.Native.Nat.{ℕ}
-use mathlib.Core.List.{List, [], _∷_, _++_, map, map-append}
-use mathlib.Core.Path.{_≡_, refl, sym, ap, _∙_}
+use mathlib.Core.List.{List, [], _∷_, _++_}
 use Rattle.semantics.specs.Terms.{Term, Constraint, Equation}
 use Rattle.semantics.specs.Published.{Equated, noTerms, EquatedAll, noConstraints}
 use Rattle.semantics.specs.Published as P
 use Rattle.semantics.specs.Variants.{Pointwise, empty, each}
-use Rattle.semantics.proofs.Configurations.{Or, inl, inr, Member, first, later, Tm, equal, flat, lift, liftAtom, liftEqn}
+use Rattle.semantics.proofs.Configurations.{Or, inl, inr, Member, first, later}
 use Rattle.semantics.proofs.Multisets.{pointwise-mono, member-append, member-append-left, member-append-right}
 use Rattle.semantics.proofs.Multisets.{member-nil}
 use Rattle.semantics.proofs.MatchLaws.{ConstraintRel}
@@ -69,19 +66,3 @@ equated-exists (each r p) =
     let (es, q) = terms-exist (r .terms) in
     let (fs, k) = equated-exists p in
     (es ++ fs, P.EquatedAll.oneMore (r .symbols) q k)
-
--- the equations are those between all terms
-equal-append :
-    {ss ts : List Term} {es : List Equation} (ls ms : List (Tm ℕ)) → Equated ss ts es
-    → equal (map lift ss ++ ls) (map lift ts ++ ms) ≡ map liftEqn es ++ equal ls ms
-equal-append ls ms noTerms = refl
-equal-append ls ms (P.Equated.oneMore {s} {t} q) =
-    ap (record { left = lift s; right = lift t } ∷_) (equal-append ls ms q)
-
-pub equated-lift :
-    {cs ds : List Constraint} {es : List Equation} → EquatedAll cs ds es
-    → map liftEqn es ≡ equal (flat (map liftAtom cs)) (flat (map liftAtom ds))
-equated-lift noConstraints = refl
-equated-lift (P.EquatedAll.oneMore {cs} {ds} {es} {fs} p q r) =
-    map-append liftEqn es fs ∙ ap (map liftEqn es ++_) (equated-lift r)
-    ∙ sym (equal-append (flat (map liftAtom cs)) (flat (map liftAtom ds)) q)

@@ -1,10 +1,10 @@
 -- Heads and their joined ones: what stands in the lists that an overlap is made of.
 --   renamed-same, heads-same              a rule that is not renamed
 --   agreed-member                         an element of the second list is one of the first, or is left
---   leftover-member, alone-member         what is left, and what is alone, are elements
+--   leftover-member                       what is left are elements
 --   equated-sides, picked-member          the sides of equations between constraints; chosen constraints
 -- Assumes nothing.
-use Prim.Native.Nat.{ℕ, zero, suc}
+use Prim.Native.Nat.{ℕ, suc}
 use mathlib.Core.Bool.{Bool, true, false, cond}
 use mathlib.Core.List.{List, [], _∷_, map}
 use mathlib.Core.Path.{_≡_, refl, sym, ap₂, subst}
@@ -19,7 +19,7 @@ use Rattle.semantics.specs.CriticalPairs.{picked}
 use Rattle.semantics.proofs.Configurations.{Or, inl, inr, Member, first, later}
 use Rattle.semantics.proofs.Options.{decide}
 use Rattle.semantics.proofs.Multisets.{member-cons, member-append}
-use Rattle.semantics.proofs.Pairings.{leftover, alone, Agreed}
+use Rattle.semantics.proofs.Pairings.{leftover, Agreed}
 use Rattle.semantics.proofs.Listings.{at-member, answers-member}
 use Rattle.semantics.proofs.PairSides.{Within}
 
@@ -63,7 +63,7 @@ agreed-member {A} {y} n xs (z ∷ ys) ds a (later i) = go (agreed-member (suc n)
     go (inl j) = inl j
     go (inr j) = inr (kept (has n ds) j)
 
--- what is left, and what is alone, are elements
+-- what is left are elements
 pub leftover-member : {A : Type 0} {y : A} (n : ℕ) (ys : List A) (ds : List ℕ) → Member y (leftover n ys ds) → Member y ys
 leftover-member n [] ds i = i
 leftover-member {A} {y} n (z ∷ ys) ds i = go (has n ds) i (leftover-member (suc n) ys ds)
@@ -77,13 +77,6 @@ leftover-member {A} {y} n (z ∷ ys) ds i = go (has n ds) i (leftover-member (su
         front : Or (y ≡ z) (Member y (leftover (suc n) ys ds)) → Member y (z ∷ ys)
         front (inl e) = subst (λ x. Member x (z ∷ ys)) (sym e) first
         front (inr k) = later (ih k)
-
-pub alone-member : {A : Type 0} {x : A} (xs : List A) (ds : List ℕ) → Member x (alone xs ds) → Member x xs
-alone-member [] ds i = i
-alone-member (z ∷ xs) [] i = elim i [ ]
-alone-member (z ∷ xs) (zero ∷ ds) first = first
-alone-member (z ∷ xs) (zero ∷ ds) (later i) = later (alone-member xs ds i)
-alone-member (z ∷ xs) (suc d ∷ ds) i = later (alone-member xs ds i)
 
 -- the sides of the equations between two lists of constraints are terms of these
 terms-sides :

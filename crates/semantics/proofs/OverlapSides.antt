@@ -333,6 +333,8 @@ module _ (p : Program) (w : isWellFormed p ≡ true) (o : Overlap) (listed : Lis
     unifier = σ;
     solved = parts .solved;
     goal = ap (λ (x : Overlap). x .goal) (parts .made) ∙ ap (λ cs. goalOf (map (mapTerms σ) cs)) (sym joined-heads);
+    terms = reading σ (joined one two (jointsOf ds)) variables;
+    read = refl;
     covered = covered;
     first = record { state = first-end p listed .0; fires = first-end p listed .1; represents = first-represents };
     second = record { state = second-end p listed .0; fires = second-end p listed .1; represents = second-represents };

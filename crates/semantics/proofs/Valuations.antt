@@ -3,7 +3,7 @@
 --   hold-member, hold-members      equations that hold, one by one
 --   hold-eqv                       what they make equivalent has equal values
 --   generic, generic-holds         the valuation of a solution, by which unequal terms differ
---   read, read-generic             which term of the solution a value stands for
+--   read, read-above               which term of the solution a value stands for
 --   satisfiable-solved, solved-satisfiable      a store is not false exactly when solving it has an answer
 -- Assumes nothing.
 use Prim.Native.Nat.{ℕ, _+_, _-_, _<_}

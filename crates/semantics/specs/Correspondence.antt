@@ -53,21 +53,18 @@ pub record Side (o : Overlap) (r : Rule) (ps : List ℕ) (ts : List Term) (a : P
   pub represents : (b : Published) → Emptied a b → Represents b (seen ts state)
 
 -- the two sides of an overlap are the two states of a critical pair, under the unifier of the pair's condition, which makes the
--- overlap's goal of the joined heads. The reading leaves out no variable of the goal
+-- overlap's goal of the joined heads. The reading, what the pair's variables are in the goal, leaves out no variable of the goal
 pub record Sides (o : Overlap) (js : List Joint) (c : CriticalPair) : Type 1 where
   pub unifier : Term → Term
   pub solved : solve (c .condition) (λ t. t) ≡ some unifier
   pub goal : o .goal ≡ goalOf (map (mapTerms unifier) (joined (o .first .rule) (o .second .rule) js))
-  pub covered :
-      (v : ℕ) → v < o .goal .variables
-      → (n : ℕ) × (getElem? (reading unifier (joined (o .first .rule) (o .second .rule) js) (c .variables)) n ≡ some (var v))
-  pub first :
-      Side o (o .first .rule) (upTo (length (o .first .rule .heads)))
-      (reading unifier (joined (o .first .rule) (o .second .rule) js) (c .variables)) (leftState c)
+  pub terms : List Term
+  pub read : terms ≡ reading unifier (joined (o .first .rule) (o .second .rule) js) (c .variables)
+  pub covered : (v : ℕ) → v < o .goal .variables → (n : ℕ) × (getElem? terms n ≡ some (var v))
+  pub first : Side o (o .first .rule) (upTo (length (o .first .rule .heads))) terms (leftState c)
   pub second :
       Side o (o .second .rule)
-      (secondPositions 1 (length (o .first .rule .heads)) (length (o .second .rule .heads)) (o .partners))
-      (reading unifier (joined (o .first .rule) (o .second .rule) js) (c .variables)) (rightState c)
+      (secondPositions 1 (length (o .first .rule .heads)) (length (o .second .rule .heads)) (o .partners)) terms (rightState c)
 
 -- the overlaps of a program are the critical pairs of its rules i ≤ j, one to one, given by which heads are equated with which
 pub record OverlapsAreCriticalPairs (p : Program) : Type 1 where

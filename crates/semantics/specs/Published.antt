@@ -1,8 +1,12 @@
 -- The published system, from document 000, section 2.2.3 and figure 1: states of four parts and the steps Solve, Introduce and
--- Simplify, for rules without guards, the built-in theory being syntactic equality over constants and variables.
---   Published, normal        its states, and what is left of one when its built-in store is solved
+-- Simplify, for rules without guards, the built-in theory being syntactic equality over constants and variables. The paper ends
+-- each step in the normal form N of its state. Here N stands where states are compared: it has no influence on which steps are
+-- possible (lemma 2.3).
+--   Published                its states
 --   Solve, Introduce         a built-in constraint, or a user-defined one, leaves the goal store
 --   Simplify                 constraints that match the heads of a fresh variant of a rule are replaced by its body
+--   Emptied, Goes            Introduce and Solve steps until the goal store is empty; any step by a program
+--   normal, Represents       what is left of a state when its built-in store is solved; a state of ours that equals it
 -- Assumes nothing.
 use Prim.Native.Nat.{ℕ, _<_}
 use mathlib.Core.List.{List, [], _∷_, _++_, map}
@@ -62,7 +66,7 @@ unfoldable pub renamed : (ℕ → ℕ) → Term → Term
 renamed ρ (con c) = con c
 renamed ρ (var x) = var (ρ x)
 
--- whether a variable stands in a term, a constraint, an equation, a goal store
+-- a variable stands in a list of terms
 pub data Occurs (x : ℕ) : List Term → Type 0 where
   here : {ts : List Term} → Occurs x (var x ∷ ts)
   there : {t : Term} {ts : List Term} → Occurs x ts → Occurs x (t ∷ ts)
