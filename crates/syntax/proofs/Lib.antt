@@ -1,3 +1,5 @@
 -- Laws of this crate's definitions. Assumes nothing.
 pub mod Opened
 pub mod WellFormed
+pub mod Known
+pub mod Vocabulary
