@@ -3,3 +3,4 @@ pub mod Opened
 pub mod WellFormed
 pub mod Known
 pub mod Vocabulary
+pub mod GoalVocabulary

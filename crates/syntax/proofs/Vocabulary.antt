@@ -9,20 +9,20 @@ use native.Mathlib.Omega.{arith}
 use mathlib.Core.Bool.{Bool, true, false, cond, not, _&&_, _||_}
 use mathlib.Core.List.{List, [], _∷_, _++_, map}
 use mathlib.Core.Option.{Option, none, some}
-use mathlib.Core.Path.{_≡_, refl, sym, ap, subst, _∙_}
+use mathlib.Core.Path.{_≡_, refl, ap}
 use lib.Dec.{leb, ltb, eqb}
-use lib.ListN.{length, length-map, length-append, drop}
+use lib.ListN.{length, length-append, drop}
 use borrow.Author.Tests.{ltb-true, ltb-false, leb-true, leb-false}
 use Rattle.text.specs.Bytes.{between}
 use Rattle.text.specs.Lists.{onward, every, isKnown, placeOf}
 use Rattle.text.specs.Lines.{Line, lines, lineIsFaulty}
 use Rattle.text.specs.Fields.{fields, isName, isTerm, isNumber, isNumberIn, valueOf}
-use Rattle.semantics.specs.Terms.{Term, con, var, Constraint, Equation, Symbol, Rule}
+use Rattle.semantics.specs.Terms.{Term, con, var, Constraint, Symbol, Rule}
 use Rattle.semantics.proofs.Configurations.{All, also}
 use Rattle.semantics.proofs.Configurations as C
 use Rattle.semantics.proofs.Multisets.{all-mono, all-append, all-map}
 use Rattle.semantics.proofs.Vocabulary.{TermOver, ConstraintOver, RuleOver}
-use Rattle.syntax.specs.Answers.{Answer, refused, accepted, refuseIf, andThen}
+use Rattle.syntax.specs.Answers.{Answer, refused, accepted}
 use Rattle.syntax.specs.Forms.{Form, symbolForm, ruleForm, headForm, bodyForm, equationForm, goalForm, noForm, formOf}
 use Rattle.syntax.specs.Forms.{Place, placeAfter, fieldAt, constantsAfter, firstConstant, termOf, letterNumber}
 use Rattle.syntax.specs.Forms.{isConstraintFaulty, isUndeclared, constraintOf}
