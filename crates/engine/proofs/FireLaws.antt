@@ -1,0 +1,228 @@
+-- Firing on cells is firing on constraints: copying, removing and instantiating.
+-- Assumes nothing.
+use Prim.Native.Nat.{ℕ, zero, suc, _+_, _-_, _*_, _≤_, _<_}
+use native.Mathlib.Omega.{arith}
+use native.Mathlib.Numerals.{add-one}
+use mathlib.Core.Bool.{Bool, true, false, cond, not, _&&_}
+use mathlib.Core.List.{List, [], _∷_, _++_, map, append-assoc, append-nil}
+use mathlib.Core.Logic.{_⊎_, inl, inr, ⊎-elim}
+use mathlib.Core.Option.{Option, none, some}
+use mathlib.Core.Path.{_≡_, refl, ap, sym, _∙_}
+use lib.Dec.{eqb, ltb, leb}
+use lib.ListN.{length, getD, set, take, drop, length-set, length-append, length-take, length-drop, drop-of-length-le}
+use lib.Seq.{paste, paste-zero, paste-suc, length-paste, take-paste, drop-paste, getD-drop, drop-drop, take-append-le}
+use lib.Seq.{take-all, length-take-le, take-take}
+use borrow.Author.Tests.{eq-eqb, ne-eqb, eqb-true, eqb-false, lt-ltb, le-ltb, ltb-true}
+use Rattle.text.specs.Lists.{onward, has, every}
+use Rattle.semantics.specs.Terms.{Term, con, var, Constraint, isBelow, alphabet}
+use Rattle.semantics.specs.Matching.{Assignment}
+use Rattle.semantics.specs.Firing.{without, instance}
+use Rattle.syntax.specs.Tables.{cellTerm, cellConstraints}
+use Rattle.engine.specs.Cells.{assigned, rowConstraint, instanceCell, movedRow}
+use Rattle.engine.specs.States.{Removed}
+use Rattle.engine.proofs.CellLaws.{either, le-or-lt, cell-low, cell-high, constraints-at}
+use Rattle.engine.proofs.MapLaws.{Acts}
+
+-- instantiating cells is instantiating terms
+pub instance-acts :
+    (next : ℕ) (bindings : List ℕ) → Acts (isBelow alphabet) (instanceCell next bindings) (instance next (assigned bindings))
+unfolding instanceCell instance assigned isBelow alphabet
+instance-acts next bindings = record { low = λ x l. rw (lt-ltb x 256 l); used = used; term = term }
+  where
+    letter : (x : ℕ) → 256 ≤ x
+        → (eqb (getD bindings (x - 256) 0) 0 ≡ true) ⊎ (eqb (getD bindings (x - 256) 0) 0 ≡ false)
+        → cond (eqb (getD bindings (x - 256) 0) 0) (next + x) (getD bindings (x - 256) 0) ≡ 0 → ⊥
+    letter x h (inl e) = rw e (λ (z : next + x ≡ 0). omega arith)
+    letter x h (inr e) = rw e (eqb-false (getD bindings (x - 256) 0) 0 e)
+
+    letter-term : (x : ℕ) → 256 ≤ x
+        → (eqb (getD bindings (x - 256) 0) 0 ≡ true) ⊎ (eqb (getD bindings (x - 256) 0) 0 ≡ false)
+        → cellTerm (cond (eqb (getD bindings (x - 256) 0) 0) (next + x) (getD bindings (x - 256) 0))
+        ≡ onward (assigned bindings (x - 256)) (var (next + (x - 256))) (λ t. t)
+    letter-term x h (inl e) =
+        let v : next + x - 256 ≡ next + (x - 256) = omega arith in
+        rw (e, cell-high (next + x) (omega arith), v)
+    letter-term x h (inr e) = rw e
+
+    used : (x : ℕ) → (x ≡ 0 → ⊥) → instanceCell next bindings x ≡ 0 → ⊥
+    used x n =
+        ⊎-elim
+        (λ h. ⊎-elim
+        (λ k. rw (le-ltb x 256 h, le-ltb (x - 256) 26 k) n)
+        (λ k. rw (le-ltb x 256 h, lt-ltb (x - 256) 26 k) (letter x h (either (eqb (getD bindings (x - 256) 0) 0))))
+        (le-or-lt 26 (x - 256)))
+        (λ h. rw (lt-ltb x 256 h) n)
+        (le-or-lt 256 x)
+
+    term : (x : ℕ) → isBelow alphabet (cellTerm x) ≡ true
+        → cellTerm (instanceCell next bindings x) ≡ instance next (assigned bindings) (cellTerm x)
+    term x g =
+        ⊎-elim
+        (λ h.
+        let k : ltb (x - 256) 26 ≡ true = rw (cell-high x h) at g in
+        rw (cell-high x h, le-ltb x 256 h, k) (letter-term x h (either (eqb (getD bindings (x - 256) 0) 0))))
+        (λ h. rw (lt-ltb x 256 h, cell-low x h))
+        (le-or-lt 256 x)
+
+module _ (next : ℕ) (bindings : List ℕ) (x : ℕ) where
+  -- a constant
+  pub instance-low : x < 256 → x ≡ instanceCell next bindings x
+  unfolding instanceCell
+  instance-low h = rw (lt-ltb x 256 h)
+
+  module _ (h : 256 ≤ x) (w : ℕ) (e : w ≡ x - 256) where
+    -- a variable of no head
+    pub instance-new : w < 26 → getD bindings w 0 ≡ 0 → next + x ≡ instanceCell next bindings x
+    unfolding instanceCell
+    instance-new l z = rw (le-ltb x 256 h, ← e, lt-ltb w 26 l, z)
+
+    -- a variable that is settled
+    pub instance-settled : w < 26 → (getD bindings w 0 ≡ 0 → ⊥) → getD bindings w 0 ≡ instanceCell next bindings x
+    unfolding instanceCell
+    instance-settled l z = rw (le-ltb x 256 h, ← e, lt-ltb w 26 l, ne-eqb (getD bindings w 0) 0 z)
+
+    -- no cell of a rule
+    pub instance-other : 26 ≤ w → x ≡ instanceCell next bindings x
+    unfolding instanceCell
+    instance-other l = rw (le-ltb x 256 h, ← e, le-ltb w 26 l)
+
+-- j cells of a row are copied
+pub record Moving (from to : ℕ) (start cells : List ℕ) (j : ℕ) : Type 0 where
+  pub within : j ≤ 5
+  pub size : length cells ≡ length start
+  pub same : cells ≡ paste start (5 * to) (drop (5 * from) start) j
+
+pub moving-start : (from to : ℕ) (start : List ℕ) → Moving from to start start 0
+moving-start from to start =
+    record { within = omega arith; size = refl; same = paste-zero start (5 * to) (drop (5 * from) start) }
+
+module _ (from to : ℕ) (start cells : List ℕ) (j : ℕ) (o : to ≤ from) (k : 5 * from + 5 ≤ length start)
+    (w : Moving from to start cells j) where
+  moving-read : j < 5 → getD cells (5 * from + j) 0 ≡ getD (drop (5 * from) start) j 0
+  moving-read l =
+      let s : 5 * to + j + (5 * from - 5 * to) ≡ 5 * from + j = omega arith in
+      let below : drop (5 * to + j) cells ≡ drop (5 * to + j) start =
+      rw (w .same) (drop-paste start (5 * to) (drop (5 * from) start) j (omega arith)
+      (omega (arith, length-drop (5 * from) start))) in
+      rw (getD-drop (5 * from) start j 0)
+      (rw s at (sym (getD-drop (5 * to + j) cells (5 * from - 5 * to) 0) ∙ ap (λ (r : List ℕ). getD r
+      (5 * from - 5 * to) 0) below
+      ∙ getD-drop (5 * to + j) start (5 * from - 5 * to) 0))
+
+  pub moving-next : j < 5 → Moving from to start (set cells (5 * to + j) (getD cells (5 * from + j) 0)) (j + 1)
+  moving-next l =
+      rw (add-one j) (record {
+        within = l;
+        size = length-set cells (5 * to + j) (getD cells (5 * from + j) 0) ∙ w .size;
+        same = rw (moving-read l, w .same)
+            (paste-suc start (5 * to) (drop (5 * from) start) j 0 (omega arith) (omega (arith, length-drop (5 * from) start)));
+      })
+
+  pub moving-end : 5 ≤ j → cells ≡ movedRow from to start
+  unfolding movedRow
+  moving-end l = let e : j ≡ 5 = omega (arith, w .within) in rw e at (w .same)
+
+-- constraints behind whole constraints
+pub constraints-append :
+    (k : ℕ) (s t : List ℕ) → length s ≡ 5 * k → cellConstraints (s ++ t) ≡ cellConstraints s ++ cellConstraints t
+unfolding cellConstraints
+constraints-append k [] t h = refl
+constraints-append k (a ∷ []) t h = absurd (omega arith)
+constraints-append k (a ∷ b ∷ []) t h = absurd (omega arith)
+constraints-append k (a ∷ b ∷ c ∷ []) t h = absurd (omega arith)
+constraints-append k (a ∷ b ∷ c ∷ d ∷ []) t h = absurd (omega arith)
+constraints-append k (a ∷ b ∷ c ∷ d ∷ e ∷ s) t h =
+    rw (constraints-append (k - 1) s t (omega arith))
+
+-- behind a copied row nothing changes
+drop-moved :
+    (at : ℕ) (s l : List ℕ) (n : ℕ) → at + 5 ≤ n → at ≤ length l → 5 ≤ length s → drop n (paste l at s 5) ≡ drop n l
+drop-moved at s l n h k t =
+    let e : at + 5 + (n - (at + 5)) ≡ n = omega arith in
+    rw e at (sym (drop-drop (n - (at + 5)) (at + 5) (paste l at s 5)) ∙ ap (drop (n - (at + 5))) (drop-paste l at s 5 k t)
+    ∙ drop-drop (n - (at + 5)) (at + 5) l)
+
+-- a row as constraints
+row-constraints : (l : List ℕ) → 5 ≤ length l → cellConstraints (take 5 l) ≡ rowConstraint (take 5 l) ∷ []
+unfolding cellConstraints rowConstraint
+row-constraints [] h = absurd (omega arith)
+row-constraints (a ∷ []) h = absurd (omega arith)
+row-constraints (a ∷ b ∷ []) h = absurd (omega arith)
+row-constraints (a ∷ b ∷ c ∷ []) h = absurd (omega arith)
+row-constraints (a ∷ b ∷ c ∷ d ∷ []) h = absurd (omega arith)
+row-constraints (a ∷ b ∷ c ∷ d ∷ e ∷ l) h = refl
+
+-- the first k constraints and those from p on that stay are all that stay
+pub record Removing (m : ℕ) (ps start cells : List ℕ) (p k : ℕ) : Type 0 where
+  pub within : p ≤ m
+  pub few : k ≤ p
+  pub start-size : length start ≡ 5 * m
+  pub size : length cells ≡ length start
+  pub same :
+      cellConstraints (take (5 * k) cells) ++ without p ps (cellConstraints (drop (5 * p) cells)) ≡ without 0 ps
+      (cellConstraints start)
+
+pub removing-start : (m : ℕ) (ps start : List ℕ) → length start ≡ 5 * m → Removing m ps start start 0 0
+unfolding cellConstraints
+removing-start m ps start e =
+    record { within = omega arith; few = omega arith; start-size = e; size = refl; same = refl }
+
+module _ (m : ℕ) (ps start cells : List ℕ) (p k : ℕ) (w : Removing m ps start cells p k) where
+  -- all have been looked at
+  pub removing-end : m ≤ p → Removed m ps start cells k
+  unfolding cellConstraints without
+  removing-end l =
+      record {
+        few = omega (arith, w .few, w .within);
+        same = rw (drop-of-length-le cells {i = 5 * p} (omega (arith, w .size, w .start-size)), append-nil) at (w .same);
+      }
+
+  module _ (l : p < m) where
+    this : Constraint
+    this = rowConstraint (take 5 (drop (5 * p) cells))
+
+    split :
+        cellConstraints (take (5 * k) cells) ++ without p ps (this ∷ cellConstraints (drop (5 * suc p) cells))
+        ≡ without 0 ps (cellConstraints start)
+    unfolding this
+    split = rw (constraints-at cells p (omega (arith, w .size, w .start-size))) at (w .same)
+
+    -- the constraint is removed
+    pub removing-chosen : true ≡ has p ps → Removing m ps start cells (p + 1) k
+    unfolding without
+    removing-chosen e =
+        rw (add-one p) (record {
+          within = l;
+          few = omega (arith, w .few);
+          start-size = w .start-size;
+          size = w .size;
+          same = rw (← e) at split;
+        })
+
+    -- what the copy asks
+    pub removing-room : (k ≤ p) × (5 * p + 5 ≤ length cells)
+    removing-room = (w .few, omega (arith, w .size, w .start-size))
+
+    -- it stays
+    pub removing-kept : (c : List ℕ) → c ≡ movedRow p k cells → false ≡ has p ps → Removing m ps start c (p + 1) (k + 1)
+    unfolding without movedRow this
+    removing-kept c g e =
+        let row : ℕ = 5 in
+        let fits : 5 * p + 5 ≤ length cells = omega (arith, w .size, w .start-size) in
+        let few : k ≤ p = w .few in
+        let tail : 5 ≤ length (drop (5 * p) cells) = omega (arith, length-drop (5 * p) cells) in
+        let n : 5 * k + 5 ≡ 5 * suc k = omega arith in
+        let front : take (5 * suc k) c ≡ take (5 * k) cells ++ take 5 (drop (5 * p) cells) =
+        rw (g, ← n) (take-paste cells (5 * k) (drop (5 * p) cells) 5 (omega arith) tail) in
+        let behind : drop (5 * suc p) c ≡ drop (5 * suc p) cells =
+        rw g (drop-moved (5 * k) (drop (5 * p) cells) cells (5 * suc p) (omega arith) (omega arith) tail) in
+        let heads : cellConstraints (take (5 * suc k) c) ≡ cellConstraints (take (5 * k) cells) ++ (this ∷ []) =
+        rw front (constraints-append k (take (5 * k) cells) (take 5 (drop (5 * p) cells))
+        (length-take-le (5 * k) cells (omega arith)) ∙ rw (row-constraints (drop (5 * p) cells) tail)) in
+        rw (add-one p, add-one k) (record {
+          within = l;
+          few = omega arith;
+          start-size = w .start-size;
+          size = rw g (length-paste cells (5 * k) (drop (5 * p) cells) 5 (omega arith) tail) ∙ w .size;
+          same = rw (heads, behind, append-assoc) (rw (← e) at split);
+        })

@@ -1,0 +1,258 @@
+-- A goal over a program as it is read can be run, and its end is that of the definition.
+--   AsRead          what the reading of a program promises of the tables
+--   read-table      such a table holds rules that the engine runs
+--   goal-starts     a goal of weight at most 512 can be run
+--   goal-runs       the end of its derivation is `run`'s (the main law)
+-- Assumes nothing.
+use Prim.Native.Nat.{ℕ, zero, suc, _+_, _*_, _≤_, _<_, max}
+use native.Mathlib.Omega.{arith}
+use mathlib.Core.Bool.{Bool, true, false, _&&_}
+use mathlib.Core.List.{List, [], _∷_, _++_, map}
+use mathlib.Core.Path.{_≡_, refl, ap, sym, _∙_}
+use lib.Dec.{eqb, ltb, leb}
+use lib.ListN.{length, getD, take, drop, length-drop}
+use lib.Seq.{length-take-le}
+use borrow.Author.Tests.{lt-ltb, ltb-true}
+use Rattle.text.specs.Lists.{every, total, tabled}
+use Rattle.semantics.specs.Terms.{
+  Term,
+  con,
+  var,
+  Constraint,
+  Equation,
+  Symbol,
+  Rule,
+  Program,
+  Goal,
+  live,
+  noSymbol,
+  symbolAt,
+  weight,
+}
+use Rattle.semantics.specs.Terms.{isDeclared, isBelow, isGoalOf, alphabet, isOfRule, isRuleOf, isWellFormed}
+use Rattle.semantics.specs.Strategy.{Final, normalise, entered, run}
+use Rattle.syntax.specs.Tables.{cellTerm, cellConstraints, symbolOf, symbolsOf, ruleOfRow, ruleOf, rulesOf}
+use Rattle.engine.specs.Places.{isLettered, isSide, isLow, Row, Table}
+use Rattle.engine.specs.States.{stateOf}
+use Rattle.engine.specs.Runs.{weightBy, Lowers, storeOf, Startable, Ended}
+use Rattle.engine.proofs.CellLaws.{and-true}
+use Rattle.engine.proofs.ChooseLaws.{length-tabled, getD-tabled}
+
+-- whether a term is no constant 0, which stands for no term
+unfoldable pub isUsed : Term → Bool
+isUsed (con c) = leb 1 c
+isUsed (var x) = true
+
+-- the program of two tables and the text of their names
+unfoldable pub programOf : List ℕ → List ℕ → ℕ → List ℕ → ℕ → Program
+programOf text symbols s rules n = record { symbols = symbolsOf text symbols s; rules = rulesOf text rules n }
+
+-- what the reading of a program promises: it is well formed, within its counts, its weights are positive, and its constants not
+-- 0
+pub record AsRead (text symbols : List ℕ) (s : ℕ) (rules : List ℕ) (n : ℕ) : Type 0 where
+  pub well-formed : isWellFormed (programOf text symbols s rules n) ≡ true
+  pub few-symbols : s ≤ 32
+  pub heavy : (k : ℕ) → k < s → 1 ≤ getD symbols (4 * k + 3) 0
+  pub size : 64 * n ≤ length rules
+  pub heads-few : (i : ℕ) → i < n → getD (take 64 (drop (64 * i) rules)) 3 0 ≤ 4
+  pub body-few : (i : ℕ) → i < n → getD (take 64 (drop (64 * i) rules)) 4 0 ≤ 6
+  pub equations-few : (i : ℕ) → i < n → getD (take 64 (drop (64 * i) rules)) 5 0 ≤ 4
+  pub used :
+      (i : ℕ) → i < n
+      → every (λ (e : Equation). isUsed (e .left) && isUsed (e .right)) (ruleOfRow [] (take 64 (drop
+      (64 * i) rules)) .equations) ≡ true
+
+-- an element of a list, all of which pass a test
+every-at : {A : Type 0} (t : A → Bool) (l : List A) (i : ℕ) (d : A) → every t l ≡ true → i < length l → t (getD l i d) ≡ true
+every-at t [] i d h k = absurd (omega arith)
+every-at t (x ∷ l) zero d h k = and-true (t x) (every t l) h .0
+every-at t (x ∷ l) (suc i) d h k = every-at t l i d (and-true (t x) (every t l) h .1) (omega arith)
+
+-- a weaker test
+every-weaker : {A : Type 0} (t u : A → Bool) (l : List A) → ((x : A) → t x ≡ true → u x ≡ true) → every t l ≡ true
+    → every u l ≡ true
+every-weaker t u [] f h = refl
+every-weaker t u (x ∷ l) f h =
+    rw (f x (and-true (t x) (every t l) h .0), every-weaker t u l f (and-true (t x) (every t l) h .1))
+
+-- two tests, one after the other
+every-both :
+    {A : Type 0} (t u v : A → Bool) (l : List A) → ((x : A) → t x ≡ true → u x ≡ true → v x ≡ true)
+    → every t l ≡ true → every u l ≡ true → every v l ≡ true
+every-both t u v [] f h k = refl
+every-both t u v (x ∷ l) f h k =
+    rw (
+      f x (and-true (t x) (every t l) h .0) (and-true (u x) (every u l) k .0),
+      every-both t u v l f (and-true (t x) (every t l) h .1) (and-true (u x) (every u l) k .1),
+    )
+
+-- a letter or a constant other than 0
+side-of : (t : Term) → isBelow alphabet t ≡ true → isUsed t ≡ true → isSide t ≡ true
+unfolding isUsed isSide isBelow
+side-of (con c) h k = k
+side-of (var x) h k = h
+
+module _ (text symbols : List ℕ) (s : ℕ) (rules : List ℕ) (n : ℕ) (r : AsRead text symbols s rules n) where
+  -- the program's symbols
+  abbrev names : List Symbol
+  names = symbolsOf text symbols s
+
+  -- a weighing of every number: a symbol's weight, and 1 for a number that no symbol has
+  unfoldable pub weigh : ℕ → ℕ
+  weigh k = max 1 (symbolAt names k .weight)
+
+  length-names : length names ≡ s
+  unfolding symbolsOf
+  length-names = length-tabled (symbolOf text symbols) s
+
+  weigh-same : (k : ℕ) → k < s → weigh k ≡ symbolAt names k .weight
+  unfolding weigh symbolAt symbolsOf symbolOf
+  weigh-same k l =
+      rw (getD-tabled (symbolOf text symbols) s k noSymbol l)
+      (let one : 1 ≤ getD symbols (4 * k + 3) 0 = r .heavy k l in omega arith)
+
+  -- a declared constraint's symbol
+  declared-below : (c : Constraint) → isDeclared names c ≡ true → c .symbol < s
+  unfolding isDeclared
+  declared-below c h =
+      let l : c .symbol < length names =
+      ltb-true (c .symbol) (length names)
+      (and-true (ltb (c .symbol) (length names)) (eqb (length (c .terms)) (symbolAt names (c .symbol) .arity)) h .0) in
+      omega (arith, length-names)
+
+  declared-low : (c : Constraint) → isDeclared names c ≡ true → isLow c ≡ true
+  unfolding isLow
+  declared-low c h = lt-ltb (c .symbol) 256 (omega (arith, declared-below c h, r .few-symbols))
+
+  -- declared constraints weigh what their symbols do
+  weight-same : (cs : List Constraint) → every (isDeclared names) cs ≡ true → weightBy weigh cs ≡ weight names cs
+  unfolding weightBy weight
+  weight-same [] h = refl
+  weight-same (c ∷ cs) h =
+      rw (
+        weigh-same (c .symbol) (declared-below c (and-true (isDeclared names c) (every (isDeclared names) cs) h .0)),
+        weight-same cs (and-true (isDeclared names c) (every (isDeclared names) cs) h .1),
+      )
+
+  -- a rule of the program
+  module _ (i : ℕ) (l : i < n) where
+    abbrev row : List ℕ
+    row = take 64 (drop (64 * i) rules)
+
+    rule-of : isRuleOf names (ruleOfRow text row) ≡ true
+    unfolding isWellFormed programOf rulesOf ruleOf
+    rule-of =
+        rw (getD-tabled (ruleOf text rules) n i (ruleOf text rules i) l) at
+        (every-at (isRuleOf names) (tabled (ruleOf text rules) n) i (ruleOf text rules i) (r .well-formed)
+        (omega (arith, length-tabled (ruleOf text rules) n)))
+
+    -- what its being well formed says, part by part
+    parts :
+        (every (isOfRule names) (ruleOfRow [] row .heads) ≡ true) × (every (isOfRule names) (ruleOfRow [] row .body) ≡ true)
+        × (every (λ (e : Equation). isBelow alphabet (e .left) && isBelow alphabet (e .right))
+        (ruleOfRow [] row .equations) ≡ true)
+        × (weight names (ruleOfRow [] row .body) < weight names (ruleOfRow [] row .heads))
+    unfolding isRuleOf ruleOfRow
+    parts =
+        let three = and-true (every (isOfRule names) (ruleOfRow [] row .heads) && every (isOfRule names)
+        (ruleOfRow [] row .body)
+        && every (λ (e : Equation). isBelow alphabet (e .left) && isBelow alphabet (e .right)) (ruleOfRow [] row .equations))
+        (ltb (weight names (ruleOfRow [] row .body)) (weight names (ruleOfRow [] row .heads))) rule-of in
+        let two = and-true (every (isOfRule names) (ruleOfRow [] row .heads) && every (isOfRule names) (ruleOfRow [] row .body))
+        (every (λ (e : Equation). isBelow alphabet (e .left) && isBelow alphabet (e .right)) (ruleOfRow [] row .equations))
+        (three .0) in
+        let one = and-true (every (isOfRule names) (ruleOfRow [] row .heads)) (every (isOfRule names) (ruleOfRow [] row .body))
+        (two .0) in (
+          one .0,
+          one .1,
+          two .1,
+          ltb-true (weight names (ruleOfRow [] row .body)) (weight names (ruleOfRow [] row .heads))
+              (three .1),
+        )
+
+    of-rule : (c : Constraint) → isOfRule names c ≡ true → (isDeclared names c ≡ true) × (isLettered c ≡ true)
+    unfolding isOfRule isLettered
+    of-rule c h = and-true (isDeclared names c) (every (isBelow alphabet) (c .terms)) h
+
+    of-body : (c : Constraint) → isOfRule names c ≡ true → (isLow c && isLettered c) ≡ true
+    of-body c h = rw (declared-low c (of-rule c h .0), of-rule c h .1)
+
+    of-equations :
+        (e : Equation) → (isBelow alphabet (e .left) && isBelow alphabet (e .right)) ≡ true
+        → (isUsed (e .left) && isUsed (e .right)) ≡ true → (isSide (e .left) && isSide (e .right)) ≡ true
+    of-equations e h k =
+        let below = and-true (isBelow alphabet (e .left)) (isBelow alphabet (e .right)) h in
+        let used = and-true (isUsed (e .left)) (isUsed (e .right)) k in
+        rw (side-of (e .left) (below .0) (used .0), side-of (e .right) (below .1) (used .1))
+
+    read-row : Row row
+    read-row =
+        record {
+          size = length-take-le 64 (drop (64 * i) rules) (omega (arith, r .size, length-drop (64 * i) rules));
+          heads-few = r .heads-few i l;
+          body-few = r .body-few i l;
+          equations-few = r .equations-few i l;
+          heads = every-weaker (isOfRule names) isLettered (ruleOfRow [] row .heads) (λ c h. of-rule c h .1) (parts .0);
+          body = every-weaker (isOfRule names) (λ (c : Constraint). isLow c && isLettered c) (ruleOfRow [] row .body) of-body
+              (parts .1);
+          equations = every-both (λ (e : Equation). isBelow alphabet (e .left) && isBelow alphabet (e .right))
+              (λ (e : Equation). isUsed (e .left) && isUsed (e .right)) (λ (e : Equation). isSide (e .left) && isSide
+              (e .right))
+              (ruleOfRow [] row .equations) of-equations (parts .2) (r .used i l);
+        }
+
+    falls : weightBy weigh (ruleOfRow [] row .body) < weightBy weigh (ruleOfRow [] row .heads)
+    falls =
+        let body = weight-same (ruleOfRow [] row .body)
+        (every-weaker (isOfRule names) (isDeclared names) (ruleOfRow [] row .body) (λ c h. of-rule c h .0) (parts .1)) in
+        let heads = weight-same (ruleOfRow [] row .heads)
+        (every-weaker (isOfRule names) (isDeclared names) (ruleOfRow [] row .heads) (λ c h. of-rule c h .0) (parts .0)) in
+        omega (arith, parts .3, body, heads)
+
+  -- the engine runs the rules of such a table
+  pub read-table : Table rules n
+  read-table = record { size = r .size; rows = read-row }
+
+  -- every rule lowers the weight
+  pub read-lowers : Lowers weigh rules n
+  read-lowers = record { falls = falls }
+
+  module _ (g : Goal) (is-goal : isGoalOf (programOf text symbols s rules n) g ≡ true) (cells : List ℕ) (m : ℕ)
+      (holds : storeOf cells m ≡ g .constraints) where
+    declared : every (isDeclared names) (g .constraints) ≡ true
+    unfolding isGoalOf programOf
+    declared =
+        every-weaker (λ (c : Constraint). isDeclared names c && every (isBelow (g .variables)) (c .terms)) (isDeclared names)
+        (g .constraints) (λ c h. and-true (isDeclared names c) (every (isBelow (g .variables)) (c .terms)) h .0) is-goal
+
+    weighs : weightBy weigh (storeOf cells m) ≡ weight names (g .constraints)
+    weighs = rw holds (weight-same (g .constraints) declared)
+
+    -- a goal of weight at most 512 can be run
+    pub goal-starts :
+        weight names (g .constraints) ≤ 512 → g .variables ≤ 26 → 2590 ≤ length cells → m ≤ 518
+        → Startable rules n cells m (g .variables)
+    unfolding weigh
+    goal-starts light few space there =
+        record {
+          table = read-table;
+          space = space;
+          there = there;
+          room = few;
+          low = rw holds (every-weaker (isDeclared names) isLow (g .constraints) declared-low declared);
+          weigh = weigh;
+          positive = λ k. omega arith;
+          lowers = read-lowers;
+          light = omega (arith, weighs);
+        }
+
+    -- the end of its derivation is that of the definition
+    pub goal-runs :
+        (bound bound′ cells′ : List ℕ) (alive : Bool) (count number firings : ℕ)
+        → map cellTerm bound ≡ tabled var (g .variables)
+        → Ended rules n bound cells m (g .variables) bound′ cells′ alive count number firings
+        → record { state = stateOf alive number bound′ (take (5 * count) cells′); firings = firings }
+        ≡ run (programOf text symbols s rules n) g
+    unfolding run entered programOf
+    goal-runs bound bound′ cells′ alive count number firings b e =
+        e .same text (weight names (g .constraints)) (omega (arith, weighs, e .bounded weigh read-lowers)) ∙ rw (b, holds)

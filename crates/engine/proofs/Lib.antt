@@ -1,0 +1,13 @@
+-- Laws of the engine's cells. Assumes nothing.
+pub mod CellLaws
+pub mod MatchLaws
+pub mod SearchLaws
+pub mod ChooseLaws
+pub mod MapLaws
+pub mod SolveLaws
+pub mod FireLaws
+pub mod RuleLaws
+pub mod WeightLaws
+pub mod StepLaws
+pub mod RunLaws
+pub mod GoalLaws

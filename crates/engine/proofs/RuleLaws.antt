@@ -1,0 +1,279 @@
+-- A rule's body and equations, from cells; and the firing that they make up.
+-- Assumes nothing.
+use Prim.Native.Nat.{ℕ, zero, suc, _+_, _-_, _*_, _≤_, _<_}
+use native.Mathlib.Omega.{arith}
+use mathlib.Core.Bool.{Bool, true, false, cond, _&&_}
+use mathlib.Core.List.{List, [], _∷_, _++_, map, append-assoc}
+use mathlib.Core.Logic.{_⊎_, inl, inr, ⊎-elim}
+use mathlib.Core.Path.{_≡_, refl, ap, sym, _∙_}
+use lib.Dec.{eqb, ltb, leb}
+use lib.ListN.{length, getD, take, drop, replicate, length-append, length-drop, length-map}
+use lib.Seq.{take-append-le, length-take-le, take-at}
+use borrow.Author.Tests.{le-leb}
+use Rattle.text.specs.Lists.{has, every}
+use Rattle.semantics.specs.Terms.{Term, con, var, Constraint, Equation, mapTerms, mapSides, isBelow, alphabet}
+use Rattle.semantics.specs.Firing.{without, instance, settle, fired}
+use Rattle.syntax.specs.Tables.{cellTerm, cellConstraints, cellEquations, ruleOfRow}
+use Rattle.engine.specs.Cells.{assigned, instanceCell}
+use Rattle.engine.specs.Places.{isLettered, isSide, isLow, Row}
+use Rattle.engine.specs.States.{stateOf, Solvable, Solved, Removed, Appended, Equated, SolvedRule, Fires, Fired}
+use Rattle.engine.proofs.CellLaws.{and-true, le-or-lt, cell-low, cell-high}
+use Rattle.engine.proofs.MapLaws.{low-kept, acts-constraints, acts-equations, acts-used}
+use Rattle.engine.proofs.FireLaws.{instance-acts, constraints-append}
+
+-- a side of an equation is no unused cell
+side-used : (x : ℕ) → isSide (cellTerm x) ≡ true → leb 1 x ≡ true
+unfolding isSide
+side-used x h = ⊎-elim (λ l. le-leb 1 x (omega arith)) (λ l. rw (cell-low x l) at h) (le-or-lt 256 x)
+
+-- it is a constant or a letter
+side-below : (t : Term) → isSide t ≡ true → isBelow alphabet t ≡ true
+unfolding isSide isBelow
+side-below (con c) h = refl
+side-below (var x) h = h
+
+-- what the sides of equations are
+abbrev sided : Equation → Bool
+sided e = isSide (e .left) && isSide (e .right)
+
+sides-used : (n : ℕ) (l : List ℕ) → length l ≡ 2 * n → every sided (cellEquations l) ≡ true → every (leb 1) l ≡ true
+unfolding cellEquations
+sides-used n [] k h = refl
+sides-used n (a ∷ []) k h = absurd (omega arith)
+sides-used n (a ∷ b ∷ l) k h =
+    let two : (isSide (cellTerm a) && isSide (cellTerm b)) ≡ true =
+    and-true (isSide (cellTerm a) && isSide (cellTerm b)) (every sided (cellEquations l)) h .0 in
+    let both : (isSide (cellTerm a) ≡ true) × (isSide (cellTerm b) ≡ true) =
+    and-true (isSide (cellTerm a)) (isSide (cellTerm b)) two in
+    rw (
+      side-used a (both .0),
+      side-used b (both .1),
+      sides-used (n - 1) l (omega arith) (and-true (isSide (cellTerm a) && isSide (cellTerm b)) (every sided
+          (cellEquations l)) h .1),
+    )
+
+sides-below :
+    (l : List Equation) → every sided l ≡ true → every (λ (e : Equation). isBelow alphabet (e .left) && isBelow alphabet
+    (e .right)) l ≡ true
+sides-below [] h = refl
+sides-below (e ∷ l) h =
+    let two : (isSide (e .left) && isSide (e .right)) ≡ true = and-true (isSide (e .left) && isSide (e .right))
+    (every sided l) h .0 in
+    let both : (isSide (e .left) ≡ true) × (isSide (e .right) ≡ true) = and-true (isSide (e .left)) (isSide (e .right)) two in
+    rw (
+      side-below (e .left) (both .0),
+      side-below (e .right) (both .1),
+      sides-below l (and-true (isSide (e .left) && isSide (e .right)) (every sided l) h .1),
+    )
+
+-- a body stands behind the constraints
+pub body-appended :
+    (row bindings : List ℕ) (next : ℕ) (cells out rest : List ℕ) (k w : ℕ) → Row row → 5 * k + 30 ≤ length cells
+    → w ≡ getD row 4 0
+    → out ≡ map (instanceCell next bindings) (take (26 + 5 * w - 26) (drop 26 row))
+    → Appended row bindings next cells (take (5 * k) cells ++ (out ++ rest)) k (k + w)
+unfolding ruleOfRow isLettered
+body-appended row bindings next cells out rest k w r room e o =
+    let n : 26 + 5 * w - 26 ≡ 5 * getD row 4 0 = omega arith in
+    let body : List ℕ = take (5 * getD row 4 0) (drop 26 row) in
+    let few : getD row 4 0 ≤ 6 = r .body-few in
+    let o′ : out ≡ map (instanceCell next bindings) (take (5 * getD row 4 0) (drop 26 row)) = rw n at o in
+    let body-size : length (take (5 * getD row 4 0) (drop 26 row)) ≡ 5 * getD row 4 0 =
+    length-take-le (5 * getD row 4 0) (drop 26 row) (omega (arith, length-drop 26 row, r .size)) in
+    let size : length out ≡ 5 * w =
+    ap length o′ ∙ length-map (take (5 * getD row 4 0) (drop 26 row)) (instanceCell next bindings) ∙ body-size ∙ omega arith in
+    let front : length (take (5 * k) cells) ≡ 5 * k = length-take-le (5 * k) cells (omega arith) in
+    let part : take (5 * (k + w)) (take (5 * k) cells ++ (out ++ rest)) ≡ take (5 * k) cells ++ out =
+    rw (← append-assoc (take (5 * k) cells) out rest)
+    (take-at (take (5 * k) cells ++ out) rest (5 * (k + w)) (omega (arith, length-append (take (5 * k) cells) out))) in
+    record {
+      count = omega arith;
+      same =
+          rw (
+            part,
+            constraints-append k (take (5 * k) cells) out front,
+            o′,
+            acts-constraints (isBelow alphabet) (instanceCell next bindings) (instance next (assigned bindings))
+                (instance-acts next bindings) (take (5 * getD row 4 0) (drop 26 row)) (r .body),
+          );
+    }
+
+-- the room for a rule's equations
+abbrev eight : List ℕ
+eight = replicate 8 0
+
+module _ (row bindings : List ℕ) (next : ℕ) (cells : List ℕ) (w : ℕ) (q : Equated row bindings next cells)
+    (z : w ≡ getD row 5 0) where
+  few : w ≤ 4
+  few = omega (arith, q .given .equations-few)
+
+  -- what the code lends for the equations
+  pub equations-room : 2 * w ≡ length (take (2 * w) eight)
+  equations-room = sym (length-take-le (2 * w) eight (omega (arith, few)))
+
+  source-size : length (take (56 + 2 * w - 56) (drop 56 row)) ≡ 2 * w
+  source-size =
+      length-take-le (56 + 2 * w - 56) (drop 56 row) (omega (arith, few, length-drop 56 row, q .given .size)) ∙ omega arith
+
+  pub equations-asked :
+      (length (take (56 + 2 * w - 56) (drop 56 row)) ≡ length (take (2 * w) eight)) × (length bindings ≡ 26) × (next ≤ 65000)
+  equations-asked = (source-size ∙ equations-room, q .bindings-size, q .room)
+
+  module _ (e rest : List ℕ) (o : e ≡ map (instanceCell next bindings) (take (56 + 2 * w - 56) (drop 56 row))) where
+    size : length e ≡ 2 * w
+    size = ap length o ∙ length-map (take (56 + 2 * w - 56) (drop 56 row)) (instanceCell next bindings) ∙ source-size
+
+    part : take (2 * w) (e ++ rest) ≡ e
+    part = take-at e rest (2 * w) size
+
+    pub equations-prefix : 2 * w ≤ length (e ++ rest)
+    equations-prefix = omega (arith, length-append e rest, size)
+
+    pub equations-lent : 2 * w ≡ length (take (2 * w) (e ++ rest))
+    equations-lent = sym (ap length part ∙ size)
+
+    cells-are : 56 + 2 * w - 56 ≡ 2 * getD row 5 0
+    cells-are = omega arith
+
+    pub equations-solvable : Solvable (take (2 * w) (e ++ rest)) w cells
+    unfolding ruleOfRow
+    equations-solvable =
+        rw part (record {
+          size = size;
+          used = rw o (acts-used (isBelow alphabet) (instanceCell next bindings) (instance next (assigned bindings))
+              (instance-acts next bindings) (take (56 + 2 * w - 56) (drop 56 row))
+              (sides-used w (take (56 + 2 * w - 56) (drop 56 row)) source-size (rw cells-are (q .given .equations))));
+          low = q .low;
+        })
+
+    decoded : cellEquations e ≡ map (mapSides (instance next (assigned bindings))) (ruleOfRow [] row .equations)
+    unfolding ruleOfRow
+    decoded =
+        rw (o, cells-are)
+        (acts-equations (isBelow alphabet) (instanceCell next bindings) (instance next (assigned bindings))
+        (instance-acts next bindings)
+        (take (2 * getD row 5 0) (drop 56 row)) (sides-below (cellEquations (take (2 * getD row 5 0) (drop 56 row)))
+        (q .given .equations)))
+
+    -- the rule's equations are solved
+    pub rule-solved :
+        (r : Bool) (bound b c : List ℕ) → Solved r (take (2 * w) (e ++ rest)) bound cells b c
+        → SolvedRule r row bindings next bound cells b c
+    rule-solved r bound b c s = record { same = λ after. rw (part, decoded) at (s .same after) }
+
+-- constraints with low symbols, one list behind the other
+pub every-append :
+    {A : Type 0} (t : A → Bool) (l m : List A) → every t l ≡ true → every t m ≡ true → every t (l ++ m) ≡ true
+every-append t [] m h k = k
+every-append t (x ∷ l) m h k =
+    rw (and-true (t x) (every t l) h .0, every-append t l m (and-true (t x) (every t l) h .1) k)
+
+-- those that stay
+pub low-without : (p : ℕ) (ps : List ℕ) (cs : List Constraint) → every isLow cs ≡ true → every isLow (without p ps cs) ≡ true
+unfolding without
+low-without p ps [] h = refl
+low-without p ps (c ∷ cs) h =
+    let more : every isLow (without (suc p) ps cs) ≡ true = low-without (suc p) ps cs (and-true (isLow c)
+    (every isLow cs) h .1) in
+    go (has p ps) more
+  where
+    go : (b : Bool) → every isLow (without (suc p) ps cs) ≡ true
+        → every isLow (cond b (without (suc p) ps cs) (c ∷ without (suc p) ps cs)) ≡ true
+    go true more = more
+    go false more = rw (and-true (isLow c) (every isLow cs) h .0) more
+
+-- a body's symbols
+pub low-body : (cs : List Constraint) → every (λ (c : Constraint). isLow c && isLettered c) cs ≡ true → every isLow cs ≡ true
+low-body [] h = refl
+low-body (c ∷ cs) h =
+    let both : (isLow c && isLettered c) ≡ true =
+    and-true (isLow c && isLettered c) (every (λ (c : Constraint). isLow c && isLettered c) cs) h .0 in
+    rw (
+      and-true (isLow c) (isLettered c) both .0,
+      low-body cs (and-true (isLow c && isLettered c) (every (λ (c : Constraint). isLow c && isLettered c) cs) h .1),
+    )
+
+module _ (row positions bindings : List ℕ) (next : ℕ) (cells : List ℕ) (m w : ℕ) (f : Fires row positions bindings next cells m)
+    (z : w ≡ getD row 3 0) where
+  -- the constraints that there are
+  pub fire-lent : 5 * m ≡ length (take (5 * m) cells)
+  fire-lent = sym (length-take-le (5 * m) cells (omega (arith, f .space)))
+
+  pub fire-removes : (length (take (5 * m) cells) ≡ 5 * m) × (w ≤ 4) × (length positions ≡ 4)
+  fire-removes = (sym fire-lent, omega (arith, f .given .heads-few), f .positions-size)
+
+  module _ (left : List ℕ) (k : ℕ) (kept : length left ≡ length (take (5 * m) cells))
+      (removed : Removed m (take w positions) (take (5 * m) cells) left k) where
+    size-left : length left ≡ 5 * m
+    size-left = kept ∙ sym fire-lent
+
+    -- what appending the body asks
+    pub fire-appends :
+        Row row × (length bindings ≡ 26) × (next ≤ 65000) × (5 * k + 30 ≤ length (left ++ drop (5 * m) cells))
+    fire-appends = (
+      f .given,
+      f .bindings-size,
+      f .room,
+      omega (arith, removed .few, f .space, length-append left (drop (5 * m) cells), length-drop (5 * m) cells, size-left),
+    )
+
+    module _ (c : List ℕ) (n : ℕ) (same-size : length c ≡ length (left ++ drop (5 * m) cells))
+        (appended : Appended row bindings next (left ++ drop (5 * m) cells) c k n) where
+      -- the constraints before the equations
+      before :
+          cellConstraints (take (5 * n) c)
+          ≡ without 0 (take (getD row 3 0) positions) (cellConstraints (take (5 * m) cells))
+          ++ map (mapTerms (instance next (assigned bindings))) (ruleOfRow [] row .body)
+      before =
+          appended .same
+          ∙ rw (take-append-le (5 * k) left (drop (5 * m) cells) (omega (arith, removed .few, size-left)), removed .same, z)
+
+      few-after : n ≤ m + 6
+      few-after = omega (arith, appended .count, removed .few, f .given .body-few)
+
+      within : 5 * n ≤ length c
+      within =
+          omega (
+            arith,
+            few-after,
+            f .space,
+            same-size,
+            length-append left (drop (5 * m) cells),
+            length-drop
+                (5 * m) cells,
+            size-left,
+          )
+
+      pub fire-lends : 5 * n ≡ length (take (5 * n) c)
+      fire-lends = sym (length-take-le (5 * n) c within)
+
+      pub fire-within : 5 * n ≤ length c
+      fire-within = within
+
+      -- what solving the equations asks
+      pub fire-equated : Equated row bindings next (take (5 * n) c)
+      fire-equated =
+          record {
+            given = f .given;
+            bindings-size = f .bindings-size;
+            room = f .room;
+            low = rw before (every-append isLow (without 0 (take (getD row 3 0) positions) (cellConstraints (take
+                (5 * m) cells)))
+                (map (mapTerms (instance next (assigned bindings))) (ruleOfRow [] row .body))
+                (low-without 0 (take (getD row 3 0) positions) (cellConstraints (take (5 * m) cells)) (f .low))
+                (low-kept (instance next (assigned bindings)) (ruleOfRow [] row .body) ∙ low-body (ruleOfRow [] row .body)
+                (f .given .body)));
+          }
+
+      -- the state after all
+      pub fire-done :
+          (alive : Bool) (bound b s : List ℕ) → length s ≡ length (take (5 * n) c)
+          → SolvedRule alive row bindings next bound (take (5 * n) c) b s
+          → Fired row positions bindings next bound cells m b (s ++ drop (5 * n) c) alive n
+      unfolding fired alphabet ruleOfRow
+      fire-done alive bound b s l solved =
+          record {
+            same = λ text.
+                rw (take-at s (drop (5 * n) c) (5 * n) (l ∙ sym fire-lends)) (solved .same (next + 26) ∙ rw before);
+            few = few-after;
+          }

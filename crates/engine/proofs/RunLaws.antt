@@ -1,0 +1,187 @@
+-- The derivation on cells is the derivation on states; it ends by every weighing, and keeps within its arrays.
+-- Assumes nothing.
+use Prim.Native.Nat.{ℕ, zero, suc, _+_, _-_, _*_, _≤_, _<_}
+use native.Mathlib.Omega.{arith}
+use native.Mathlib.Nat.{add-zero}
+use native.Mathlib.Numerals.{add-one}
+use mathlib.Core.Bool.{Bool, true, false, cond}
+use mathlib.Core.List.{List, [], _∷_, _++_, map}
+use mathlib.Core.Option.{Option, none, some}
+use mathlib.Core.Path.{_≡_, refl, ap, sym, _∙_}
+use lib.ListN.{length, take}
+use lib.Seq.{length-take-le}
+use Rattle.text.specs.Lists.{every}
+use Rattle.semantics.specs.Terms.{Constraint, Rule, State, failed, live}
+use Rattle.semantics.specs.Strategy.{Final, advance, normalise}
+use Rattle.syntax.specs.Tables.{cellTerm, cellConstraints, rulesOf}
+use Rattle.engine.specs.Places.{isLow}
+use Rattle.engine.specs.States.{stateOf}
+use Rattle.engine.specs.Runs.{weightBy, Lowers, storeOf, Live, Stepped, Startable, Ended}
+use Rattle.engine.proofs.StepLaws.{no-way}
+use Rattle.engine.proofs.WeightLaws.{weight-length}
+
+-- as many constraints as five cells each
+length-constraints : (k : ℕ) (l : List ℕ) → length l ≡ 5 * k → length (cellConstraints l) ≡ k
+unfolding cellConstraints
+length-constraints k [] h = omega arith
+length-constraints k (a ∷ []) h = absurd (omega arith)
+length-constraints k (a ∷ b ∷ []) h = absurd (omega arith)
+length-constraints k (a ∷ b ∷ c ∷ []) h = absurd (omega arith)
+length-constraints k (a ∷ b ∷ c ∷ d ∷ []) h = absurd (omega arith)
+length-constraints k (a ∷ b ∷ c ∷ d ∷ e ∷ l) h =
+    let more : length (cellConstraints l) ≡ k - 1 = length-constraints (k - 1) l (omega arith) in omega arith
+
+-- no more constraints than weight
+pub count-weight :
+    (w : ℕ → ℕ) (cells : List ℕ) (m : ℕ) → ((k : ℕ) → 1 ≤ w k) → 5 * m ≤ length cells → m ≤ weightBy w (storeOf cells m)
+unfolding storeOf
+count-weight w cells m p l =
+    omega (
+      arith,
+      weight-length w p (cellConstraints (take (5 * m) cells)),
+      length-constraints m (take (5 * m) cells) (length-take-le (5 * m) cells l),
+    )
+
+-- a state in which no rule fits is the end
+normalise-rests :
+    (k : ℕ) (rs : List Rule) (s : State) (f : ℕ) → advance rs s ≡ none → normalise k rs s f ≡ record { state = s; firings = f }
+unfolding normalise
+normalise-rests zero rs s f e = refl
+normalise-rests (suc k) rs s f e = rw e
+
+-- a step, with fuel for it
+normalise-moves :
+    (k : ℕ) (rs : List Rule) (s t : State) (f : ℕ) → advance rs s ≡ some t → normalise (suc k) rs s f ≡ normalise k rs t (suc f)
+unfolding normalise
+normalise-moves k rs s t f e = rw e
+
+-- a failed state fires nothing
+failed-rests : (rs : List Rule) → advance rs failed ≡ none
+unfolding advance
+failed-rests rs = refl
+
+module _ (rules : List ℕ) (n : ℕ) (bound cells : List ℕ) (m next : ℕ) where
+  -- the state so far, after some firings, has the end of the state at the start
+  pub record Running (bound′ cells′ : List ℕ) (alive : Bool) (count number firings : ℕ) : Type 0 where
+    pub bound-size : length bound′ ≡ length bound
+    pub cells-size : length cells′ ≡ length cells
+    pub there : count ≤ 518
+    pub numbered : number ≡ next + 26 * firings
+    pub low : alive ≡ true → every isLow (storeOf cells′ count) ≡ true
+    pub lighter :
+        (w : ℕ → ℕ) → Lowers w rules n → cond alive (weightBy w (storeOf cells′ count)) 0 + firings ≤ weightBy w
+        (storeOf cells m)
+    pub same :
+        (text : List ℕ) (fuel : ℕ) → firings ≤ fuel
+        → normalise (fuel - firings) (rulesOf text rules n) (stateOf alive number bound′ (take (5 * count) cells′)) firings
+        ≡ normalise fuel (rulesOf text rules n) (live next (map cellTerm bound) (storeOf cells m)) 0
+
+  module _ (s : Startable rules n cells m next) where
+    pub running-start : Running bound cells true m next 0
+    unfolding stateOf storeOf
+    running-start =
+        record {
+          bound-size = refl;
+          cells-size = refl;
+          there = s .there;
+          numbered = omega arith;
+          low = λ z. s .low;
+          lighter = λ w lw. omega arith;
+          same = λ text fuel h. let e : fuel - 0 ≡ fuel = omega arith in rw e;
+        }
+
+    module _ (bound′ cells′ : List ℕ) (alive : Bool) (count number firings : ℕ)
+        (r : Running bound′ cells′ alive count number firings) where
+      -- the state has failed
+      pub running-failed : alive ≡ false → Ended rules n bound cells m next bound′ cells′ false count number firings
+      unfolding stateOf
+      running-failed z =
+          record {
+            same = λ text fuel h.
+                sym (normalise-rests (fuel - firings) (rulesOf text rules n) failed firings (failed-rests
+                (rulesOf text rules n)))
+                ∙ rw z at (r .same text fuel h);
+            bounded = λ w lw. omega (arith, rw z at (r .lighter w lw));
+            few = λ y. no-way y;
+          }
+
+      module _ (z : alive ≡ true) where
+        -- the weight so far
+        weight-left : weightBy (s .weigh) (storeOf cells′ count) + firings ≤ 512
+        weight-left =
+            let k : weightBy (s .weigh) (storeOf cells′ count) + firings ≤ weightBy (s .weigh) (storeOf cells m) =
+            rw z at (r .lighter (s .weigh) (s .lowers)) in
+            omega (arith, s .light)
+
+        few-now : count ≤ 512
+        few-now =
+            omega (
+              arith,
+              weight-left,
+              count-weight (s .weigh) cells′ count (s .positive) (omega (arith, r .there, r .cells-size, s .space)),
+            )
+
+        -- what a step asks
+        pub running-live : Live rules n cells′ count number
+        running-live =
+            record {
+              table = s .table;
+              space = omega (arith, few-now, r .cells-size, s .space);
+              room = omega (arith, r .numbered, s .room, weight-left);
+              low = r .low z;
+            }
+
+        module _ (b c : List ℕ) (f a : Bool) (k : ℕ) (t : Stepped rules n bound′ cells′ count number b c f a k) where
+          -- no rule fits
+          pub running-rests : f ≡ false → Ended rules n bound cells m next b c true count number firings
+          unfolding stateOf storeOf
+          running-rests y =
+              rw (t .rests y .0, t .rests y .1)
+              (record {
+                same = λ text fuel h.
+                    sym (normalise-rests (fuel - firings) (rulesOf text rules n)
+                    (live number (map cellTerm bound′) (cellConstraints (take (5 * count) cells′))) firings
+                    (t .rests y .2 text))
+                    ∙ rw z at (r .same text fuel h);
+                bounded = λ w lw. omega (arith, rw z at (r .lighter w lw));
+                few = λ x. few-now;
+              })
+
+          module _ (y : f ≡ true) where
+            -- fewer firings than the weight
+            pub running-more : firings < 512
+            running-more = omega (arith, weight-left, t .lighter y (s .weigh) (s .lowers))
+
+            pub running-number : number + 26 ≤ 65000
+            running-number = omega (arith, r .numbered, s .room, running-more)
+
+            before :
+                (text : List ℕ) (fuel : ℕ) → suc firings ≤ fuel
+                → normalise (suc (fuel - suc firings)) (rulesOf text rules n) (live number (map cellTerm bound′)
+                (storeOf cells′ count)) firings
+                ≡ normalise fuel (rulesOf text rules n) (live next (map cellTerm bound) (storeOf cells m)) 0
+            unfolding stateOf storeOf
+            before text fuel h =
+                let e : suc (fuel - suc firings) ≡ fuel - firings = omega arith in
+                rw e (rw z at (r .same text fuel (omega arith)))
+
+            -- a rule has fired
+            pub running-next : length b ≡ length bound′ → length c ≡ length cells′ → Running b c a k (number + 26) (firings + 1)
+            running-next p q =
+                record {
+                  bound-size = p ∙ r .bound-size;
+                  cells-size = q ∙ r .cells-size;
+                  there = omega (arith, t .few, few-now);
+                  numbered = omega (arith, r .numbered);
+                  low = t .low y;
+                  lighter = λ w lw.
+                      let x : weightBy w (storeOf cells′ count) + firings ≤ weightBy w (storeOf cells m) = rw z at
+                      (r .lighter w lw) in
+                      omega (arith, t .lighter y w lw);
+                  same = λ text fuel h.
+                      rw (add-one firings)
+                      (sym (normalise-moves (fuel - suc firings) (rulesOf text rules n) (live number (map cellTerm bound′)
+                      (storeOf cells′ count))
+                      (stateOf a (number + 26) b (take (5 * k) c)) firings (t .moves y text))
+                      ∙ before text fuel (omega arith));
+                }

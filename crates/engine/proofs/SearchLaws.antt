@@ -1,0 +1,266 @@
+-- The search over cells is the search over constraints: one law for each way that the code goes.
+-- Assumes nothing.
+use Prim.Native.Nat.{ℕ, zero, suc, _+_, _-_, _*_, _≤_, _<_}
+use native.Mathlib.Omega.{arith}
+use native.Mathlib.Nat.{add-zero}
+use native.Mathlib.Numerals.{add-one}
+use mathlib.Core.Bool.{Bool, true, false, cond, _||_}
+use mathlib.Core.List.{List, [], _∷_, _++_}
+use mathlib.Core.Option.{Option, none, some}
+use mathlib.Core.Path.{_≡_, refl, ap, sym, _∙_}
+use lib.Dec.{eqb}
+use lib.ListN.{length, getD, set, take, drop, length-set, drop-of-length-le, length-drop}
+use lib.Seq.{drop-cons, getD-take, length-take-le, take-suc-set, drop-drop, getD-drop}
+use borrow.Author.Tests.{eq-eqb, ne-eqb}
+use Rattle.text.specs.Lists.{bind, orElse, has, every}
+use Rattle.semantics.specs.Terms.{Constraint, isBelow, alphabet}
+use Rattle.semantics.specs.Matching.{Assignment, matchConstraint, matchTerms}
+use Rattle.semantics.specs.Strategy.{Match, firstIn, find}
+use Rattle.syntax.specs.Tables.{cellTerms, cellConstraints}
+use Rattle.engine.specs.Cells.{assigned, fitOf, rowConstraint, Rows, Matched}
+use Rattle.engine.specs.Places.{isLettered, foundOf, Seeking, Located}
+use Rattle.engine.proofs.CellLaws.{every-first, every-rest, constraints-at}
+
+-- the chosen positions from i on hold p where all of them do
+pub record Looking (chosen : List ℕ) (h p i : ℕ) : Type 0 where
+  pub within : i ≤ h
+  pub same : has p (drop i (take h chosen)) ≡ has p (take h chosen)
+
+pub looking-start : (chosen : List ℕ) (h p : ℕ) → Looking chosen h p 0
+looking-start chosen h p = record { within = omega arith; same = refl }
+
+module _ (chosen : List ℕ) (h p i : ℕ) (few : h ≤ 4) (size : length chosen ≡ 4) (w : Looking chosen h p i) where
+  here : i < h → has p (take h chosen) ≡ (eqb p (getD chosen i 0) || has p (drop (suc i) (take h chosen)))
+  here l =
+      let k : i < length (take h chosen) = rw (length-take-le h chosen (omega arith)) l in
+      sym (w .same) ∙ rw (drop-cons (take h chosen) i 0 k, getD-take h chosen i 0 l)
+
+  pub looking-found : i < h → p ≡ getD chosen i 0 → true ≡ has p (take h chosen)
+  looking-found l e = rw (here l, eq-eqb p (getD chosen i 0) e)
+
+  pub looking-next : i < h → (p ≡ getD chosen i 0 → ⊥) → Looking chosen h p (i + 1)
+  looking-next l e =
+      rw (add-one i) (record { within = l; same = rw (here l, ne-eqb p (getD chosen i 0) e) })
+
+  pub looking-end : h ≤ i → false ≡ has p (take h chosen)
+  looking-end l = rw (← w .same, drop-of-length-le (take h chosen) {i = i} (rw (length-take-le h chosen (omega arith)) l))
+
+-- a position that is chosen fits nothing
+pub fit-chosen :
+    (b : List ℕ) (taken : Bool) (answer : Option Assignment) → true ≡ taken → length b ≡ 26
+    → Matched false b (cond taken none answer)
+unfolding fitOf
+fit-chosen b taken answer e n = record { same = rw (← e); size = n }
+
+-- at a free position the match decides
+pub fit-free :
+    (b : List ℕ) (f : Bool) (taken : Bool) (answer : Option Assignment) → false ≡ taken → Matched f b answer
+    → Matched f b (cond taken none answer)
+fit-free b f taken answer e m = record { same = rw (← e) (m .same); size = m .size }
+
+-- the head of a number, and those behind it
+abbrev headAt : List ℕ → ℕ → Constraint
+headAt heads h = rowConstraint (take 5 (drop (5 * h) heads))
+
+-- what the search tries at each position
+abbrev attempt : List ℕ → ℕ → List ℕ → List ℕ → List ℕ → ℕ → Constraint → Option Match
+attempt heads h cells chosen bindings =
+    λ p c. cond (has p (take h chosen)) none
+    (bind (matchConstraint (headAt heads h) c (assigned bindings))
+    (find (cellConstraints (drop (5 * suc h) heads)) (cellConstraints cells) (take h chosen ++ (p ∷ []))))
+
+-- the answer for all heads from h on
+abbrev answer : List ℕ → ℕ → List ℕ → List ℕ → List ℕ → Option Match
+answer heads h cells chosen bindings =
+    find (cellConstraints (drop (5 * h) heads)) (cellConstraints cells) (take h chosen) (assigned bindings)
+
+-- the positions from p on give the answer for all of them
+pub record Sought (heads : List ℕ) (h : ℕ) (cells : List ℕ) (m : ℕ) (chosen bindings : List ℕ) (p : ℕ) : Type 0 where
+  pub within : p ≤ m
+  pub same :
+      firstIn p (cellConstraints (drop (5 * p) cells)) (attempt heads h cells chosen bindings)
+      ≡ answer heads h cells chosen bindings
+
+-- nothing either way is nothing
+cond-none : {A : Type 0} (t : Bool) → _≡_ {A = Option A} (cond t none none) none
+cond-none true = refl
+cond-none false = refl
+
+-- a test before the first answer is a test before the second
+cond-bind :
+    {A B : Type 0} (t : Bool) (o : Option A) (k : A → Option B) → cond t none (bind o k) ≡ bind (cond t none o) k
+cond-bind true o k = refl
+cond-bind false o k = refl
+
+-- a row as the code lends it
+abbrev lent : List ℕ → ℕ → List ℕ
+lent l i = take (5 * i + 5 - 5 * i) (drop (5 * i) l)
+
+five : (i : ℕ) → 5 * i + 5 - 5 * i ≡ 5
+five i = omega arith
+
+lent-size : (l : List ℕ) (i : ℕ) → 5 * i + 5 ≤ length l → length (lent l i) ≡ 5
+lent-size l i h = rw (five i) (length-take-le 5 (drop (5 * i) l) (omega (arith, length-drop (5 * i) l)))
+
+-- a row's first cell
+first-symbol : (l : List ℕ) (i : ℕ) → getD (take 5 (drop (5 * i) l)) 0 0 ≡ getD l (5 * i) 0
+first-symbol l i = getD-take 5 (drop (5 * i) l) 0 0 (omega arith) ∙ getD-drop (5 * i) l 0 0 ∙ rw add-zero
+
+-- what the search asks, by the number of heads that are placed
+pub record Placing (heads : List ℕ) (n h : ℕ) (cells : List ℕ) (m : ℕ) (chosen bindings : List ℕ) : Type 0 where
+  pub heads-size : length heads ≡ 5 * n
+  pub few : n ≤ 4
+  pub cells-size : length cells ≡ 5 * m
+  pub chosen-size : length chosen ≡ 4
+  pub bindings-size : length bindings ≡ 26
+  pub letters : every isLettered (cellConstraints (drop (5 * h) heads)) ≡ true
+
+pub placing :
+    (heads : List ℕ) (n left : ℕ) (cells : List ℕ) (m : ℕ) (chosen bindings : List ℕ)
+    → Seeking heads n left cells m chosen bindings → Placing heads n (n - left) cells m chosen bindings
+placing heads n left cells m chosen bindings s =
+    record {
+      heads-size = s .heads-size;
+      few = s .few;
+      cells-size = s .cells-size;
+      chosen-size = s .chosen-size;
+      bindings-size = s .bindings-size;
+      letters = s .letters;
+    }
+
+module _ (heads : List ℕ) (n h : ℕ) (cells : List ℕ) (m : ℕ) (chosen bindings : List ℕ)
+    (s : Placing heads n h cells m chosen bindings) where
+  -- all heads have their positions
+  pub seek-done : h ≡ n → Located true n chosen bindings (answer heads h cells chosen bindings)
+  unfolding find foundOf cellConstraints
+  seek-done e =
+      record {
+        same = rw (drop-of-length-le heads {i = 5 * h} (omega (arith, s .heads-size)), e);
+        positions-size = s .chosen-size;
+        bindings-size = s .bindings-size;
+      }
+
+  module _ (l : h < n) where
+    heads-here : cellConstraints (drop (5 * h) heads) ≡ headAt heads h ∷ cellConstraints (drop (5 * suc h) heads)
+    heads-here = constraints-at heads h (omega (arith, s .heads-size))
+
+    -- the head's variables are letters, and so are those of the heads behind it
+    pub seek-letters : every (isBelow alphabet) (headAt heads h .terms) ≡ true
+    unfolding isLettered
+    seek-letters =
+        every-first isLettered (headAt heads h) (cellConstraints (drop (5 * suc h) heads)) (rw heads-here at (s .letters))
+
+    seek-later : every isLettered (cellConstraints (drop (5 * suc h) heads)) ≡ true
+    seek-later =
+        every-rest isLettered (headAt heads h) (cellConstraints (drop (5 * suc h) heads)) (rw heads-here at (s .letters))
+
+    -- what the next head's search asks
+    pub seek-next :
+        (q : ℕ) (b : List ℕ) (left : ℕ) → left ≤ n → n - left ≡ suc h → length b ≡ 26
+        → Seeking heads n left cells m (set chosen h q) b
+    seek-next q b left t e k =
+        record {
+          heads-size = s .heads-size;
+          few = s .few;
+          there = t;
+          cells-size = s .cells-size;
+          chosen-size = length-set chosen h q ∙ s .chosen-size;
+          bindings-size = k;
+          letters = rw e seek-later;
+        }
+
+    -- the search tries the constraints one after the other
+    pub seek-start : Sought heads h cells m chosen bindings 0
+    unfolding find
+    seek-start = record { within = omega arith; same = rw heads-here }
+
+    module _ (p : ℕ) (w : Sought heads h cells m chosen bindings p) where
+      -- no position is left
+      pub seek-none : m ≤ p → Located false n chosen bindings (answer heads h cells chosen bindings)
+      unfolding firstIn foundOf cellConstraints
+      seek-none k =
+          record {
+            same = rw (drop-of-length-le cells {i = 5 * p} (omega (arith, s .cells-size))) at (w .same);
+            positions-size = s .chosen-size;
+            bindings-size = s .bindings-size;
+          }
+
+      module _ (k : p < m) where
+        abbrev this : Constraint
+        this = rowConstraint (take 5 (drop (5 * p) cells))
+
+        split :
+            orElse (attempt heads h cells chosen bindings p this)
+            (firstIn (suc p) (cellConstraints (drop (5 * suc p) cells)) (attempt heads h cells chosen bindings))
+            ≡ answer heads h cells chosen bindings
+        unfolding firstIn
+        split = rw (constraints-at cells p (omega (arith, s .cells-size))) at (w .same)
+
+        -- the position does not help
+        skip : attempt heads h cells chosen bindings p this ≡ none → Sought heads h cells m chosen bindings (p + 1)
+        skip e = rw (add-one p) (record { within = k; same = rw e at split })
+
+        -- the constraint there has another symbol
+        pub seek-other : (getD heads (5 * h) 0 ≡ getD cells (5 * p) 0 → ⊥) → Sought heads h cells m chosen bindings (p + 1)
+        unfolding matchConstraint rowConstraint
+        seek-other e =
+            skip (rw (first-symbol heads h, first-symbol cells p, ne-eqb (getD heads (5 * h) 0) (getD cells (5 * p) 0) e)
+            (cond-none (has p (take h chosen))))
+
+        -- what the match there asks
+        pub seek-rows :
+            (Rows (lent heads h) (lent cells p) bindings) × (h ≤ 4) × (length chosen ≡ 4)
+        seek-rows = (
+          record {
+            head-size = lent-size heads h (omega (arith, s .heads-size));
+            constraint-size = lent-size cells p (omega (arith, s .cells-size));
+            bindings-size = s .bindings-size;
+            letters = rw (five h) seek-letters;
+          },
+          omega (arith, s .few),
+          s .chosen-size,
+        )
+
+        module _ (f : Bool) (b : List ℕ)
+            (given : Matched f b (cond (has p (take h chosen)) none
+            (matchConstraint (rowConstraint (lent heads h)) (rowConstraint (lent cells p)) (assigned bindings)))) where
+          t : Matched f b (cond (has p (take h chosen)) none (matchConstraint (headAt heads h) this (assigned bindings)))
+          t = rw (five h, five p) at given
+
+          fitting :
+              attempt heads h cells chosen bindings p this
+              ≡ bind (cond (has p (take h chosen)) none (matchConstraint (headAt heads h) this (assigned bindings)))
+              (find (cellConstraints (drop (5 * suc h) heads)) (cellConstraints cells) (take h chosen ++ (p ∷ [])))
+          fitting = cond-bind (has p (take h chosen)) (matchConstraint (headAt heads h) this (assigned bindings)) _
+
+          -- the head does not fit there
+          pub seek-misfit : f ≡ false → Sought heads h cells m chosen bindings (p + 1)
+          unfolding fitOf
+          seek-misfit z =
+              skip (fitting ∙ rw (← t .same, z))
+
+          tried : f ≡ true → attempt heads h cells chosen bindings p this ≡ answer heads (suc h) cells (set chosen h p) b
+          unfolding fitOf
+          tried z =
+              fitting
+              ∙ rw (← t .same, z, take-suc-set chosen h p (omega (arith, s .chosen-size, s .few)))
+
+          module _ (z : f ≡ true) (g : Bool) (ps b′ : List ℕ) (next : ℕ)
+              (given-later : Located g n ps b′ (answer heads next cells (set chosen h p) b)) (e : next ≡ suc h) where
+            u : Located g n ps b′ (answer heads (suc h) cells (set chosen h p) b)
+            u = rw e at given-later
+
+            -- the later heads find no positions
+            pub seek-dead : g ≡ false → Sought heads h cells m chosen bindings (p + 1)
+            unfolding foundOf
+            seek-dead y = skip (tried z ∙ rw (← u .same, y))
+
+            -- they do
+            pub seek-found : g ≡ true → Located g n ps b′ (answer heads h cells chosen bindings)
+            unfolding foundOf
+            seek-found y =
+                record {
+                  same = rw y (rw (tried z, ← u .same, y) at split);
+                  positions-size = u .positions-size;
+                  bindings-size = u .bindings-size;
+                }

@@ -1,0 +1,120 @@
+-- `fire` meets its contract: remove, append, solve.
+-- Assumes nothing.
+use borrow.Author.Needs.{needs}
+use Rattle.engine.proofs.RuleLaws.{
+  fire-lent,
+  fire-removes,
+  fire-appends,
+  fire-lends,
+  fire-within,
+  fire-equated,
+  fire-done,
+}
+use Rattle.engine.proofs.firing.fire.Statement.{statement}
+use Rattle.engine.proofs.firing.fire.Tie as tie
+use Rattle.engine.proofs.firing.append_body.Reads as append-body-reads
+use Rattle.engine.proofs.firing.remove.Reads as remove-reads
+use Rattle.engine.proofs.firing.solve_rule.Reads as solve-rule-reads
+use Rattle.engine.proofs.search.wide.Reads as wide-reads
+
+shared-slice-read-wide : tie.Need-shared-slice-read-wide
+shared-slice-read-wide c = search needs
+
+wide-requires : tie.Need-wide-requires
+wide-requires c κs = search needs
+
+mul-old : tie.Need-mul-old
+mul-old c = search needs
+
+slice-relend-prefix-remove : tie.Need-slice-relend-prefix-remove
+slice-relend-prefix-remove c = search needs
+
+slice-aggregate-remove : tie.Need-slice-aggregate-remove
+slice-aggregate-remove c =
+    let pre′ = c .before .before .before .before .before .before .before .pre in
+    let wide′ = c .before .wide in
+    fire-lent _ _ _ _ _ _ _ pre′ (wide′ .ensures)
+
+remove-requires : tie.Need-remove-requires
+remove-requires c κs =
+    let pre′ = c .before .before .before .before .before .before .before .pre in
+    let wide′ = c .before .wide in
+    fire-removes _ _ _ _ _ _ _ pre′ (wide′ .ensures)
+
+append-body-requires : tie.Need-append-body-requires
+append-body-requires c κs =
+    let pre′ = c .before .before .before .before .before .before .before .before .before .before .before .pre in
+    let wide′ = c .before .before .before .before .before .wide in
+    let remove′ = c .before .before .before .remove in
+    fire-appends _ _ _ _ _ _ _ pre′ (wide′ .ensures) _ _ (remove′ .kept .0) (remove′ .ensures)
+
+mul-end : tie.Need-mul-end
+mul-end c = search needs
+
+slice-relend-prefix-solve-rule : tie.Need-slice-relend-prefix-solve-rule
+slice-relend-prefix-solve-rule c =
+    let pre′ = c .before .before .before .before .before .before .before .before .before .before .before .before .before .before
+    .before .pre in
+    let wide′ = c .before .before .before .before .before .before .before .before .before .wide in
+    let remove′ = c .before .before .before .before .before .before .before .remove in
+    let append-body′ = c .before .before .before .append-body in
+    fire-within _ _ _ _ _ _ _ pre′ (wide′ .ensures) _ _ (remove′ .kept .0) (remove′ .ensures) _ _
+    (append-body′ .kept .1 .1 .1 .0) (append-body′ .ensures)
+
+slice-aggregate-solve-rule : tie.Need-slice-aggregate-solve-rule
+slice-aggregate-solve-rule c =
+    let pre′ = c .before .before .before .before .before .before .before .before .before .before .before .before .before .before
+    .before .before .pre in
+    let wide′ = c .before .before .before .before .before .before .before .before .before .before .wide in
+    let remove′ = c .before .before .before .before .before .before .before .before .remove in
+    let append-body′ = c .before .before .before .before .append-body in
+    fire-lends _ _ _ _ _ _ _ pre′ (wide′ .ensures) _ _ (remove′ .kept .0) (remove′ .ensures) _ _
+    (append-body′ .kept .1 .1 .1 .0) (append-body′ .ensures)
+
+solve-rule-requires : tie.Need-solve-rule-requires
+solve-rule-requires c κs =
+    let pre′ = c .before .before .before .before .before .before .before .before .before .before .before .before .before .before
+    .before .before .pre in
+    let wide′ = c .before .before .before .before .before .before .before .before .before .before .wide in
+    let remove′ = c .before .before .before .before .before .before .before .before .remove in
+    let append-body′ = c .before .before .before .before .append-body in
+    fire-equated _ _ _ _ _ _ _ pre′ (wide′ .ensures) _ _ (remove′ .kept .0) (remove′ .ensures) _ _
+    (append-body′ .kept .1 .1 .1 .0) (append-body′ .ensures)
+
+same-length : tie.Need-same-length
+same-length c = search needs
+
+same-length-2 : tie.Need-same-length-2
+same-length-2 c = search needs
+
+returns : tie.Need-returns
+returns c =
+    let pre′ = c .before .before .before .before .before .before .before .before .before .before .before .before .before .before
+    .before .before .before .before .before .before .before .pre in
+    let wide′ = c .before .before .before .before .before .before .before .before .before .before .before .before .before
+    .before .before .wide in
+    let remove′ = c .before .before .before .before .before .before .before .before .before .before .before .before .before
+    .remove in
+    let append-body′ = c .before .before .before .before .before .before .before .before .before .append-body in
+    let solve-rule′ = c .before .before .before .before .solve-rule in
+    fire-done _ _ _ _ _ _ _ pre′ (wide′ .ensures) _ _ (remove′ .kept .0) (remove′ .ensures) _ _ (append-body′ .kept .1 .1 .1 .0)
+    (append-body′ .ensures) _ _ _ _ (solve-rule′ .kept .1 .1 .1 .1 .0) (solve-rule′ .ensures)
+
+pub fire-spec : {M : Type 1} → statement M
+fire-spec =
+    tie.close
+    (tie.spec
+    shared-slice-read-wide
+    wide-requires
+    mul-old
+    slice-relend-prefix-remove
+    slice-aggregate-remove
+    remove-requires
+    append-body-requires
+    mul-end
+    slice-relend-prefix-solve-rule
+    slice-aggregate-solve-rule
+    solve-rule-requires
+    same-length
+    same-length-2
+    returns)

@@ -1,0 +1,59 @@
+-- `instance` meets its contract: one law for each kind of cell.
+-- Assumes nothing.
+use borrow.Author.Needs.{needs}
+use Rattle.engine.proofs.FireLaws.{instance-low, instance-new, instance-settled, instance-other}
+use Rattle.engine.proofs.firing.instance.Statement.{statement}
+use Rattle.engine.proofs.firing.instance.Tie as tie
+use Rattle.engine.proofs.search.wide.Reads as wide-reads
+
+returns : tie.Need-returns
+returns c =
+    instance-low _ _ _ ((c .if1) .taken)
+
+wide-requires : tie.Need-wide-requires
+wide-requires c κs = search needs
+
+mul-settled : tie.Need-mul-settled
+mul-settled c = search needs
+
+shared-slice-read-settled : tie.Need-shared-slice-read-settled
+shared-slice-read-settled c = search needs
+
+add-result : tie.Need-add-result
+add-result c = search needs
+
+returns-2 : tie.Need-returns-2
+returns-2 c =
+    let if1′ = c .before .before .before .before .if1 in
+    let wide′ = c .before .before .before .wide in
+    let if2′ = c .before .before .if2 in
+    let if3′ = c .if3 in
+    instance-new _ _ _ (if1′ .left) _ (wide′ .ensures) (if2′ .taken) (if3′ .taken)
+
+returns-3 : tie.Need-returns-3
+returns-3 c =
+    let if1′ = c .before .before .before .before .if1 in
+    let wide′ = c .before .before .before .wide in
+    let if2′ = c .before .before .if2 in
+    let if3′ = c .if3 in
+    instance-settled _ _ _ (if1′ .left) _ (wide′ .ensures) (if2′ .taken) (if3′ .left)
+
+returns-4 : tie.Need-returns-4
+returns-4 c =
+    let if1′ = c .before .before .if1 in
+    let wide′ = c .before .wide in
+    let if2′ = c .if2 in
+    instance-other _ _ _ (if1′ .left) _ (wide′ .ensures) (if2′ .left)
+
+pub instance-spec : {M : Type 1} → statement M
+instance-spec =
+    tie.close
+    (tie.spec
+    returns
+    wide-requires
+    mul-settled
+    shared-slice-read-settled
+    add-result
+    returns-2
+    returns-3
+    returns-4)

@@ -1,0 +1,79 @@
+-- `instantiate` meets its contract: after i turns the first i cells are written.
+-- Assumes nothing.
+use Prim.Native.Nat.{_-_}
+use native.Mathlib.Omega.{arith}
+use mathlib.Core.Path.{_≡_}
+use lib.ListN.{length}
+use Rattle.engine.specs.Cells.{instanceCell}
+use Rattle.engine.proofs.MapLaws.{Mapped, mapped-start, mapped-next, mapped-end}
+use Rattle.engine.proofs.firing.instantiate.Statement.{statement}
+use Rattle.engine.proofs.firing.instantiate.Tie as tie
+use Rattle.engine.proofs.firing.instance.Reads as instance-reads
+
+abbrev Inv-loop : tie.InvT-loop
+Inv-loop source bindings next out₀ i₀ out i = Mapped (instanceCell next bindings) source out₀ out i
+
+abbrev μ-loop : tie.MeasureT-loop
+μ-loop source bindings next out₀ i₀ out i = length source - i
+
+loop-holds : tie.Need-loop-holds Inv-loop μ-loop
+loop-holds c =
+    mapped-start _ _ _ ((c .before .before .before .pre) .0)
+
+mul-instance : tie.Need-mul-instance Inv-loop μ-loop
+mul-instance c = omega arith
+
+shared-slice-read-instance : tie.Need-shared-slice-read-instance Inv-loop μ-loop
+shared-slice-read-instance c = omega arith
+
+instance-requires : tie.Need-instance-requires Inv-loop μ-loop
+instance-requires c κs =
+    let pre′ = c .before .before .before .before .before .before .pre in
+    (pre′ .1, pre′ .2)
+
+mul-out : tie.Need-mul-out Inv-loop μ-loop
+mul-out c = omega arith
+
+slice-write-out : tie.Need-slice-write-out Inv-loop μ-loop
+slice-write-out c = omega arith
+
+add-i : tie.Need-add-i Inv-loop μ-loop
+add-i c = omega arith
+
+loop-less : tie.Need-loop-less Inv-loop μ-loop
+loop-less c = omega arith
+
+loop-again : tie.Need-loop-again Inv-loop μ-loop
+loop-again c =
+    let loop′ = c .before .before .before .loop in
+    let loop-test′ = c .before .before .loop-test in
+    let instance′ = c .instance in
+    mapped-next _ _ _ _ _ (loop′ .inv) _ (loop-test′ .taken) (instance′ .ensures)
+
+same-length : tie.Need-same-length Inv-loop μ-loop
+same-length c =
+    (c .before .loop) .inv .size
+
+returns : tie.Need-returns Inv-loop μ-loop
+returns c =
+    let loop′ = c .before .loop in
+    let loop-test′ = c .loop-test in
+    mapped-end _ _ _ _ _ (loop′ .inv) (loop-test′ .left)
+
+pub instantiate-spec : {M : Type 1} → statement M
+instantiate-spec =
+    tie.close
+    (tie.spec
+    Inv-loop
+    μ-loop
+    loop-holds
+    mul-instance
+    shared-slice-read-instance
+    instance-requires
+    mul-out
+    slice-write-out
+    add-i
+    loop-less
+    loop-again
+    same-length
+    returns)

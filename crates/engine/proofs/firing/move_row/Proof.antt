@@ -1,0 +1,85 @@
+-- `move_row` meets its contract: after j turns the first j cells are copied.
+-- Assumes nothing.
+use Prim.Native.Nat.{_-_}
+use native.Mathlib.Omega.{arith}
+use Rattle.engine.proofs.FireLaws.{Moving, moving-start, moving-next, moving-end}
+use Rattle.engine.proofs.firing.move_row.Statement.{statement}
+use Rattle.engine.proofs.firing.move_row.Tie as tie
+
+abbrev Inv-loop : tie.InvT-loop
+Inv-loop cells₀ from to a b j₀ cells j = Moving from to cells₀ cells j
+
+abbrev μ-loop : tie.MeasureT-loop
+μ-loop cells₀ from to a b j₀ cells j = 5 - j
+
+mul-a : tie.Need-mul-a Inv-loop μ-loop
+mul-a c = omega arith
+
+mul-b : tie.Need-mul-b Inv-loop μ-loop
+mul-b c = omega arith
+
+loop-holds : tie.Need-loop-holds Inv-loop μ-loop
+loop-holds c = moving-start _ _ _
+
+add-cells : tie.Need-add-cells Inv-loop μ-loop
+add-cells c = omega arith
+
+mul-cells : tie.Need-mul-cells Inv-loop μ-loop
+mul-cells c = omega arith
+
+slice-read-cells : tie.Need-slice-read-cells Inv-loop μ-loop
+slice-read-cells c = omega arith
+
+add-cells-2 : tie.Need-add-cells-2 Inv-loop μ-loop
+add-cells-2 c = omega arith
+
+mul-cells-2 : tie.Need-mul-cells-2 Inv-loop μ-loop
+mul-cells-2 c = omega arith
+
+slice-write-cells : tie.Need-slice-write-cells Inv-loop μ-loop
+slice-write-cells c = omega arith
+
+add-j : tie.Need-add-j Inv-loop μ-loop
+add-j c = omega arith
+
+loop-less : tie.Need-loop-less Inv-loop μ-loop
+loop-less c = omega arith
+
+loop-again : tie.Need-loop-again Inv-loop μ-loop
+loop-again c =
+    let pre′ = c .before .before .before .pre in
+    let loop′ = c .before .before .loop in
+    let loop-test′ = c .before .loop-test in
+    moving-next _ _ _ _ _ (pre′ .0) (pre′ .1) (loop′ .inv) (loop-test′ .taken)
+
+same-length : tie.Need-same-length Inv-loop μ-loop
+same-length c =
+    (c .before .loop) .inv .size
+
+returns : tie.Need-returns Inv-loop μ-loop
+returns c =
+    let pre′ = c .before .before .pre in
+    let loop′ = c .before .loop in
+    let loop-test′ = c .loop-test in
+    moving-end _ _ _ _ _ (pre′ .0) (pre′ .1) (loop′ .inv) (loop-test′ .left)
+
+pub move-row-spec : {M : Type 1} → statement M
+move-row-spec =
+    tie.close
+    (tie.spec
+    Inv-loop
+    μ-loop
+    mul-a
+    mul-b
+    loop-holds
+    add-cells
+    mul-cells
+    slice-read-cells
+    add-cells-2
+    mul-cells-2
+    slice-write-cells
+    add-j
+    loop-less
+    loop-again
+    same-length
+    returns)

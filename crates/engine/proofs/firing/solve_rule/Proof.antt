@@ -1,0 +1,108 @@
+-- `solve_rule` meets its contract: the rule's equations are instantiated in a local array, and solved.
+-- Assumes nothing.
+use borrow.Author.Needs.{needs}
+use Rattle.engine.proofs.RuleLaws.{equations-room, equations-asked, equations-prefix, equations-lent, equations-solvable}
+use Rattle.engine.proofs.RuleLaws.{rule-solved}
+use Rattle.engine.proofs.firing.solve_rule.Statement.{statement}
+use Rattle.engine.proofs.firing.solve_rule.Tie as tie
+use Rattle.engine.proofs.firing.instantiate.Reads as instantiate-reads
+use Rattle.engine.proofs.search.wide.Reads as wide-reads
+use Rattle.engine.proofs.solving.solve.Reads as solve-reads
+
+shared-slice-read-wide : tie.Need-shared-slice-read-wide
+shared-slice-read-wide c = search needs
+
+wide-requires : tie.Need-wide-requires
+wide-requires c κs = search needs
+
+mul-e : tie.Need-mul-e
+mul-e c = search needs
+
+add-e : tie.Need-add-e
+add-e c = search needs
+
+mul-t : tie.Need-mul-t
+mul-t c = search needs
+
+sub-instantiate : tie.Need-sub-instantiate
+sub-instantiate c = search needs
+
+part-instantiate-start : tie.Need-part-instantiate-start
+part-instantiate-start c = search needs
+
+part-instantiate-end : tie.Need-part-instantiate-end
+part-instantiate-end c = search needs
+
+array-borrow-prefix-equations : tie.Need-array-borrow-prefix-equations
+array-borrow-prefix-equations c = search needs
+
+slice-aggregate-instantiate : tie.Need-slice-aggregate-instantiate
+slice-aggregate-instantiate c =
+    let pre′ = c .before .before .before .before .before .before .before .before .pre in
+    let wide′ = c .before .before .wide in
+    equations-room _ _ _ _ _ pre′ (wide′ .ensures)
+
+instantiate-requires : tie.Need-instantiate-requires
+instantiate-requires c κs =
+    let pre′ = c .before .before .before .before .before .before .before .before .pre in
+    let wide′ = c .before .before .wide in
+    equations-asked _ _ _ _ _ pre′ (wide′ .ensures)
+
+array-borrow-prefix-equations-2 : tie.Need-array-borrow-prefix-equations-2
+array-borrow-prefix-equations-2 c =
+    let pre′ = c .before .before .before .before .before .before .before .before .before .before .pre in
+    let wide′ = c .before .before .before .before .wide in
+    let instantiate′ = c .before .instantiate in
+    equations-prefix _ _ _ _ _ pre′ (wide′ .ensures) _ _ (instantiate′ .ensures)
+
+slice-aggregate-solve : tie.Need-slice-aggregate-solve
+slice-aggregate-solve c =
+    let pre′ = c .before .before .before .before .before .before .before .before .before .before .before .pre in
+    let wide′ = c .before .before .before .before .before .wide in
+    let instantiate′ = c .before .before .instantiate in
+    equations-lent _ _ _ _ _ pre′ (wide′ .ensures) _ _ (instantiate′ .ensures)
+
+solve-requires : tie.Need-solve-requires
+solve-requires c κs =
+    let pre′ = c .before .before .before .before .before .before .before .before .before .before .before .before .before .pre in
+    let wide′ = c .before .before .before .before .before .before .before .wide in
+    let instantiate′ = c .before .before .before .before .instantiate in
+    equations-solvable _ _ _ _ _ pre′ (wide′ .ensures) _ _ (instantiate′ .ensures)
+
+same-length : tie.Need-same-length
+same-length c = search needs
+
+same-length-2 : tie.Need-same-length-2
+same-length-2 c = search needs
+
+returns : tie.Need-returns
+returns c =
+    let pre′ = c .before .before .before .before .before .before .before .before .before .before .before .before .before .before
+    .before .before .before .before .before .pre in
+    let wide′ = c .before .before .before .before .before .before .before .before .before .before .before .before .before .wide
+    in
+    let instantiate′ = c .before .before .before .before .before .before .before .before .before .before .instantiate in
+    let solve′ = c .before .before .before .before .before .solve in
+    rule-solved _ _ _ _ _ pre′ (wide′ .ensures) _ _ (instantiate′ .ensures) _ _ _ _ (solve′ .ensures)
+
+pub solve-rule-spec : {M : Type 1} → statement M
+solve-rule-spec =
+    tie.close
+    (tie.spec
+    shared-slice-read-wide
+    wide-requires
+    mul-e
+    add-e
+    mul-t
+    sub-instantiate
+    part-instantiate-start
+    part-instantiate-end
+    array-borrow-prefix-equations
+    slice-aggregate-instantiate
+    instantiate-requires
+    array-borrow-prefix-equations-2
+    slice-aggregate-solve
+    solve-requires
+    same-length
+    same-length-2
+    returns)

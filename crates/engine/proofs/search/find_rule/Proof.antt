@@ -1,0 +1,56 @@
+-- `find_rule` meets its contract: the search starts with no position and nothing settled.
+-- Assumes nothing.
+use borrow.Author.Needs.{needs}
+use Rattle.engine.proofs.ChooseLaws.{rule-seeking, rule-located}
+use Rattle.engine.proofs.search.find_rule.Statement.{statement}
+use Rattle.engine.proofs.search.find_rule.Tie as tie
+use Rattle.engine.proofs.search.find.Reads as find-reads
+use Rattle.engine.proofs.search.wide.Reads as wide-reads
+
+shared-slice-read-wide : tie.Need-shared-slice-read-wide
+shared-slice-read-wide c = search needs
+
+wide-requires : tie.Need-wide-requires
+wide-requires c κs = search needs
+
+mul-e : tie.Need-mul-e
+mul-e c = search needs
+
+add-e : tie.Need-add-e
+add-e c = search needs
+
+sub-find : tie.Need-sub-find
+sub-find c = search needs
+
+part-find-start : tie.Need-part-find-start
+part-find-start c = search needs
+
+part-find-end : tie.Need-part-find-end
+part-find-end c = search needs
+
+find-requires : tie.Need-find-requires
+find-requires c κs =
+    let pre′ = c .before .before .before .before .before .pre in
+    let wide′ = c .before .wide in
+    rule-seeking _ _ _ _ (pre′ .0) (pre′ .1) (wide′ .ensures)
+
+returns : tie.Need-returns
+returns c =
+    let pre′ = c .before .before .before .before .before .before .pre in
+    let wide′ = c .before .before .wide in
+    let find′ = c .find in
+    rule-located _ _ _ _ (pre′ .0) (pre′ .1) (wide′ .ensures) _ _ _ (find′ .ensures)
+
+pub find-rule-spec : {M : Type 1} → statement M
+find-rule-spec =
+    tie.close
+    (tie.spec
+    shared-slice-read-wide
+    wide-requires
+    mul-e
+    add-e
+    sub-find
+    part-find-start
+    part-find-end
+    find-requires
+    returns)

@@ -1,0 +1,54 @@
+-- `put_in` meets its contract.
+-- Assumes nothing.
+use borrow.Author.Needs.{needs}
+use Rattle.engine.proofs.SolveLaws.{merged-clash, merged-done}
+use Rattle.engine.proofs.solving.put_in.Statement.{statement}
+use Rattle.engine.proofs.solving.put_in.Tie as tie
+use Rattle.engine.proofs.solving.replace_all.Reads as replace-all-reads
+
+returns : tie.Need-returns
+returns c =
+    let pre′ = c .before .before .before .before .pre in
+    let if1′ = c .if1 in
+    merged-clash _ _ _ _ _ pre′ (if1′ .taken)
+
+replace-all-requires : tie.Need-replace-all-requires
+replace-all-requires c κs = search needs
+
+replace-all-requires-2 : tie.Need-replace-all-requires-2
+replace-all-requires-2 c κs = search needs
+
+replace-all-requires-3 : tie.Need-replace-all-requires-3
+replace-all-requires-3 c κs = search needs
+
+same-length : tie.Need-same-length
+same-length c = search needs
+
+same-length-2 : tie.Need-same-length-2
+same-length-2 c = search needs
+
+same-length-3 : tie.Need-same-length-3
+same-length-3 c = search needs
+
+returns-2 : tie.Need-returns-2
+returns-2 c =
+    let pre′ = c .before .before .before .before .before .before .before .before .before .before .before .before .before .before
+    .before .before .pre in
+    let if1′ = c .before .before .before .before .before .before .before .before .before .before .before .before .if1 in
+    let replace-all′ = c .before .before .before .before .before .before .before .before .before .before .replace-all in
+    let replace-all2′ = c .before .before .before .before .before .before .replace-all2 in
+    let replace-all3′ = c .before .before .replace-all3 in
+    merged-done _ _ _ _ _ _ _ _ pre′ (if1′ .left) (replace-all′ .ensures) (replace-all2′ .ensures) (replace-all3′ .ensures)
+
+pub put-in-spec : {M : Type 1} → statement M
+put-in-spec =
+    tie.close
+    (tie.spec
+    returns
+    replace-all-requires
+    replace-all-requires-2
+    replace-all-requires-3
+    same-length
+    same-length-2
+    same-length-3
+    returns-2)

@@ -1,0 +1,132 @@
+-- `solve` meets its contract: the equations from number i on, in the state so far, give the answer for all of them.
+-- Assumes nothing.
+use Prim.Native.Nat.{_-_}
+use native.Mathlib.Omega.{arith}
+use mathlib.Core.Path.{_∙_}
+use borrow.Author.Tests.{not-true, not-false}
+use Rattle.engine.proofs.SolveLaws.{Solving, solving-start, solving-end, solving-clash, solving-next}
+use Rattle.engine.proofs.solving.solve.Statement.{statement}
+use Rattle.engine.proofs.solving.solve.Tie as tie
+use Rattle.engine.proofs.solving.unify.Reads as unify-reads
+
+abbrev Inv-loop : tie.InvT-loop
+Inv-loop equations₀ n bound₀ cells₀ i₀ equations bound cells i = Solving equations₀ bound₀ cells₀ n equations bound cells i
+
+abbrev μ-loop : tie.MeasureT-loop
+μ-loop equations₀ n bound₀ cells₀ i₀ equations bound cells i = n - i
+
+loop-holds : tie.Need-loop-holds Inv-loop μ-loop
+loop-holds c =
+    solving-start _ _ _ _ ((c .before .before .before .pre))
+
+mul-at : tie.Need-mul-at Inv-loop μ-loop
+mul-at c = omega arith
+
+mul-a : tie.Need-mul-a Inv-loop μ-loop
+mul-a c = omega arith
+
+slice-read-a : tie.Need-slice-read-a Inv-loop μ-loop
+slice-read-a c = omega arith
+
+add-b : tie.Need-add-b Inv-loop μ-loop
+add-b c = omega arith
+
+mul-b : tie.Need-mul-b Inv-loop μ-loop
+mul-b c = omega arith
+
+slice-read-b : tie.Need-slice-read-b Inv-loop μ-loop
+slice-read-b c = omega arith
+
+unify-requires : tie.Need-unify-requires Inv-loop μ-loop
+unify-requires c κs = tt
+
+same-length : tie.Need-same-length Inv-loop μ-loop
+same-length c =
+    let unify′ = c .before .before .before .before .before .before .before .unify in
+    let loop′ = c .before .before .before .before .before .before .before .before .before .before .before .before .before
+    .before .loop in
+    unify′ .kept .1 .1 .0 ∙ loop′ .inv .equations-size
+
+same-length-2 : tie.Need-same-length-2 Inv-loop μ-loop
+same-length-2 c =
+    let unify′ = c .before .before .before .before .before .before .before .unify in
+    let loop′ = c .before .before .before .before .before .before .before .before .before .before .before .before .before
+    .before .loop in
+    unify′ .kept .1 .1 .1 .0 ∙ loop′ .inv .bound-size
+
+same-length-3 : tie.Need-same-length-3 Inv-loop μ-loop
+same-length-3 c =
+    let unify′ = c .before .before .before .before .before .before .before .unify in
+    let loop′ = c .before .before .before .before .before .before .before .before .before .before .before .before .before
+    .before .loop in
+    unify′ .kept .1 .1 .1 .1 .0 ∙ loop′ .inv .cells-size
+
+returns : tie.Need-returns Inv-loop μ-loop
+returns c =
+    let loop′ = c .before .before .before .before .before .before .before .before .before .before .before .before .before
+    .before .loop in
+    let loop-test′ = c .before .before .before .before .before .before .before .before .before .before .before .before .before
+    .loop-test in
+    let unify′ = c .before .before .before .before .before .before .before .unify in
+    let if1′ = c .if1 in
+    solving-clash _ _ _ _ _ _ _ _ (loop′ .inv) (loop-test′ .taken) _ _ _ _ (unify′ .ensures) (not-true _ (if1′ .taken))
+
+add-i : tie.Need-add-i Inv-loop μ-loop
+add-i c = omega arith
+
+loop-less : tie.Need-loop-less Inv-loop μ-loop
+loop-less c = omega arith
+
+loop-again : tie.Need-loop-again Inv-loop μ-loop
+loop-again c =
+    let loop′ = c .before .before .before .before .before .before .before .before .before .before .before .before .before
+    .before .loop in
+    let loop-test′ = c .before .before .before .before .before .before .before .before .before .before .before .before .before
+    .loop-test in
+    let unify′ = c .before .before .before .before .before .before .before .unify in
+    let if1′ = c .if1 in
+    solving-next _ _ _ _ _ _ _ _ (loop′ .inv) (loop-test′ .taken) _ _ _ _ (unify′ .ensures) (not-false _ (if1′ .left))
+
+same-length-4 : tie.Need-same-length-4 Inv-loop μ-loop
+same-length-4 c =
+    (c .before .loop) .inv .equations-size
+
+same-length-5 : tie.Need-same-length-5 Inv-loop μ-loop
+same-length-5 c =
+    (c .before .loop) .inv .bound-size
+
+same-length-6 : tie.Need-same-length-6 Inv-loop μ-loop
+same-length-6 c =
+    (c .before .loop) .inv .cells-size
+
+returns-2 : tie.Need-returns-2 Inv-loop μ-loop
+returns-2 c =
+    let loop′ = c .before .loop in
+    let loop-test′ = c .loop-test in
+    solving-end _ _ _ _ _ _ _ _ (loop′ .inv) (loop-test′ .left)
+
+pub solve-spec : {M : Type 1} → statement M
+solve-spec =
+    tie.close
+    (tie.spec
+    Inv-loop
+    μ-loop
+    loop-holds
+    mul-at
+    mul-a
+    slice-read-a
+    add-b
+    mul-b
+    slice-read-b
+    unify-requires
+    same-length
+    same-length-2
+    same-length-3
+    returns
+    add-i
+    loop-less
+    loop-again
+    same-length-4
+    same-length-5
+    same-length-6
+    returns-2)

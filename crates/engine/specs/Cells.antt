@@ -1,0 +1,64 @@
+-- How the engine's arrays decode; the cells are those of the tables of `syntax`.
+--   assigned, fitOf      bindings of a rule's variables, and what matching answers
+--   Matched              what a match promises
+--   swap, merge          a variable's cell replaced; the solution of an equation between cells
+--   instanceCell         a cell of a rule's body, in the state
+-- Assumes nothing.
+use Prim.Native.Nat.{ℕ, _+_, _-_, _*_}
+use mathlib.Core.Bool.{Bool, true, false, cond, _&&_}
+use mathlib.Core.List.{List, [], _∷_}
+use mathlib.Core.Option.{Option, none, some}
+use mathlib.Core.Path.{_≡_}
+use lib.Dec.{eqb, ltb}
+use lib.ListN.{length, getD, drop}
+use lib.Seq.{paste}
+use Rattle.text.specs.Lists.{every}
+use Rattle.semantics.specs.Terms.{Constraint, isBelow, alphabet}
+use Rattle.semantics.specs.Matching.{Assignment}
+use Rattle.syntax.specs.Tables.{cellTerm, cellTerms}
+
+-- 26 cells as an assignment: cell x is what the rule variable x is replaced by, and 0 where nothing is settled
+unfoldable pub assigned : List ℕ → Assignment
+assigned bindings x = cond (eqb (getD bindings x 0) 0) none (some (cellTerm (getD bindings x 0)))
+
+-- what matching answers: whether it fits, and the bindings under which it does
+unfoldable pub fitOf : Bool → List ℕ → Option Assignment
+fitOf fits bindings = cond fits (some (assigned bindings)) none
+
+-- five cells as a constraint
+unfoldable pub rowConstraint : List ℕ → Constraint
+rowConstraint row = record { symbol = getD row 0 0; terms = cellTerms (drop 1 row) }
+
+-- what matching asks: a head and a constraint of five cells each, 26 bindings, and letters for the head's variables
+pub record Rows (head constraint bindings : List ℕ) : Type 0 where
+  pub head-size : length head ≡ 5
+  pub constraint-size : length constraint ≡ 5
+  pub bindings-size : length bindings ≡ 26
+  pub letters : every (isBelow alphabet) (rowConstraint head .terms) ≡ true
+
+-- a match promises the answer of its definition, in 26 cells
+pub record Matched (fits : Bool) (bindings : List ℕ) (answer : Option Assignment) : Type 0 where
+  pub same : fitOf fits bindings ≡ answer
+  pub size : length bindings ≡ 26
+
+-- a cell, with v replaced by t
+unfoldable pub swap : ℕ → ℕ → ℕ → ℕ
+swap v t x = cond (eqb x v) t x
+
+-- whether two cells are different constants
+unfoldable pub clashes : ℕ → ℕ → Bool
+clashes a b = cond (eqb a b) false (ltb a 256 && ltb b 256)
+
+-- a cell under the solution of an equation between two cells: the larger becomes the smaller
+unfoldable pub merge : ℕ → ℕ → ℕ → ℕ
+merge a b = cond (ltb a b) (swap b a) (swap a b)
+
+-- a cell of a rule's body: what the rule's variable is bound to, or a new variable
+unfoldable pub instanceCell : ℕ → List ℕ → ℕ → ℕ
+instanceCell next bindings x =
+    cond (ltb x 256) x
+    (cond (ltb (x - 256) 26) (cond (eqb (getD bindings (x - 256) 0) 0) (next + x) (getD bindings (x - 256) 0)) x)
+
+-- the cells with the constraint at one position written over that at another
+unfoldable pub movedRow : ℕ → ℕ → List ℕ → List ℕ
+movedRow from to cells = paste cells (5 * to) (drop (5 * from) cells) 5

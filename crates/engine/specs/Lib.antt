@@ -1,0 +1,5 @@
+-- How the engine's arrays decode. Assumes nothing.
+pub mod Cells
+pub mod Places
+pub mod States
+pub mod Runs

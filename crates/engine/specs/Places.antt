@@ -1,0 +1,89 @@
+-- How the search's answers decode, and what it asks.
+--   foundOf, Located     positions and bindings as a match
+--   Seeking              what the search asks
+--   Row, Table           rules that the engine runs
+--   choiceOf, Chosen     a rule that fits, and where
+-- Assumes nothing.
+use Prim.Native.Nat.{ℕ, _-_, _*_, _≤_, _<_}
+use mathlib.Core.Bool.{Bool, true, false, cond, _&&_}
+use mathlib.Core.List.{List, [], _∷_}
+use mathlib.Core.Option.{Option, none, some, Option·map}
+use mathlib.Core.Path.{_≡_}
+use lib.Dec.{ltb, leb}
+use lib.ListN.{length, take, drop, getD}
+use Rattle.text.specs.Lists.{every}
+use Rattle.semantics.specs.Terms.{Term, con, var, Constraint, Equation, isBelow, alphabet}
+use Rattle.semantics.specs.Matching.{unassigned}
+use Rattle.semantics.specs.Strategy.{Match, Choice, find, choose}
+use Rattle.syntax.specs.Tables.{cellConstraints, ruleOfRow, ruleOf, rulesOf}
+use Rattle.engine.specs.Cells.{assigned}
+
+-- whether every term of a constraint is a constant or a letter
+unfoldable pub isLettered : Constraint → Bool
+isLettered c = every (isBelow alphabet) (c .terms)
+
+-- the positions of n heads and the bindings, where some were found
+unfoldable pub foundOf : Bool → ℕ → List ℕ → List ℕ → Option Match
+foundOf found n positions bindings =
+    cond found (some (record { positions = take n positions; assignment = assigned bindings })) none
+
+-- n heads and m constraints of five cells each, positions for all heads but those left, and letters for the variables of those
+-- left
+pub record Seeking (heads : List ℕ) (n left : ℕ) (cells : List ℕ) (m : ℕ) (chosen bindings : List ℕ) : Type 0 where
+  pub heads-size : length heads ≡ 5 * n
+  pub few : n ≤ 4
+  pub there : left ≤ n
+  pub cells-size : length cells ≡ 5 * m
+  pub chosen-size : length chosen ≡ 4
+  pub bindings-size : length bindings ≡ 26
+  pub letters : every isLettered (cellConstraints (drop (5 * (n - left)) heads)) ≡ true
+
+-- the search promises the answer of its definition, in four positions and 26 bindings
+pub record Located (found : Bool) (n : ℕ) (positions bindings : List ℕ) (answer : Option Match) : Type 0 where
+  pub same : foundOf found n positions bindings ≡ answer
+  pub positions-size : length positions ≡ 4
+  pub bindings-size : length bindings ≡ 26
+
+-- whether a term of an equation is a letter or a constant other than 0, which stands for no term
+unfoldable pub isSide : Term → Bool
+isSide (con c) = leb 1 c
+isSide (var x) = ltb x alphabet
+
+-- whether a constraint's symbol lies below the variables' cells
+unfoldable pub isLow : Constraint → Bool
+isLow c = ltb (c .symbol) 256
+
+-- a rule's 64 cells: counts within the row's room, letters for the variables, and terms in the equations
+pub record Row (row : List ℕ) : Type 0 where
+  pub size : length row ≡ 64
+  pub heads-few : getD row 3 0 ≤ 4
+  pub body-few : getD row 4 0 ≤ 6
+  pub equations-few : getD row 5 0 ≤ 4
+  pub heads : every isLettered (ruleOfRow [] row .heads) ≡ true
+  pub body : every (λ c. isLow c && isLettered c) (ruleOfRow [] row .body) ≡ true
+  pub equations : every (λ (e : Equation). isSide (e .left) && isSide (e .right)) (ruleOfRow [] row .equations) ≡ true
+
+-- a table of n such rules
+pub record Table (rules : List ℕ) (n : ℕ) : Type 0 where
+  pub size : 64 * n ≤ length rules
+  pub rows : (i : ℕ) → i < n → Row (take 64 (drop (64 * i) rules))
+
+-- the rule of a number, the number of its heads that the table holds, and where it fits; the text gives the rules' names
+unfoldable pub choiceOf : List ℕ → List ℕ → Bool → ℕ → List ℕ → List ℕ → Option Choice
+choiceOf text rules found number positions bindings =
+    Option·map (λ (m : Match). record { number = number; rule = ruleOf text rules number; place = m })
+    (foundOf found (getD (take 64 (drop (64 * number) rules)) 3 0) positions bindings)
+
+-- the choice promises that of its definition, whatever text the names stand in
+pub record Chosen (rules : List ℕ) (n : ℕ) (cells : List ℕ) (found : Bool) (number : ℕ)
+    (positions bindings : List ℕ) : Type 0 where
+  pub same :
+      (text : List ℕ) → choiceOf text rules found number positions bindings ≡ choose (rulesOf text rules n)
+      (cellConstraints cells)
+  pub within : found ≡ true → number < n
+  pub fits :
+      found ≡ true
+      → foundOf true (getD (take 64 (drop (64 * number) rules)) 3 0) positions bindings
+      ≡ find (ruleOfRow [] (take 64 (drop (64 * number) rules)) .heads) (cellConstraints cells) [] unassigned
+  pub positions-size : length positions ≡ 4
+  pub bindings-size : length bindings ≡ 26

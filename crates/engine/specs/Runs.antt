@@ -1,0 +1,79 @@
+-- What the derivation asks and promises.
+--   weightBy, Lowers     the weight of constraints, and a weighing that every rule lowers
+--   Live, Stepped        one firing of the strategy
+--   Startable, Ended     the derivation to its end
+-- Assumes nothing.
+use Prim.Native.Nat.{ℕ, _+_, _*_, _≤_, _<_}
+use mathlib.Core.Bool.{Bool, true, false, cond}
+use mathlib.Core.List.{List, [], _∷_, map}
+use mathlib.Core.Option.{none, some}
+use mathlib.Core.Path.{_≡_}
+use lib.ListN.{length, take, drop}
+use Rattle.text.specs.Lists.{total, every}
+use Rattle.semantics.specs.Terms.{Constraint, State, live}
+use Rattle.semantics.specs.Strategy.{Final, advance, normalise}
+use Rattle.syntax.specs.Tables.{cellTerm, cellConstraints, ruleOfRow, rulesOf}
+use Rattle.engine.specs.Places.{isLow, Table}
+use Rattle.engine.specs.States.{stateOf}
+
+-- the weight of constraints, where w weighs the symbols by their numbers
+unfoldable pub weightBy : (ℕ → ℕ) → List Constraint → ℕ
+weightBy w cs = total (λ (c : Constraint). w (c .symbol)) cs
+
+-- a weighing under which every rule's heads weigh more than its body
+pub record Lowers (w : ℕ → ℕ) (rules : List ℕ) (n : ℕ) : Type 0 where
+  pub falls :
+      (i : ℕ) → i < n
+      → weightBy w (ruleOfRow [] (take 64 (drop (64 * i) rules)) .body) < weightBy w (ruleOfRow [] (take 64 (drop
+      (64 * i) rules)) .heads)
+
+-- the constraints of a live state of m constraints
+unfoldable pub storeOf : List ℕ → ℕ → List Constraint
+storeOf cells m = cellConstraints (take (5 * m) cells)
+
+-- a live state that a rule of the table can fire in
+pub record Live (rules : List ℕ) (n : ℕ) (cells : List ℕ) (m next : ℕ) : Type 0 where
+  pub table : Table rules n
+  pub space : 5 * m + 30 ≤ length cells
+  pub room : next ≤ 65000
+  pub low : every isLow (storeOf cells m) ≡ true
+
+-- the state after the strategy's firing, or the same state where no rule fits
+pub record Stepped (rules : List ℕ) (n : ℕ) (bound cells : List ℕ) (m next : ℕ) (bound′ cells′ : List ℕ)
+    (fired alive : Bool) (count : ℕ) : Type 0 where
+  pub rests :
+      fired ≡ false
+      → (bound′ ≡ bound) × (cells′ ≡ cells)
+      × ((text : List ℕ) → advance (rulesOf text rules n) (live next (map cellTerm bound) (storeOf cells m)) ≡ none)
+  pub moves :
+      fired ≡ true
+      → (text : List ℕ)
+      → advance (rulesOf text rules n) (live next (map cellTerm bound) (storeOf cells m))
+      ≡ some (stateOf alive (next + 26) bound′ (take (5 * count) cells′))
+  pub lighter :
+      fired ≡ true → (w : ℕ → ℕ) → Lowers w rules n → cond alive (weightBy w (storeOf cells′ count)) 0 < weightBy w
+      (storeOf cells m)
+  pub low : fired ≡ true → alive ≡ true → every isLow (storeOf cells′ count) ≡ true
+  pub few : count ≤ m + 6
+
+-- what the derivation asks: room for 518 constraints, and a weighing of at most 512 that every rule lowers
+pub record Startable (rules : List ℕ) (n : ℕ) (cells : List ℕ) (m next : ℕ) : Type 0 where
+  pub table : Table rules n
+  pub space : 2590 ≤ length cells
+  pub there : m ≤ 518
+  pub room : next ≤ 26
+  pub low : every isLow (storeOf cells m) ≡ true
+  pub weigh : ℕ → ℕ
+  pub positive : (k : ℕ) → 1 ≤ weigh k
+  pub lowers : Lowers weigh rules n
+  pub light : weightBy weigh (storeOf cells m) ≤ 512
+
+-- the end of the derivation and its firings, which are no more than the weight
+pub record Ended (rules : List ℕ) (n : ℕ) (bound cells : List ℕ) (m next : ℕ) (bound′ cells′ : List ℕ)
+    (alive : Bool) (count number firings : ℕ) : Type 0 where
+  pub same :
+      (text : List ℕ) (fuel : ℕ) → firings ≤ fuel
+      → record { state = stateOf alive number bound′ (take (5 * count) cells′); firings = firings }
+      ≡ normalise fuel (rulesOf text rules n) (live next (map cellTerm bound) (storeOf cells m)) 0
+  pub bounded : (w : ℕ → ℕ) → Lowers w rules n → firings ≤ weightBy w (storeOf cells m)
+  pub few : alive ≡ true → count ≤ 512

@@ -1,0 +1,87 @@
+-- How the engine's state decodes, and what solving and firing promise.
+--   stateOf                     cells as a state
+--   Merged, Solvable, Solved    one equation, and all of them
+--   Removed, Appended           the constraints behind a firing
+--   Equated, SolvedRule         a rule's equations
+--   Fires, Fired                a firing
+-- Assumes nothing.
+use Prim.Native.Nat.{ℕ, _+_, _*_, _≤_, _<_}
+use mathlib.Core.Bool.{Bool, true, false, cond, not}
+use mathlib.Core.List.{List, [], _∷_, _++_, map}
+use mathlib.Core.Path.{_≡_}
+use lib.Dec.{leb}
+use lib.ListN.{length, take, getD}
+use Rattle.text.specs.Lists.{every}
+use Rattle.semantics.specs.Terms.{Term, State, failed, live, mapTerms, mapSides}
+use Rattle.semantics.specs.Solving.{solve}
+use Rattle.semantics.specs.Firing.{without, instance, settle, fired}
+use Rattle.syntax.specs.Tables.{cellTerm, cellConstraints, cellEquations, ruleOfRow}
+use Rattle.engine.specs.Cells.{assigned, clashes, merge}
+use Rattle.engine.specs.Places.{isLow, Row}
+
+-- a state: failed, or what the goal variables have become and the constraints, in cells
+unfoldable pub stateOf : Bool → ℕ → List ℕ → List ℕ → State
+stateOf alive next bound cells = cond alive (live next (map cellTerm bound) (cellConstraints cells)) failed
+
+-- an equation between cells, put in throughout or found to clash
+pub record Merged (alive : Bool) (a b : ℕ) (equations bound cells equations′ bound′ cells′ : List ℕ) : Type 0 where
+  pub answer : alive ≡ not (clashes a b)
+  pub in-equations : alive ≡ true → equations′ ≡ map (merge a b) equations
+  pub in-bound : alive ≡ true → bound′ ≡ map (merge a b) bound
+  pub in-cells : alive ≡ true → cells′ ≡ map (merge a b) cells
+
+-- n equations of two cells each, none of them 0, and constraints whose symbols lie below the variables
+pub record Solvable (equations : List ℕ) (n : ℕ) (cells : List ℕ) : Type 0 where
+  pub size : length equations ≡ 2 * n
+  pub used : every (leb 1) equations ≡ true
+  pub low : every isLow (cellConstraints cells) ≡ true
+
+-- the state after the equations, whatever number comes next
+pub record Solved (alive : Bool) (equations bound cells bound′ cells′ : List ℕ) : Type 0 where
+  pub same :
+      (next : ℕ) → stateOf alive next bound′ cells′
+      ≡ settle (solve (cellEquations equations) (λ t. t)) next (map cellTerm bound) (cellConstraints cells)
+
+-- k constraints are left in front, those of m at none of the positions
+pub record Removed (m : ℕ) (ps cells cells′ : List ℕ) (k : ℕ) : Type 0 where
+  pub few : k ≤ m
+  pub same : cellConstraints (take (5 * k) cells′) ≡ without 0 ps (cellConstraints cells)
+
+-- a rule's body stands behind the first k constraints
+pub record Appended (row bindings : List ℕ) (next : ℕ) (cells cells′ : List ℕ) (k after : ℕ) : Type 0 where
+  pub count : after ≡ k + getD row 4 0
+  pub same :
+      cellConstraints (take (5 * after) cells′)
+      ≡ cellConstraints (take (5 * k) cells) ++ map (mapTerms (instance next (assigned bindings))) (ruleOfRow [] row .body)
+
+-- what solving a rule's equations asks
+pub record Equated (row bindings : List ℕ) (next : ℕ) (cells : List ℕ) : Type 0 where
+  pub given : Row row
+  pub bindings-size : length bindings ≡ 26
+  pub room : next ≤ 65000
+  pub low : every isLow (cellConstraints cells) ≡ true
+
+-- the state after a rule's equations, whatever number comes next
+pub record SolvedRule (alive : Bool) (row bindings : List ℕ) (next : ℕ) (bound cells bound′ cells′ : List ℕ) : Type 0 where
+  pub same :
+      (after : ℕ) → stateOf alive after bound′ cells′
+      ≡ settle (solve (map (mapSides (instance next (assigned bindings))) (ruleOfRow [] row .equations)) (λ t. t)) after
+      (map cellTerm bound) (cellConstraints cells)
+
+-- what firing asks: a rule, positions and bindings, and room for six constraints more than the m that there are
+pub record Fires (row positions bindings : List ℕ) (next : ℕ) (cells : List ℕ) (m : ℕ) : Type 0 where
+  pub given : Row row
+  pub positions-size : length positions ≡ 4
+  pub bindings-size : length bindings ≡ 26
+  pub room : next ≤ 65000
+  pub space : 5 * m + 30 ≤ length cells
+  pub low : every isLow (cellConstraints (take (5 * m) cells)) ≡ true
+
+-- the state after a firing, whatever text the rule's name stands in
+pub record Fired (row positions bindings : List ℕ) (next : ℕ) (bound cells : List ℕ) (m : ℕ) (bound′ cells′ : List ℕ)
+    (alive : Bool) (after : ℕ) : Type 0 where
+  pub same :
+      (text : List ℕ) → stateOf alive (next + 26) bound′ (take (5 * after) cells′)
+      ≡ fired (ruleOfRow text row) (take (getD row 3 0) positions) (assigned bindings) next (map cellTerm bound)
+      (cellConstraints (take (5 * m) cells))
+  pub few : after ≤ m + 6

@@ -1,0 +1,94 @@
+// The derivation by the strategy: the lowest-numbered rule that fits fires at the smallest positions, until none fits.
+use crate::firing::fire;
+use crate::search::choose;
+ghost use Rattle.engine.specs.Runs.{Live, Stepped, Startable, Ended};
+
+// Whether a rule fired, whether the state lives on, and how many constraints it has then.
+pub struct Step {
+    pub fired: bool,
+    pub alive: bool,
+    pub count: usize,
+}
+
+// The strategy's firing, if a rule fits.
+pub fn advance(
+    rules: &[u16],
+    n: usize,
+    bound: &mut [u16],
+    cells: &mut [u16],
+    m: usize,
+    next: u16,
+) -> Step
+    requires { ⌜ Live (now rules) n (now cells) m next ⌝ }
+    ensures { λ r. ⌜ Stepped (now (rules .entry)) n (now (bound .entry)) (now (cells .entry)) m next
+        (now (bound .exit)) (now (cells .exit)) (r .fired) (r .alive) (r .count) ⌝ }
+{
+    let e = 5 * m;
+    let choice = choose(rules, n, &cells[..e], m);
+    if !choice.found {
+        return Step {
+            fired: false,
+            alive: true,
+            count: m,
+        };
+    }
+    let number = choice.number;
+    let positions = choice.positions;
+    let bindings = choice.bindings;
+    let a = 64 * number;
+    let b = a + 64;
+    let after = fire(&rules[a..b], positions, &bindings, next, bound, cells, m);
+    Step {
+        fired: true,
+        alive: after.alive,
+        count: after.count,
+    }
+}
+
+// The end of a derivation: whether the state lives, how many constraints it has, the next variable, and how often a rule fired.
+pub struct Final {
+    pub alive: bool,
+    pub count: usize,
+    pub next: u16,
+    pub firings: usize,
+}
+
+// The derivation to its end, from a live state of m constraints.
+pub fn normalise(
+    rules: &[u16],
+    n: usize,
+    bound: &mut [u16],
+    cells: &mut [u16],
+    m: usize,
+    next: u16,
+) -> Final
+    requires { ⌜ Startable (now rules) n (now cells) m next ⌝ }
+    ensures { λ r. ⌜ Ended (now (rules .entry)) n (now (bound .entry)) (now (cells .entry)) m next
+        (now (bound .exit)) (now (cells .exit)) (r .alive) (r .count) (r .next) (r .firings) ⌝ }
+{
+    let mut alive = true;
+    let mut count = m;
+    let mut number = next;
+    let mut firings = 0;
+    while alive {
+        let step = advance(rules, n, bound, cells, count, number);
+        if !step.fired {
+            return Final {
+                alive: true,
+                count,
+                next: number,
+                firings,
+            };
+        }
+        alive = step.alive;
+        count = step.count;
+        number += 26;
+        firings += 1;
+    }
+    Final {
+        alive: false,
+        count,
+        next: number,
+        firings,
+    }
+}

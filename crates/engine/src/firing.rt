@@ -1,0 +1,138 @@
+// Firing a rule at positions that fit: its constraints are removed, its body is appended, and its equations are solved.
+use crate::search::is_chosen;
+use crate::search::wide;
+use crate::solving::solve;
+ghost use mathlib.Core.List.{map};
+ghost use mathlib.Core.Path.{_≡_};
+ghost use Prim.Native.Nat.{_+_, _*_, _≤_};
+ghost use lib.ListN.{length, take, getD};
+ghost use Rattle.semantics.specs.Firing.{without};
+ghost use Rattle.syntax.specs.Tables.{cellConstraints};
+ghost use Rattle.engine.specs.Cells.{instanceCell, movedRow};
+ghost use Rattle.engine.specs.Places.{Row};
+ghost use Rattle.engine.specs.States.{Removed, Appended, Equated, SolvedRule, Fires, Fired};
+
+// A cell of a rule's body: what the rule's variable is bound to, or a new variable.
+pub fn instance(cell: u16, bindings: &[u16], next: u16) -> u16
+    requires { ⌜ (length (now bindings) ≡ 26) × (next ≤ 65000) ⌝ }
+    ensures { λ r. ⌜ r ≡ instanceCell next (now (bindings .entry)) cell ⌝ }
+{
+    if cell < 256 {
+        return cell;
+    }
+    let x = wide(cell - 256);
+    if x < 26 {
+        let settled = bindings[x];
+        if settled == 0 {
+            return next + cell;
+        }
+        return settled;
+    }
+    cell
+}
+
+// Writes a rule's cells with its variables replaced.
+pub fn instantiate(source: &[u16], bindings: &[u16], next: u16, out: &mut [u16])
+    requires { ⌜ (length (now source) ≡ length (now out)) × (length (now bindings) ≡ 26) × (next ≤ 65000) ⌝ }
+    ensures { λ _. ⌜ now (out .exit) ≡ map (instanceCell next (now (bindings .entry))) (now (source .entry)) ⌝ }
+{
+    let mut i = 0;
+    while i < source.len() {
+        out[i] = instance(source[i], bindings, next);
+        i += 1;
+    }
+}
+
+// Copies the constraint at a position to an earlier one.
+pub fn move_row(cells: &mut [u16], from: usize, to: usize)
+    requires { ⌜ (to ≤ from) × (5 * from + 5 ≤ length (now cells)) ⌝ }
+    ensures { λ _. ⌜ now (cells .exit) ≡ movedRow from to (now (cells .entry)) ⌝ }
+{
+    let a = 5 * from;
+    let b = 5 * to;
+    let mut j = 0;
+    while j < 5 {
+        cells[b + j] = cells[a + j];
+        j += 1;
+    }
+}
+
+// Removes the constraints at the first n positions, the rest in its order in front; answers how many are left.
+pub fn remove(cells: &mut [u16], m: usize, positions: [usize; 4], n: usize) -> usize
+    requires { ⌜ (length (now cells) ≡ 5 * m) × (n ≤ 4) × (length positions ≡ 4) ⌝ }
+    ensures { λ r. ⌜ Removed m (take n positions) (now (cells .entry)) (now (cells .exit)) r ⌝ }
+{
+    let mut p = 0;
+    let mut k = 0;
+    while p < m {
+        let q = p;
+        p += 1;
+        if !is_chosen(positions, n, q) {
+            move_row(cells, q, k);
+            k += 1;
+        }
+    }
+    k
+}
+
+// Appends a rule's body behind k constraints; answers how many there are then.
+pub fn append_body(row: &[u16], bindings: &[u16], next: u16, cells: &mut [u16], k: usize) -> usize
+    requires { ⌜ Row (now row) × (length (now bindings) ≡ 26) × (next ≤ 65000) × (5 * k + 30 ≤ length (now cells)) ⌝ }
+    ensures { λ r. ⌜ Appended (now (row .entry)) (now (bindings .entry)) next (now (cells .entry)) (now (cells .exit)) k r ⌝ }
+{
+    let n = wide(row[4]);
+    let e = 26 + 5 * n;
+    let s = 5 * k;
+    let t = s + 5 * n;
+    instantiate(&row[26..e], bindings, next, &mut cells[s..t]);
+    k + n
+}
+
+// Solves a rule's equations in the state; false where it fails.
+pub fn solve_rule(
+    row: &[u16],
+    bindings: &[u16],
+    next: u16,
+    bound: &mut [u16],
+    cells: &mut [u16],
+) -> bool
+    requires { ⌜ Equated (now row) (now bindings) next (now cells) ⌝ }
+    ensures { λ r. ⌜ SolvedRule r (now (row .entry)) (now (bindings .entry)) next (now (bound .entry)) (now (cells .entry))
+        (now (bound .exit)) (now (cells .exit)) ⌝ }
+{
+    let n = wide(row[5]);
+    let e = 56 + 2 * n;
+    let t = 2 * n;
+    let mut equations = [0u16; 8];
+    instantiate(&row[56..e], bindings, next, &mut equations[..t]);
+    solve(&mut equations[..t], n, bound, cells)
+}
+
+// Whether a state lives on after a firing, and how many constraints it has then.
+pub struct After {
+    pub alive: bool,
+    pub count: usize,
+}
+
+// The state after firing a rule at positions that fit.
+pub fn fire(
+    row: &[u16],
+    positions: [usize; 4],
+    bindings: &[u16],
+    next: u16,
+    bound: &mut [u16],
+    cells: &mut [u16],
+    m: usize,
+) -> After
+    requires { ⌜ Fires (now row) positions (now bindings) next (now cells) m ⌝ }
+    ensures { λ r. ⌜ Fired (now (row .entry)) positions (now (bindings .entry)) next (now (bound .entry)) (now (cells .entry)) m
+        (now (bound .exit)) (now (cells .exit)) (r .alive) (r .count) ⌝ }
+{
+    let n = wide(row[3]);
+    let old = 5 * m;
+    let kept = remove(&mut cells[..old], m, positions, n);
+    let count = append_body(row, bindings, next, cells, kept);
+    let end = 5 * count;
+    let alive = solve_rule(row, bindings, next, bound, &mut cells[..end]);
+    After { alive, count }
+}

@@ -1,0 +1,94 @@
+// Matching a head of a rule against a constraint, under bindings of the rule's variables by value.
+ghost use mathlib.Core.Path.{_≡_};
+ghost use Prim.Native.Nat.{_<_};
+ghost use lib.ListN.{length};
+ghost use Rattle.text.specs.Lists.{every};
+ghost use Rattle.semantics.specs.Terms.{isBelow, alphabet};
+ghost use Rattle.semantics.specs.Matching.{matchTerm, matchTerms, matchConstraint};
+ghost use Rattle.syntax.specs.Tables.{cellTerm, cellTerms};
+ghost use Rattle.engine.specs.Cells.{assigned, rowConstraint, Matched, Rows};
+
+// Whether a match fits, and the bindings under which it does.
+pub struct Fit {
+    pub fits: bool,
+    pub bindings: [u16; 26],
+}
+
+// One term of a head against one term of a constraint: a constant fits itself only, and a variable what it is bound to.
+pub fn match_term(head: u16, term: u16, bindings: [u16; 26]) -> Fit
+    requires { ⌜ (head < 282) × (0 < term) × (length bindings ≡ 26) ⌝ }
+    ensures { λ r. ⌜ Matched (r .fits) (r .bindings) (matchTerm (cellTerm head) (cellTerm term) (assigned bindings)) ⌝ }
+{
+    if head < 256 {
+        return Fit {
+            fits: head == term,
+            bindings,
+        };
+    }
+    let x = (head - 256) as usize;
+    let settled = bindings[x];
+    if settled == 0 {
+        let mut more = bindings;
+        more[x] = term;
+        return Fit {
+            fits: true,
+            bindings: more,
+        };
+    }
+    Fit {
+        fits: settled == term,
+        bindings,
+    }
+}
+
+// The terms of a head against those of a constraint, column by column; a 0 stands behind the last.
+pub fn match_terms(head: &[u16], constraint: &[u16], bindings: [u16; 26]) -> Fit
+    requires { ⌜ Rows (now head) (now constraint) bindings ⌝ }
+    ensures { λ r. ⌜ Matched (r .fits) (r .bindings)
+        (matchTerms (rowConstraint (now (head .entry)) .terms) (rowConstraint (now (constraint .entry)) .terms)
+        (assigned bindings)) ⌝ }
+{
+    let mut settled = bindings;
+    let mut i = 1;
+    while i < 5 {
+        let h = head[i];
+        let t = constraint[i];
+        if h == 0 {
+            return Fit {
+                fits: t == 0,
+                bindings: settled,
+            };
+        }
+        if t == 0 {
+            return Fit {
+                fits: false,
+                bindings: settled,
+            };
+        }
+        let fit = match_term(h, t, settled);
+        if !fit.fits {
+            return fit;
+        }
+        settled = fit.bindings;
+        i += 1;
+    }
+    Fit {
+        fits: true,
+        bindings: settled,
+    }
+}
+
+// A head against a constraint, the symbols before the terms.
+pub fn match_constraint(head: &[u16], constraint: &[u16], bindings: [u16; 26]) -> Fit
+    requires { ⌜ Rows (now head) (now constraint) bindings ⌝ }
+    ensures { λ r. ⌜ Matched (r .fits) (r .bindings)
+        (matchConstraint (rowConstraint (now (head .entry))) (rowConstraint (now (constraint .entry))) (assigned bindings)) ⌝ }
+{
+    if head[0] == constraint[0] {
+        return match_terms(head, constraint, bindings);
+    }
+    Fit {
+        fits: false,
+        bindings,
+    }
+}
