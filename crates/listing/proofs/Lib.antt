@@ -1,2 +1,10 @@
 -- Laws of this crate's definitions. Assumes nothing.
 pub mod Opened
+pub mod Decimals
+pub mod Laying
+pub mod TermLaws
+pub mod LineLaws
+pub mod NumberLaws
+pub mod Appearing
+pub mod Decoding
+pub mod RunLaws

@@ -1,0 +1,212 @@
+-- The listing of a run: what is asked gives what each function asks, and the flat bytes are the definition's.
+--   bound-shown, rows-shown, bound-within, rows-within      from `Listable`
+--   end-listing, failed-listing                             the definition's bytes
+--   listing-next                                            no listing shows the number above the variables in use
+--   listed-short, listed-written                            the reply and the output
+-- Assumes nothing.
+use mathlib.Core.Path.{_≡_, refl, sym, ap, _∙_, subst}
+use mathlib.Core.Bool.{Bool, true, false, cond}
+use mathlib.Core.List.{List, [], _∷_, _++_, map}
+use Prim.Native.Nat.{ℕ, suc, _+_, _-_, _*_, _≤_, _<_}
+use native.Mathlib.Omega.{arith}
+use native.Mathlib.Nat.{add-zero}
+use native.Mathlib.Numerals.{one-add}
+use lib.Dec.{ltb, eqb}
+use lib.ListN.{length, take, drop, getD, length-drop, length-take}
+use lib.Seq.{getD-drop, getD-take, ext-getD}
+use borrow.Author.Tests.{lt-ltb, le-ltb, ltb-true, ltb-false, ne-eqb}
+use Rattle.text.specs.Bytes.{ascii}
+use Rattle.text.specs.Lists.{every, tabled}
+use Rattle.semantics.specs.Terms.{Term, Constraint, State}
+use Rattle.semantics.specs.Overlaps.{appearingIn, appearing}
+use Rattle.syntax.specs.Tables.{cellTerm, cellTerms, cellConstraints, lettersOf}
+use Rattle.listing.specs.Listing.{decimal, fieldsBehind, lineOf, Naming, unbound, boundLines, constraintLines, stateListing, endListing}
+use Rattle.listing.specs.Pieces.{laid, spelledAs, namedAs, termBytes, headBytes, boundsBytes, rowBytes, rowsBytes, endBytes, Put}
+use Rattle.listing.specs.Pieces.{Spelt, Shown, AllShown, Named, RowShown, BoundShown, RowsShown}
+use Rattle.listing.specs.Numbers.{numberIn, numbersOf, Numbering, Within, RowsWithin}
+use Rattle.listing.specs.Runs.{tableNaming, stateOf, runBytes, listedIn, outputAfter, numbersAfter, ListedAs, TermCell, Listable}
+use Rattle.listing.specs.declared.Listed.{Listed}
+use Rattle.listing.specs.declared.Listed.the-variants.{TooShort, Written}
+use Rattle.listing.specs.declared.Counts.{Counts}
+use Rattle.listing.proofs.Appearing.{varIn, every-grows, in-terms, in-rows, grows}
+use Rattle.listing.proofs.Decoding.{tabled-length, tabled-at, letters-take, named-at, spelled-at, shown-bounds, shown-rows}
+
+-- the cells of constraint i
+row-size : (cells : List ℕ) (i m : ℕ) → i < m → length cells ≡ 5 * m → length (take 5 (drop (5 * i) cells)) ≡ 5
+row-size cells i m h e = omega (arith, length-take 5 (drop (5 * i) cells), length-drop (5 * i) cells)
+
+row-first : (cells : List ℕ) (i : ℕ) → getD (take 5 (drop (5 * i) cells)) 0 0 ≡ getD cells (5 * i) 0
+row-first cells i =
+    getD-take 5 (drop (5 * i) cells) 0 0 (omega arith) ∙ getD-drop (5 * i) cells 0 0 ∙ ap (λ (n : ℕ). getD cells n 0) (add-zero (5 * i))
+
+row-cell : (cells : List ℕ) (i j : ℕ) → j < 4 → getD (drop 1 (take 5 (drop (5 * i) cells))) j 0 ≡ getD cells (5 * i + suc j) 0
+row-cell cells i j h =
+    getD-drop 1 (take 5 (drop (5 * i) cells)) j 0
+    ∙ getD-take 5 (drop (5 * i) cells) (1 + j) 0 (omega arith)
+    ∙ getD-drop (5 * i) cells (1 + j) 0
+    ∙ ap (λ (n : ℕ). getD cells (5 * i + n) 0) (one-add j)
+
+module _ {program goal symbols constants letters bound cells : List ℕ} {v : ℕ} {k : Counts}
+    (l : Listable program goal symbols constants letters bound cells v k) where
+  -- a term
+  cell-shown : (x : ℕ) → TermCell (k .own + k .more) v x → Shown program goal constants (k .own) v x
+  cell-shown x cell = record { constant = constant; variable = cell .variable }
+    where
+      constant : x < 256 → Spelt program goal constants (k .own) x
+      constant h =
+          let bounds = cell .constant h in
+          record {
+            low = bounds .0;
+            entry = omega (arith, bounds .0, bounds .1, l .spellings-room);
+            within = l .spellings (x - 32) (omega (arith, bounds .0, bounds .1));
+          }
+
+  -- the terms of constraint i
+  pub row-term : (i : ℕ) → i < k .constraints → (j : ℕ) → j < length (drop 1 (take 5 (drop (5 * i) cells)))
+      → 0 < getD (drop 1 (take 5 (drop (5 * i) cells))) j 0
+      → TermCell (k .own + k .more) v (getD (drop 1 (take 5 (drop (5 * i) cells))) j 0)
+  row-term i h j p some =
+      let four : j < 4 = omega (arith, length-drop 1 (take 5 (drop (5 * i) cells)), row-size cells i (k .constraints) h (l .size)) in
+      let same = row-cell cells i j four in
+      subst (λ (x : ℕ). TermCell (k .own + k .more) v x) (sym same) (l .row-terms i j h four (omega (arith, same)))
+
+  pub row-symbol : (i : ℕ) → i < k .constraints → getD (take 5 (drop (5 * i) cells)) 0 0 < k .symbols
+  row-symbol i h = rw (row-first cells i) (l .row-symbols i h)
+
+  -- what the A lines ask
+  pub bound-shown : BoundShown program goal constants (k .own) v letters bound
+  bound-shown =
+      record {
+        each = λ i h. cell-shown (getD bound i 0) (l .bound-terms i h);
+        lettered = l .lettered;
+        few = omega (arith, l .few);
+      }
+
+  -- what the S lines ask
+  pub rows-shown : RowsShown program goal symbols constants (k .own) v cells (k .constraints)
+  rows-shown = record { size = l .size; rows = row; few = omega (arith, l .few) }
+    where
+      row : (i : ℕ) → i < k .constraints → RowShown program goal symbols constants (k .own) v (take 5 (drop (5 * i) cells))
+      row i h =
+          let symbol = row-symbol i h in
+          record {
+            size = row-size cells i (k .constraints) h (l .size);
+            named =
+                record {
+                  entry = omega (arith, symbol, l .names-room);
+                  within = l .names (getD (take 5 (drop (5 * i) cells)) 0 0) symbol;
+                };
+            terms =
+                record {
+                  each = λ j p some.
+                      cell-shown (getD (drop 1 (take 5 (drop (5 * i) cells))) j 0) (row-term i h j p some);
+                };
+          }
+
+  -- what numbering asks
+  pub bound-within : Within v bound
+  bound-within = record { each = λ i h high. l .bound-terms i h .variable high }
+
+  pub rows-within : RowsWithin v cells (k .constraints)
+  rows-within =
+      record {
+        size = l .size;
+        rows = λ i h. record { each = λ j p high. row-term i h j p (omega (arith, high)) .variable high };
+      }
+
+-- cells that are not 0 are all terms
+pub terms-all : (xs : List ℕ) → ((i : ℕ) → i < length xs → 0 < getD xs i 0) → cellTerms xs ≡ map cellTerm xs
+unfolding cellTerms
+terms-all [] h = refl
+terms-all (x ∷ xs) h =
+    let first : 0 < x = h 0 (omega arith) in
+    let some : x ≡ 0 → ⊥ = λ e. omega arith in
+    rw (ne-eqb x 0 some) (ap (λ (ts : List Term). cellTerm x ∷ ts) (terms-all xs (λ i p. h (suc i) (omega arith))))
+
+-- a term's cell is not 0
+term-some : (k v x : ℕ) → TermCell k v x → 0 < x
+term-some k v x cell = go (ltb x 256) refl
+  where
+    go : (b : Bool) → ltb x 256 ≡ b → 0 < x
+    go true e = omega (arith, cell .constant (ltb-true x 256 e) .0)
+    go false e = omega (arith, ltb-false x 256 e)
+
+-- the listing of a state that has not failed
+pub end-listing : {program goal symbols constants letters bound cells numbers : List ℕ} {k : Counts} {count : ℕ}
+    → Listable program goal symbols constants letters bound cells (length numbers) k
+    → Numbering (appearing (appearingIn [] (cellTerms bound)) (cellConstraints cells)) numbers count
+    → runBytes (tableNaming program goal symbols constants k) letters false 0 bound cells (k .firings)
+    ≡ endBytes (namedAs program symbols) (termBytes (spelledAs program goal constants (k .own)) numbers) (k .firings) letters bound cells
+unfolding runBytes endListing stateListing stateOf tableNaming endBytes headBytes lineOf fieldsBehind ascii
+end-listing {program} {goal} {symbols} {constants} {letters} {bound} {cells} {numbers} {k} {count} l numbered =
+    let naming = tableNaming program goal symbols constants k in
+    let names = named-at program symbols (k .symbols) in
+    let spells = spelled-at program goal constants (k .own) (k .more) in
+    let named = namedAs program symbols in
+    let spelled = spelledAs program goal constants (k .own) in
+    let all = k .own + k .more in
+    let ts = map cellTerm bound in
+    let order = appearing (appearingIn [] ts) (cellConstraints cells) in
+    let terms : cellTerms bound ≡ ts =
+    terms-all bound (λ i h. term-some all (length numbers) (getD bound i 0) (l .bound-terms i h)) in
+    let numbering : Numbering order numbers count =
+    subst (λ (us : List Term). Numbering (appearing (appearingIn [] us) (cellConstraints cells)) numbers count) terms numbered in
+    let seen : every (varIn order) ts ≡ true =
+    every-grows ts (appearingIn [] ts) order (grows (cellConstraints cells) (appearingIn [] ts)) (in-terms ts []) in
+    let bounds : boundLines naming (unbound order) (lettersOf letters (length bound)) ts ≡ boundsBytes (termBytes spelled numbers) letters bound =
+    ap (λ (vs : List (List ℕ)). boundLines naming (unbound order) vs ts) (letters-take letters (length bound) (l .lettered))
+    ∙ shown-bounds naming order numbers count (k .symbols) all named spelled names spells numbering letters bound (l .lettered)
+    (l .bound-terms) seen in
+    let rows : constraintLines (ascii "S") naming (unbound order) (cellConstraints cells) ≡ rowsBytes (rowBytes named (termBytes spelled numbers)) cells =
+    shown-rows naming order numbers count (k .symbols) all named spelled names spells numbering cells (k .constraints) (l .size)
+    (row-symbol l) (row-term l) (k .constraints) 0 (omega arith) (in-rows (cellConstraints cells) (appearingIn [] ts)) in
+    let head = lineOf (ascii "END") (decimal (k .firings) ∷ []) in
+    ap (λ (r : List ℕ). head ++ (r ++ constraintLines (ascii "S") naming (unbound order) (cellConstraints cells))) bounds
+    ∙ ap (λ (r : List ℕ). head ++ (boundsBytes (termBytes spelled numbers) letters bound ++ r)) rows
+
+-- the table of numbers afterwards
+pub end-numbers : {program goal symbols constants letters bound cells numbers : List ℕ} {k : Counts} {count : ℕ} (before : List ℕ)
+    → Listable program goal symbols constants letters bound cells (length before) k → length numbers ≡ length before
+    → Numbering (appearing (appearingIn [] (cellTerms bound)) (cellConstraints cells)) numbers count
+    → numbers ≡ numbersAfter false bound cells before
+unfolding numbersAfter numbersOf
+end-numbers {program} {goal} {symbols} {constants} {letters} {bound} {cells} {numbers} {k} {count} before l size numbered =
+    let all = k .own + k .more in
+    let terms : cellTerms bound ≡ map cellTerm bound =
+        terms-all bound (λ i h. term-some all (length before) (getD bound i 0) (l .bound-terms i h)) in
+    let order = appearing (appearingIn [] (cellTerms bound)) (cellConstraints cells) in
+    ext-getD 0 numbers (tabled (numberIn order) (length before)) (size ∙ sym (tabled-length (numberIn order) (length before)))
+    (λ i h. numbered .each i h ∙ sym (tabled-at (numberIn order) 0 (length before) i (omega (arith, size))))
+    ∙ ap (λ (ts : List Term). tabled (numberIn (appearing (appearingIn [] ts) (cellConstraints cells))) (length before)) terms
+
+-- the listing of a failed state
+pub failed-listing : (naming : Naming) (letters bound cells : List ℕ) (f : ℕ)
+    → runBytes naming letters true 0 bound cells f ≡ headBytes (70 ∷ 65 ∷ 73 ∷ 76 ∷ 69 ∷ 68 ∷ 44 ∷ []) f
+unfolding runBytes endListing stateListing stateOf headBytes lineOf fieldsBehind ascii
+failed-listing naming letters bound cells f = refl
+
+-- no listing shows the number above the variables in use
+pub listing-next : (naming : Naming) (letters : List ℕ) (hasFailed : Bool) (next : ℕ) (bound cells : List ℕ) (f : ℕ)
+    → runBytes naming letters hasFailed next bound cells f ≡ runBytes naming letters hasFailed 0 bound cells f
+unfolding runBytes endListing stateListing stateOf
+listing-next naming letters true next bound cells f = refl
+listing-next naming letters false next bound cells f = refl
+
+-- the listing does not fit, and nothing is written
+pub listed-short : {bytes o : List ℕ} → length o < length bytes → ListedAs bytes o o TooShort
+unfolding listedIn outputAfter
+listed-short {bytes} {o} h =
+    let test = lt-ltb (length o) (length bytes) h in
+    record { answer = rw test; output = rw test }
+
+-- it fits, and is written
+pub listed-written : {bytes o a : List ℕ} {n size : ℕ} → length bytes ≤ length o → size ≡ length bytes → Put bytes o a n
+    → ListedAs bytes o a (Written size)
+unfolding listedIn outputAfter
+listed-written {bytes} {o} {a} {n} {size} h e w =
+    let test = le-ltb (length o) (length bytes) h in
+    record { answer = rw (test, e); output = rw test (w .placed) }
+
+-- the same listing by another name
+pub listed-is : {s t o a : List ℕ} {r : Listed} → s ≡ t → ListedAs s o a r → ListedAs t o a r
+listed-is {s} {t} {o} {a} {r} e w = subst (λ (b : List ℕ). ListedAs b o a r) e w

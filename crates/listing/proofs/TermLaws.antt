@@ -1,0 +1,119 @@
+-- Laws of terms and fields as bytes.
+--   term-constant, term-variable        a cell is a constant or a variable
+--   spelled-program, spelled-goal       a constant is a part of the program's text, or of the goal's
+--   fields-more, fields-stop, fields-end      the fields of cells from place i on
+--   field-constant, field-variable      a comma and a term, written
+-- Assumes nothing.
+use mathlib.Core.Path.{_≡_, refl, sym, ap, _∙_, subst}
+use mathlib.Core.Bool.{Bool, true, false, cond}
+use mathlib.Core.List.{List, [], _∷_, _++_, append-assoc}
+use Prim.Native.Nat.{ℕ, suc, _+_, _-_, _*_, _≤_, _<_}
+use native.Mathlib.Omega.{arith}
+use lib.Dec.{ltb, eqb}
+use lib.ListN.{length, take, drop, getD, set, length-take, length-set, length-append, length-drop, drop-of-length-le}
+use lib.Seq.{drop-cons, drop-nil, length-take-le}
+use borrow.Author.Tests.{lt-ltb, le-ltb, eq-eqb, ne-eqb}
+use Rattle.syntax.specs.Tables.{part, constantOf}
+use Rattle.listing.specs.Listing.{decimal}
+use Rattle.listing.specs.Pieces.{spelledAs, termBytes, fieldBytes, Put, laid, Spelt}
+use Rattle.listing.proofs.Laying.{Placed, placed-start, placed-byte, from, back, from-drop, lent-last}
+
+pub term-constant : (spelled : ℕ → List ℕ) (numbers : List ℕ) (x : ℕ) → x < 256 → termBytes spelled numbers x ≡ spelled (x - 32)
+unfolding termBytes
+term-constant spelled numbers x h = rw (lt-ltb x 256 h)
+
+pub term-variable : (spelled : ℕ → List ℕ) (numbers : List ℕ) (x : ℕ) → 256 ≤ x
+    → termBytes spelled numbers x ≡ 85 ∷ decimal (getD numbers (x - 256) 0)
+unfolding termBytes
+term-variable spelled numbers x h = rw (le-ltb x 256 h)
+
+-- what is read of constant x, w being its cell: where it starts and how many bytes it has
+pub record Entry (constants : List ℕ) (x w a b : ℕ) : Type 0 where
+  pub cell : w ≡ x
+  pub start : a ≡ getD constants (2 * (w - 32)) 0
+  pub size : b ≡ getD constants (2 * (w - 32) + 1) 0
+
+-- it lies inside the program's text, or inside the goal's
+pub entry-program : {program goal constants : List ℕ} {n x w a b : ℕ} → Spelt program goal constants n x → Entry constants x w a b → w - 32 < n
+    → a + b ≤ length program
+entry-program {program} {goal} {constants} {n} {x} {w} {a} {b} s e h =
+    let z : x - 32 < n = omega (arith, e .cell) in
+    rw (e .start, e .size, e .cell) (rw (lt-ltb (x - 32) n z) at (s .within))
+
+pub entry-goal : {program goal constants : List ℕ} {n x w a b : ℕ} → Spelt program goal constants n x → Entry constants x w a b → n ≤ w - 32
+    → a + b ≤ length goal
+entry-goal {program} {goal} {constants} {n} {x} {w} {a} {b} s e h =
+    let z : n ≤ x - 32 = omega (arith, e .cell) in
+    rw (e .start, e .size, e .cell) (rw (le-ltb (x - 32) n z) at (s .within))
+
+-- a constant is a part of the program's text, or of the goal's
+pub spelled-program : (program goal : List ℕ) {constants : List ℕ} {n x w a b : ℕ} → Entry constants x w a b → w - 32 < n
+    → take ((a + b) - a) (drop a program) ≡ spelledAs program goal constants n (x - 32)
+unfolding spelledAs constantOf part
+spelled-program program goal {constants} {n} {x} {w} {a} {b} e h =
+    let size : (a + b) - a ≡ b = omega arith in
+    let z : x - 32 < n = omega (arith, e .cell) in
+    rw (lt-ltb (x - 32) n z, size, e .start, e .size, e .cell)
+
+pub spelled-goal : (program goal : List ℕ) {constants : List ℕ} {n x w a b : ℕ} → Entry constants x w a b → n ≤ w - 32
+    → take ((a + b) - a) (drop a goal) ≡ spelledAs program goal constants n (x - 32)
+unfolding spelledAs constantOf part
+spelled-goal program goal {constants} {n} {x} {w} {a} {b} e h =
+    let size : (a + b) - a ≡ b = omega arith in
+    let z : n ≤ x - 32 = omega (arith, e .cell) in
+    rw (le-ltb (x - 32) n z, size, e .start, e .size, e .cell)
+
+-- it has at most as many bytes as its entry says
+pub spelled-few : (program goal constants : List ℕ) (n i : ℕ) → length (spelledAs program goal constants n i) ≤ getD constants (2 * i + 1) 0
+unfolding spelledAs constantOf part
+spelled-few program goal constants n i =
+    omega (arith, length-take (getD constants (2 * i + 1) 0) (drop (getD constants (2 * i) 0) (cond (ltb i n) program goal)))
+
+-- the fields of cells from place i on: one more
+pub fields-more : (term : ℕ → List ℕ) (cells : List ℕ) (i : ℕ) → i < length cells → (getD cells i 0 ≡ 0 → ⊥)
+    → fieldBytes term (drop i cells) ≡ (44 ∷ term (getD cells i 0)) ++ fieldBytes term (drop (suc i) cells)
+unfolding fieldBytes
+fields-more term cells i h k = rw (drop-cons cells i 0 h, ne-eqb (getD cells i 0) 0 k)
+
+-- none behind a 0
+pub fields-stop : (term : ℕ → List ℕ) (cells : List ℕ) (i : ℕ) → i < length cells → getD cells i 0 ≡ 0
+    → fieldBytes term (drop i cells) ≡ 10 ∷ []
+unfolding fieldBytes
+fields-stop term cells i h k = rw (drop-cons cells i 0 h, eq-eqb (getD cells i 0) 0 k)
+
+-- none behind the last
+pub fields-end : (term : ℕ → List ℕ) (cells : List ℕ) (i : ℕ) → length cells ≤ i → fieldBytes term (drop i cells) ≡ 10 ∷ []
+unfolding fieldBytes
+fields-end term cells i h = rw (drop-of-length-le cells h)
+
+-- a comma and a constant s, written
+pub field-constant : {o d : List ℕ} {n : ℕ} (bytes s : List ℕ) → bytes ≡ s → length (44 ∷ bytes) ≤ length o
+    → Put s (from 1 (set o 0 44)) d n → Put (44 ∷ bytes) o (back 1 (set o 0 44) d) (1 + n)
+field-constant {o} {d} {n} bytes s e h w =
+    lent-last bytes (placed-byte 44 bytes (placed-start (44 ∷ bytes) o) h) (subst (λ (l : List ℕ). Put l (from 1 (set o 0 44)) d n) (sym e) w)
+
+-- a comma, U and a number, written
+pub field-variable : {o d : List ℕ} {n : ℕ} (bytes s : List ℕ) → bytes ≡ 85 ∷ s → length (44 ∷ bytes) ≤ length o
+    → Put s (from 2 (set (set o 0 44) 1 85)) d n → Put (44 ∷ bytes) o (back 2 (set (set o 0 44) 1 85) d) (2 + n)
+field-variable {o} {d} {n} bytes s e h w =
+    let h' : length (44 ∷ 85 ∷ s) ≤ length o = rw e at h in
+    rw e
+    (lent-last s (placed-byte 85 s (placed-byte 44 (85 ∷ s) (placed-start (44 ∷ 85 ∷ s) o) h') h') w)
+
+-- behind the comma and U there is room for the number
+pub field-variable-room : (o bytes s : List ℕ) → bytes ≡ 85 ∷ s → length (44 ∷ bytes) ≤ length o
+    → length s ≤ length (from 2 (set (set o 0 44) 1 85))
+field-variable-room o bytes s e h =
+    let h' : length (44 ∷ 85 ∷ s) ≤ length o = rw e at h in
+    rw (from-drop 2 (set (set o 0 44) 1 85), length-drop 2 (set (set o 0 44) 1 85), length-set (set o 0 44) 1 85, length-set o 0 44) (omega arith)
+
+-- one more field counted
+pub fields-count : (term : ℕ → List ℕ) (cells : List ℕ) (i size more : ℕ) → i < length cells → (getD cells i 0 ≡ 0 → ⊥)
+    → more ≡ length (term (getD cells i 0)) → size + length (fieldBytes term (drop i cells)) ≡ 1 + length (fieldBytes term cells)
+    → (size + (1 + more)) + length (fieldBytes term (drop (suc i) cells)) ≡ 1 + length (fieldBytes term cells)
+fields-count term cells i size more h k e sum =
+    omega (
+      arith,
+      ap length (fields-more term cells i h k),
+      length-append (44 ∷ term (getD cells i 0)) (fieldBytes term (drop (suc i) cells)),
+    )
