@@ -4,3 +4,4 @@ pub mod Forms
 pub mod Programs
 pub mod Goals
 pub mod Tables
+pub mod Read

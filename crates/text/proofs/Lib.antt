@@ -1,2 +1,5 @@
 -- Laws of this crate's definitions. Assumes nothing.
 pub mod Opened
+pub mod Laws
+pub mod Cursors
+pub mod Forms

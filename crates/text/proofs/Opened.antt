@@ -6,8 +6,9 @@ use Rattle.text.specs.Lists.{placeOf, isKnown, withName}
 use Rattle.text.specs.Lines.{inFirstLine, lines, isOther, lineIsFaulty, goalLine, inProgram, partedFrom, parted}
 use Rattle.text.specs.Fields.{inFirstField, fields, isName, isVariable, isTerm, isNumber, valueFrom, valueOf}
 use Rattle.text.specs.Fields.{isNumberIn}
+use Rattle.text.specs.Places.{before, classTable, lineAt, fieldsFrom, behind, partsAt}
 
 -- a name to say on an `unfolding` line
 unfoldable pub opened : ℕ
-unfolding between classOf classNumber isNameClass ascii placeOf isKnown withName inFirstLine lines isOther lineIsFaulty goalLine inProgram partedFrom parted inFirstField fields isName isVariable isTerm isNumber valueFrom valueOf isNumberIn
+unfolding between classOf classNumber isNameClass ascii placeOf isKnown withName inFirstLine lines isOther lineIsFaulty goalLine inProgram partedFrom parted inFirstField fields isName isVariable isTerm isNumber valueFrom valueOf isNumberIn before classTable lineAt fieldsFrom behind partsAt
 opened = 0

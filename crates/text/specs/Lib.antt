@@ -3,3 +3,4 @@ pub mod Bytes
 pub mod Lists
 pub mod Lines
 pub mod Fields
+pub mod Places

@@ -1,0 +1,28 @@
+-- `text::is_name` meets its contract: 1 to 8 bytes of a name. Assumes nothing.
+use borrow.Author.Needs.{needs}
+use borrow.Author.Tests.{le-leb, lt-leb}
+use lib.ListN.{length}
+use Rattle.text.specs.Bytes.{between}
+use Rattle.text.specs.Fields.{isName}
+use borrow.Author.Needs.{needs}
+use Rattle.text.proofs.is_name.Statement.{statement}
+use Rattle.text.proofs.is_name.Tie as tie
+
+returns : tie.Need-returns
+unfolding isName between
+returns c = rw (lt-leb 1 (length ((c .before .before .before .args) .f .now)) ((c .if1) .taken))
+
+returns-2 : tie.Need-returns-2
+unfolding isName between
+returns-2 c = rw (le-leb 1 (length ((c .before .before .before .before .args) .f .now)) ((c .before .if1) .left), lt-leb (length ((c .before .before .before .before .args) .f .now)) 8 ((c .if2) .taken))
+
+are-name-bytes-requires : tie.Need-are-name-bytes-requires
+are-name-bytes-requires c κs = search needs
+
+returns-3 : tie.Need-returns-3
+unfolding isName between
+returns-3 c =
+    rw (le-leb 1 (length ((c .before .before .before .before .before .args) .f .now)) ((c .before .before .if1) .left), le-leb (length ((c .before .before .before .before .before .args) .f .now)) 8 ((c .before .if2) .left)) ((c .are-name-bytes) .ensures)
+
+pub is-name-spec : {M : Type 1} → statement M
+is-name-spec = tie.close (tie.spec returns returns-2 are-name-bytes-requires returns-3)
