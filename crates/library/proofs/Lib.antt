@@ -3,3 +3,7 @@ pub mod Opened
 pub mod Starred
 pub mod Demand3
 pub mod Instances
+pub mod LineNumbers
+pub mod CellLaws
+pub mod ReadyLaws
+pub mod ReplyLaws
