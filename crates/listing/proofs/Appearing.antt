@@ -86,11 +86,13 @@ in-terms (var x ∷ ts) seen =
     (grows-in ts (more x seen) x (more-itself x seen)) (in-terms ts (more x seen))
 
 -- and of constraints
-pub in-rows : (cs : List Constraint) (seen : List ℕ) → every (λ (c : Constraint). every (varIn (appearing seen cs)) (c .terms)) cs ≡ true
+pub in-rows : (cs : List Constraint) (seen : List ℕ) → every (λ (c : Constraint). every (varIn (appearing seen cs)) (c .terms))
+    cs ≡ true
 unfolding appearing
 in-rows [] seen = refl
 in-rows (c ∷ cs) seen =
     let order = appearing (appearingIn seen (c .terms)) cs in
     both (every (varIn order) (c .terms)) (every (λ (d : Constraint). every (varIn order) (d .terms)) cs)
-    (every-grows (c .terms) (appearingIn seen (c .terms)) order (grows cs (appearingIn seen (c .terms))) (in-terms (c .terms) seen))
+    (every-grows (c .terms) (appearingIn seen (c .terms)) order (grows cs (appearingIn seen (c .terms)))
+    (in-terms (c .terms) seen))
     (in-rows cs (appearingIn seen (c .terms)))

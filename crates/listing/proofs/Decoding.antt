@@ -17,14 +17,17 @@ use Rattle.text.specs.Lists.{has, every, placeFrom, tabled, gather}
 use Rattle.semantics.specs.Terms.{Term, con, var, Constraint, Symbol, symbolAt, noSymbol}
 use Rattle.syntax.specs.Forms.{firstConstant}
 use Rattle.syntax.specs.Tables.{cellTerm, cellTerms, cellConstraints, symbolOf, symbolsOf, constantOf, constantsOf, lettersOf}
-use Rattle.listing.specs.Listing.{decimal, fieldsBehind, lineOf, Naming, termShown, constraintShown, constraintLines, unbound, boundLines}
+use Rattle.listing.specs.Listing.{decimal, fieldsBehind, lineOf, Naming, termShown, constraintShown, constraintLines}
+use Rattle.listing.specs.Listing.{unbound, boundLines}
 use Rattle.listing.specs.Pieces.{spelledAs, namedAs, termBytes, fieldBytes, boundBytes, rowBytes, boundsBytes, rowsBytes}
 use Rattle.listing.specs.Numbers.{Numbering, numberIn}
-use Rattle.listing.specs.Runs.{TermCell}
+use Rattle.listing.specs.Runs.{TermCell, isTermOf, isConstraintOf}
 use Rattle.listing.proofs.TermLaws.{term-constant, term-variable}
 use Rattle.listing.proofs.LineLaws.{rows-more, rows-end}
-use Rattle.listing.proofs.NumberLaws.{cell-constant, cell-variable, number-seen, rowConstraint, constraints-more, constraints-end}
+use Rattle.listing.proofs.NumberLaws.{cell-constant, cell-variable, number-seen, rowConstraint, constraints-more}
+use Rattle.listing.proofs.NumberLaws.{constraints-end}
 use Rattle.listing.proofs.Appearing.{varIn, and-true}
+use Rattle.listing.proofs.StateLaws.{term-cell}
 
 -- a table's length and its entries
 pub tabled-length : {A : Type 0} (f : ℕ → A) (n : ℕ) → length (tabled f n) ≡ n
@@ -44,7 +47,8 @@ tabled-at {A} f d (suc n) i h = go (eqb i n) refl (tabled-at f d n i)
         List·getD-append (tabled f n) (f n ∷ []) d i (omega (arith, tabled-length f n, other)) ∙ again (omega (arith, other))
 
 -- the letters of a table, one by one
-pub letters-take : (letters : List ℕ) (n : ℕ) → n ≤ length letters → lettersOf letters n ≡ map (λ (v : ℕ). v ∷ []) (take n letters)
+pub letters-take : (letters : List ℕ) (n : ℕ) → n ≤ length letters → lettersOf letters n ≡ map (λ (v : ℕ). v ∷ [])
+    (take n letters)
 unfolding lettersOf
 letters-take letters zero h = refl
 letters-take letters (suc n) h =
@@ -57,7 +61,8 @@ letters-take letters (suc n) h =
     map-snoc (y ∷ l) x = ap (λ (r : List (List ℕ)). (y ∷ []) ∷ r) (map-snoc l x)
 
 -- a symbol's name, and a constant's spelling, from their tables
-pub named-at : (program symbols : List ℕ) (s k : ℕ) → k < s → symbolAt (symbolsOf program symbols s) k .name ≡ namedAs program symbols k
+pub named-at : (program symbols : List ℕ) (s k : ℕ) → k < s → symbolAt (symbolsOf program symbols s) k .name
+    ≡ namedAs program symbols k
 unfolding symbolAt symbolsOf namedAs
 named-at program symbols s k h = ap (λ (y : Symbol). y .name) (tabled-at (symbolOf program symbols) noSymbol s k h)
 
@@ -79,8 +84,10 @@ spelled-at program goal constants n m i h = go (ltb i n) refl
         let place : i ≡ length (tabled (constantOf program constants) n) + (i - n) =
         omega (arith, tabled-length (constantOf program constants) n) in
         let back : n + (i - n) ≡ i = omega arith in
-        ap (λ (j : ℕ). getD (tabled (constantOf program constants) n ++ tabled (λ (j : ℕ). constantOf goal constants (n + j)) m) j []) place
-        ∙ getD-append-add (tabled (constantOf program constants) n) (tabled (λ (j : ℕ). constantOf goal constants (n + j)) m) (i - n) []
+        ap (λ (j : ℕ). getD (tabled (constantOf program constants) n ++ tabled (λ (j : ℕ). constantOf goal constants (n + j)) m)
+        j []) place
+        ∙ getD-append-add (tabled (constantOf program constants) n) (tabled (λ (j : ℕ). constantOf goal constants (n + j)) m)
+        (i - n) []
         ∙ tabled-at (λ (j : ℕ). constantOf goal constants (n + j)) [] m (i - n) (omega arith)
         ∙ ap (constantOf goal constants) back
 
@@ -110,29 +117,29 @@ module _ (naming : Naming) (order numbers : List ℕ) (count s k : ℕ) (named s
 
   -- the fields of cells
   pub shown-fields : (cells : List ℕ)
-      → ((i : ℕ) → i < length cells → 0 < getD cells i 0 → TermCell k (length numbers) (getD cells i 0))
-      → every (varIn order) (cellTerms cells) ≡ true
+      → every (isTermOf k (length numbers)) (cellTerms cells) ≡ true → every (varIn order) (cellTerms cells) ≡ true
       → fieldsBehind (map (termShown naming (unbound order)) (cellTerms cells)) ≡ fieldBytes (termBytes spelled numbers) cells
   unfolding fieldsBehind fieldBytes cellTerms
-  shown-fields [] each inside = refl
-  shown-fields (x ∷ xs) each inside =
-      go (eqb x 0) refl inside (shown-fields xs (λ i h p. each (suc i) (omega arith) p))
+  shown-fields [] known inside = refl
+  shown-fields (x ∷ xs) known inside = go (eqb x 0) known inside (shown-fields xs)
     where
-      go : (b : Bool) → eqb x 0 ≡ b → every (varIn order) (cond b [] (cellTerm x ∷ cellTerms xs)) ≡ true
-          → (every (varIn order) (cellTerms xs) ≡ true
+      go : (b : Bool) → every (isTermOf k (length numbers)) (cond b [] (cellTerm x ∷ cellTerms xs)) ≡ true
+          → every (varIn order) (cond b [] (cellTerm x ∷ cellTerms xs)) ≡ true
+          → (every (isTermOf k (length numbers)) (cellTerms xs) ≡ true → every (varIn order) (cellTerms xs) ≡ true
           → fieldsBehind (map (termShown naming (unbound order)) (cellTerms xs)) ≡ fieldBytes (termBytes spelled numbers) xs)
           → fieldsBehind (map (termShown naming (unbound order)) (cond b [] (cellTerm x ∷ cellTerms xs)))
           ≡ cond b (10 ∷ []) (44 ∷ (termBytes spelled numbers x ++ fieldBytes (termBytes spelled numbers) xs))
-      go true e h again = refl
-      go false e h again =
+      go true known h again = refl
+      go false known h again =
+          let terms = and-true (isTermOf k (length numbers) (cellTerm x)) (every (isTermOf k (length numbers)) (cellTerms xs)) known in
           let parts = and-true (varIn order (cellTerm x)) (every (varIn order) (cellTerms xs)) h in
-          let some : x ≡ 0 → ⊥ = eqb-false x 0 e in
           ap (λ (l : List ℕ). 44 ∷ (l ++ fieldsBehind (map (termShown naming (unbound order)) (cellTerms xs))))
-          (shown-term x (each 0 (omega arith) (omega (arith, some))) (parts .0))
-          ∙ ap (λ (l : List ℕ). 44 ∷ (termBytes spelled numbers x ++ l)) (again (parts .1))
+          (shown-term x (term-cell k (length numbers) x (terms .0)) (parts .0))
+          ∙ ap (λ (l : List ℕ). 44 ∷ (termBytes spelled numbers x ++ l)) (again (terms .1) (parts .1))
 
   -- the A lines
-  pub shown-bounds : (vs xs : List ℕ) → length xs ≤ length vs → ((i : ℕ) → i < length xs → TermCell k (length numbers) (getD xs i 0))
+  pub shown-bounds : (vs xs : List ℕ) → length xs ≤ length vs → ((i : ℕ) → i < length xs → TermCell k (length numbers)
+      (getD xs i 0))
       → every (varIn order) (map cellTerm xs) ≡ true
       → boundLines naming (unbound order) (map (λ (v : ℕ). v ∷ []) (take (length xs) vs)) (map cellTerm xs)
       ≡ boundsBytes (termBytes spelled numbers) vs xs
@@ -148,36 +155,42 @@ module _ (naming : Naming) (order numbers : List ℕ) (count s k : ℕ) (named s
       (shown-bounds vs xs (omega arith) (λ i p. each (suc i) (omega arith)) (parts .1))
 
   -- the S line of five cells
-  pub shown-row : (row : List ℕ) → getD row 0 0 < s
-      → ((i : ℕ) → i < length (drop 1 row) → 0 < getD (drop 1 row) i 0 → TermCell k (length numbers) (getD (drop 1 row) i 0))
+  pub shown-row : (row : List ℕ) → isConstraintOf s k (length numbers) (rowConstraint row) ≡ true
       → every (varIn order) (cellTerms (drop 1 row)) ≡ true
-      → lineOf (ascii "S") (constraintShown naming (unbound order) (rowConstraint row)) ≡ rowBytes named (termBytes spelled numbers) row
-  unfolding constraintShown rowBytes lineOf fieldsBehind ascii
-  shown-row row symbol each inside =
+      → lineOf (ascii "S") (constraintShown naming (unbound order) (rowConstraint row)) ≡ rowBytes named
+      (termBytes spelled numbers) row
+  unfolding constraintShown rowBytes lineOf fieldsBehind ascii isConstraintOf
+  shown-row row known inside =
+      let parts = and-true (ltb (getD row 0 0) s) (every (isTermOf k (length numbers)) (cellTerms (drop 1 row))) known in
       ap (λ (l : List ℕ). 83 ∷ 44 ∷ (l ++ fieldsBehind (map (termShown naming (unbound order)) (cellTerms (drop 1 row)))))
-      (names (getD row 0 0) symbol)
-      ∙ ap (λ (l : List ℕ). 83 ∷ 44 ∷ (named (getD row 0 0) ++ l)) (shown-fields (drop 1 row) each inside)
+      (names (getD row 0 0) (ltb-true (getD row 0 0) s (parts .0)))
+      ∙ ap (λ (l : List ℕ). 83 ∷ 44 ∷ (named (getD row 0 0) ++ l)) (shown-fields (drop 1 row) (parts .1) inside)
 
   -- the S lines from constraint i on, n of them
   pub shown-rows : (cells : List ℕ) (m : ℕ) → length cells ≡ 5 * m
-      → ((i : ℕ) → i < m → getD (take 5 (drop (5 * i) cells)) 0 0 < s)
-      → ((i : ℕ) → i < m → (j : ℕ) → j < length (drop 1 (take 5 (drop (5 * i) cells))) → 0 < getD (drop 1 (take 5 (drop (5 * i) cells))) j 0
-      → TermCell k (length numbers) (getD (drop 1 (take 5 (drop (5 * i) cells))) j 0))
-      → (n i : ℕ) → i + n ≡ m
+      → (n i : ℕ) → i + n ≡ m → every (isConstraintOf s k (length numbers)) (cellConstraints (drop (5 * i) cells)) ≡ true
       → every (λ (c : Constraint). every (varIn order) (c .terms)) (cellConstraints (drop (5 * i) cells)) ≡ true
       → constraintLines (ascii "S") naming (unbound order) (cellConstraints (drop (5 * i) cells))
       ≡ rowsBytes (rowBytes named (termBytes spelled numbers)) (drop (5 * i) cells)
   unfolding constraintLines
-  shown-rows cells m size symbols terms zero i e inside =
-      rw (constraints-end cells (5 * i) (omega arith), rows-end (rowBytes named (termBytes spelled numbers)) cells (5 * i) (omega arith))
-  shown-rows cells m size symbols terms (suc n) i e inside =
+  shown-rows cells m size zero i e known inside =
+      rw (
+        constraints-end cells (5 * i) (omega arith),
+        rows-end (rowBytes named (termBytes spelled numbers)) cells (5 * i)
+            (omega arith),
+      )
+  shown-rows cells m size (suc n) i e known inside =
       let more = constraints-more cells i (omega arith) in
       let row = take 5 (drop (5 * i) cells) in
+      let rows =
+      and-true (isConstraintOf s k (length numbers) (rowConstraint row))
+      (every (isConstraintOf s k (length numbers)) (cellConstraints (drop (5 * (i + 1)) cells))) (rw more at known) in
       let parts =
       and-true (every (varIn order) (cellTerms (drop 1 row)))
-      (every (λ (c : Constraint). every (varIn order) (c .terms)) (cellConstraints (drop (5 * (i + 1)) cells))) (rw more at inside) in
+      (every (λ (c : Constraint). every (varIn order) (c .terms)) (cellConstraints (drop (5 * (i + 1)) cells)))
+      (rw more at inside) in
       rw (more, rows-more (rowBytes named (termBytes spelled numbers)) cells i (omega arith))
       (ap (λ (l : List ℕ). l ++ constraintLines (ascii "S") naming (unbound order) (cellConstraints (drop (5 * (i + 1)) cells)))
-      (shown-row row (symbols i (omega arith)) (terms i (omega arith)) (parts .0))
+      (shown-row row (rows .0) (parts .0))
       ∙ ap (λ (l : List ℕ). rowBytes named (termBytes spelled numbers) row ++ l)
-      (shown-rows cells m size symbols terms n (i + 1) (omega arith) (parts .1)))
+      (shown-rows cells m size n (i + 1) (omega arith) (rows .1) (parts .1)))

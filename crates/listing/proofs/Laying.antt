@@ -1,7 +1,8 @@
 -- Laws of `laid`: bytes put into the front of an output, one behind the other.
 --   laid-byte, copied-more      one byte more
 --   Placed                      how far the bytes of a whole are placed, and what is left of them
---   placed-start, placed-byte, placed-part, placed-all      from nothing, by a byte, by a part written from the end on, to the whole
+--   placed-start, placed-byte, placed-part, placed-all      from nothing, by a byte, by a part written from the end on, to the
+-- whole
 --   placed-room, placed-fits, placed-length                 the rest of the output holds the rest of the bytes
 -- Assumes nothing.
 use mathlib.Core.Path.{_≡_, refl, sym, ap, _∙_, subst}
@@ -10,7 +11,8 @@ use Prim.Native.Nat.{ℕ, suc, _+_, _-_, _≤_, _<_}
 use native.Mathlib.Omega.{arith}
 use native.Mathlib.Numerals.{add-one}
 use lib.ListN.{length, take, drop, getD, set, length-append, length-drop, length-set, drop-of-length-le}
-use lib.Seq.{take-at, drop-at, set-at, drop-cons, drop-drop, take-suc, take-add, length-take-le, append-snoc, take-length, take-all, take-append-seam}
+use lib.Seq.{take-at, drop-at, set-at, drop-cons, drop-drop, take-suc, take-add, length-take-le, append-snoc, take-length}
+use lib.Seq.{take-all, take-append-seam}
 use Rattle.listing.specs.Pieces.{laid, Put}
 
 -- an output keeps its length
@@ -19,14 +21,16 @@ unfolding laid
 laid-length s o h = simp (length-append, length-drop) (omega arith)
 
 -- a part written from the end of what is placed on: e bytes p are placed in o, giving a; then s goes into the rest, giving d
-pub laid-then : (p s o a d : List ℕ) (e : ℕ) → a ≡ laid p o → e ≡ length p → d ≡ laid s (drop e a) → take e a ++ d ≡ laid (p ++ s) o
+pub laid-then : (p s o a d : List ℕ) (e : ℕ) → a ≡ laid p o → e ≡ length p → d ≡ laid s (drop e a) → take e a ++ d ≡ laid
+    (p ++ s) o
 unfolding laid
 laid-then p s o a d e ha he hd =
     rw (hd, ha, he, take-at p (drop (length p) o) (length p) refl, drop-at p (drop (length p) o) (length p) refl)
     (rw (drop-drop (length s) (length p) o, length-append p s) (sym (append-assoc p s (drop (length p + length s) o))))
 
 -- one byte written there
-pub laid-byte : (p o a : List ℕ) (e b : ℕ) → a ≡ laid p o → e ≡ length p → length p < length o → set a e b ≡ laid (p ++ (b ∷ [])) o
+pub laid-byte : (p o a : List ℕ) (e b : ℕ) → a ≡ laid p o → e ≡ length p → length p < length o → set a e b ≡ laid
+    (p ++ (b ∷ [])) o
 unfolding laid
 laid-byte p o a e b ha he h =
     rw (ha, he, drop-cons o (length p) 0 h, length-append p (b ∷ []))

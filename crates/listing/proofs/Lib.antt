@@ -6,5 +6,6 @@ pub mod TermLaws
 pub mod LineLaws
 pub mod NumberLaws
 pub mod Appearing
+pub mod StateLaws
 pub mod Decoding
 pub mod RunLaws

@@ -13,7 +13,8 @@ use lib.ListN.{length, take, drop, getD, set, length-append, length-take, length
 use lib.Seq.{drop-cons, drop-drop}
 use Rattle.syntax.specs.Tables.{part, symbolOf}
 use Rattle.listing.specs.Listing.{decimal}
-use Rattle.listing.specs.Pieces.{namedAs, fieldBytes, boundBytes, rowBytes, headBytes, boundsBytes, rowsBytes, endBytes, Named, AllShown}
+use Rattle.listing.specs.Pieces.{namedAs, fieldBytes, boundBytes, rowBytes, headBytes, boundsBytes, rowsBytes, endBytes}
+use Rattle.listing.specs.Pieces.{Named, AllShown}
 use Rattle.listing.proofs.Laying.{Placed, placed-start, placed-byte, from, from-drop}
 
 -- what is read of symbol k, w being its number: where its name starts and how many bytes it has
@@ -22,7 +23,8 @@ pub record NameEntry (symbols : List ℕ) (k w a b : ℕ) : Type 0 where
   pub start : a ≡ getD symbols (4 * w) 0
   pub size : b ≡ getD symbols (4 * w + 1) 0
 
-pub name-within : {program symbols : List ℕ} {k w a b : ℕ} → Named program symbols k → NameEntry symbols k w a b → a + b ≤ length program
+pub name-within : {program symbols : List ℕ} {k w a b : ℕ} → Named program symbols k → NameEntry symbols k w a b
+    → a + b ≤ length program
 name-within {program} {symbols} {k} {w} {a} {b} s e = rw (e .start, e .size, e .number) (s .within)
 
 pub name-part : (program : List ℕ) {symbols : List ℕ} {k w a b : ℕ} → NameEntry symbols k w a b
@@ -44,7 +46,8 @@ unfolding boundBytes
 bound-start term letter x o h =
     placed-byte letter ((44 ∷ term x) ++ (10 ∷ []))
     (placed-byte 44 (letter ∷ ((44 ∷ term x) ++ (10 ∷ [])))
-    (placed-byte 65 (44 ∷ letter ∷ ((44 ∷ term x) ++ (10 ∷ []))) (placed-start (65 ∷ 44 ∷ letter ∷ ((44 ∷ term x) ++ (10 ∷ []))) o) h) h) h
+    (placed-byte 65 (44 ∷ letter ∷ ((44 ∷ term x) ++ (10 ∷ [])))
+    (placed-start (65 ∷ 44 ∷ letter ∷ ((44 ∷ term x) ++ (10 ∷ []))) o) h) h) h
 
 -- the first bytes of an S line
 pub row-start : (named term : ℕ → List ℕ) (row o : List ℕ) → length (rowBytes named term row) ≤ length o
@@ -91,7 +94,8 @@ pub bounds-end : (term : ℕ → List ℕ) (letters bound : List ℕ) (i : ℕ) 
 bounds-end term letters bound i h = rw (drop-of-length-le bound h) (bounds-none term (drop i letters))
 
 -- the S lines from constraint i on: one more, and none behind the last
-rows-first : (line : List ℕ → List ℕ) (cells : List ℕ) → 5 ≤ length cells → rowsBytes line cells ≡ line (take 5 cells) ++ rowsBytes line (drop 5 cells)
+rows-first : (line : List ℕ → List ℕ) (cells : List ℕ) → 5 ≤ length cells → rowsBytes line cells ≡ line (take 5 cells)
+    ++ rowsBytes line (drop 5 cells)
 unfolding rowsBytes
 rows-first line [] h = absurd (omega arith)
 rows-first line (k ∷ []) h = absurd (omega arith)
@@ -131,6 +135,7 @@ end-size named term f letters bound cells =
     omega (
       arith,
       head-size (69 ∷ 78 ∷ 68 ∷ 44 ∷ []) f,
-      length-append (headBytes (69 ∷ 78 ∷ 68 ∷ 44 ∷ []) f) (boundsBytes term letters bound ++ rowsBytes (rowBytes named term) cells),
+      length-append (headBytes (69 ∷ 78 ∷ 68 ∷ 44 ∷ []) f) (boundsBytes term letters bound ++ rowsBytes
+          (rowBytes named term) cells),
       length-append (boundsBytes term letters bound) (rowsBytes (rowBytes named term) cells),
     )

@@ -115,7 +115,8 @@ unfolding appearingIn
 numbered-constant numbers seen x h = rw (cell-constant x h) (record { next = λ order n. n; few = omega arith })
 
 -- a variable that has appeared; w is its cell as read
-pub numbered-old : (numbers : List ℕ) (seen x w : ℕ) → w ≡ x → 256 ≤ x → w - 256 < length numbers → (getD numbers (w - 256) 0 ≡ 0 → ⊥)
+pub numbered-old : (numbers : List ℕ) (seen x w : ℕ) → w ≡ x → 256 ≤ x → w - 256 < length numbers
+    → (getD numbers (w - 256) 0 ≡ 0 → ⊥)
     → Renumbered (cellTerm x ∷ []) 1 numbers numbers seen seen
 unfolding appearingIn
 numbered-old numbers seen x w e h inside old =
@@ -171,7 +172,8 @@ unfolding cellTerms
 terms-end cells i h = rw (drop-of-length-le cells h)
 
 -- terms one after the other
-pub appearing-step : (order : List ℕ) (t : Term) (ts : List Term) → appearingIn (appearingIn order (t ∷ [])) ts ≡ appearingIn order (t ∷ ts)
+pub appearing-step : (order : List ℕ) (t : Term) (ts : List Term) → appearingIn (appearingIn order (t ∷ [])) ts
+    ≡ appearingIn order (t ∷ ts)
 unfolding appearingIn
 appearing-step order (con c) ts = refl
 appearing-step order (var x) ts = refl
@@ -196,7 +198,8 @@ reach-more x rest e n r =
       reaches = appearing-step (r .order) (cellTerm x) rest ∙ ap (appearingIn (r .order)) (sym e) ∙ r .reaches;
     }
 
-pub reach-end : {whole numbers : List ℕ} {seen : ℕ} {left : List Term} → left ≡ [] → Reaching whole numbers seen left → Numbering whole numbers seen
+pub reach-end : {whole numbers : List ℕ} {seen : ℕ} {left : List Term} → left ≡ [] → Reaching whole numbers seen left
+    → Numbering whole numbers seen
 unfolding appearingIn
 reach-end {whole} {numbers} {seen} {left} e r =
     let same : r .order ≡ whole = ap (appearingIn (r .order)) (sym e) ∙ r .reaches in
@@ -214,7 +217,8 @@ zeros-more numbers i h zeros x k = go (eqb x i) refl
         getD-set-other numbers i x 0 0 other ∙ zeros x (omega (arith, other))
 
 -- constraint i's terms, as they are lent
-pub terms-cut : (cells : List ℕ) (i : ℕ) → take (((5 * i + 1) + 4) - (5 * i + 1)) (drop (5 * i + 1) cells) ≡ drop 1 (take 5 (drop (5 * i) cells))
+pub terms-cut : (cells : List ℕ) (i : ℕ) → take (((5 * i + 1) + 4) - (5 * i + 1)) (drop (5 * i + 1) cells) ≡ drop 1
+    (take 5 (drop (5 * i) cells))
 terms-cut cells i =
     let four : ((5 * i + 1) + 4) - (5 * i + 1) ≡ 4 = omega arith in
     rw (four, ← drop-drop 1 (5 * i) cells) (behind (drop (5 * i) cells))
@@ -228,7 +232,8 @@ abbrev pub rowConstraint : List ℕ → Constraint
 rowConstraint row = record { symbol = getD row 0 0; terms = cellTerms (drop 1 row) }
 
 -- the constraints from number i on: one more, and none behind the last
-pub constraints-first : (cells : List ℕ) → 5 ≤ length cells → cellConstraints cells ≡ rowConstraint (take 5 cells) ∷ cellConstraints (drop 5 cells)
+pub constraints-first : (cells : List ℕ) → 5 ≤ length cells → cellConstraints cells ≡ rowConstraint
+    (take 5 cells) ∷ cellConstraints (drop 5 cells)
 unfolding cellConstraints
 constraints-first [] h = absurd (omega arith)
 constraints-first (k ∷ []) h = absurd (omega arith)
@@ -238,7 +243,8 @@ constraints-first (k ∷ a ∷ b ∷ c ∷ []) h = absurd (omega arith)
 constraints-first (k ∷ a ∷ b ∷ c ∷ d ∷ cells) h = refl
 
 pub constraints-more : (cells : List ℕ) (i : ℕ) → 5 * i + 5 ≤ length cells
-    → cellConstraints (drop (5 * i) cells) ≡ rowConstraint (take 5 (drop (5 * i) cells)) ∷ cellConstraints (drop (5 * (i + 1)) cells)
+    → cellConstraints (drop (5 * i) cells) ≡ rowConstraint (take 5 (drop (5 * i) cells)) ∷ cellConstraints
+    (drop (5 * (i + 1)) cells)
 constraints-more cells i h =
     let next : 5 * i + 5 ≡ 5 * (i + 1) = omega arith in
     constraints-first (drop (5 * i) cells) (omega (arith, length-drop (5 * i) cells))
@@ -259,7 +265,8 @@ pub rows-start : (order numbers : List ℕ) (seen : ℕ) (cs : List Constraint) 
     → ReachingRows (appearing order cs) numbers seen cs
 rows-start order numbers seen cs n = record { order = order; numbering = n; reaches = refl }
 
-pub rows-next : {whole numbers after : List ℕ} {seen count most : ℕ} {left : List Constraint} (row : List ℕ) (rest : List Constraint)
+pub rows-next : {whole numbers after : List ℕ} {seen count most : ℕ} {left : List Constraint} (row : List ℕ)
+    (rest : List Constraint)
     → left ≡ rowConstraint row ∷ rest → Renumbered (cellTerms (drop 1 row)) most numbers after seen count
     → ReachingRows whole numbers seen left → ReachingRows whole after count rest
 unfolding appearing
@@ -282,6 +289,8 @@ pub four-cells : (cells : List ℕ) (i : ℕ) → length (take (((5 * i + 1) + 4
 four-cells cells i = omega (arith, length-take (((5 * i + 1) + 4) - (5 * i + 1)) (drop (5 * i + 1) cells))
 
 -- the same terms by another name
-pub renumbered-is : {s t : List Term} {most : ℕ} {before after : List ℕ} {seen count : ℕ} → s ≡ t → Renumbered s most before after seen count
+pub renumbered-is : {s t : List Term} {most : ℕ} {before after : List ℕ} {seen count : ℕ} → s ≡ t → Renumbered s most before
+    after seen count
     → Renumbered t most before after seen count
-renumbered-is {s} {t} {most} {before} {after} {seen} {count} e r = subst (λ (l : List Term). Renumbered l most before after seen count) e r
+renumbered-is {s} {t} {most} {before} {after} {seen} {count} e r = subst
+    (λ (l : List Term). Renumbered l most before after seen count) e r

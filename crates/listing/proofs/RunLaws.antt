@@ -9,42 +9,33 @@ use mathlib.Core.Bool.{Bool, true, false, cond}
 use mathlib.Core.List.{List, [], _∷_, _++_, map}
 use Prim.Native.Nat.{ℕ, suc, _+_, _-_, _*_, _≤_, _<_}
 use native.Mathlib.Omega.{arith}
-use native.Mathlib.Nat.{add-zero}
-use native.Mathlib.Numerals.{one-add}
 use lib.Dec.{ltb, eqb}
 use lib.ListN.{length, take, drop, getD, length-drop, length-take}
-use lib.Seq.{getD-drop, getD-take, ext-getD}
+use lib.Seq.{ext-getD}
 use borrow.Author.Tests.{lt-ltb, le-ltb, ltb-true, ltb-false, ne-eqb}
 use Rattle.text.specs.Bytes.{ascii}
 use Rattle.text.specs.Lists.{every, tabled}
 use Rattle.semantics.specs.Terms.{Term, Constraint, State}
 use Rattle.semantics.specs.Overlaps.{appearingIn, appearing}
 use Rattle.syntax.specs.Tables.{cellTerm, cellTerms, cellConstraints, lettersOf}
-use Rattle.listing.specs.Listing.{decimal, fieldsBehind, lineOf, Naming, unbound, boundLines, constraintLines, stateListing, endListing}
-use Rattle.listing.specs.Pieces.{laid, spelledAs, namedAs, termBytes, headBytes, boundsBytes, rowBytes, rowsBytes, endBytes, Put}
+use Rattle.listing.specs.Listing.{decimal, fieldsBehind, lineOf, Naming, unbound, boundLines, constraintLines}
+use Rattle.listing.specs.Listing.{stateListing, endListing}
+use Rattle.listing.specs.Pieces.{laid, spelledAs, namedAs, termBytes, headBytes, boundsBytes, rowBytes, rowsBytes}
+use Rattle.listing.specs.Pieces.{endBytes, Put}
 use Rattle.listing.specs.Pieces.{Spelt, Shown, AllShown, Named, RowShown, BoundShown, RowsShown}
 use Rattle.listing.specs.Numbers.{numberIn, numbersOf, Numbering, Within, RowsWithin}
-use Rattle.listing.specs.Runs.{tableNaming, stateOf, runBytes, listedIn, outputAfter, numbersAfter, ListedAs, TermCell, Listable}
+use Rattle.listing.specs.Runs.{tableNaming, stateOf, runBytes, listedIn, outputAfter, numbersAfter, ListedAs, TermCell}
+use Rattle.listing.specs.Runs.{Listable}
 use Rattle.listing.specs.declared.Listed.{Listed}
 use Rattle.listing.specs.declared.Listed.the-variants.{TooShort, Written}
 use Rattle.listing.specs.declared.Counts.{Counts}
 use Rattle.listing.proofs.Appearing.{varIn, every-grows, in-terms, in-rows, grows}
+use Rattle.listing.proofs.StateLaws.{terms-cell, row-listed}
 use Rattle.listing.proofs.Decoding.{tabled-length, tabled-at, letters-take, named-at, spelled-at, shown-bounds, shown-rows}
 
 -- the cells of constraint i
 row-size : (cells : List ℕ) (i m : ℕ) → i < m → length cells ≡ 5 * m → length (take 5 (drop (5 * i) cells)) ≡ 5
 row-size cells i m h e = omega (arith, length-take 5 (drop (5 * i) cells), length-drop (5 * i) cells)
-
-row-first : (cells : List ℕ) (i : ℕ) → getD (take 5 (drop (5 * i) cells)) 0 0 ≡ getD cells (5 * i) 0
-row-first cells i =
-    getD-take 5 (drop (5 * i) cells) 0 0 (omega arith) ∙ getD-drop (5 * i) cells 0 0 ∙ ap (λ (n : ℕ). getD cells n 0) (add-zero (5 * i))
-
-row-cell : (cells : List ℕ) (i j : ℕ) → j < 4 → getD (drop 1 (take 5 (drop (5 * i) cells))) j 0 ≡ getD cells (5 * i + suc j) 0
-row-cell cells i j h =
-    getD-drop 1 (take 5 (drop (5 * i) cells)) j 0
-    ∙ getD-take 5 (drop (5 * i) cells) (1 + j) 0 (omega arith)
-    ∙ getD-drop (5 * i) cells (1 + j) 0
-    ∙ ap (λ (n : ℕ). getD cells (5 * i + n) 0) (one-add j)
 
 module _ {program goal symbols constants letters bound cells : List ℕ} {v : ℕ} {k : Counts}
     (l : Listable program goal symbols constants letters bound cells v k) where
@@ -61,17 +52,17 @@ module _ {program goal symbols constants letters bound cells : List ℕ} {v : �
             within = l .spellings (x - 32) (omega (arith, bounds .0, bounds .1));
           }
 
-  -- the terms of constraint i
-  pub row-term : (i : ℕ) → i < k .constraints → (j : ℕ) → j < length (drop 1 (take 5 (drop (5 * i) cells)))
+  -- the symbol and the terms of constraint i
+  row-symbol : (i : ℕ) → i < k .constraints → getD (take 5 (drop (5 * i) cells)) 0 0 < k .symbols
+  row-symbol i h = row-listed (k .symbols) (k .own + k .more) v cells (k .constraints) i (l .size) h (l .rows) .0
+
+  row-term : (i : ℕ) → i < k .constraints → (j : ℕ) → j < length (drop 1 (take 5 (drop (5 * i) cells)))
+      → ((n : ℕ) → n < j → 0 < getD (drop 1 (take 5 (drop (5 * i) cells))) n 0)
       → 0 < getD (drop 1 (take 5 (drop (5 * i) cells))) j 0
       → TermCell (k .own + k .more) v (getD (drop 1 (take 5 (drop (5 * i) cells))) j 0)
-  row-term i h j p some =
-      let four : j < 4 = omega (arith, length-drop 1 (take 5 (drop (5 * i) cells)), row-size cells i (k .constraints) h (l .size)) in
-      let same = row-cell cells i j four in
-      subst (λ (x : ℕ). TermCell (k .own + k .more) v x) (sym same) (l .row-terms i j h four (omega (arith, same)))
-
-  pub row-symbol : (i : ℕ) → i < k .constraints → getD (take 5 (drop (5 * i) cells)) 0 0 < k .symbols
-  row-symbol i h = rw (row-first cells i) (l .row-symbols i h)
+  row-term i h =
+      terms-cell (k .own + k .more) v (drop 1 (take 5 (drop (5 * i) cells)))
+      (row-listed (k .symbols) (k .own + k .more) v cells (k .constraints) i (l .size) h (l .rows) .1)
 
   -- what the A lines ask
   pub bound-shown : BoundShown program goal constants (k .own) v letters bound
@@ -98,20 +89,20 @@ module _ {program goal symbols constants letters bound cells : List ℕ} {v : �
                 };
             terms =
                 record {
-                  each = λ j p some.
-                      cell-shown (getD (drop 1 (take 5 (drop (5 * i) cells))) j 0) (row-term i h j p some);
+                  each = λ j p front some.
+                      cell-shown (getD (drop 1 (take 5 (drop (5 * i) cells))) j 0) (row-term i h j p front some);
                 };
           }
 
   -- what numbering asks
   pub bound-within : Within v bound
-  bound-within = record { each = λ i h high. l .bound-terms i h .variable high }
+  bound-within = record { each = λ i h front high. l .bound-terms i h .variable high }
 
   pub rows-within : RowsWithin v cells (k .constraints)
   rows-within =
       record {
         size = l .size;
-        rows = λ i h. record { each = λ j p high. row-term i h j p (omega (arith, high)) .variable high };
+        rows = λ i h. record { each = λ j p front high. row-term i h j p front (omega (arith, high)) .variable high };
       }
 
 -- cells that are not 0 are all terms
@@ -136,7 +127,8 @@ pub end-listing : {program goal symbols constants letters bound cells numbers : 
     → Listable program goal symbols constants letters bound cells (length numbers) k
     → Numbering (appearing (appearingIn [] (cellTerms bound)) (cellConstraints cells)) numbers count
     → runBytes (tableNaming program goal symbols constants k) letters false 0 bound cells (k .firings)
-    ≡ endBytes (namedAs program symbols) (termBytes (spelledAs program goal constants (k .own)) numbers) (k .firings) letters bound cells
+    ≡ endBytes (namedAs program symbols) (termBytes (spelledAs program goal constants (k .own)) numbers)
+    (k .firings) letters bound cells
 unfolding runBytes endListing stateListing stateOf tableNaming endBytes headBytes lineOf fieldsBehind ascii
 end-listing {program} {goal} {symbols} {constants} {letters} {bound} {cells} {numbers} {k} {count} l numbered =
     let naming = tableNaming program goal symbols constants k in
@@ -153,13 +145,15 @@ end-listing {program} {goal} {symbols} {constants} {letters} {bound} {cells} {nu
     subst (λ (us : List Term). Numbering (appearing (appearingIn [] us) (cellConstraints cells)) numbers count) terms numbered in
     let seen : every (varIn order) ts ≡ true =
     every-grows ts (appearingIn [] ts) order (grows (cellConstraints cells) (appearingIn [] ts)) (in-terms ts []) in
-    let bounds : boundLines naming (unbound order) (lettersOf letters (length bound)) ts ≡ boundsBytes (termBytes spelled numbers) letters bound =
+    let bounds : boundLines naming (unbound order) (lettersOf letters (length bound)) ts ≡ boundsBytes
+    (termBytes spelled numbers) letters bound =
     ap (λ (vs : List (List ℕ)). boundLines naming (unbound order) vs ts) (letters-take letters (length bound) (l .lettered))
     ∙ shown-bounds naming order numbers count (k .symbols) all named spelled names spells numbering letters bound (l .lettered)
     (l .bound-terms) seen in
-    let rows : constraintLines (ascii "S") naming (unbound order) (cellConstraints cells) ≡ rowsBytes (rowBytes named (termBytes spelled numbers)) cells =
+    let rows : constraintLines (ascii "S") naming (unbound order) (cellConstraints cells) ≡ rowsBytes
+    (rowBytes named (termBytes spelled numbers)) cells =
     shown-rows naming order numbers count (k .symbols) all named spelled names spells numbering cells (k .constraints) (l .size)
-    (row-symbol l) (row-term l) (k .constraints) 0 (omega arith) (in-rows (cellConstraints cells) (appearingIn [] ts)) in
+    (k .constraints) 0 (omega arith) (l .rows) (in-rows (cellConstraints cells) (appearingIn [] ts)) in
     let head = lineOf (ascii "END") (decimal (k .firings) ∷ []) in
     ap (λ (r : List ℕ). head ++ (r ++ constraintLines (ascii "S") naming (unbound order) (cellConstraints cells))) bounds
     ∙ ap (λ (r : List ℕ). head ++ (boundsBytes (termBytes spelled numbers) letters bound ++ r)) rows
@@ -173,7 +167,7 @@ unfolding numbersAfter numbersOf
 end-numbers {program} {goal} {symbols} {constants} {letters} {bound} {cells} {numbers} {k} {count} before l size numbered =
     let all = k .own + k .more in
     let terms : cellTerms bound ≡ map cellTerm bound =
-        terms-all bound (λ i h. term-some all (length before) (getD bound i 0) (l .bound-terms i h)) in
+    terms-all bound (λ i h. term-some all (length before) (getD bound i 0) (l .bound-terms i h)) in
     let order = appearing (appearingIn [] (cellTerms bound)) (cellConstraints cells) in
     ext-getD 0 numbers (tabled (numberIn order) (length before)) (size ∙ sym (tabled-length (numberIn order) (length before)))
     (λ i h. numbered .each i h ∙ sym (tabled-at (numberIn order) 0 (length before) i (omega (arith, size))))

@@ -2,6 +2,7 @@
 --   term-constant, term-variable        a cell is a constant or a variable
 --   spelled-program, spelled-goal       a constant is a part of the program's text, or of the goal's
 --   fields-more, fields-stop, fields-end      the fields of cells from place i on
+--   front-more                          one more cell before the first 0
 --   field-constant, field-variable      a comma and a term, written
 -- Assumes nothing.
 use mathlib.Core.Path.{_≡_, refl, sym, ap, _∙_, subst}
@@ -12,7 +13,7 @@ use native.Mathlib.Omega.{arith}
 use lib.Dec.{ltb, eqb}
 use lib.ListN.{length, take, drop, getD, set, length-take, length-set, length-append, length-drop, drop-of-length-le}
 use lib.Seq.{drop-cons, drop-nil, length-take-le}
-use borrow.Author.Tests.{lt-ltb, le-ltb, eq-eqb, ne-eqb}
+use borrow.Author.Tests.{lt-ltb, le-ltb, eq-eqb, ne-eqb, eqb-true, eqb-false}
 use Rattle.syntax.specs.Tables.{part, constantOf}
 use Rattle.listing.specs.Listing.{decimal}
 use Rattle.listing.specs.Pieces.{spelledAs, termBytes, fieldBytes, Put, laid, Spelt}
@@ -34,13 +35,15 @@ pub record Entry (constants : List ℕ) (x w a b : ℕ) : Type 0 where
   pub size : b ≡ getD constants (2 * (w - 32) + 1) 0
 
 -- it lies inside the program's text, or inside the goal's
-pub entry-program : {program goal constants : List ℕ} {n x w a b : ℕ} → Spelt program goal constants n x → Entry constants x w a b → w - 32 < n
+pub entry-program : {program goal constants : List ℕ} {n x w a b : ℕ} → Spelt program goal constants n x
+    → Entry constants x w a b → w - 32 < n
     → a + b ≤ length program
 entry-program {program} {goal} {constants} {n} {x} {w} {a} {b} s e h =
     let z : x - 32 < n = omega (arith, e .cell) in
     rw (e .start, e .size, e .cell) (rw (lt-ltb (x - 32) n z) at (s .within))
 
-pub entry-goal : {program goal constants : List ℕ} {n x w a b : ℕ} → Spelt program goal constants n x → Entry constants x w a b → n ≤ w - 32
+pub entry-goal : {program goal constants : List ℕ} {n x w a b : ℕ} → Spelt program goal constants n x → Entry constants x w a b
+    → n ≤ w - 32
     → a + b ≤ length goal
 entry-goal {program} {goal} {constants} {n} {x} {w} {a} {b} s e h =
     let z : n ≤ x - 32 = omega (arith, e .cell) in
@@ -64,7 +67,8 @@ spelled-goal program goal {constants} {n} {x} {w} {a} {b} e h =
     rw (le-ltb (x - 32) n z, size, e .start, e .size, e .cell)
 
 -- it has at most as many bytes as its entry says
-pub spelled-few : (program goal constants : List ℕ) (n i : ℕ) → length (spelledAs program goal constants n i) ≤ getD constants (2 * i + 1) 0
+pub spelled-few : (program goal constants : List ℕ) (n i : ℕ) → length (spelledAs program goal constants n i) ≤ getD constants
+    (2 * i + 1) 0
 unfolding spelledAs constantOf part
 spelled-few program goal constants n i =
     omega (arith, length-take (getD constants (2 * i + 1) 0) (drop (getD constants (2 * i) 0) (cond (ltb i n) program goal)))
@@ -86,11 +90,21 @@ pub fields-end : (term : ℕ → List ℕ) (cells : List ℕ) (i : ℕ) → leng
 unfolding fieldBytes
 fields-end term cells i h = rw (drop-of-length-le cells h)
 
+-- one more cell before the first 0
+pub front-more : (cells : List ℕ) (i : ℕ) → (getD cells i 0 ≡ 0 → ⊥) → ((j : ℕ) → j < i → 0 < getD cells j 0)
+    → (j : ℕ) → j < i + 1 → 0 < getD cells j 0
+front-more cells i some front j h = go (eqb j i) refl
+  where
+    go : (b : Bool) → eqb j i ≡ b → 0 < getD cells j 0
+    go true e = let same : j ≡ i = eqb-true j i e in rw same (omega (arith, some))
+    go false e = front j (omega (arith, eqb-false j i e))
+
 -- a comma and a constant s, written
 pub field-constant : {o d : List ℕ} {n : ℕ} (bytes s : List ℕ) → bytes ≡ s → length (44 ∷ bytes) ≤ length o
     → Put s (from 1 (set o 0 44)) d n → Put (44 ∷ bytes) o (back 1 (set o 0 44) d) (1 + n)
 field-constant {o} {d} {n} bytes s e h w =
-    lent-last bytes (placed-byte 44 bytes (placed-start (44 ∷ bytes) o) h) (subst (λ (l : List ℕ). Put l (from 1 (set o 0 44)) d n) (sym e) w)
+    lent-last bytes (placed-byte 44 bytes (placed-start (44 ∷ bytes) o) h)
+    (subst (λ (l : List ℕ). Put l (from 1 (set o 0 44)) d n) (sym e) w)
 
 -- a comma, U and a number, written
 pub field-variable : {o d : List ℕ} {n : ℕ} (bytes s : List ℕ) → bytes ≡ 85 ∷ s → length (44 ∷ bytes) ≤ length o
@@ -105,7 +119,13 @@ pub field-variable-room : (o bytes s : List ℕ) → bytes ≡ 85 ∷ s → leng
     → length s ≤ length (from 2 (set (set o 0 44) 1 85))
 field-variable-room o bytes s e h =
     let h' : length (44 ∷ 85 ∷ s) ≤ length o = rw e at h in
-    rw (from-drop 2 (set (set o 0 44) 1 85), length-drop 2 (set (set o 0 44) 1 85), length-set (set o 0 44) 1 85, length-set o 0 44) (omega arith)
+    rw (
+      from-drop 2 (set (set o 0 44) 1 85),
+      length-drop 2 (set (set o 0 44) 1 85),
+      length-set (set o 0 44) 1 85,
+      length-set o 0
+          44,
+    ) (omega arith)
 
 -- one more field counted
 pub fields-count : (term : ℕ → List ℕ) (cells : List ℕ) (i size more : ℕ) → i < length cells → (getD cells i 0 ≡ 0 → ⊥)

@@ -35,11 +35,12 @@ pub record Renumbered (terms : List Term) (most : ℕ) (before after : List ℕ)
 pub record RowsRenumbered (constraints : List Constraint) (before after : List ℕ) (seen count : ℕ) : Type 0 where
   pub next : (order : List ℕ) → Numbering order before seen → Numbering (appearing order constraints) after count
 
--- cells whose variables have an entry in a table of v
+-- cells whose variables before the first 0 have an entry in a table of v
 pub record Within (v : ℕ) (cells : List ℕ) : Type 0 where
-  pub each : (i : ℕ) → i < length cells → 256 ≤ getD cells i 0 → getD cells i 0 - 256 < v
+  pub each :
+      (i : ℕ) → i < length cells → ((j : ℕ) → j < i → 0 < getD cells j 0) → 256 ≤ getD cells i 0 → getD cells i 0 - 256 < v
 
--- the cells of m constraints whose variables have an entry in a table of v
+-- the cells of m constraints, each of whose variables has an entry in a table of v
 pub record RowsWithin (v : ℕ) (cells : List ℕ) (m : ℕ) : Type 0 where
   pub size : length cells ≡ 5 * m
   pub rows : (i : ℕ) → i < m → Within v (drop 1 (take 5 (drop (5 * i) cells)))

@@ -20,7 +20,8 @@ use Rattle.listing.specs.Listing.{decimal}
 unfoldable pub laid : List ℕ → List ℕ → List ℕ
 laid bytes before = bytes ++ drop (length bytes) before
 
--- what a function that writes promises: the bytes stand in the front of the output, the rest is as before, and it returns their count
+-- what a function that writes promises: the bytes stand in the front of the output, the rest is as before, and it returns
+-- their count
 pub record Put (bytes before after : List ℕ) (count : ℕ) : Type 0 where
   pub placed : after ≡ laid bytes before
   pub counted : count ≡ length bytes
@@ -91,9 +92,11 @@ pub record Shown (program goal constants : List ℕ) (n v x : ℕ) : Type 0 wher
   pub constant : x < 256 → Spelt program goal constants n x
   pub variable : 256 ≤ x → x - 256 < v
 
--- cells that can be shown, but for those that are 0
+-- cells that can be shown, up to the first 0
 pub record AllShown (program goal constants : List ℕ) (n v : ℕ) (cells : List ℕ) : Type 0 where
-  pub each : (i : ℕ) → i < length cells → 0 < getD cells i 0 → Shown program goal constants n v (getD cells i 0)
+  pub each :
+      (i : ℕ) → i < length cells → ((j : ℕ) → j < i → 0 < getD cells j 0) → 0 < getD cells i 0
+      → Shown program goal constants n v (getD cells i 0)
 
 -- a symbol whose entry is in the table and lies inside the program's text
 pub record Named (program symbols : List ℕ) (k : ℕ) : Type 0 where

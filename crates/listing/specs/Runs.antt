@@ -3,15 +3,18 @@
 --   runBytes                 the listing of a run
 --   listedIn, outputAfter    the reply for an output of some room, and every byte of the output afterwards
 --   numbersAfter             the lent table of numbers afterwards
---   Listable                 what is asked of the tables and the cells
+--   isTermOf                 a term that the tables can show
+--   isConstraintOf           a constraint that they can show
+--   Listable                 what is asked of the tables and the state
 -- Assumes nothing.
-use Prim.Native.Nat.{ℕ, suc, _+_, _-_, _*_, _≤_, _<_}
-use mathlib.Core.Bool.{Bool, true, false, cond}
+use Prim.Native.Nat.{ℕ, _+_, _-_, _*_, _≤_, _<_}
+use mathlib.Core.Bool.{Bool, true, false, cond, _&&_}
 use mathlib.Core.List.{List, [], _∷_, map}
 use mathlib.Core.Path.{_≡_}
-use lib.Dec.{ltb}
+use lib.Dec.{ltb, leb}
 use lib.ListN.{length, getD}
-use Rattle.semantics.specs.Terms.{State, failed, live}
+use Rattle.text.specs.Lists.{every}
+use Rattle.semantics.specs.Terms.{Term, con, var, Constraint, State, failed, live}
 use Rattle.semantics.specs.Strategy.{Final}
 use Rattle.semantics.specs.Overlaps.{appearingIn, appearing}
 use Rattle.syntax.specs.Tables.{cellTerm, cellConstraints, symbolsOf, constantsOf, lettersOf}
@@ -37,7 +40,8 @@ stateOf hasFailed next bound cells = cond hasFailed failed (live next (map cellT
 -- the listing of a run
 unfoldable pub runBytes : Naming → List ℕ → Bool → ℕ → List ℕ → List ℕ → ℕ → List ℕ
 runBytes naming letters hasFailed next bound cells firings =
-    endListing naming (lettersOf letters (length bound)) (record { state = stateOf hasFailed next bound cells; firings = firings })
+    endListing naming (lettersOf letters (length bound))
+    (record { state = stateOf hasFailed next bound cells; firings = firings })
 
 -- the reply for an output of some room
 unfoldable pub listedIn : ℕ → List ℕ → Listed
@@ -62,8 +66,18 @@ pub record TermCell (k v x : ℕ) : Type 0 where
   pub constant : x < 256 → (32 ≤ x) × (x < 32 + k)
   pub variable : 256 ≤ x → x - 256 < v
 
+-- whether a term is one of k constants or v variables
+unfoldable pub isTermOf : ℕ → ℕ → Term → Bool
+isTermOf k v (con c) = leb 32 c && ltb c (32 + k)
+isTermOf k v (var x) = ltb x v
+
+-- whether a constraint is of one of s symbols, and each of its terms one of k constants or v variables
+unfoldable pub isConstraintOf : ℕ → ℕ → ℕ → Constraint → Bool
+isConstraintOf s k v c = ltb (c .symbol) s && every (isTermOf k v) (c .terms)
+
 -- what is asked of a state that has not failed, with v entries for its variables' numbers: names and spellings lie inside their
--- texts, each goal variable has its letter, and every cell has its entry
+-- texts, each goal variable has its letter, and every symbol and term has its entry; nothing is asked of cells behind a
+-- constraint's first 0
 pub record Listable (program goal symbols constants letters bound cells : List ℕ) (v : ℕ) (k : Counts) : Type 0 where
   pub names-room : 4 * k .symbols ≤ length symbols
   pub names : (i : ℕ) → i < k .symbols → getD symbols (4 * i) 0 + getD symbols (4 * i + 1) 0 ≤ length program
@@ -74,14 +88,12 @@ pub record Listable (program goal symbols constants letters bound cells : List �
   pub lettered : length bound ≤ length letters
   pub bound-terms : (i : ℕ) → i < length bound → TermCell (k .own + k .more) v (getD bound i 0)
   pub size : length cells ≡ 5 * k .constraints
-  pub row-symbols : (i : ℕ) → i < k .constraints → getD cells (5 * i) 0 < k .symbols
-  pub row-terms :
-      (i j : ℕ) → i < k .constraints → j < 4 → 0 < getD cells (5 * i + suc j) 0
-      → TermCell (k .own + k .more) v (getD cells (5 * i + suc j) 0)
+  pub rows : every (isConstraintOf (k .symbols) (k .own + k .more) v) (cellConstraints cells) ≡ true
   pub few : length bound + 4 * k .constraints < 65536
 
 -- what the listing of a run asks
-pub record RunListable (program goal symbols constants letters bound cells : List ℕ) (v : ℕ) (hasFailed : Bool) (k : Counts) : Type 0
+pub record RunListable (program goal symbols constants letters bound cells : List ℕ) (v : ℕ) (hasFailed : Bool)
+    (k : Counts) : Type 0
   where
     pub firings : k .firings < 65536
     pub live : hasFailed ≡ false → Listable program goal symbols constants letters bound cells v k

@@ -21,7 +21,8 @@ pub fn bounds_length<'a>(
 ) -> usize
     requires { ⌜ BoundShown (now program) (now goal) (now constants) n (length (now numbers)) (now letters) (now bound) ⌝ }
     ensures { λ r. ⌜ Sized
-        (boundsBytes (termBytes (spelledAs (now (program .entry)) (now (goal .entry)) (now (constants .entry)) n) (now (numbers .entry)))
+        (boundsBytes (termBytes (spelledAs (now (program .entry)) (now (goal .entry)) (now (constants .entry)) n)
+        (now (numbers .entry)))
         (now (letters .entry)) (now (bound .entry))) (65542 * length (now (bound .entry))) r ⌝ }
 {
     let mut size = 0;
@@ -45,10 +46,12 @@ pub fn put_bounds<'a>(
     bound: &[u16],
 ) -> usize
     requires { ⌜ BoundShown (now program) (now goal) (now constants) n (length (now numbers)) (now letters) (now bound)
-        × (length (boundsBytes (termBytes (spelledAs (now program) (now goal) (now constants) n) (now numbers)) (now letters) (now bound))
+        × (length (boundsBytes (termBytes (spelledAs (now program) (now goal) (now constants) n) (now numbers)) (now letters)
+        (now bound))
         ≤ length (now out)) ⌝ }
     ensures { λ r. ⌜ Put
-        (boundsBytes (termBytes (spelledAs (now (program .entry)) (now (goal .entry)) (now (constants .entry)) n) (now (numbers .entry)))
+        (boundsBytes (termBytes (spelledAs (now (program .entry)) (now (goal .entry)) (now (constants .entry)) n)
+        (now (numbers .entry)))
         (now (letters .entry)) (now (bound .entry))) (now (out .entry)) (now (out .exit)) r ⌝ }
 {
     let mut end = 0;

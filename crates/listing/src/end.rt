@@ -54,7 +54,8 @@ pub fn put_end<'a>(
     requires { ⌜ BoundShown (now program) (now goal) (now constants) n (length (now numbers)) (now letters) (now bound)
         × RowsShown (now program) (now goal) (now symbols) (now constants) n (length (now numbers)) (now cells) m
         × (length (endBytes (namedAs (now program) (now symbols))
-        (termBytes (spelledAs (now program) (now goal) (now constants) n) (now numbers)) firings (now letters) (now bound) (now cells))
+        (termBytes (spelledAs (now program) (now goal) (now constants) n) (now numbers)) firings (now letters) (now bound)
+        (now cells))
         ≤ length (now out)) ⌝ }
     ensures { λ r. ⌜ Put (endBytes (namedAs (now (program .entry)) (now (symbols .entry)))
         (termBytes (spelledAs (now (program .entry)) (now (goal .entry)) (now (constants .entry)) n) (now (numbers .entry)))

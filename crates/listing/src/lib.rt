@@ -39,7 +39,7 @@ pub struct Counts {
 pub fn list_failed(out: &mut [u8], firings: usize) -> Listed
     requires { ⌜ firings < 65536 ⌝ }
     ensures { λ r. ⌜ ListedAs (headBytes (70 ∷ 65 ∷ 73 ∷ 76 ∷ 69 ∷ 68 ∷ 44 ∷ []) firings)
-      (now (out .entry)) (now (out .exit)) r ⌝ }
+        (now (out .entry)) (now (out .exit)) r ⌝ }
 {
     let size = 8 + digits(firings);
     if out.len() < size {
@@ -127,7 +127,8 @@ pub fn list_run<'a>(
         (runBytes (tableNaming (now (program .entry)) (now (goal .entry)) (now (symbols .entry)) (now (constants .entry)) counts)
         (now (letters .entry)) failed 0 (now (bound .entry)) (now (cells .entry)) (counts .firings))
         (now (out .entry)) (now (out .exit)) r ⌝ }
-    ensures { λ _. ⌜ now (numbers .exit) ≡ numbersAfter failed (now (bound .entry)) (now (cells .entry)) (now (numbers .entry)) ⌝ }
+    ensures { λ _. ⌜ now (numbers .exit) ≡ numbersAfter failed (now (bound .entry)) (now (cells .entry))
+        (now (numbers .entry)) ⌝ }
 {
     if failed {
         let firings = counts.firings;

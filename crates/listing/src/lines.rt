@@ -46,7 +46,8 @@ pub fn bound_length<'a>(
 ) -> usize
     requires { ⌜ Shown (now program) (now goal) (now constants) n (length (now numbers)) x ⌝ }
     ensures { λ r. ⌜ Sized
-        (boundBytes (termBytes (spelledAs (now (program .entry)) (now (goal .entry)) (now (constants .entry)) n) (now (numbers .entry)))
+        (boundBytes (termBytes (spelledAs (now (program .entry)) (now (goal .entry)) (now (constants .entry)) n)
+        (now (numbers .entry)))
         letter x) 65542 r ⌝ }
 {
     5 + term_length(program, goal, constants, n, numbers, x)
@@ -67,7 +68,8 @@ pub fn put_bound<'a>(
         × (length (boundBytes (termBytes (spelledAs (now program) (now goal) (now constants) n) (now numbers)) letter x)
         ≤ length (now out)) ⌝ }
     ensures { λ r. ⌜ Put
-        (boundBytes (termBytes (spelledAs (now (program .entry)) (now (goal .entry)) (now (constants .entry)) n) (now (numbers .entry)))
+        (boundBytes (termBytes (spelledAs (now (program .entry)) (now (goal .entry)) (now (constants .entry)) n)
+        (now (numbers .entry)))
         letter x) (now (out .entry)) (now (out .exit)) r ⌝ }
 {
     out[0] = b'A';

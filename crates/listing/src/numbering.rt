@@ -57,7 +57,8 @@ pub fn number_terms(numbers: &mut [u16], before: usize, cells: &[u16]) -> usize
 // The terms of m constraints, five cells each.
 pub fn number_rows(numbers: &mut [u16], before: usize, cells: &[u16], m: usize) -> usize
     requires { ⌜ RowsWithin (length (now numbers)) (now cells) m × (before + 4 * m < 65536) ⌝ }
-    ensures { λ r. ⌜ RowsRenumbered (cellConstraints (now (cells .entry))) (now (numbers .entry)) (now (numbers .exit)) before r ⌝ }
+    ensures { λ r. ⌜ RowsRenumbered (cellConstraints (now (cells .entry))) (now (numbers .entry)) (now (numbers .exit)) before r
+        ⌝ }
 {
     let mut seen = before;
     let mut i = 0;
@@ -74,7 +75,8 @@ pub fn number_rows(numbers: &mut [u16], before: usize, cells: &[u16], m: usize) 
 pub fn number(numbers: &mut [u16], bound: &[u16], cells: &[u16], m: usize) -> usize
     requires { ⌜ Within (length (now numbers)) (now bound) × RowsWithin (length (now numbers)) (now cells) m
         × (length (now bound) + 4 * m < 65536) ⌝ }
-    ensures { λ r. ⌜ Numbering (appearing (appearingIn [] (cellTerms (now (bound .entry)))) (cellConstraints (now (cells .entry))))
+    ensures { λ r. ⌜ Numbering (appearing (appearingIn [] (cellTerms (now (bound .entry))))
+        (cellConstraints (now (cells .entry))))
         (now (numbers .exit)) r ⌝ }
 {
     clear(numbers);

@@ -47,7 +47,8 @@ pub fn term_length<'a>(
 ) -> usize
     requires { ⌜ Shown (now program) (now goal) (now constants) n (length (now numbers)) x ⌝ }
     ensures { λ r. ⌜ Sized
-        (termBytes (spelledAs (now (program .entry)) (now (goal .entry)) (now (constants .entry)) n) (now (numbers .entry)) x) 65537 r ⌝ }
+        (termBytes (spelledAs (now (program .entry)) (now (goal .entry)) (now (constants .entry)) n) (now (numbers .entry)) x)
+        65537 r ⌝ }
 {
     if x < 256 {
         let s = spelling(program, goal, constants, n, x);
@@ -70,7 +71,8 @@ pub fn put_field<'a>(
     requires { ⌜ Shown (now program) (now goal) (now constants) n (length (now numbers)) x
         × (length (44 ∷ termBytes (spelledAs (now program) (now goal) (now constants) n) (now numbers) x) ≤ length (now out)) ⌝ }
     ensures { λ r. ⌜ Put
-        (44 ∷ termBytes (spelledAs (now (program .entry)) (now (goal .entry)) (now (constants .entry)) n) (now (numbers .entry)) x)
+        (44 ∷ termBytes (spelledAs (now (program .entry)) (now (goal .entry)) (now (constants .entry)) n)
+        (now (numbers .entry)) x)
         (now (out .entry)) (now (out .exit)) r ⌝ }
 {
     out[0] = b',';
@@ -95,7 +97,8 @@ pub fn fields_length<'a>(
     requires { ⌜ AllShown (now program) (now goal) (now constants) n (length (now numbers)) (now cells)
         × (length (now cells) ≤ 4) ⌝ }
     ensures { λ r. ⌜ Sized
-        (fieldBytes (termBytes (spelledAs (now (program .entry)) (now (goal .entry)) (now (constants .entry)) n) (now (numbers .entry)))
+        (fieldBytes (termBytes (spelledAs (now (program .entry)) (now (goal .entry)) (now (constants .entry)) n)
+        (now (numbers .entry)))
         (now (cells .entry))) 262153 r ⌝ }
 {
     let mut size = 1;
@@ -125,7 +128,8 @@ pub fn put_fields<'a>(
         × (length (fieldBytes (termBytes (spelledAs (now program) (now goal) (now constants) n) (now numbers)) (now cells))
         ≤ length (now out)) ⌝ }
     ensures { λ r. ⌜ Put
-        (fieldBytes (termBytes (spelledAs (now (program .entry)) (now (goal .entry)) (now (constants .entry)) n) (now (numbers .entry)))
+        (fieldBytes (termBytes (spelledAs (now (program .entry)) (now (goal .entry)) (now (constants .entry)) n)
+        (now (numbers .entry)))
         (now (cells .entry))) (now (out .entry)) (now (out .exit)) r ⌝ }
 {
     let mut end = 0;

@@ -1,7 +1,6 @@
 -- `listing::list_end` meets its contract. Assumes nothing.
 use mathlib.Core.Path.{refl, sym, subst}
 use Prim.Native.Nat.{ℕ}
-use borrow.Author.Needs.{needs}
 use native.Mathlib.Omega.{arith}
 use Rattle.listing.specs.Runs.{Listable}
 use Rattle.listing.proofs.RunLaws.{bound-shown, rows-shown, bound-within, rows-within, end-listing, end-numbers}
@@ -21,11 +20,12 @@ end-length-requires c κs =
     let start = at-number .before .before .before .before .before .before .before .before .before .before .before in
     let args = (start .args) in
     let asked = start .pre .live refl in
-    let listable = subst (λ (v : ℕ). Listable (args .program .now) (args .goal .now) (args .symbols .now) (args .constants .now) (args .letters .now) (args .bound .now) (args .cells .now) v (args .counts)) (sym (at-number .number .kept .0)) asked in
+    let listable = subst (λ (v : ℕ). Listable (args .program .now) (args .goal .now) (args .symbols .now) (args .constants .now)
+    (args .letters .now) (args .bound .now) (args .cells .now) v (args .counts)) (sym (at-number .number .kept .0)) asked in
     (bound-shown listable, rows-shown listable, start .pre .firings)
 
 same-length : tie.Need-same-length
-same-length c = search needs
+same-length c = omega arith
 
 returns : tie.Need-returns
 returns c =
@@ -34,7 +34,8 @@ returns c =
     let start = at-number .before .before .before .before .before .before .before .before .before .before .before in
     let args = (start .args) in
     let asked = start .pre .live refl in
-    let listable = subst (λ (v : ℕ). Listable (args .program .now) (args .goal .now) (args .symbols .now) (args .constants .now) (args .letters .now) (args .bound .now) (args .cells .now) v (args .counts)) (sym (at-number .number .kept .0)) asked in
+    let listable = subst (λ (v : ℕ). Listable (args .program .now) (args .goal .now) (args .symbols .now) (args .constants .now)
+    (args .letters .now) (args .bound .now) (args .cells .now) v (args .counts)) (sym (at-number .number .kept .0)) asked in
     let same = end-listing listable (at-number .number .ensures) in
     let numbered = end-numbers (args .numbers .now) asked (at-number .number .kept .0) (at-number .number .ensures) in
     (listed-is (sym same) (listed-short (omega (arith, at-end-length .end-length .ensures, c .if1 .taken))), numbered)
@@ -47,14 +48,15 @@ put-end-requires c κs =
     let start = at-number .before .before .before .before .before .before .before .before .before .before .before in
     let args = (start .args) in
     let asked = start .pre .live refl in
-    let listable = subst (λ (v : ℕ). Listable (args .program .now) (args .goal .now) (args .symbols .now) (args .constants .now) (args .letters .now) (args .bound .now) (args .cells .now) v (args .counts)) (sym (at-number .number .kept .0)) asked in
+    let listable = subst (λ (v : ℕ). Listable (args .program .now) (args .goal .now) (args .symbols .now) (args .constants .now)
+    (args .letters .now) (args .bound .now) (args .cells .now) v (args .counts)) (sym (at-number .number .kept .0)) asked in
     (bound-shown listable, rows-shown listable, omega (arith, at-end-length .end-length .ensures, at-if1 .if1 .left))
 
 same-length-2 : tie.Need-same-length-2
-same-length-2 c = search needs
+same-length-2 c = omega arith
 
 same-length-3 : tie.Need-same-length-3
-same-length-3 c = search needs
+same-length-3 c = omega arith
 
 returns-2 : tie.Need-returns-2
 returns-2 c =
@@ -65,11 +67,15 @@ returns-2 c =
     let start = at-number .before .before .before .before .before .before .before .before .before .before .before in
     let args = (start .args) in
     let asked = start .pre .live refl in
-    let listable = subst (λ (v : ℕ). Listable (args .program .now) (args .goal .now) (args .symbols .now) (args .constants .now) (args .letters .now) (args .bound .now) (args .cells .now) v (args .counts)) (sym (at-number .number .kept .0)) asked in
+    let listable = subst (λ (v : ℕ). Listable (args .program .now) (args .goal .now) (args .symbols .now) (args .constants .now)
+    (args .letters .now) (args .bound .now) (args .cells .now) v (args .counts)) (sym (at-number .number .kept .0)) asked in
     let same = end-listing listable (at-number .number .ensures) in
-    let numbered = end-numbers (args .numbers .now) asked (at-number .number .kept .0) (at-number .number .ensures) in
-    (listed-is (sym same)
-    (listed-written (omega (arith, at-end-length .end-length .ensures, at-if1 .if1 .left)) (at-end-length .end-length .ensures) (at-put-end .put-end .ensures)), numbered)
+    let numbered = end-numbers (args .numbers .now) asked (at-number .number .kept .0) (at-number .number .ensures) in (
+      listed-is (sym same)
+          (listed-written (omega (arith, at-end-length .end-length .ensures, at-if1 .if1 .left))
+          (at-end-length .end-length .ensures) (at-put-end .put-end .ensures)),
+      numbered,
+    )
 
 pub list-end-spec : {M : Type 1} → statement M
 list-end-spec =

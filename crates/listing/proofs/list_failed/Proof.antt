@@ -1,6 +1,5 @@
 -- `listing::list_failed` meets its contract. Assumes nothing.
 use mathlib.Core.List.{[], _∷_}
-use borrow.Author.Needs.{needs}
 use native.Mathlib.Omega.{arith}
 use Rattle.listing.proofs.Decimals.{decimal-few}
 use Rattle.listing.proofs.LineLaws.{head-size}
@@ -9,7 +8,7 @@ use Rattle.listing.proofs.list_failed.Statement.{statement}
 use Rattle.listing.proofs.list_failed.Tie as tie
 
 digits-requires : tie.Need-digits-requires
-digits-requires c κs = search needs
+digits-requires c κs = tt
 
 add-size : tie.Need-add-size
 add-size c =
@@ -24,7 +23,7 @@ returns c =
     listed-short (omega (arith, whole, at-digits .digits .ensures, c .if1 .taken))
 
 slice-aggregate-put-head : tie.Need-slice-aggregate-put-head
-slice-aggregate-put-head c = search needs
+slice-aggregate-put-head c = omega arith
 
 put-head-requires : tie.Need-put-head-requires
 put-head-requires c κs =
@@ -35,7 +34,7 @@ put-head-requires c κs =
     omega (arith, whole, at-digits .digits .ensures, at-if1 .if1 .left)
 
 same-length : tie.Need-same-length
-same-length c = search needs
+same-length c = omega arith
 
 returns-2 : tie.Need-returns-2
 returns-2 c =
@@ -44,7 +43,8 @@ returns-2 c =
     let at-digits = at-if1 .before in
     let start = at-digits .before .before in
     let whole = head-size (70 ∷ 65 ∷ 73 ∷ 76 ∷ 69 ∷ 68 ∷ 44 ∷ []) (start .args .firings) in
-    listed-written (omega (arith, whole, at-digits .digits .ensures, at-if1 .if1 .left)) (omega (arith, whole, at-digits .digits .ensures)) (at-put-head .put-head .ensures)
+    listed-written (omega (arith, whole, at-digits .digits .ensures, at-if1 .if1 .left))
+    (omega (arith, whole, at-digits .digits .ensures)) (at-put-head .put-head .ensures)
 
 pub list-failed-spec : {M : Type 1} → statement M
 list-failed-spec =

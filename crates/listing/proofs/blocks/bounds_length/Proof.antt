@@ -60,11 +60,16 @@ loop-again c =
     let start = at-loop .before .before .before .before .before .before .before in
     let spelled = spelledAs (start .args .program .now) (start .args .goal .now) (start .args .constants .now) (start .args .n) in
     let term = termBytes spelled (start .args .numbers .now) in
-    let more = bounds-more term (start .args .letters .now) (start .args .bound .now) (at-loop .loop .i) (at-loop-test .loop-test .taken) (start .pre .lettered) in
-    let sum = length-append (boundBytes term (getD (start .args .letters .now) (at-loop .loop .i) 0) (getD (start .args .bound .now) (at-loop .loop .i) 0)) (boundsBytes term (drop (suc (at-loop .loop .i)) (start .args .letters .now)) (drop (suc (at-loop .loop .i)) (start .args .bound .now))) in (
+    let more = bounds-more term (start .args .letters .now) (start .args .bound .now) (at-loop .loop .i)
+    (at-loop-test .loop-test .taken) (start .pre .lettered) in
+    let sum = length-append (boundBytes term (getD (start .args .letters .now) (at-loop .loop .i) 0)
+    (getD (start .args .bound .now) (at-loop .loop .i) 0))
+    (boundsBytes term (drop (suc (at-loop .loop .i)) (start .args .letters .now))
+    (drop (suc (at-loop .loop .i)) (start .args .bound .now))) in (
       omega arith,
       omega (arith, c .bound-length .ensures .few, at-loop .loop .inv .1),
-      rw (add-one (at-loop .loop .i)) (omega (arith, ap length more, sum, c .bound-length .ensures .counted, at-loop .loop .inv .2)),
+      rw (add-one (at-loop .loop .i))
+          (omega (arith, ap length more, sum, c .bound-length .ensures .counted, at-loop .loop .inv .2)),
     )
 
 returns : tie.Need-returns Inv-loop μ-loop
@@ -73,7 +78,8 @@ returns c =
     let start = at-loop .before .before .before .before .before .before .before in
     let spelled = spelledAs (start .args .program .now) (start .args .goal .now) (start .args .constants .now) (start .args .n) in
     let term = termBytes spelled (start .args .numbers .now) in
-    let done = ap length (bounds-end term (start .args .letters .now) (start .args .bound .now) (at-loop .loop .i) (c .loop-test .left)) in
+    let done = ap length (bounds-end term (start .args .letters .now) (start .args .bound .now) (at-loop .loop .i)
+    (c .loop-test .left)) in
     record { counted = omega (arith, at-loop .loop .inv .2); few = omega (arith, at-loop .loop .inv .1, at-loop .loop .inv .0) }
 
 pub bounds-length-spec : {M : Type 1} → statement M

@@ -4,7 +4,8 @@ use native.Mathlib.Omega.{arith}
 use native.Mathlib.Numerals.{add-one}
 use lib.ListN.{length, getD, drop}
 use Rattle.listing.specs.Pieces.{spelledAs, termBytes, boundBytes, boundsBytes}
-use Rattle.listing.proofs.Laying.{Placed, placed-start, placed-is, placed-all, placed-count, placed-length, lent-part, lent-room}
+use Rattle.listing.proofs.Laying.{Placed, placed-start, placed-is, placed-all, placed-count, placed-length, lent-part}
+use Rattle.listing.proofs.Laying.{lent-room}
 use Rattle.listing.proofs.LineLaws.{bounds-more, bounds-end}
 use Rattle.listing.proofs.blocks.put_bounds.Statement.{statement}
 use Rattle.listing.proofs.blocks.put_bounds.Tie as tie
@@ -27,7 +28,8 @@ sub-put-bound c =
     let start = at-loop .before .before .before .before .before .before .before .before in
     let spelled = spelledAs (start .args .program .now) (start .args .goal .now) (start .args .constants .now) (start .args .n) in
     let term = termBytes spelled (start .args .numbers .now) in
-    let more = placed-is (bounds-more term (start .args .letters .now) (start .args .bound .now) (at-loop .loop .i) (c .loop-test .taken) (start .pre .0 .lettered)) (at-loop .loop .inv .1) in
+    let more = placed-is (bounds-more term (start .args .letters .now) (start .args .bound .now) (at-loop .loop .i)
+    (c .loop-test .taken) (start .pre .0 .lettered)) (at-loop .loop .inv .1) in
     omega (arith, placed-count more, placed-length more (start .pre .1), start .pre .1)
 
 part-put-bound-start : tie.Need-part-put-bound-start Inv-loop μ-loop
@@ -36,7 +38,8 @@ part-put-bound-start c =
     let start = at-loop .before .before .before .before .before .before .before .before in
     let spelled = spelledAs (start .args .program .now) (start .args .goal .now) (start .args .constants .now) (start .args .n) in
     let term = termBytes spelled (start .args .numbers .now) in
-    let more = placed-is (bounds-more term (start .args .letters .now) (start .args .bound .now) (at-loop .loop .i) (c .loop-test .taken) (start .pre .0 .lettered)) (at-loop .loop .inv .1) in
+    let more = placed-is (bounds-more term (start .args .letters .now) (start .args .bound .now) (at-loop .loop .i)
+    (c .loop-test .taken) (start .pre .0 .lettered)) (at-loop .loop .inv .1) in
     omega (arith, placed-count more, placed-length more (start .pre .1), start .pre .1)
 
 part-put-bound-end : tie.Need-part-put-bound-end Inv-loop μ-loop
@@ -62,9 +65,12 @@ put-bound-requires c κs =
     let start = at-loop .before .before .before .before .before .before .before .before in
     let spelled = spelledAs (start .args .program .now) (start .args .goal .now) (start .args .constants .now) (start .args .n) in
     let term = termBytes spelled (start .args .numbers .now) in
-    let line = boundBytes term (getD (start .args .letters .now) (at-loop .loop .i) 0) (getD (start .args .bound .now) (at-loop .loop .i) 0) in
-    let rest = boundsBytes term (drop (suc (at-loop .loop .i)) (start .args .letters .now)) (drop (suc (at-loop .loop .i)) (start .args .bound .now)) in
-    let more = placed-is (bounds-more term (start .args .letters .now) (start .args .bound .now) (at-loop .loop .i) (at-loop-test .loop-test .taken) (start .pre .0 .lettered)) (at-loop .loop .inv .1) in
+    let line = boundBytes term (getD (start .args .letters .now) (at-loop .loop .i) 0)
+    (getD (start .args .bound .now) (at-loop .loop .i) 0) in
+    let rest = boundsBytes term (drop (suc (at-loop .loop .i)) (start .args .letters .now))
+    (drop (suc (at-loop .loop .i)) (start .args .bound .now)) in
+    let more = placed-is (bounds-more term (start .args .letters .now) (start .args .bound .now) (at-loop .loop .i)
+    (at-loop-test .loop-test .taken) (start .pre .0 .lettered)) (at-loop .loop .inv .1) in
     (start .pre .0 .each (at-loop .loop .i) (at-loop-test .loop-test .taken), lent-room line rest more (start .pre .1))
 
 add-end : tie.Need-add-end Inv-loop μ-loop
@@ -75,9 +81,12 @@ add-end c =
     let start = at-loop .before .before .before .before .before .before .before .before in
     let spelled = spelledAs (start .args .program .now) (start .args .goal .now) (start .args .constants .now) (start .args .n) in
     let term = termBytes spelled (start .args .numbers .now) in
-    let line = boundBytes term (getD (start .args .letters .now) (at-loop .loop .i) 0) (getD (start .args .bound .now) (at-loop .loop .i) 0) in
-    let rest = boundsBytes term (drop (suc (at-loop .loop .i)) (start .args .letters .now)) (drop (suc (at-loop .loop .i)) (start .args .bound .now)) in
-    let more = placed-is (bounds-more term (start .args .letters .now) (start .args .bound .now) (at-loop .loop .i) (at-loop-test .loop-test .taken) (start .pre .0 .lettered)) (at-loop .loop .inv .1) in
+    let line = boundBytes term (getD (start .args .letters .now) (at-loop .loop .i) 0)
+    (getD (start .args .bound .now) (at-loop .loop .i) 0) in
+    let rest = boundsBytes term (drop (suc (at-loop .loop .i)) (start .args .letters .now))
+    (drop (suc (at-loop .loop .i)) (start .args .bound .now)) in
+    let more = placed-is (bounds-more term (start .args .letters .now) (start .args .bound .now) (at-loop .loop .i)
+    (at-loop-test .loop-test .taken) (start .pre .0 .lettered)) (at-loop .loop .inv .1) in
     let next = lent-part line rest more (at-put-bound .put-bound .ensures) in
     omega (arith, placed-count next, start .pre .1)
 
@@ -95,9 +104,12 @@ loop-again c =
     let start = at-loop .before .before .before .before .before .before .before .before in
     let spelled = spelledAs (start .args .program .now) (start .args .goal .now) (start .args .constants .now) (start .args .n) in
     let term = termBytes spelled (start .args .numbers .now) in
-    let line = boundBytes term (getD (start .args .letters .now) (at-loop .loop .i) 0) (getD (start .args .bound .now) (at-loop .loop .i) 0) in
-    let rest = boundsBytes term (drop (suc (at-loop .loop .i)) (start .args .letters .now)) (drop (suc (at-loop .loop .i)) (start .args .bound .now)) in
-    let more = placed-is (bounds-more term (start .args .letters .now) (start .args .bound .now) (at-loop .loop .i) (at-loop-test .loop-test .taken) (start .pre .0 .lettered)) (at-loop .loop .inv .1) in
+    let line = boundBytes term (getD (start .args .letters .now) (at-loop .loop .i) 0)
+    (getD (start .args .bound .now) (at-loop .loop .i) 0) in
+    let rest = boundsBytes term (drop (suc (at-loop .loop .i)) (start .args .letters .now))
+    (drop (suc (at-loop .loop .i)) (start .args .bound .now)) in
+    let more = placed-is (bounds-more term (start .args .letters .now) (start .args .bound .now) (at-loop .loop .i)
+    (at-loop-test .loop-test .taken) (start .pre .0 .lettered)) (at-loop .loop .inv .1) in
     let next = lent-part line rest more (at-put-bound .put-bound .ensures) in
     (omega arith, rw (add-one (at-loop .loop .i)) next)
 
@@ -113,7 +125,8 @@ returns c =
     let start = at-loop .before .before .before .before .before .before .before .before in
     let spelled = spelledAs (start .args .program .now) (start .args .goal .now) (start .args .constants .now) (start .args .n) in
     let term = termBytes spelled (start .args .numbers .now) in
-    let all = placed-is (bounds-end term (start .args .letters .now) (start .args .bound .now) (at-loop .loop .i) (c .loop-test .left)) (at-loop .loop .inv .1) in
+    let all = placed-is (bounds-end term (start .args .letters .now) (start .args .bound .now) (at-loop .loop .i)
+    (c .loop-test .left)) (at-loop .loop .inv .1) in
     placed-all all
 
 pub put-bounds-spec : {M : Type 1} → statement M

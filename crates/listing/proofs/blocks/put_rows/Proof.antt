@@ -5,7 +5,8 @@ use Prim.Native.Nat.{ℕ, _+_, _-_, _*_, _≤_}
 use native.Mathlib.Omega.{arith}
 use lib.ListN.{length, take, drop}
 use Rattle.listing.specs.Pieces.{spelledAs, namedAs, termBytes, rowBytes, rowsBytes, RowShown}
-use Rattle.listing.proofs.Laying.{Placed, placed-start, placed-is, placed-all, placed-count, placed-length, lent-part, lent-room, put-is}
+use Rattle.listing.proofs.Laying.{Placed, placed-start, placed-is, placed-all, placed-count, placed-length, lent-part}
+use Rattle.listing.proofs.Laying.{lent-room, put-is}
 use Rattle.listing.proofs.LineLaws.{row-cut, rows-more, rows-end}
 use Rattle.listing.proofs.blocks.put_rows.Statement.{statement}
 use Rattle.listing.proofs.blocks.put_rows.Tie as tie
@@ -13,7 +14,8 @@ use Rattle.listing.proofs.blocks.put_rows.Tie as tie
 abbrev Inv-loop : tie.InvT-loop
 Inv-loop out₀ program goal symbols constants n numbers cells m end₀ i₀ out end i =
     (i ≤ m)
-    × Placed (rowsBytes (rowBytes (namedAs program symbols) (termBytes (spelledAs program goal constants n) numbers)) cells) out₀ out end
+    × Placed (rowsBytes (rowBytes (namedAs program symbols) (termBytes (spelledAs program goal constants n) numbers)) cells)
+    out₀ out end
     (rowsBytes (rowBytes (namedAs program symbols) (termBytes (spelledAs program goal constants n) numbers)) (drop (5 * i) cells))
 
 abbrev μ-loop : tie.MeasureT-loop
@@ -39,7 +41,8 @@ sub-put-row c =
     let spelled = spelledAs (start .args .program .now) (start .args .goal .now) (start .args .constants .now) (start .args .n) in
     let term = termBytes spelled (start .args .numbers .now) in
     let line = rowBytes (namedAs (start .args .program .now) (start .args .symbols .now)) term in
-    let more = placed-is (rows-more line (start .args .cells .now) (at-loop .loop .i) (omega (arith, start .pre .0 .size))) (at-loop .loop .inv .1) in
+    let more = placed-is (rows-more line (start .args .cells .now) (at-loop .loop .i) (omega (arith, start .pre .0 .size)))
+    (at-loop .loop .inv .1) in
     omega (arith, placed-count more, placed-length more (start .pre .1), start .pre .1)
 
 part-put-row-start : tie.Need-part-put-row-start Inv-loop μ-loop
@@ -49,7 +52,8 @@ part-put-row-start c =
     let spelled = spelledAs (start .args .program .now) (start .args .goal .now) (start .args .constants .now) (start .args .n) in
     let term = termBytes spelled (start .args .numbers .now) in
     let line = rowBytes (namedAs (start .args .program .now) (start .args .symbols .now)) term in
-    let more = placed-is (rows-more line (start .args .cells .now) (at-loop .loop .i) (omega (arith, start .pre .0 .size))) (at-loop .loop .inv .1) in
+    let more = placed-is (rows-more line (start .args .cells .now) (at-loop .loop .i) (omega (arith, start .pre .0 .size)))
+    (at-loop .loop .inv .1) in
     omega (arith, placed-count more, placed-length more (start .pre .1), start .pre .1)
 
 part-put-row-end : tie.Need-part-put-row-end Inv-loop μ-loop
@@ -82,9 +86,11 @@ put-row-requires c κs =
     let cut = row-cut (start .args .cells .now) (at-loop .loop .i) in
     let row = line (take 5 (drop (5 * (at-loop .loop .i)) (start .args .cells .now))) in
     let rest = rowsBytes line (drop (5 * (at-loop .loop .i + 1)) (start .args .cells .now)) in
-    let more = placed-is (rows-more line (start .args .cells .now) (at-loop .loop .i) (omega (arith, start .pre .0 .size))) (at-loop .loop .inv .1) in (
+    let more = placed-is (rows-more line (start .args .cells .now) (at-loop .loop .i) (omega (arith, start .pre .0 .size)))
+    (at-loop .loop .inv .1) in (
       subst
-          (λ (l : List ℕ). RowShown (start .args .program .now) (start .args .goal .now) (start .args .symbols .now) (start .args .constants .now) (start .args .n)
+          (λ (l : List ℕ). RowShown (start .args .program .now) (start .args .goal .now) (start .args .symbols .now)
+          (start .args .constants .now) (start .args .n)
           (length (start .args .numbers .now)) l)
           (sym cut) (start .pre .0 .rows (at-loop .loop .i) (at-loop-test .loop-test .taken)),
       rw (cut) (lent-room row rest more (start .pre .1)),
@@ -101,13 +107,15 @@ add-end c =
     let cut = row-cut (start .args .cells .now) (at-loop .loop .i) in
     let row = line (take 5 (drop (5 * (at-loop .loop .i)) (start .args .cells .now))) in
     let rest = rowsBytes line (drop (5 * (at-loop .loop .i + 1)) (start .args .cells .now)) in
-    let more = placed-is (rows-more line (start .args .cells .now) (at-loop .loop .i) (omega (arith, start .pre .0 .size))) (at-loop .loop .inv .1) in
+    let more = placed-is (rows-more line (start .args .cells .now) (at-loop .loop .i) (omega (arith, start .pre .0 .size)))
+    (at-loop .loop .inv .1) in
     let next = lent-part row rest more (put-is (ap line cut) (at-put-row .put-row .ensures)) in
     omega (arith, placed-count next, start .pre .1)
 
 add-i : tie.Need-add-i Inv-loop μ-loop
 add-i c =
-    let start = c .before .before .before .before .before .before .before .before .before .before .before .before .before .before in
+    let at-loop = c .before .before .before .before .before .before in
+    let start = at-loop .before .before .before .before .before .before .before .before in
     omega (arith, start .pre .0 .few)
 
 loop-less : tie.Need-loop-less Inv-loop μ-loop
@@ -124,7 +132,8 @@ loop-again c =
     let cut = row-cut (start .args .cells .now) (at-loop .loop .i) in
     let row = line (take 5 (drop (5 * (at-loop .loop .i)) (start .args .cells .now))) in
     let rest = rowsBytes line (drop (5 * (at-loop .loop .i + 1)) (start .args .cells .now)) in
-    let more = placed-is (rows-more line (start .args .cells .now) (at-loop .loop .i) (omega (arith, start .pre .0 .size))) (at-loop .loop .inv .1) in
+    let more = placed-is (rows-more line (start .args .cells .now) (at-loop .loop .i) (omega (arith, start .pre .0 .size)))
+    (at-loop .loop .inv .1) in
     let next = lent-part row rest more (put-is (ap line cut) (at-put-row .put-row .ensures)) in
     (omega arith, next)
 
@@ -141,7 +150,8 @@ returns c =
     let spelled = spelledAs (start .args .program .now) (start .args .goal .now) (start .args .constants .now) (start .args .n) in
     let term = termBytes spelled (start .args .numbers .now) in
     let line = rowBytes (namedAs (start .args .program .now) (start .args .symbols .now)) term in
-    let all = placed-is (rows-end line (start .args .cells .now) (5 * (at-loop .loop .i)) (omega (arith, start .pre .0 .size, c .loop-test .left))) (at-loop .loop .inv .1) in
+    let all = placed-is (rows-end line (start .args .cells .now) (5 * (at-loop .loop .i))
+    (omega (arith, start .pre .0 .size, c .loop-test .left))) (at-loop .loop .inv .1) in
     placed-all all
 
 pub put-rows-spec : {M : Type 1} → statement M

@@ -13,7 +13,8 @@ abbrev Inv-loop : tie.InvT-loop
 Inv-loop program goal symbols constants n numbers cells m size₀ i₀ size i =
     (i ≤ m) × (size ≤ 327690 * i)
     × (size
-    + length (rowsBytes (rowBytes (namedAs program symbols) (termBytes (spelledAs program goal constants n) numbers)) (drop (5 * i) cells))
+    + length (rowsBytes (rowBytes (namedAs program symbols) (termBytes (spelledAs program goal constants n) numbers))
+    (drop (5 * i) cells))
     ≡ length (rowsBytes (rowBytes (namedAs program symbols) (termBytes (spelledAs program goal constants n) numbers)) cells))
 
 abbrev μ-loop : tie.MeasureT-loop
@@ -55,7 +56,8 @@ row-length-requires c κs =
     let start = at-loop .before .before .before .before .before .before .before in
     let cut = row-cut (start .args .cells .now) (at-loop .loop .i) in
     subst
-    (λ (l : List ℕ). RowShown (start .args .program .now) (start .args .goal .now) (start .args .symbols .now) (start .args .constants .now) (start .args .n)
+    (λ (l : List ℕ). RowShown (start .args .program .now) (start .args .goal .now) (start .args .symbols .now)
+    (start .args .constants .now) (start .args .n)
     (length (start .args .numbers .now)) l)
     (sym cut) (start .pre .rows (at-loop .loop .i) (at-loop-test .loop-test .taken))
 
@@ -82,7 +84,8 @@ loop-again c =
     let line = rowBytes (namedAs (start .args .program .now) (start .args .symbols .now)) term in
     let cut = row-cut (start .args .cells .now) (at-loop .loop .i) in
     let more = rows-more line (start .args .cells .now) (at-loop .loop .i) (omega (arith, start .pre .size)) in
-    let sum = length-append (line (take 5 (drop (5 * (at-loop .loop .i)) (start .args .cells .now)))) (rowsBytes line (drop (5 * (at-loop .loop .i + 1)) (start .args .cells .now))) in
+    let sum = length-append (line (take 5 (drop (5 * (at-loop .loop .i)) (start .args .cells .now))))
+    (rowsBytes line (drop (5 * (at-loop .loop .i + 1)) (start .args .cells .now))) in
     let new = ap (λ (l : List ℕ). length (line l)) cut in (
       omega arith,
       omega (arith, c .row-length .ensures .few, at-loop .loop .inv .1),
@@ -96,7 +99,8 @@ returns c =
     let spelled = spelledAs (start .args .program .now) (start .args .goal .now) (start .args .constants .now) (start .args .n) in
     let term = termBytes spelled (start .args .numbers .now) in
     let line = rowBytes (namedAs (start .args .program .now) (start .args .symbols .now)) term in
-    let done = ap length (rows-end line (start .args .cells .now) (5 * (at-loop .loop .i)) (omega (arith, start .pre .size, c .loop-test .left))) in
+    let done = ap length (rows-end line (start .args .cells .now) (5 * (at-loop .loop .i))
+    (omega (arith, start .pre .size, c .loop-test .left))) in
     record { counted = omega (arith, at-loop .loop .inv .2); few = omega (arith, at-loop .loop .inv .1, at-loop .loop .inv .0) }
 
 pub rows-length-spec : {M : Type 1} → statement M

@@ -8,7 +8,7 @@ use Rattle.listing.proofs.end.end_length.Statement.{statement}
 use Rattle.listing.proofs.end.end_length.Tie as tie
 
 digits-requires : tie.Need-digits-requires
-digits-requires c κs = search needs
+digits-requires c κs = tt
 
 add-head : tie.Need-add-head
 add-head c =
@@ -22,7 +22,14 @@ add-result : tie.Need-add-result
 add-result c =
     let at-digits = c .before in
     let start = at-digits .before .before .before .before .before .before .before .before .before in
-    omega (arith, decimal-few (start .args .firings), at-digits .digits .ensures, start .pre .2, c .bounds-length .ensures .few, start .pre .0 .few)
+    omega (
+      arith,
+      decimal-few (start .args .firings),
+      at-digits .digits .ensures,
+      start .pre .2,
+      c .bounds-length .ensures .few,
+      start .pre .0 .few,
+    )
 
 rows-length-requires : tie.Need-rows-length-requires
 rows-length-requires c κs = search needs
@@ -51,8 +58,15 @@ returns c =
     let spelled = spelledAs (start .args .program .now) (start .args .goal .now) (start .args .constants .now) (start .args .n) in
     let term = termBytes spelled (start .args .numbers .now) in
     let named = namedAs (start .args .program .now) (start .args .symbols .now) in
-    let whole = end-size named term (start .args .firings) (start .args .letters .now) (start .args .bound .now) (start .args .cells .now) in
-    omega (arith, whole, at-digits .digits .ensures, at-bounds-length .bounds-length .ensures .counted, c .rows-length .ensures .counted)
+    let whole = end-size named term (start .args .firings) (start .args .letters .now) (start .args .bound .now)
+    (start .args .cells .now) in
+    omega (
+      arith,
+      whole,
+      at-digits .digits .ensures,
+      at-bounds-length .bounds-length .ensures .counted,
+      c .rows-length .ensures .counted,
+    )
 
 pub end-length-spec : {M : Type 1} → statement M
 end-length-spec =

@@ -1,6 +1,5 @@
 -- `listing::end::put_end` meets its contract. Assumes nothing.
 use mathlib.Core.List.{[], _∷_, _++_}
-use borrow.Author.Needs.{needs}
 use native.Mathlib.Omega.{arith}
 use Rattle.listing.specs.Pieces.{spelledAs, termBytes, namedAs, boundsBytes, rowsBytes, rowBytes, endBytes}
 use Rattle.listing.proofs.Laying.{put-placed, placed-count, placed-length, lent-part, lent-room, lent-room-last, lent-last}
@@ -9,7 +8,7 @@ use Rattle.listing.proofs.end.put_end.Statement.{statement}
 use Rattle.listing.proofs.end.put_end.Tie as tie
 
 slice-aggregate-put-head : tie.Need-slice-aggregate-put-head
-slice-aggregate-put-head c = search needs
+slice-aggregate-put-head c = omega arith
 
 put-head-requires : tie.Need-put-head-requires
 put-head-requires c κs =
@@ -17,7 +16,8 @@ put-head-requires c κs =
     let spelled = spelledAs (start .args .program .now) (start .args .goal .now) (start .args .constants .now) (start .args .n) in
     let term = termBytes spelled (start .args .numbers .now) in
     let named = namedAs (start .args .program .now) (start .args .symbols .now) in
-    let whole = end-size named term (start .args .firings) (start .args .letters .now) (start .args .bound .now) (start .args .cells .now) in
+    let whole = end-size named term (start .args .firings) (start .args .letters .now) (start .args .bound .now)
+    (start .args .cells .now) in
     omega (arith, start .pre .2, head-size (69 ∷ 78 ∷ 68 ∷ 44 ∷ []) (start .args .firings), whole)
 
 sub-put-bounds : tie.Need-sub-put-bounds
@@ -47,7 +47,7 @@ part-put-bounds-start c =
     omega (arith, placed-count one, placed-length one (start .pre .2), start .pre .2)
 
 part-put-bounds-end : tie.Need-part-put-bounds-end
-part-put-bounds-end c = search needs
+part-put-bounds-end c = omega arith
 
 put-bounds-requires : tie.Need-put-bounds-requires
 unfolding endBytes
@@ -108,7 +108,7 @@ part-put-rows-start c =
     omega (arith, placed-count two, placed-length two (start .pre .2), start .pre .2)
 
 part-put-rows-end : tie.Need-part-put-rows-end
-part-put-rows-end c = search needs
+part-put-rows-end c = omega arith
 
 put-rows-requires : tie.Need-put-rows-requires
 unfolding endBytes
@@ -143,7 +143,7 @@ add-result c =
     omega (arith, all .counted, start .pre .2)
 
 same-length : tie.Need-same-length
-same-length c = search needs
+same-length c = omega arith
 
 returns : tie.Need-returns
 unfolding endBytes

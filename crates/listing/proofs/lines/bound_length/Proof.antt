@@ -12,7 +12,7 @@ term-length-requires : tie.Need-term-length-requires
 term-length-requires c κs = search needs
 
 add-result : tie.Need-add-result
-add-result c = search needs
+add-result c = omega arith
 
 returns : tie.Need-returns
 returns c =
@@ -20,7 +20,8 @@ returns c =
     let spelled = spelledAs (start .args .program .now) (start .args .goal .now) (start .args .constants .now) (start .args .n) in
     let term = termBytes spelled (start .args .numbers .now) in
     record {
-      counted = ap (λ (k : ℕ). 5 + k) (c .term-length .ensures .counted) ∙ sym (bound-size term (start .args .letter) (start .args .x));
+      counted = ap (λ (k : ℕ). 5 + k) (c .term-length .ensures .counted) ∙ sym
+          (bound-size term (start .args .letter) (start .args .x));
       few = omega (arith, c .term-length .ensures .few);
     }
 

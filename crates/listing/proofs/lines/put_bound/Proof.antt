@@ -1,6 +1,5 @@
 -- `listing::lines::put_bound` meets its contract. Assumes nothing.
 use mathlib.Core.List.{[], _∷_}
-use borrow.Author.Needs.{needs}
 use native.Mathlib.Omega.{arith}
 use lib.ListN.{length-set}
 use Rattle.listing.specs.Pieces.{spelledAs, termBytes}
@@ -45,7 +44,7 @@ part-put-field-start c =
     simp length-set (omega (arith, start .pre .1, bound-size term (start .args .letter) (start .args .x)))
 
 part-put-field-end : tie.Need-part-put-field-end
-part-put-field-end c = search needs
+part-put-field-end c = omega arith
 
 put-field-requires : tie.Need-put-field-requires
 put-field-requires c κs =

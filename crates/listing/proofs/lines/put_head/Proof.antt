@@ -1,7 +1,6 @@
 -- `listing::lines::put_head` meets its contract. Assumes nothing.
 use mathlib.Core.List.{[], _∷_, _++_}
 use Prim.Native.Nat.{_+_}
-use borrow.Author.Needs.{needs}
 use native.Mathlib.Omega.{arith}
 use lib.ListN.{length-append}
 use Rattle.listing.specs.Listing.{decimal}
@@ -36,7 +35,7 @@ part-put-decimal-start c =
     omega (arith, placed-count one, placed-length one (start .pre), (start .pre))
 
 part-put-decimal-end : tie.Need-part-put-decimal-end
-part-put-decimal-end c = search needs
+part-put-decimal-end c = omega arith
 
 put-decimal-requires : tie.Need-put-decimal-requires
 unfolding headBytes

@@ -1,10 +1,10 @@
 -- `listing::lines::put_row` meets its contract. Assumes nothing.
 use mathlib.Core.Path.{ap}
-use borrow.Author.Needs.{needs}
 use native.Mathlib.Omega.{arith}
 use lib.ListN.{length-set, getD, drop}
 use Rattle.listing.specs.Pieces.{spelledAs, termBytes, namedAs, fieldBytes}
-use Rattle.listing.proofs.Laying.{placed-count, placed-length, lent-part, lent-room, lent-room-last, lent-last, put-is, put-length, from-drop}
+use Rattle.listing.proofs.Laying.{placed-count, placed-length, lent-part, lent-room, lent-room-last, lent-last, put-is}
+use Rattle.listing.proofs.Laying.{put-length, from-drop}
 use Rattle.listing.proofs.LineLaws.{row-start, row-size, shown-from}
 use Rattle.listing.proofs.lines.put_row.Statement.{statement}
 use Rattle.listing.proofs.lines.put_row.Tie as tie
@@ -28,10 +28,10 @@ slice-write-out-2 c =
     simp length-set (omega (arith, start .pre .1, row-size named term row))
 
 shared-slice-read-name : tie.Need-shared-slice-read-name
-shared-slice-read-name c = search needs
+shared-slice-read-name c = omega arith
 
 name-requires : tie.Need-name-requires
-name-requires c κs = search needs
+name-requires c κs = omega arith
 
 sub-copy : tie.Need-sub-copy
 sub-copy c =
@@ -52,7 +52,7 @@ part-copy-start c =
     simp length-set (omega (arith, start .pre .1, row-size named term row))
 
 part-copy-end : tie.Need-part-copy-end
-part-copy-end c = search needs
+part-copy-end c = omega arith
 
 copy-requires : tie.Need-copy-requires
 copy-requires c κs =
@@ -67,7 +67,7 @@ copy-requires c κs =
     rw (at-name .name .ensures) (lent-room symbol (fieldBytes term (drop 1 row)) one (start .pre .1))
 
 add-end : tie.Need-add-end
-add-end c = search needs
+add-end c = omega arith
 
 sub-put-fields : tie.Need-sub-put-fields
 sub-put-fields c =
@@ -98,16 +98,16 @@ part-put-fields-start c =
     omega (arith, placed-count two, placed-length two (start .pre .1), start .pre .1)
 
 part-put-fields-end : tie.Need-part-put-fields-end
-part-put-fields-end c = search needs
+part-put-fields-end c = omega arith
 
 sub-put-fields-2 : tie.Need-sub-put-fields-2
-sub-put-fields-2 c = search needs
+sub-put-fields-2 c = omega arith
 
 part-put-fields-start-2 : tie.Need-part-put-fields-start-2
-part-put-fields-start-2 c = search needs
+part-put-fields-start-2 c = omega arith
 
 part-put-fields-end-2 : tie.Need-part-put-fields-end-2
-part-put-fields-end-2 c = search needs
+part-put-fields-end-2 c = omega arith
 
 put-fields-requires : tie.Need-put-fields-requires
 put-fields-requires c κs =
@@ -138,7 +138,8 @@ add-result c =
     let symbol = named (getD row 0 0) in
     let one = row-start named term row (start .args .out .now) (start .pre .1) in
     let two = lent-part symbol (fieldBytes term (drop 1 row)) one (put-is (at-name .name .ensures) (at-copy .copy .ensures)) in
-    let all = lent-last (fieldBytes term (drop 1 row)) two (put-is (ap (fieldBytes term) (from-drop 1 row)) (at-put-fields .put-fields .ensures)) in
+    let all = lent-last (fieldBytes term (drop 1 row)) two (put-is (ap (fieldBytes term) (from-drop 1 row))
+    (at-put-fields .put-fields .ensures)) in
     omega (arith, all .counted, start .pre .1)
 
 same-length : tie.Need-same-length
@@ -154,7 +155,8 @@ same-length c =
     let symbol = named (getD row 0 0) in
     let one = row-start named term row (start .args .out .now) (start .pre .1) in
     let two = lent-part symbol (fieldBytes term (drop 1 row)) one (put-is (at-name .name .ensures) (at-copy .copy .ensures)) in
-    let all = lent-last (fieldBytes term (drop 1 row)) two (put-is (ap (fieldBytes term) (from-drop 1 row)) (at-put-fields .put-fields .ensures)) in
+    let all = lent-last (fieldBytes term (drop 1 row)) two (put-is (ap (fieldBytes term) (from-drop 1 row))
+    (at-put-fields .put-fields .ensures)) in
     put-length all (start .pre .1)
 
 returns : tie.Need-returns
@@ -170,7 +172,8 @@ returns c =
     let symbol = named (getD row 0 0) in
     let one = row-start named term row (start .args .out .now) (start .pre .1) in
     let two = lent-part symbol (fieldBytes term (drop 1 row)) one (put-is (at-name .name .ensures) (at-copy .copy .ensures)) in
-    let all = lent-last (fieldBytes term (drop 1 row)) two (put-is (ap (fieldBytes term) (from-drop 1 row)) (at-put-fields .put-fields .ensures)) in
+    let all = lent-last (fieldBytes term (drop 1 row)) two (put-is (ap (fieldBytes term) (from-drop 1 row))
+    (at-put-fields .put-fields .ensures)) in
     all
 
 pub put-row-spec : {M : Type 1} → statement M

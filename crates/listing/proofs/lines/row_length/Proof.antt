@@ -1,7 +1,6 @@
 -- `listing::lines::row_length` meets its contract. Assumes nothing.
 use mathlib.Core.Path.{ap}
 use Prim.Native.Nat.{_+_, _*_}
-use borrow.Author.Needs.{needs}
 use native.Mathlib.Omega.{arith}
 use lib.ListN.{length, getD, length-drop}
 use Rattle.listing.specs.Pieces.{spelledAs, termBytes, namedAs}
@@ -11,22 +10,22 @@ use Rattle.listing.proofs.lines.row_length.Statement.{statement}
 use Rattle.listing.proofs.lines.row_length.Tie as tie
 
 shared-slice-read-name : tie.Need-shared-slice-read-name
-shared-slice-read-name c = search needs
+shared-slice-read-name c = omega arith
 
 name-requires : tie.Need-name-requires
-name-requires c κs = search needs
+name-requires c κs = omega arith
 
 add-result : tie.Need-add-result
-add-result c = search needs
+add-result c = omega arith
 
 sub-fields-length : tie.Need-sub-fields-length
-sub-fields-length c = search needs
+sub-fields-length c = omega arith
 
 part-fields-length-start : tie.Need-part-fields-length-start
-part-fields-length-start c = search needs
+part-fields-length-start c = omega arith
 
 part-fields-length-end : tie.Need-part-fields-length-end
-part-fields-length-end c = search needs
+part-fields-length-end c = omega arith
 
 fields-length-requires : tie.Need-fields-length-requires
 fields-length-requires c κs =
@@ -36,7 +35,7 @@ fields-length-requires c κs =
     )
 
 add-result-2 : tie.Need-add-result-2
-add-result-2 c = search needs
+add-result-2 c = omega arith
 
 returns : tie.Need-returns
 returns c =
@@ -47,7 +46,12 @@ returns c =
     let term = termBytes spelled (start .args .numbers .now) in
     let named = namedAs (start .args .program .now) (start .args .symbols .now) in
     record {
-      counted = omega (arith, row-size named term (start .args .row .now), ap length (at-name .name .ensures), c .fields-length .ensures .counted);
+      counted = omega (
+        arith,
+        row-size named term (start .args .row .now),
+        ap length (at-name .name .ensures),
+        c .fields-length .ensures .counted,
+      );
       few = omega (
         arith,
         ap length (at-name .name .ensures),

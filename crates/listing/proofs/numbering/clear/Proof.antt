@@ -8,7 +8,8 @@ use Rattle.listing.proofs.numbering.clear.Statement.{statement}
 use Rattle.listing.proofs.numbering.clear.Tie as tie
 
 abbrev Inv-loop : tie.InvT-loop
-Inv-loop numbers₀ i₀ numbers i = (i ≤ length numbers) × (length numbers ≡ length numbers₀) × ((x : ℕ) → x < i → getD numbers x 0 ≡ 0)
+Inv-loop numbers₀ i₀ numbers i = (i ≤ length numbers) × (length numbers ≡ length numbers₀)
+    × ((x : ℕ) → x < i → getD numbers x 0 ≡ 0)
 
 abbrev μ-loop : tie.MeasureT-loop
 μ-loop numbers₀ i₀ numbers i = length numbers - i

@@ -8,7 +8,8 @@ use lib.ListN.{length, take, drop}
 use Rattle.semantics.specs.Overlaps.{appearing}
 use Rattle.syntax.specs.Tables.{cellTerms, cellConstraints}
 use Rattle.listing.specs.Numbers.{Numbering, Within}
-use Rattle.listing.proofs.NumberLaws.{ReachingRows, rows-start, rows-next, rows-done, terms-cut, four-cells, constraints-more, constraints-end, renumbered-is}
+use Rattle.listing.proofs.NumberLaws.{ReachingRows, rows-start, rows-next, rows-done, terms-cut, four-cells}
+use Rattle.listing.proofs.NumberLaws.{constraints-more, constraints-end, renumbered-is}
 use Rattle.listing.proofs.numbering.number_rows.Statement.{statement}
 use Rattle.listing.proofs.numbering.number_rows.Tie as tie
 
@@ -63,8 +64,15 @@ number-terms-requires c κs =
     let cut = terms-cut (start .args .cells .now) (at-loop .loop .i) in
     let row = take 5 (drop (5 * (at-loop .loop .i)) (start .args .cells .now)) in (
       subst (λ (l : List ℕ). Within (length (at-loop .loop .numbers)) l) (sym cut)
-          (subst (λ (k : ℕ). Within k (drop 1 row)) (sym (at-loop .loop .inv .2)) (start .pre .0 .rows (at-loop .loop .i) (at-loop-test .loop-test .taken))),
-      omega (arith, four-cells (start .args .cells .now) (at-loop .loop .i), at-loop .loop .inv .1, start .pre .1, at-loop-test .loop-test .taken),
+          (subst (λ (k : ℕ). Within k (drop 1 row)) (sym (at-loop .loop .inv .2))
+          (start .pre .0 .rows (at-loop .loop .i) (at-loop-test .loop-test .taken))),
+      omega (
+        arith,
+        four-cells (start .args .cells .now) (at-loop .loop .i),
+        at-loop .loop .inv .1,
+        start .pre .1,
+        at-loop-test .loop-test .taken,
+      ),
     )
 
 add-i : tie.Need-add-i Inv-loop μ-loop
@@ -83,7 +91,13 @@ loop-again c =
     let cut = terms-cut (start .args .cells .now) (at-loop .loop .i) in
     let row = take 5 (drop (5 * (at-loop .loop .i)) (start .args .cells .now)) in (
       omega arith,
-      omega (arith, at-number-terms .number-terms .ensures .few, four-cells (start .args .cells .now) (at-loop .loop .i), at-loop .loop .inv .1),
+      omega (
+        arith,
+        at-number-terms .number-terms .ensures .few,
+        four-cells (start .args .cells .now)
+            (at-loop .loop .i),
+        at-loop .loop .inv .1,
+      ),
       at-number-terms .number-terms .kept .0 ∙ at-loop .loop .inv .2,
       (λ order n.
           rows-next row (cellConstraints (drop (5 * (at-loop .loop .i + 1)) (start .args .cells .now)))
@@ -102,7 +116,8 @@ returns c =
     let start = at-loop .before .before .before in
     record {
       next = λ order n.
-          rows-done (constraints-end (start .args .cells .now) (5 * (at-loop .loop .i)) (omega (arith, start .pre .0 .size, c .loop-test .left)))
+          rows-done (constraints-end (start .args .cells .now) (5 * (at-loop .loop .i))
+          (omega (arith, start .pre .0 .size, c .loop-test .left)))
           (at-loop .loop .inv .3 order n);
     }
 

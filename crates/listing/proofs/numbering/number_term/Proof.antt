@@ -11,13 +11,13 @@ returns c =
     numbered-constant (start .args .numbers .now) (start .args .seen) (start .args .x) (c .if1 .taken)
 
 wide-requires : tie.Need-wide-requires
-wide-requires c κs = search needs
+wide-requires c κs = tt
 
 sub-y : tie.Need-sub-y
-sub-y c = search needs
+sub-y c = omega arith
 
 mul-if2 : tie.Need-mul-if2
-mul-if2 c = search needs
+mul-if2 c = omega arith
 
 slice-read-if2 : tie.Need-slice-read-if2
 slice-read-if2 c =
@@ -28,13 +28,13 @@ slice-read-if2 c =
     omega (arith, inside, at-wide .wide .ensures .0)
 
 add-numbers : tie.Need-add-numbers
-add-numbers c = search needs
+add-numbers c = omega arith
 
 cast-numbers : tie.Need-cast-numbers
-cast-numbers c = search needs
+cast-numbers c = omega arith
 
 mul-numbers : tie.Need-mul-numbers
-mul-numbers c = search needs
+mul-numbers c = omega arith
 
 slice-write-numbers : tie.Need-slice-write-numbers
 slice-write-numbers c =
@@ -45,7 +45,7 @@ slice-write-numbers c =
     omega (arith, inside, at-wide .wide .ensures .0)
 
 add-result : tie.Need-add-result
-add-result c = search needs
+add-result c = omega arith
 
 same-length : tie.Need-same-length
 same-length c = search needs
@@ -56,7 +56,8 @@ returns-2 c =
     let at-if1 = at-wide .before in
     let start = at-if1 .before .before in
     let inside = start .pre .0 (at-if1 .if1 .left) in
-    numbered-new (start .args .numbers .now) (start .args .seen) (start .args .x) (at-wide .wide .result) (at-wide .wide .ensures .0) (at-if1 .if1 .left)
+    numbered-new (start .args .numbers .now) (start .args .seen) (start .args .x) (at-wide .wide .result)
+    (at-wide .wide .ensures .0) (at-if1 .if1 .left)
     (omega (arith, inside, at-wide .wide .ensures .0)) (c .if2 .taken)
 
 returns-3 : tie.Need-returns-3
@@ -65,7 +66,8 @@ returns-3 c =
     let at-if1 = at-wide .before in
     let start = at-if1 .before .before in
     let inside = start .pre .0 (at-if1 .if1 .left) in
-    numbered-old (start .args .numbers .now) (start .args .seen) (start .args .x) (at-wide .wide .result) (at-wide .wide .ensures .0) (at-if1 .if1 .left)
+    numbered-old (start .args .numbers .now) (start .args .seen) (start .args .x) (at-wide .wide .result)
+    (at-wide .wide .ensures .0) (at-if1 .if1 .left)
     (omega (arith, inside, at-wide .wide .ensures .0)) (c .if2 .left)
 
 pub number-term-spec : {M : Type 1} → statement M

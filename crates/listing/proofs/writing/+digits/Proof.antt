@@ -1,9 +1,8 @@
 -- `listing::writing::digits` meets its contract. The measure is the number. Assumes nothing.
 use Prim.Native.Nat.{ℕ, _+_, _/_, _%_, _<_}
-use mathlib.Core.Path.{_≡_, sym, ap, _∙_}
 use mathlib.Core.List.{[], _∷_}
 use native.Mathlib.Omega.{arith}
-use lib.ListN.{length, length-append}
+use lib.ListN.{length-append}
 use Rattle.listing.specs.Listing.{decimal}
 use Rattle.listing.proofs.Decimals.{decimal-low, decimal-high, decimal-few}
 use borrow.Fn.Kinds.{In}
@@ -25,7 +24,10 @@ digits-below t = and 0 digits-kinds.ps (falls 0 digits-kinds.ps _<_ μ-digits t)
 
 digits-returns :
     (t : ℕ) → digits-lts.Need-returns (digits-below t, digits.Post) (digits-at t) digits.Post
-digits-returns t c = rw (decimal-low ((c .before .args) .n) ((c .if1) .taken))
+digits-returns t c =
+    let start = c .before in
+    let n = start .args .n in
+    rw (decimal-low n (c .if1 .taken))
 
 digits-digits-requires :
     (t : ℕ) →
@@ -34,13 +36,19 @@ digits-digits-requires t c κs = (omega arith, tt)
 
 digits-add-result :
     (t : ℕ) → digits-lts.Need-add-result (digits-below t, digits.Post) (digits-at t) digits.Post
-digits-add-result t c = omega (arith, decimal-few ((c .before .before .args) .n / 10), (c .digits) .ensures)
+digits-add-result t c =
+    let start = c .before .before in
+    let n = start .args .n in
+    omega (arith, decimal-few (n / 10), c .digits .ensures)
 
 digits-returns-2 :
     (t : ℕ) → digits-lts.Need-returns-2 (digits-below t, digits.Post) (digits-at t) digits.Post
 digits-returns-2 t c =
-    rw (decimal-high ((c .before .before .args) .n) ((c .before .if1) .left))
-    (omega (arith, length-append (decimal ((c .before .before .args) .n / 10)) ((48 + (c .before .before .args) .n % 10) ∷ []), (c .digits) .ensures))
+    let at-if1 = c .before in
+    let start = at-if1 .before in
+    let n = start .args .n in
+    rw (decimal-high n (at-if1 .if1 .left))
+    (omega (arith, length-append (decimal (n / 10)) ((48 + n % 10) ∷ []), c .digits .ensures))
 
 pub +digits-spec : {M : Type 1} → statement M
 +digits-spec =

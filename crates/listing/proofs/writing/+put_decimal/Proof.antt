@@ -1,13 +1,13 @@
 -- `listing::writing::put_decimal` meets its contract. The measure is the number. Assumes nothing.
-use Prim.Native.Nat.{ℕ, _+_, _/_, _%_, _<_, _≤_}
-use mathlib.Core.Path.{_≡_, refl, sym, ap, _∙_, subst}
-use mathlib.Core.List.{List, [], _∷_, _++_}
+use Prim.Native.Nat.{ℕ, _+_, _/_, _%_, _<_}
+use mathlib.Core.Path.{refl, ap}
+use mathlib.Core.List.{[], _∷_}
 use native.Mathlib.Omega.{arith}
-use lib.ListN.{length, length-append, length-set, set}
+use lib.ListN.{length, length-append, length-set}
 use Rattle.listing.specs.Listing.{decimal}
-use Rattle.listing.specs.Pieces.{laid, Put}
+use Rattle.listing.specs.Pieces.{laid}
 use Rattle.listing.proofs.Decimals.{decimal-low, decimal-high, decimal-few, decimal-some}
-use Rattle.listing.proofs.Laying.{laid-byte, laid-length}
+use Rattle.listing.proofs.Laying.{laid-byte}
 use borrow.Fn.Kinds.{In}
 use borrow.Fn.PlainCycle.{Measures, is, falls, and}
 use Rattle.listing.proofs.writing.put_decimal.Reads as put-decimal
@@ -43,7 +43,10 @@ put-decimal-slice-write-out : (t : ℕ) → put-decimal-lts.Need-slice-write-out
   put-decimal-below t,
   put-decimal.Post,
 ) (put-decimal-at t) put-decimal.Post
-put-decimal-slice-write-out t c = omega (arith, decimal-some ((c .before .before .args) .n), (c .before .before .pre) .1)
+put-decimal-slice-write-out t c =
+    let start = c .before .before in
+    let n = start .args .n in
+    omega (arith, decimal-some n, start .pre .1)
 
 put-decimal-same-length : (t : ℕ) → put-decimal-lts.Need-same-length (
   put-decimal-below t,
@@ -57,26 +60,24 @@ put-decimal-returns : (t : ℕ) → put-decimal-lts.Need-returns (
 ) (put-decimal-at t) put-decimal.Post
 unfolding laid
 put-decimal-returns t c =
-    let some = decimal-some ((c .before .before .args) .n) in
-    rw (decimal-low ((c .before .before .args) .n) ((c .if1) .taken))
-    (record {
-      placed = laid-byte [] ((c .before .before .args) .out .now) ((c .before .before .args) .out .now) 0 (48 + (c .before .before .args) .n) refl refl (omega (arith, (c .before .before .pre) .1));
-      counted = refl;
-    })
+    let start = c .before .before in
+    let n = start .args .n in
+    let out = start .args .out .now in
+    let some = decimal-some n in
+    rw (decimal-low n (c .if1 .taken))
+    (record { placed = laid-byte [] out out 0 (48 + n) refl refl (omega (arith, start .pre .1)); counted = refl })
 
 put-decimal-put-decimal-requires : (t : ℕ) → put-decimal-lts.Need-put-decimal-requires (
   put-decimal-below t,
   put-decimal.Post,
 ) (put-decimal-at t) put-decimal.Post
-put-decimal-put-decimal-requires t c κs = (
-  omega arith,
-  omega (
-    arith,
-    (c .before .before .before .pre) .1,
-    ap length (decimal-high ((c .before .before .before .args) .n) ((c .before .if1) .left)),
-    length-append (decimal ((c .before .before .before .args) .n / 10)) ((48 + (c .before .before .before .args) .n % 10) ∷ []),
-  ),
-)
+put-decimal-put-decimal-requires t c κs =
+    let at-if1 = c .before in
+    let start = at-if1 .before .before in
+    let n = start .args .n in
+    let size = length-append (decimal (n / 10)) ((48 + n % 10) ∷ []) in
+    let whole = ap length (decimal-high n (at-if1 .if1 .left)) in
+    (omega arith, omega (arith, start .pre .1, whole, size))
 
 put-decimal-cast-out-2 : (t : ℕ) → put-decimal-lts.Need-cast-out-2 (
   put-decimal-below t,
@@ -95,40 +96,52 @@ put-decimal-slice-write-out-2 : (t : ℕ) → put-decimal-lts.Need-slice-write-o
   put-decimal.Post,
 ) (put-decimal-at t) put-decimal.Post
 put-decimal-slice-write-out-2 t c =
-    omega (
-      arith,
-      (c .before .before .before .before .before .before .pre) .1,
-      ap length (decimal-high ((c .before .before .before .before .before .before .args) .n) ((c .before .before .before .before .if1) .left)),
-      (c .before .before .put-decimal) .ensures .counted,
-      (c .before .before .put-decimal) .kept .0,
-      length-append (decimal ((c .before .before .before .before .before .before .args) .n / 10)) ((48 + (c .before .before .before .before .before .before .args) .n % 10) ∷ []),
-    )
+    let at-put-decimal = c .before .before in
+    let at-if1 = at-put-decimal .before .before in
+    let start = at-if1 .before .before in
+    let n = start .args .n in
+    let size = length-append (decimal (n / 10)) ((48 + n % 10) ∷ []) in
+    let whole = ap length (decimal-high n (at-if1 .if1 .left)) in
+    omega (arith, start .pre .1, whole, at-put-decimal .put-decimal .ensures .counted, at-put-decimal .put-decimal .kept .0, size)
 
 put-decimal-add-result : (t : ℕ) → put-decimal-lts.Need-add-result (
   put-decimal-below t,
   put-decimal.Post,
 ) (put-decimal-at t) put-decimal.Post
-put-decimal-add-result t c = omega (arith, decimal-few ((c .before .before .before .before .before .before .args) .n / 10), (c .before .before .put-decimal) .ensures .counted)
+put-decimal-add-result t c =
+    let at-put-decimal = c .before .before in
+    let start = at-put-decimal .before .before .before .before in
+    let n = start .args .n in
+    omega (arith, decimal-few (n / 10), at-put-decimal .put-decimal .ensures .counted)
 
 put-decimal-same-length-2 : (t : ℕ) → put-decimal-lts.Need-same-length-2 (
   put-decimal-below t,
   put-decimal.Post,
 ) (put-decimal-at t) put-decimal.Post
-put-decimal-same-length-2 t c = simp length-set ((c .before .before .put-decimal) .kept .0)
+put-decimal-same-length-2 t c =
+    let at-put-decimal = c .before .before in
+    simp length-set (at-put-decimal .put-decimal .kept .0)
 
 put-decimal-returns-2 : (t : ℕ) → put-decimal-lts.Need-returns-2 (
   put-decimal-below t,
   put-decimal.Post,
 ) (put-decimal-at t) put-decimal.Post
 put-decimal-returns-2 t c =
-    let more = length-append (decimal ((c .before .before .before .before .before .before .args) .n / 10)) ((48 + (c .before .before .before .before .before .before .args) .n % 10) ∷ []) in
-    let all = ap length (decimal-high ((c .before .before .before .before .before .before .args) .n) ((c .before .before .before .before .if1) .left)) in
-    rw (decimal-high ((c .before .before .before .before .before .before .args) .n) ((c .before .before .before .before .if1) .left))
+    let at-put-decimal = c .before .before in
+    let at-if1 = at-put-decimal .before .before in
+    let start = at-if1 .before .before in
+    let n = start .args .n in
+    let out = start .args .out .now in
+    let size = length-append (decimal (n / 10)) ((48 + n % 10) ∷ []) in
+    let whole = ap length (decimal-high n (at-if1 .if1 .left)) in
+    rw (decimal-high n (at-if1 .if1 .left))
     (record {
       placed =
-          laid-byte (decimal ((c .before .before .before .before .before .before .args) .n / 10)) ((c .before .before .before .before .before .before .args) .out .now) ((c .before .before .put-decimal) .last .0) ((c .before .before .put-decimal) .result) (48 + (c .before .before .before .before .before .before .args) .n % 10)
-          ((c .before .before .put-decimal) .ensures .placed) ((c .before .before .put-decimal) .ensures .counted) (omega (arith, (c .before .before .before .before .before .before .pre) .1));
-      counted = omega (arith, (c .before .before .put-decimal) .ensures .counted);
+          laid-byte (decimal (n / 10)) out (at-put-decimal .put-decimal .last .0) (at-put-decimal .put-decimal .result)
+          (48 + n % 10)
+          (at-put-decimal .put-decimal .ensures .placed) (at-put-decimal .put-decimal .ensures .counted)
+          (omega (arith, start .pre .1, whole, size));
+      counted = omega (arith, at-put-decimal .put-decimal .ensures .counted, size);
     })
 
 pub +put-decimal-spec : {M : Type 1} → statement M
