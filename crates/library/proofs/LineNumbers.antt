@@ -4,26 +4,26 @@
 use Prim.Native.Nat.{ℕ, suc, _+_, _≤_}
 use native.Mathlib.Omega.{arith}
 use mathlib.Core.Bool.{Bool, true, false, cond, not, _||_}
-use mathlib.Core.List.{List, [], _∷_, _++_, map}
+use mathlib.Core.List.{List, [], _∷_, map}
 use mathlib.Core.Option.{Option, none, some}
 use mathlib.Core.Path.{_≡_, refl, subst}
 use lib.Dec.{leb, ltb, eqb}
 use lib.ListN.{length, drop}
 use borrow.Author.Tests.{ltb-false}
-use Rattle.text.specs.Lists.{onward, every, isKnown, placeOf}
+use Rattle.text.specs.Lists.{onward, every, isKnown}
 use Rattle.text.specs.Lines.{Line, lines, inFirstLine, lineIsFaulty}
 use Rattle.text.specs.Fields.{fields, isName, isTerm, isNumberIn}
 use Rattle.semantics.specs.Terms.{Constraint, Symbol, Rule, weight}
 use Rattle.semantics.proofs.Configurations.{All, also}
 use Rattle.semantics.proofs.Configurations as C
-use Rattle.semantics.proofs.Multisets.{all-mono, all-append}
+use Rattle.semantics.proofs.Multisets.{all-append}
 use Rattle.syntax.specs.Answers.{Answer, refused, accepted, refuseIf, andThen}
 use Rattle.syntax.specs.Forms.{Form, symbolForm, ruleForm, headForm, bodyForm, equationForm, goalForm, noForm, formOf}
 use Rattle.syntax.specs.Forms.{Place, placeAfter, fieldAt, constantsAfter, isConstraintFaulty, isUndeclared}
 use Rattle.syntax.specs.Programs.{Draft, Reading, blank, lastRule, withRule, readSymbol, readRule, readConstraint}
 use Rattle.syntax.specs.Programs.{readEquation, readForm, readLine, readLines, checkRules, readProgram, maxText, maxSymbols}
 use Rattle.syntax.specs.Programs.{maxRules, maxHeads, maxBody, maxEquations, maxConstants, withHead, withBody}
-use Rattle.syntax.specs.Goals.{GoalDraft, GoalReading, maxGoal, maxWeight, lettersAfter, readConstraintOfGoal, isGoalForm}
+use Rattle.syntax.specs.Goals.{GoalDraft, maxGoal, maxWeight, readConstraintOfGoal, isGoalForm}
 use Rattle.syntax.specs.Goals.{readGoalLine, readGoalLines, readGoal}
 
 -- what holds of an answer: of a refusal's line, or of the value that is accepted

@@ -7,44 +7,45 @@
 -- Assumes nothing.
 use Prim.Native.Nat.{ℕ, zero, suc, _+_, _-_, _*_, _≤_, _<_}
 use native.Mathlib.Omega.{arith}
-use native.Mathlib.Nat.{add-zero}
-use mathlib.Core.Bool.{Bool, true, false, cond, not, _&&_}
-use mathlib.Core.List.{List, [], _∷_, _++_, map}
+use mathlib.Core.Bool.{Bool, true, false, cond, _&&_}
+use mathlib.Core.List.{List, [], _∷_, map}
 use mathlib.Core.Option.{Option, none, some}
 use mathlib.Core.Path.{_≡_, refl, sym, ap, subst, _∙_}
-use lib.Dec.{ltb, leb}
-use lib.ListN.{length, length-append, length-map, length-drop, take, drop, getD}
+use lib.Dec.{ltb}
+use lib.ListN.{length, length-append, take, drop, getD}
 use lib.Seq.{getD-drop, getD-take, length-take-le}
-use borrow.Author.Tests.{lt-ltb, le-ltb, le-leb, ltb-true, ltb-false}
+use borrow.Author.Tests.{lt-ltb, le-leb, ltb-true, ltb-false}
 use Rattle.text.specs.Lists.{every, onward, tabled}
 use Rattle.text.proofs.Laws.{tabled-length, tabled-at}
-use Rattle.semantics.specs.Terms.{Term, con, var, Constraint, Equation, Symbol, Rule, Program, Goal, State, failed, live}
+use Rattle.semantics.specs.Terms.{Term, con, var, Constraint, Equation, Symbol, Rule, Program, State, failed, live}
 use Rattle.semantics.specs.Terms.{noSymbol, weight, alphabet, isDeclared, isGoalOf, isWellFormed}
 use Rattle.semantics.specs.Strategy.{Final, advance, normalise, entered, run}
-use Rattle.semantics.proofs.Configurations.{TermBelow, All, also, Scoped}
+use Rattle.semantics.proofs.Configurations.{TermBelow, All, also}
 use Rattle.semantics.proofs.Bools.{and-true}
 use Rattle.semantics.proofs.Listings.{all-every}
 use Rattle.semantics.proofs.Multisets.{all-mono}
 use Rattle.semantics.proofs.MatchedTerms.{ConstraintBelow}
 use Rattle.semantics.proofs.Vocabulary.{TermOver, ConstraintOver, RuleOver, Spoken, SpokenState, run-spoken}
-use Rattle.syntax.specs.Answers.{Answer, refused, accepted}
-use Rattle.syntax.specs.Programs.{Reading, readProgram}
-use Rattle.syntax.specs.Goals.{GoalReading, readGoal}
-use Rattle.syntax.specs.Tables.{cellTerm, cellTerms, cellConstraints, symbolOf, symbolsOf, ruleOfRow, ruleOf, rulesOf}
+use Rattle.syntax.specs.Programs.{Reading}
+use Rattle.syntax.specs.Goals.{GoalReading}
+use Rattle.syntax.specs.Tables.{cellTerm, cellConstraints, symbolOf, symbolsOf, ruleOfRow, ruleOf, rulesOf}
 use Rattle.syntax.specs.Tables.{constantOf, constantsOf, lettersOf}
 use Rattle.syntax.proofs.WellFormed.{read-wellFormed}
 use Rattle.syntax.proofs.Vocabulary.{ConstantOf, SymbolSmall, RuleSmall, ReadSmall, read-small, term-more}
 use Rattle.syntax.proofs.GoalVocabulary.{ReadGoal, goal-small}
-use Rattle.engine.specs.Cells.{rowConstraint}
 use Rattle.engine.specs.States.{stateOf}
 use Rattle.engine.specs.Runs.{storeOf, Startable, Ended}
 use Rattle.engine.proofs.GoalLaws.{isUsed, programOf, AsRead, goal-starts, goal-runs}
 use Rattle.listing.specs.Listing.{Naming, endListing}
 use Rattle.listing.specs.Runs as listing
+use Rattle.listing.specs.declared.Counts.{Counts}
+use Rattle.listing.proofs.RunLaws.{listing-next}
+use Rattle.library.specs.declared.RunReply.{RunReply}
+use Rattle.library.specs.Answers.{Replied}
 use Rattle.library.specs.declared.Sizes.{Sizes}
 use Rattle.library.specs.Replies.{goalText, replyOf, fitted, namingOf, runListing, runReply}
-use Rattle.library.specs.Stages.{programTable, RowsFit, ProgramReady, Ready}
-use Rattle.library.proofs.CellLaws.{all-at, all-mapped, rows-all, terms-all, row-first, row-term, bound-start}
+use Rattle.library.specs.Stages.{programTable, ProgramReady, Ready}
+use Rattle.library.proofs.CellLaws.{all-at, all-mapped, bound-start}
 
 -- a cell of a rule's row
 row-cell : (rules : List ℕ) (i j : ℕ) → j < 64 → getD (take 64 (drop (64 * i) rules)) j 0 ≡ getD rules (64 * i + j) 0
@@ -125,6 +126,20 @@ normalise-few (suc fuel) rs s f = go (normalise-few fuel rs) (advance rs s)
     go more none = omega arith
     go more (some t) = omega (arith, more t (suc f))
 
+-- the same listing, whatever the naming of equal things
+listing-same :
+    (p : Reading) (g : GoalReading) (naming : Naming) (letters : List (List ℕ)) (f : Final) → p .program .symbols ≡ naming .symbols
+    → g .constants ≡ naming .constants → g .letters ≡ letters → f ≡ run (p .program) (g .goal)
+    → endListing naming letters f ≡ runListing p g
+unfolding runListing namingOf
+listing-same p g naming letters f a b c d =
+    let same : naming ≡ record { symbols = p .program .symbols; constants = g .constants } =
+    ap (λ (ss : List Symbol). record { symbols = ss; constants = naming .constants }) (sym a)
+    ∙ ap (λ (cs : List (List ℕ)). record { symbols = p .program .symbols; constants = cs }) (sym b) in
+    ap (λ (n : Naming). endListing n letters f) same
+    ∙ ap (λ (vs : List (List ℕ)). endListing (record { symbols = p .program .symbols; constants = g .constants }) vs f) (sym c)
+    ∙ ap (endListing (record { symbols = p .program .symbols; constants = g .constants }) (g .letters)) d
+
 module _ {program goal symbols rules constants letters cells : List ℕ} {z : Sizes}
     (r : Ready program goal symbols rules constants letters cells z) where
   -- what reading says of the goal
@@ -135,7 +150,7 @@ module _ {program goal symbols rules constants letters cells : List ℕ} {z : Si
   unfolding lettersOf
   variables = goal-read .lettered ∙ ap length (r .lettered) ∙ tabled-length (λ i. getD letters i 0 ∷ []) (z .variables)
 
-  few-variables : z .variables ≤ 26
+  pub few-variables : z .variables ≤ 26
   few-variables = omega (arith, variables, goal-read .lettered, goal-read .few-letters)
 
   count-constants : length (r .g .constants) ≡ z .own + z .more
@@ -212,17 +227,16 @@ module _ {program goal symbols rules constants letters cells : List ℕ} {z : Si
   unfolding runReply replyOf
   run-replies room = rw (r .first .read, r .read)
 
-  module _ {bound′ cells′ : List ℕ} {alive : Bool} {count number firings : ℕ}
-      (e : Ended rules (z .rules) (tabled (λ (i : ℕ). 256 + i) (z .variables)) cells (z .constraints) (z .variables) bound′ cells′
-      alive count number firings) where
+  module _ {bound bound′ cells′ : List ℕ} {alive : Bool} {count number firings : ℕ}
+      (start : bound ≡ tabled (λ (i : ℕ). 256 + i) (z .variables))
+      (e : Ended rules (z .rules) bound cells (z .constraints) (z .variables) bound′ cells′ alive count number firings) where
     -- the end of the derivation is that of the definition
     pub ready-runs : record { state = stateOf alive number bound′ (take (5 * count) cells′); firings = firings } ≡ final
     ready-runs =
         goal-runs program symbols (z .symbols) rules (z .rules) (as-read (r .first)) (r .g .goal) is-goal cells (z .constraints) holds
-        (tabled (λ (i : ℕ). 256 + i) (z .variables)) bound′ cells′ alive count number firings
-        (bound-start (z .variables) ∙ ap (tabled var) (sym variables))
-        (subst (λ (v : ℕ). Ended rules (z .rules) (tabled (λ (i : ℕ). 256 + i) (z .variables)) cells (z .constraints) v bound′ cells′ alive
-        count number firings) (sym variables) e)
+        bound bound′ cells′ alive count number firings
+        (ap (map cellTerm) start ∙ bound-start (z .variables) ∙ ap (tabled var) (sym variables))
+        (subst (λ (v : ℕ). Ended rules (z .rules) bound cells (z .constraints) v bound′ cells′ alive count number firings) (sym variables) e)
         ∙ ap (λ (q : Program). run q (r .g .goal)) (sym same-program)
 
     same-firings : firings ≡ final .firings
@@ -279,43 +293,119 @@ module _ {program goal symbols rules constants letters cells : List ℕ} {z : Si
           cell-fits (getD bound′ i 0) (all-mapped cellTerm bound′ 0 i (live-spoken .bound) h)
           (all-mapped cellTerm bound′ 0 i (live-spoken .scoped .bound) h)
 
-      -- the cells of a constraint
-      row-named : (i : ℕ) → i < count → getD shown (5 * i) 0 < z .symbols
-      unfolding isDeclared rowConstraint programTable symbolsOf
-      row-named i h =
-          let declared = rows-all (λ c. isDeclared (r .p .program .symbols) c ≡ true) shown count i shown-size h (live-spoken .declared) in
-          let low = ltb-true _ (length (r .p .program .symbols)) (and-true _ _ declared .0) in
+      -- a constraint
+      term-fits :
+          (t : Term) → TermOver vocabulary t → TermBelow number t → listing.isTermOf (z .own + z .more) 13338 t ≡ true
+      unfolding listing.isTermOf
+      term-fits (con c) over below =
+          rw (le-leb 32 c (over .0), lt-ltb c (32 + (z .own + z .more)) (omega (arith, over .1, count-constants)))
+      term-fits (var x) over below = lt-ltb x 13338 (omega (arith, below, few-numbers))
+
+      terms-fit :
+          (ts : List Term) → All (TermOver vocabulary) ts → All (TermBelow number) ts
+          → every (listing.isTermOf (z .own + z .more) 13338) ts ≡ true
+      terms-fit [] over below = refl
+      terms-fit (t ∷ ts) (also o os) (also b bs) = rw (term-fits t o b, terms-fit ts os bs)
+
+      declared-low : (c : Constraint) → isDeclared (r .p .program .symbols) c ≡ true → ltb (c .symbol) (z .symbols) ≡ true
+      unfolding isDeclared programTable symbolsOf
+      declared-low c h =
           let size : length (r .p .program .symbols) ≡ z .symbols =
           ap (λ (q : Program). length (q .symbols)) (r .first .holds) ∙ tabled-length (symbolOf program symbols) (z .symbols) in
-          omega (arith, low, size, row-first shown i)
+          rw size at (and-true (ltb (c .symbol) (length (r .p .program .symbols))) _ h .0)
 
-      row-fits :
-          (i j : ℕ) → i < count → j < 4 → ((l : ℕ) → l ≤ j → 0 < getD shown (5 * i + suc l) 0)
-          → listing.TermCell (z .own + z .more) 13338 (getD shown (5 * i + suc j) 0)
-      unfolding rowConstraint
-      row-fits i j h k before =
-          let row = take 5 (drop (5 * i) shown) in
-          let size : length (drop 1 row) ≡ 4 =
-          omega (arith, length-drop 1 row, length-take-le 5 (drop (5 * i) shown) (omega (arith, length-drop (5 * i) shown, shown-size))) in
-          let nonzero : (l : ℕ) → l ≤ j → 0 < getD (drop 1 row) l 0 =
-          λ l m. rw (row-term shown i l (omega arith)) (before l m) in
-          let over = rows-all (ConstraintOver vocabulary) shown count i shown-size h (live-spoken .constraints) in
-          let below = rows-all (ConstraintBelow number) shown count i shown-size h (live-spoken .scoped .constraints) in
-          subst (listing.TermCell (z .own + z .more) 13338) (row-term shown i j k)
-          (cell-fits (getD (drop 1 row) j 0)
-          (terms-all (TermOver vocabulary) (drop 1 row) j over (omega arith) nonzero)
-          (terms-all (TermBelow number) (drop 1 row) j below (omega arith) nonzero))
+      rows-fit :
+          (cs : List Constraint) → All (λ c. isDeclared (r .p .program .symbols) c ≡ true) cs → All (ConstraintOver vocabulary) cs
+          → All (ConstraintBelow number) cs → every (listing.isConstraintOf (z .symbols) (z .own + z .more) 13338) cs ≡ true
+      unfolding listing.isConstraintOf
+      rows-fit [] declared over below = refl
+      rows-fit (c ∷ cs) (also d ds) (also o os) (also b bs) =
+          rw (declared-low c d, terms-fit (c .terms) o b, rows-fit cs ds os bs)
 
--- the same listing, whatever the naming of equal things
-listing-same :
-    (p : Reading) (g : GoalReading) (naming : Naming) (letters : List (List ℕ)) (f : Final) → p .program .symbols ≡ naming .symbols
-    → g .constants ≡ naming .constants → g .letters ≡ letters → f ≡ run (p .program) (g .goal)
-    → endListing naming letters f ≡ runListing p g
-unfolding runListing namingOf
-listing-same p g naming letters f a b c d =
-    let same : naming ≡ record { symbols = p .program .symbols; constants = g .constants } =
-    ap (λ (ss : List Symbol). record { symbols = ss; constants = naming .constants }) (sym a)
-    ∙ ap (λ (cs : List (List ℕ)). record { symbols = p .program .symbols; constants = cs }) (sym b) in
-    ap (λ (n : Naming). endListing n letters f) same
-    ∙ ap (λ (vs : List (List ℕ)). endListing (record { symbols = p .program .symbols; constants = g .constants }) vs f) (sym c)
-    ∙ ap (endListing (record { symbols = p .program .symbols; constants = g .constants }) (g .letters)) d
+      -- the counts of a state that lives
+      abbrev counts : Counts
+      counts =
+          record {
+            symbols = z .symbols;
+            own = z .own;
+            more = z .more;
+            constraints = count;
+            firings = firings;
+          }
+
+      -- the end can be listed
+      pub live-lists : listing.RunListable program goal symbols constants letters bound′ shown 13338 false counts
+      live-lists =
+          record {
+            firings = omega (arith, ready-few);
+            live = λ _. record {
+              names-room = omega (arith, few-symbols (r .first), r .first .fit .symbols-size);
+              names = r .first .fit .names;
+              spellings-room = omega (arith, r .constants-size, count-constants, goal-read .few-constants);
+              spellings = r .spellings;
+              lettered = omega (arith, few-variables, r .letters-size);
+              bound-terms = bound-fits;
+              size = shown-size;
+              rows = rows-fit (cellConstraints shown) (live-spoken .declared) (live-spoken .constraints) (live-spoken .scoped .constraints);
+              few = omega (arith, few-variables, e .few lives);
+            };
+          }
+
+      -- its listing is the definition's
+      live-bytes :
+          listing.runBytes (listing.tableNaming program goal symbols constants counts) letters false 0 bound′ shown firings
+          ≡ runListing (r .p) (r .g)
+      unfolding listing.runBytes listing.tableNaming listing.stateOf stateOf programTable
+      live-bytes =
+          let naming = listing.tableNaming program goal symbols constants counts in
+          sym (listing-next naming letters false number bound′ shown firings)
+          ∙ listing-same (r .p) (r .g) naming (lettersOf letters (length bound′))
+          (record { state = live number (map cellTerm bound′) (cellConstraints shown); firings = firings })
+          (ap (λ (q : Program). q .symbols) (r .first .holds)) (r .spelled) (r .lettered ∙ ap (lettersOf letters) (sym bound-size))
+          (rw lives at ready-runs)
+
+      -- and so is the reply
+      pub live-replies :
+          {before after : List ℕ} {reply : RunReply}
+          → Replied (fitted goalText (length before) (listing.runBytes (listing.tableNaming program goal symbols constants counts) letters false
+          0 bound′ shown firings)) before after reply
+          → Replied (runReply program goal (length before)) before after reply
+      live-replies {before} {after} {reply} l =
+          rw run-replies
+          (subst (λ (bytes : List ℕ). Replied (fitted goalText (length before) bytes) before after reply) live-bytes l)
+
+    -- the same for a state that has failed
+    module _ (fails : alive ≡ false) (bound-size : length bound′ ≡ z .variables) where
+      abbrev failed-counts : Counts
+      failed-counts =
+          record {
+            symbols = z .symbols;
+            own = z .own;
+            more = z .more;
+            constraints = 0;
+            firings = firings;
+          }
+
+      pub failed-lists : (shown : List ℕ) → listing.RunListable program goal symbols constants letters bound′ shown 13338 true failed-counts
+      failed-lists shown =
+          record { firings = omega (arith, ready-few); live = λ h. absurd (let w : _≡_ {A = ℕ} 0 1 = cc in omega arith) }
+
+      failed-bytes :
+          (shown : List ℕ)
+          → listing.runBytes (listing.tableNaming program goal symbols constants failed-counts) letters true 0 bound′ shown firings
+          ≡ runListing (r .p) (r .g)
+      unfolding listing.runBytes listing.tableNaming listing.stateOf stateOf programTable
+      failed-bytes shown =
+          let naming = listing.tableNaming program goal symbols constants failed-counts in
+          listing-same (r .p) (r .g) naming (lettersOf letters (length bound′)) (record { state = failed; firings = firings })
+          (ap (λ (q : Program). q .symbols) (r .first .holds)) (r .spelled) (r .lettered ∙ ap (lettersOf letters) (sym bound-size))
+          (rw fails at ready-runs)
+
+      pub failed-replies :
+          (shown : List ℕ) {before after : List ℕ} {reply : RunReply}
+          → Replied (fitted goalText (length before) (listing.runBytes (listing.tableNaming program goal symbols constants failed-counts)
+          letters true 0 bound′ shown firings)) before after reply
+          → Replied (runReply program goal (length before)) before after reply
+      failed-replies shown {before} {after} {reply} l =
+          rw run-replies
+          (subst (λ (bytes : List ℕ). Replied (fitted goalText (length before) bytes) before after reply) (failed-bytes shown) l)

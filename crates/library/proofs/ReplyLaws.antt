@@ -5,12 +5,12 @@
 use Prim.Native.Nat.{ℕ}
 use native.Mathlib.Omega.{arith}
 use mathlib.Core.Bool.{Bool, true, false, cond}
-use mathlib.Core.List.{List, [], _∷_, _++_}
-use mathlib.Core.Path.{_≡_, refl, sym, ap, subst, _∙_}
+use mathlib.Core.List.{List}
+use mathlib.Core.Path.{_≡_, refl, sym, ap, _∙_}
 use lib.Dec.{ltb}
-use lib.ListN.{length, take, drop}
+use lib.ListN.{length, drop}
 use lib.Seq.{take-at}
-use Rattle.syntax.specs.Answers.{Answer, refused, accepted}
+use Rattle.syntax.specs.Answers.{refused, accepted}
 use Rattle.syntax.specs.Programs.{Reading, readProgram}
 use Rattle.syntax.specs.Goals.{readGoal}
 use Rattle.listing.specs.Pieces.{laid}
@@ -18,7 +18,7 @@ use Rattle.listing.specs.Runs.{listedIn, ListedAs}
 use Rattle.listing.specs.Runs as runs
 use Rattle.listing.specs.declared.Listed.{Listed}
 use Rattle.listing.specs.declared.Listed.the-variants.{TooShort, Written}
-use Rattle.library.specs.Replies.{programText, goalText, Reply, refusal, listing, replyOf, fitted, runReply, outputAfter}
+use Rattle.library.specs.Replies.{goalText, refusal, listing, replyOf, fitted, runReply, outputAfter}
 use Rattle.library.specs.Answers.{textMeant, replyMeant, letterOf, answerOf, Replied}
 use Rattle.library.specs.declared.TextName.the-variants.{S, G}
 use Rattle.library.specs.declared.RunReply.the-variants.{Refused, Listed as ListedTo}

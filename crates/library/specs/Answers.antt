@@ -8,10 +8,9 @@ use Prim.Native.Nat.{ℕ, _+_, _*_}
 use mathlib.Core.List.{List}
 use mathlib.Core.Path.{_≡_}
 use lib.ListN.{length, take}
-use Rattle.library.specs.Replies.{Text, programText, goalText, Reply, refusal, listing, runReply, outputAfter}
+use Rattle.library.specs.Replies.{Text, programText, goalText, Reply, refusal, listing, outputAfter}
 use Rattle.library.specs.declared.TextName.{TextName}
 use Rattle.library.specs.declared.TextName.the-variants.{S, G}
-use Rattle.library.specs.declared.Refusal.{Refusal}
 use Rattle.library.specs.declared.RunReply.{RunReply}
 use Rattle.library.specs.declared.RunReply.the-variants.{Refused, Listed}
 

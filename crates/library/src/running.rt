@@ -49,7 +49,19 @@ fn list_final<'a>(
         (now (output .entry)) (now (output .exit)) r ⌝ }
 {
     let mut numbers = [0; 13338];
-    match list_run(output, &mut numbers, program, goal, symbols, constants, letters, bound, cells, failed, counts) {
+    match list_run(
+        output,
+        &mut numbers,
+        program,
+        goal,
+        symbols,
+        constants,
+        letters,
+        bound,
+        cells,
+        failed,
+        counts,
+    ) {
         Listed::TooShort => RunReply::Refused(Refusal {
             number: 11,
             text: TextName::G,
@@ -113,5 +125,16 @@ pub fn run_read<'a>(
         constraints: 0,
         firings: firings,
     };
-    list_final(program, goal, symbols, constants, letters, bound, cells, true, counts, output)
+    list_final(
+        program,
+        goal,
+        symbols,
+        constants,
+        letters,
+        bound,
+        cells,
+        true,
+        counts,
+        output,
+    )
 }

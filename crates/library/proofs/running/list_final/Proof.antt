@@ -3,9 +3,6 @@ use borrow.Author.Needs.{needs}
 use Rattle.library.proofs.ReplyLaws.{listed-short, listed-written}
 use Rattle.library.proofs.running.list_final.Statement.{statement}
 use Rattle.library.proofs.running.list_final.Tie as tie
-use Rattle.library.proofs.running.list_final.Reads as reads
-use Rattle.library.proofs.running.list_final.Lts as lts
-use Rattle.listing.proofs.list_run.Reads as list-run-reads
 
 slice-aggregate-list-run : tie.Need-slice-aggregate-list-run
 slice-aggregate-list-run c = search needs

@@ -1,75 +1,68 @@
+-- `library::running::run_read` meets its contract: the goal can be run, its end can be listed, and the reply is the definition's.
+-- Assumes nothing.
+use Prim.Native.Nat.{ℕ, _+_, _*_}
+use native.Mathlib.Omega.{arith}
+use mathlib.Core.Path.{sym, ap, _∙_}
+use lib.Seq.{length-take-le}
 use borrow.Author.Needs.{needs}
+use Rattle.text.specs.Lists.{tabled}
+use Rattle.library.proofs.ReadyLaws.{few-variables, ready-starts, live-lists, live-replies, failed-lists, failed-replies}
 use Rattle.library.proofs.running.run_read.Statement.{statement}
 use Rattle.library.proofs.running.run_read.Tie as tie
-use Rattle.library.proofs.running.run_read.Reads as reads
-use Rattle.library.proofs.running.run_read.Lts as lts
-use Rattle.engine.proofs.derivation.normalise.Reads as normalise-reads
-use Rattle.library.proofs.running.list_final.Reads as list-final-reads
-use Rattle.library.proofs.running.start_bound.Reads as start-bound-reads
 
--- src/running.rt:80:5
 start-bound-requires : tie.Need-start-bound-requires
-start-bound-requires c κs = ?
+start-bound-requires c κs = omega (arith, (c .before .before .before .before .before .before .before .before .before .before .pre) .1, few-variables ((c .before .before .before .before .before .before .before .before .before .before .pre) .0))
 
--- src/running.rt:83:16
 cast-next : tie.Need-cast-next
-cast-next c = ?
+cast-next c = omega (arith, few-variables ((c .before .before .before .before .before .before .before .before .before .before .before .before .before .before .pre) .0))
 
--- src/running.rt:84:9
 normalise-requires : tie.Need-normalise-requires
-normalise-requires c κs = ?
+normalise-requires c κs = ready-starts ((c .before .before .before .before .before .before .before .before .before .before .before .before .before .before .before .before .pre) .0)
 
--- src/running.rt:88:17
 mul-e : tie.Need-mul-e
-mul-e c = ?
+mul-e c = omega (arith, (c .before .before .before .before .before .normalise) .ensures .few ((c .if1) .taken))
 
--- src/running.rt:103:13
 slice-reshare-prefix-list-final : tie.Need-slice-reshare-prefix-list-final
-slice-reshare-prefix-list-final c = ?
+slice-reshare-prefix-list-final c = omega (arith, (c .before .before .before .before .before .before .normalise) .ensures .few ((c .before .if1) .taken), (c .before .before .before .before .before .before .before .before .before .before .before .before .before .before .before .before .before .before .before .before .before .before .before .pre) .0 .cells-size)
 
--- src/running.rt:103:13
 slice-aggregate-list-final : tie.Need-slice-aggregate-list-final
-slice-aggregate-list-final c = ?
+slice-aggregate-list-final c =
+    sym (length-take-le (5 * (c .before .before .before .before .before .before .before .normalise) .result .count) _ (omega (arith, (c .before .before .before .before .before .before .before .normalise) .ensures .few ((c .before .before .if1) .taken), (c .before .before .before .before .before .before .before .before .before .before .before .before .before .before .before .before .before .before .before .before .before .before .before .before .pre) .0 .cells-size)))
 
--- src/running.rt:96:9
 list-final-requires : tie.Need-list-final-requires
-list-final-requires c κs = ?
+list-final-requires c κs =
+    live-lists ((c .before .before .before .before .before .before .before .before .before .before .before .before .before .before .before .before .before .before .before .before .before .before .before .before .before .pre) .0) ((c .before .before .before .before .before .before .before .before .before .before .before .before .before .before .start-bound) .ensures ∙ ap (tabled (λ (i : ℕ). 256 + i)) ((c .before .before .before .before .before .before .before .before .before .before .before .before .before .before .before .before .before .before .before .before .before .before .before .before .before .pre) .1)) ((c .before .before .before .before .before .before .before .before .normalise) .ensures) ((c .before .before .before .if1) .taken) (omega (arith, (c .before .before .before .before .before .before .before .before .before .before .before .before .before .before .before .before .before .before .before .before .before .before .before .before .before .pre) .1)) (omega (arith, (c .before .before .before .before .before .before .before .before .before .before .before .before .before .before .before .before .before .before .before .before .before .before .before .before .before .pre) .0 .cells-size))
 
--- src/running.rt:96:9
 same-length : tie.Need-same-length
 same-length c = search needs
 
--- src/running.rt:96:9
 same-length-2 : tie.Need-same-length-2
 same-length-2 c = search needs
 
--- src/running.rt:96:9
 same-length-3 : tie.Need-same-length-3
 same-length-3 c = search needs
 
--- src/running.rt:96:9
 returns : tie.Need-returns
-returns c = ?
+returns c =
+    live-replies ((c .before .before .before .before .before .before .before .before .before .before .before .before .before .before .before .before .before .before .before .before .before .before .before .before .before .before .before .before .pre) .0) ((c .before .before .before .before .before .before .before .before .before .before .before .before .before .before .before .before .before .start-bound) .ensures ∙ ap (tabled (λ (i : ℕ). 256 + i)) ((c .before .before .before .before .before .before .before .before .before .before .before .before .before .before .before .before .before .before .before .before .before .before .before .before .before .before .before .before .pre) .1)) ((c .before .before .before .before .before .before .before .before .before .before .before .normalise) .ensures) ((c .before .before .before .before .before .before .if1) .taken) (omega (arith, (c .before .before .before .before .before .before .before .before .before .before .before .before .before .before .before .before .before .before .before .before .before .before .before .before .before .before .before .before .pre) .1)) (omega (arith, (c .before .before .before .before .before .before .before .before .before .before .before .before .before .before .before .before .before .before .before .before .before .before .before .before .before .before .before .before .pre) .0 .cells-size))
+    ((c .before .before .list-final) .ensures)
 
--- src/running.rt:116:5
 list-final-requires-2 : tie.Need-list-final-requires-2
-list-final-requires-2 c κs = ?
+list-final-requires-2 c κs =
+    failed-lists ((c .before .before .before .before .before .before .before .before .before .before .before .before .before .before .before .before .before .before .before .before .before .before .before .before .before .pre) .0) ((c .before .before .before .before .before .before .before .before .before .before .before .before .before .before .start-bound) .ensures ∙ ap (tabled (λ (i : ℕ). 256 + i)) ((c .before .before .before .before .before .before .before .before .before .before .before .before .before .before .before .before .before .before .before .before .before .before .before .before .before .pre) .1)) ((c .before .before .before .before .before .before .before .before .normalise) .ensures) ((c .before .before .before .if1) .left) (omega (arith, (c .before .before .before .before .before .before .before .before .before .before .before .before .before .before .before .before .before .before .before .before .before .before .before .before .before .pre) .1)) _
 
--- src/running.rt:63:1
 same-length-4 : tie.Need-same-length-4
 same-length-4 c = search needs
 
--- src/running.rt:63:1
 same-length-5 : tie.Need-same-length-5
 same-length-5 c = search needs
 
--- src/running.rt:63:1
 same-length-6 : tie.Need-same-length-6
 same-length-6 c = search needs
 
--- src/running.rt:63:1
 returns-2 : tie.Need-returns-2
-returns-2 c = ?
+returns-2 c =
+    failed-replies ((c .before .before .before .before .before .before .before .before .before .before .before .before .before .before .before .before .before .before .before .before .before .before .before .before .before .before .before .before .pre) .0) ((c .before .before .before .before .before .before .before .before .before .before .before .before .before .before .before .before .before .start-bound) .ensures ∙ ap (tabled (λ (i : ℕ). 256 + i)) ((c .before .before .before .before .before .before .before .before .before .before .before .before .before .before .before .before .before .before .before .before .before .before .before .before .before .before .before .before .pre) .1)) ((c .before .before .before .before .before .before .before .before .before .before .before .normalise) .ensures) ((c .before .before .before .before .before .before .if1) .left) (omega (arith, (c .before .before .before .before .before .before .before .before .before .before .before .before .before .before .before .before .before .before .before .before .before .before .before .before .before .before .before .before .pre) .1)) _ ((c .before .before .list-final2) .ensures)
 
 pub run-read-spec : {M : Type 1} → statement M
 run-read-spec =

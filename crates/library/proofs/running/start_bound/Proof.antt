@@ -10,8 +10,6 @@ use lib.Seq.{take-suc-set, take-all}
 use Rattle.text.specs.Lists.{tabled}
 use Rattle.library.proofs.running.start_bound.Statement.{statement}
 use Rattle.library.proofs.running.start_bound.Tie as tie
-use Rattle.library.proofs.running.start_bound.Reads as reads
-use Rattle.library.proofs.running.start_bound.Lts as lts
 
 abbrev Inv-loop : tie.InvT-loop
 Inv-loop bound₀ i₀ bound i =
@@ -42,11 +40,10 @@ loop-less : tie.Need-loop-less Inv-loop μ-loop
 loop-less c = simp length-set (omega arith)
 
 loop-again : tie.Need-loop-again Inv-loop μ-loop
-loop-again c = 
+loop-again c =
     let l = c .before .loop .bound in
     let i = c .before .loop .i in
-    let h : i < length l = omega arith in
-    (
+    let h : i < length l = omega arith in (
       simp length-set (omega arith),
       simp length-set (omega arith),
       rw (add-one, take-suc-set l i (256 + i) h) (ap (λ (t : List ℕ). t ++ ((256 + i) ∷ [])) (c .before .loop .inv .2)),
@@ -56,7 +53,7 @@ same-length : tie.Need-same-length Inv-loop μ-loop
 same-length c = c .before .loop .inv .1
 
 returns : tie.Need-returns Inv-loop μ-loop
-returns c = 
+returns c =
     let l = c .before .loop .bound in
     let i = c .before .loop .i in
     let e : i ≡ length l = omega arith in
