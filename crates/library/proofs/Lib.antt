@@ -4,3 +4,7 @@ pub mod Starred
 pub mod Demand2
 pub mod Demand3
 pub mod Instances
+pub mod LineNumbers
+pub mod CellLaws
+pub mod ReadyLaws
+pub mod ReplyLaws

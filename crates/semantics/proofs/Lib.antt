@@ -31,6 +31,7 @@ pub mod Weights
 pub mod Bound
 pub mod Entering
 pub mod Normal
+pub mod Vocabulary
 pub mod Reordering
 pub mod LateEntry
 pub mod Places

@@ -1,6 +1,9 @@
 -- Laws of this crate's definitions. Assumes nothing.
 pub mod Opened
 pub mod WellFormed
+pub mod Known
+pub mod Vocabulary
+pub mod GoalVocabulary
 pub mod Tabled
 pub mod Letters
 pub mod Constants

@@ -1,4 +1,5 @@
--- What reads is well formed: `read-wellFormed`, for programs, and `read-goalOf`, for goals.
+-- What reads as a program is well formed: `read-wellFormed`.
+--   Holds      what holds of an answer, if it is accepted
 -- Assumes nothing.
 use Prim.Native.Nat.{ℕ, zero, suc, _+_, _-_, _≤_, _<_}
 use native.Mathlib.Omega.{arith}
@@ -30,38 +31,38 @@ Holds P (refused number line) = Unit {0}
 Holds P (accepted a) = P a
 
 -- behind a test that was not met, and behind another answer
-holds-refuseIf :
+pub holds-refuseIf :
     {A : Type 0} (P : A → Type 0) (b : Bool) (number line : ℕ) (otherwise : Answer A) → (b ≡ false → Holds P otherwise)
     → Holds P (refuseIf b number line otherwise)
 holds-refuseIf P true number line otherwise h = tt
 holds-refuseIf P false number line otherwise h = h refl
 
-holds-andThen :
+pub holds-andThen :
     {A B : Type 0} (P : A → Type 0) (Q : B → Type 0) (r : Answer A) (next : A → Answer B) → Holds P r
     → ((a : A) → r ≡ accepted a → P a → Holds Q (next a)) → Holds Q (andThen r next)
 holds-andThen P Q (refused number line) next h k = tt
 holds-andThen P Q (accepted a) next h k = k a refl h
 
-holds-mono : {A : Type 0} (P Q : A → Type 0) (r : Answer A) → ((a : A) → P a → Q a) → Holds P r → Holds Q r
+pub holds-mono : {A : Type 0} (P Q : A → Type 0) (r : Answer A) → ((a : A) → P a → Q a) → Holds P r → Holds Q r
 holds-mono P Q (refused number line) k h = tt
 holds-mono P Q (accepted a) k h = k a h
 
-holds-accepted : {A : Type 0} (P : A → Type 0) (r : Answer A) {a : A} → Holds P r → r ≡ accepted a → P a
+pub holds-accepted : {A : Type 0} (P : A → Type 0) (r : Answer A) {a : A} → Holds P r → r ≡ accepted a → P a
 holds-accepted P r h e = subst (Holds P) e h
 
 -- tests of both, of neither, and turned round
-and-both : {a b : Bool} → a ≡ true → b ≡ true → (a && b) ≡ true
+pub and-both : {a b : Bool} → a ≡ true → b ≡ true → (a && b) ≡ true
 and-both p q = rw (p, q)
 
-and-parts : (a b : Bool) → (a && b) ≡ true → (a ≡ true) × (b ≡ true)
+pub and-parts : (a b : Bool) → (a && b) ≡ true → (a ≡ true) × (b ≡ true)
 and-parts true b e = (refl, e)
 and-parts false b e = true-false e refl
 
-or-neither : (a b : Bool) → (a || b) ≡ false → (a ≡ false) × (b ≡ false)
+pub or-neither : (a b : Bool) → (a || b) ≡ false → (a ≡ false) × (b ≡ false)
 or-neither true b e = true-false refl e
 or-neither false b e = (refl, e)
 
-not-false : (a : Bool) → not a ≡ false → a ≡ true
+pub not-false : (a : Bool) → not a ≡ false → a ≡ true
 not-false true e = refl
 not-false false e = true-false refl e
 
@@ -102,7 +103,7 @@ term-below constants f p = go _ (isName f) (isVariable f) p (letter-below f)
     go c false b q k = k q
 
 -- the constraint of a line that met none of 4 and 6 is one of a rule
-constraint-ofRule :
+pub constraint-ofRule :
     (symbols : List Symbol) (constants fs : List (List ℕ)) → isConstraintFaulty fs ≡ false → isUndeclared symbols fs ≡ false
     → isOfRule symbols (constraintOf symbols letterNumber constants fs) ≡ true
 unfolding isConstraintFaulty isUndeclared isOfRule isDeclared constraintOf
@@ -166,7 +167,7 @@ every-onLast t f (r ∷ q ∷ rs) k p =
     let h = and-parts (t r) (every t (q ∷ rs)) p in
     and-both (h .0) (every-onLast t f (q ∷ rs) k (h .1))
 
-length-onLast : (f : Rule → Rule) (rs : List Rule) → length (onLast f rs) ≡ length rs
+pub length-onLast : (f : Rule → Rule) (rs : List Rule) → length (onLast f rs) ≡ length rs
 unfolding onLast
 length-onLast f [] = refl
 length-onLast f (r ∷ []) = refl

@@ -1,0 +1,44 @@
+-- `library::running::list_final` meets its contract. Assumes nothing.
+use borrow.Author.Needs.{needs}
+use Rattle.library.proofs.ReplyLaws.{listed-short, listed-written}
+use Rattle.library.proofs.running.list_final.Statement.{statement}
+use Rattle.library.proofs.running.list_final.Tie as tie
+
+slice-aggregate-list-run : tie.Need-slice-aggregate-list-run
+slice-aggregate-list-run c = search needs
+
+list-run-requires : tie.Need-list-run-requires
+list-run-requires c κs = search needs
+
+enum-told : tie.Need-enum-told
+enum-told c = search needs
+
+enum-known-n : tie.Need-enum-known-n
+enum-known-n c = search needs
+
+same-length : tie.Need-same-length
+same-length c = search needs
+
+returns : tie.Need-returns
+returns c = listed-short (c .before .before .before .before .before .list-run .ensures .0) (c .enum-told .given .1)
+
+same-length-2 : tie.Need-same-length-2
+same-length-2 c = search needs
+
+returns-2 : tie.Need-returns-2
+returns-2 c =
+    listed-written (c .before .n .given .0 .0) (c .before .before .before .before .before .before .list-run .ensures .0)
+    (c .before .n .given .1)
+
+pub list-final-spec : {M : Type 1} → statement M
+list-final-spec =
+    tie.close
+    (tie.spec
+    slice-aggregate-list-run
+    list-run-requires
+    enum-told
+    enum-known-n
+    same-length
+    returns
+    same-length-2
+    returns-2)

@@ -1,0 +1,124 @@
+-- Names that a line brings: those before it stay in front, and each name of the line is known after it.
+--   known-front, known-behind      a known name stays known with more behind; a new name is known behind the others
+--   grown                          names with the new ones among some fields behind them
+--   grown-front, grown-known       what a line's fields do to the names
+--   constants-grown, letters-grown so constants and letters grow
+-- Assumes nothing.
+use Prim.Native.Nat.{ℕ, suc, _+_, _<_}
+use native.Mathlib.Omega.{arith}
+use mathlib.Core.Bool.{Bool, true, false, cond, not}
+use mathlib.Core.List.{List, [], _∷_, _++_, append-assoc, append-nil}
+use mathlib.Core.Path.{_≡_, refl, sym, ap, _∙_}
+use lib.ListN.{length, length-append}
+use borrow.Author.Tests.{lt-ltb, ltb-true}
+use Rattle.text.specs.Lists.{placeFrom, placeOf, sameBytes, isKnown, withName}
+use Rattle.text.specs.Fields.{isName}
+use Rattle.semantics.proofs.Configurations.{All, none, also}
+use Rattle.semantics.proofs.Bools.{eqb-same}
+use Rattle.syntax.specs.Forms.{constantsAfter}
+use Rattle.syntax.specs.Goals.{lettersAfter}
+
+-- the place of what is found in front stays with more behind
+place-front :
+    (t : List ℕ → Bool) (i : ℕ) (xs ys : List (List ℕ)) → placeFrom t i xs < i + length xs
+    → placeFrom t i (xs ++ ys) ≡ placeFrom t i xs
+place-front t i [] ys h = absurd (omega arith)
+place-front t i (x ∷ xs) ys h = go (place-front t (suc i) xs ys) (t x) h
+  where
+    go :
+        (placeFrom t (suc i) xs < suc i + length xs → placeFrom t (suc i) (xs ++ ys) ≡ placeFrom t (suc i) xs)
+        → (b : Bool) → cond b i (placeFrom t (suc i) xs) < i + suc (length xs)
+        → cond b i (placeFrom t (suc i) (xs ++ ys)) ≡ cond b i (placeFrom t (suc i) xs)
+    go more true k = refl
+    go more false k = more (omega arith)
+
+-- what passes the test behind the others is found there, or before
+place-behind :
+    (t : List ℕ → Bool) (i : ℕ) (xs : List (List ℕ)) (y : List ℕ) → t y ≡ true → placeFrom t i (xs ++ (y ∷ [])) < i + suc (length xs)
+place-behind t i [] y e = rw e (omega arith)
+place-behind t i (x ∷ xs) y e = go (place-behind t (suc i) xs y e) (t x)
+  where
+    go :
+        placeFrom t (suc i) (xs ++ (y ∷ [])) < suc i + suc (length xs) → (b : Bool)
+        → cond b i (placeFrom t (suc i) (xs ++ (y ∷ []))) < i + suc (suc (length xs))
+    go more true = omega arith
+    go more false = omega arith
+
+same-refl : (s : List ℕ) → sameBytes s s ≡ true
+same-refl [] = refl
+same-refl (b ∷ s) = rw (eqb-same b) (same-refl s)
+
+-- a known name stays known with more behind
+pub known-front : (f : List ℕ) (names more : List (List ℕ)) → isKnown f names ≡ true → isKnown f (names ++ more) ≡ true
+unfolding isKnown placeOf
+known-front f names more h =
+    let k : placeFrom (sameBytes f) 0 names < length names = ltb-true _ _ h in
+    let e = place-front (sameBytes f) 0 names more (omega arith) in
+    lt-ltb (placeFrom (sameBytes f) 0 (names ++ more)) (length (names ++ more)) (omega (arith, e, length-append names more))
+
+-- a name is known behind the others
+pub known-behind : (f : List ℕ) (names : List (List ℕ)) → isKnown f (names ++ (f ∷ [])) ≡ true
+unfolding isKnown placeOf
+known-behind f names =
+    let k = place-behind (sameBytes f) 0 names f (same-refl f) in
+    lt-ltb (placeFrom (sameBytes f) 0 (names ++ (f ∷ []))) (length (names ++ (f ∷ [])))
+    (omega (arith, length-append names (f ∷ [])))
+
+-- names, with those of the picked fields that are new behind them
+abbrev pub grown : (List ℕ → Bool) → List (List ℕ) → List (List ℕ) → List (List ℕ)
+grown pick [] names = names
+grown pick (f ∷ fs) names = grown pick fs (cond (pick f) (withName f names) names)
+
+-- the names before stay in front
+with-front : (b : Bool) (f : List ℕ) (names : List (List ℕ)) → (more : List (List ℕ)) × (cond b (withName f names) names ≡ names ++ more)
+unfolding withName
+with-front false f names = ([], sym (append-nil names))
+with-front true f names = go (isKnown f names)
+  where
+    go : (k : Bool) → (more : List (List ℕ)) × (cond k names (names ++ (f ∷ [])) ≡ names ++ more)
+    go true = ([], sym (append-nil names))
+    go false = (f ∷ [], refl)
+
+pub grown-front : (pick : List ℕ → Bool) (fs names : List (List ℕ)) → (more : List (List ℕ)) × (grown pick fs names ≡ names ++ more)
+grown-front pick [] names = ([], sym (append-nil names))
+grown-front pick (f ∷ fs) names =
+    let (one, e) = with-front (pick f) f names in
+    let (more, k) = grown-front pick fs (cond (pick f) (withName f names) names) in
+    (one ++ more, k ∙ ap (λ ns. ns ++ more) e ∙ append-assoc names one more)
+
+-- a name that was added is known
+with-known : (f : List ℕ) (names : List (List ℕ)) → isKnown f (withName f names) ≡ true
+unfolding withName
+with-known f names = go (isKnown f names) refl
+  where
+    go : (k : Bool) → isKnown f names ≡ k → isKnown f (cond k names (names ++ (f ∷ []))) ≡ true
+    go true e = e
+    go false e = known-behind f names
+
+-- each picked field is known afterwards
+pub grown-known :
+    (pick : List ℕ → Bool) (fs names : List (List ℕ)) → All (λ f. pick f ≡ true → isKnown f (grown pick fs names) ≡ true) fs
+grown-known pick [] names = none
+grown-known pick (f ∷ fs) names = also picked (grown-known pick fs (cond (pick f) (withName f names) names))
+  where
+    picked : pick f ≡ true → isKnown f (grown pick fs (cond (pick f) (withName f names) names)) ≡ true
+    picked e =
+        let (more, k) = grown-front pick fs (cond (pick f) (withName f names) names) in
+        let first : isKnown f (cond (pick f) (withName f names) names) ≡ true = rw e (with-known f names) in
+        rw k (known-front f _ more first)
+
+-- so constants and letters grow
+pub constants-grown : (fs names : List (List ℕ)) → constantsAfter fs names ≡ grown isName fs names
+unfolding constantsAfter
+constants-grown [] names = refl
+constants-grown (f ∷ fs) names = constants-grown fs (cond (isName f) (withName f names) names)
+
+pub letters-grown : (fs names : List (List ℕ)) → lettersAfter fs names ≡ grown (λ f. not (isName f)) fs names
+unfolding lettersAfter
+letters-grown [] names = refl
+letters-grown (f ∷ fs) names =
+    letters-grown fs (cond (isName f) names (withName f names)) ∙ ap (grown (λ f. not (isName f)) fs) (turned (isName f))
+  where
+    turned : (b : Bool) → cond b names (withName f names) ≡ cond (not b) (withName f names) names
+    turned true = refl
+    turned false = refl
