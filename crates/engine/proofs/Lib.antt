@@ -1,4 +1,5 @@
 -- Laws of the engine's cells. Assumes nothing.
+pub mod Opened
 pub mod CellLaws
 pub mod MatchLaws
 pub mod OpposeLaws

@@ -1,24 +1,26 @@
 -- What is settled stays settled, so what it speaks against never fits.
 --   Keeps            an assignment that has what the bindings settle
---   Searching        a clash from column i on is a clash of the whole
+--   may-not          what may not be does not fit
+--   Searching        the columns from i on give the answer for all of them
 -- Assumes nothing.
 use Prim.Native.Nat.{ℕ, suc, _+_, _-_, _≤_, _<_}
 use native.Mathlib.Omega.{arith}
 use native.Mathlib.Numerals.{add-one}
 use mathlib.Core.Bool.{Bool, true, false, cond, not}
-use mathlib.Core.List.{List, _∷_}
-use mathlib.Core.Logic.{⊎-elim}
+use mathlib.Core.List.{List, [], _∷_}
+use mathlib.Core.Logic.{_⊎_, inl, inr, ⊎-elim}
 use mathlib.Core.Option.{Option, none, some}
-use mathlib.Core.Path.{_≡_, refl, _∙_}
+use mathlib.Core.Path.{_≡_, refl}
 use lib.Dec.{eqb}
-use lib.ListN.{length, getD, drop}
-use borrow.Author.Tests.{lt-ltb, le-ltb, ne-eqb, eqb-true, eqb-false, not-true}
+use lib.ListN.{length, getD, drop, drop-of-length-le}
+use lib.Seq.{drop-cons}
+use borrow.Author.Tests.{lt-ltb, le-ltb, eq-eqb, ne-eqb, eqb-true, eqb-false, not-true}
 use Rattle.text.specs.Lists.{bind, onward, every}
 use Rattle.semantics.specs.Terms.{Term, con, var, sameTerm, isBelow, alphabet}
 use Rattle.semantics.specs.Matching.{Assignment, extend, matchTerm, matchTerms, matchConstraint}
 use Rattle.syntax.specs.Tables.{cellTerm, cellTerms}
-use Rattle.engine.specs.Cells.{assigned, rowConstraint, opposed, Rows}
-use Rattle.engine.proofs.CellLaws.{either, le-or-lt, cell-low, cell-high, same-cell, terms-none, terms-more}
+use Rattle.engine.specs.Cells.{assigned, rowConstraint, opposed, mayTerms, mayFit, Rows}
+use Rattle.engine.proofs.CellLaws.{either, le-or-lt, cell-low, cell-high, same-cell, terms-more}
 use Rattle.engine.proofs.CellLaws.{every-first, every-rest, below-letter}
 
 -- an assignment that has what the bindings settle
@@ -122,59 +124,107 @@ module _ (bindings : List ℕ) (h t : ℕ) where
 pub no-answer : {A : Type 0} → true ≡ false → A
 no-answer e = let z : _≡_ {A = ℕ} 0 1 = cc in absurd (omega arith)
 
--- the columns from i on never fit
-abbrev Never : List ℕ → List ℕ → List ℕ → ℕ → Type 0
-Never head constraint bindings i =
-    (θ : Assignment) → Keeps bindings θ → matchTerms (cellTerms (drop i head)) (cellTerms (drop i constraint)) θ ≡ none
+-- what may not be does not fit
+may-none :
+    (bindings hs ts : List ℕ) (θ : Assignment) → Keeps bindings θ → mayTerms bindings hs ts ≡ false
+    → matchTerms (cellTerms hs) (cellTerms ts) θ ≡ none
+unfolding mayTerms matchTerms cellTerms
+may-none bindings [] ts θ k e = no-answer e
+may-none bindings (h ∷ hs) [] θ k e = no-answer e
+may-none bindings (h ∷ hs) (t ∷ ts) θ k e = head (may-none bindings hs ts) (either (eqb h 0)) (either (eqb t 0))
+  where
+    on : ((φ : Assignment) → Keeps bindings φ → mayTerms bindings hs ts ≡ false → matchTerms (cellTerms hs)
+        (cellTerms ts) φ ≡ none)
+        → mayTerms bindings hs ts ≡ false → {o : Option Assignment} → Later bindings o
+        → bind o (matchTerms (cellTerms hs) (cellTerms ts)) ≡ none
+    on more f (never z) = rw z
+    on more f (then φ z q) = rw z (more φ q f)
 
--- if the columns from i on never fit, the whole never does
+    terms : ((φ : Assignment) → Keeps bindings φ → mayTerms bindings hs ts ≡ false → matchTerms (cellTerms hs)
+        (cellTerms ts) φ ≡ none)
+        → cond (opposed bindings h t) false (mayTerms bindings hs ts) ≡ false
+        → (opposed bindings h t ≡ true) ⊎ (opposed bindings h t ≡ false)
+        → bind (matchTerm (cellTerm h) (cellTerm t) θ) (matchTerms (cellTerms hs) (cellTerms ts)) ≡ none
+    terms more f (inl o) = rw (opposed-none bindings h t θ k o)
+    terms more f (inr o) = on more (rw o at f) (later bindings (cellTerm h) (cellTerm t) θ k)
+
+    head : ((φ : Assignment) → Keeps bindings φ → mayTerms bindings hs ts ≡ false → matchTerms (cellTerms hs)
+        (cellTerms ts) φ ≡ none)
+        → (eqb h 0 ≡ true) ⊎ (eqb h 0 ≡ false) → (eqb t 0 ≡ true) ⊎ (eqb t 0 ≡ false)
+        → matchTerms (cellTerms (h ∷ hs)) (cellTerms (t ∷ ts)) θ ≡ none
+    head more (inl a) (inl b) = no-answer (rw (a, b) at e)
+    head more (inl a) (inr b) = rw (a, b)
+    head more (inr a) (inl b) = rw (a, b)
+    head more (inr a) (inr b) = rw (a, b) (terms more (rw (a, b) at e) (either (opposed bindings h t)))
+
+-- what the search learns
+pub may-not :
+    (head constraint bindings : List ℕ) → mayFit bindings head constraint ≡ false
+    → matchConstraint (rowConstraint head) (rowConstraint constraint) (assigned bindings) ≡ none
+unfolding mayFit matchConstraint rowConstraint
+may-not head constraint bindings e = go (eqb (getD head 0 0) (getD constraint 0 0)) e
+  where
+    go : (s : Bool) → cond s (mayTerms bindings (drop 1 head) (drop 1 constraint)) false ≡ false
+        → cond s (matchTerms (cellTerms (drop 1 head)) (cellTerms (drop 1 constraint)) (assigned bindings)) none ≡ none
+    go true f = may-none bindings (drop 1 head) (drop 1 constraint) (assigned bindings) (assigned-keeps bindings) f
+    go false f = refl
+
+-- the columns from i on give the answer for all of them
 pub record Searching (head constraint bindings : List ℕ) (i : ℕ) : Type 0 where
   pub within : i ≤ 5
   pub rows : Rows head constraint bindings
+  pub symbols : getD head 0 0 ≡ getD constraint 0 0
   pub letters : every (isBelow alphabet) (cellTerms (drop i head)) ≡ true
-  pub clash : Never head constraint bindings i → Never head constraint bindings 1
+  pub same : mayTerms bindings (drop i head) (drop i constraint) ≡ mayFit bindings head constraint
 
-pub searching-start : (head constraint bindings : List ℕ) → Rows head constraint bindings → Searching head constraint bindings 1
-unfolding rowConstraint
-searching-start head constraint bindings r = record { within = omega arith; rows = r; letters = r .letters; clash = λ n. n }
+pub searching-start :
+    (head constraint bindings : List ℕ) → Rows head constraint bindings → getD head 0 0 ≡ getD constraint 0 0
+    → Searching head constraint bindings 1
+unfolding rowConstraint mayFit
+searching-start head constraint bindings r e =
+    record {
+      within = omega arith;
+      rows = r;
+      symbols = e;
+      letters = r .letters;
+      same = rw (eq-eqb (getD head 0 0) (getD constraint 0 0) e);
+    }
 
 -- other symbols never fit
 pub searching-other :
-    (head constraint bindings : List ℕ) → (getD head 0 0 ≡ getD constraint 0 0 → ⊥)
-    → matchConstraint (rowConstraint head) (rowConstraint constraint) (assigned bindings) ≡ none
-unfolding matchConstraint rowConstraint
+    (head constraint bindings : List ℕ) → (getD head 0 0 ≡ getD constraint 0 0 → ⊥) → false ≡ mayFit bindings head constraint
+unfolding mayFit
 searching-other head constraint bindings e = rw (ne-eqb (getD head 0 0) (getD constraint 0 0) e)
 
 module _ (head constraint bindings : List ℕ) (i : ℕ) (w : Searching head constraint bindings i) where
-  -- what never fits does not fit now
-  whole :
-      Never head constraint bindings i → matchConstraint (rowConstraint head) (rowConstraint constraint)
-      (assigned bindings) ≡ none
-  unfolding matchConstraint rowConstraint
-  whole n =
-      rw (w .clash n (assigned bindings) (assigned-keeps bindings)) (cond-none (eqb (getD head 0 0) (getD constraint 0 0)))
-    where
-      cond-none : (t : Bool) → _≡_ {A = Option Assignment} (cond t none none) none
-      cond-none true = refl
-      cond-none false = refl
+  -- nothing speaks against it
+  pub searching-end : 5 ≤ i → true ≡ mayFit bindings head constraint
+  unfolding mayTerms
+  searching-end l = rw (drop-of-length-le head {i = i} (omega (arith, w .rows .head-size))) at (w .same)
 
   module _ (l : i < 5) where
-    in-head : i < length head
-    in-head = omega (arith, w .rows .head-size)
+    split :
+        cond (eqb (getD head i 0) 0) (eqb (getD constraint i 0) 0)
+        (cond (eqb (getD constraint i 0) 0) false
+        (cond (opposed bindings (getD head i 0) (getD constraint i 0)) false
+        (mayTerms bindings (drop (suc i) head) (drop (suc i) constraint))))
+        ≡ mayFit bindings head constraint
+    unfolding mayTerms
+    split =
+        rw (
+          drop-cons head i 0 (omega (arith, w .rows .head-size)),
+          drop-cons constraint i 0 (omega
+              (arith, w .rows .constraint-size)),
+        )
+        at (w .same)
 
-    in-constraint : i < length constraint
-    in-constraint = omega (arith, w .rows .constraint-size)
-
-    -- the head ends first
-    pub searching-head :
-        getD head i 0 ≡ 0 → (getD constraint i 0 ≡ 0 → ⊥)
-        → matchConstraint (rowConstraint head) (rowConstraint constraint) (assigned bindings) ≡ none
-    unfolding matchTerms
-    searching-head e n = whole (λ θ k. rw (terms-none head i in-head e, terms-more constraint i in-constraint n))
+    -- the head ends
+    pub searching-head : getD head i 0 ≡ 0 → eqb (getD constraint i 0) 0 ≡ mayFit bindings head constraint
+    searching-head e = rw (eq-eqb (getD head i 0) 0 e) at split
 
     module _ (e : getD head i 0 ≡ 0 → ⊥) where
       here : every (isBelow alphabet) (cellTerm (getD head i 0) ∷ cellTerms (drop (suc i) head)) ≡ true
-      here = rw (terms-more head i in-head e) at (w .letters)
+      here = rw (terms-more head i (omega (arith, w .rows .head-size)) e) at (w .letters)
 
       -- the head's term is a constant or a letter
       pub searching-letter : (getD head i 0 < 282) × (length bindings ≡ 26)
@@ -185,40 +235,23 @@ module _ (head constraint bindings : List ℕ) (i : ℕ) (w : Searching head con
       )
 
       -- the constraint ends first
-      pub searching-constraint :
-          getD constraint i 0 ≡ 0 → matchConstraint (rowConstraint head) (rowConstraint constraint) (assigned bindings) ≡ none
-      unfolding matchTerms
-      searching-constraint n = whole (λ θ k. rw (terms-more head i in-head e, terms-none constraint i in-constraint n))
+      pub searching-constraint : getD constraint i 0 ≡ 0 → false ≡ mayFit bindings head constraint
+      searching-constraint n = rw (ne-eqb (getD head i 0) 0 e, eq-eqb (getD constraint i 0) 0 n) at split
 
       module _ (n : getD constraint i 0 ≡ 0 → ⊥) where
-        split :
-            (θ : Assignment) → matchTerms (cellTerms (drop i head)) (cellTerms (drop i constraint)) θ
-            ≡ bind (matchTerm (cellTerm (getD head i 0)) (cellTerm (getD constraint i 0)) θ)
-            (matchTerms (cellTerms (drop (suc i) head)) (cellTerms (drop (suc i) constraint)))
-        unfolding matchTerms
-        split θ = rw (terms-more head i in-head e, terms-more constraint i in-constraint n)
-
         -- the terms are spoken against
-        pub searching-opposed :
-            opposed bindings (getD head i 0) (getD constraint i 0) ≡ true
-            → matchConstraint (rowConstraint head) (rowConstraint constraint) (assigned bindings) ≡ none
-        searching-opposed o =
-            whole (λ θ k. split θ ∙ rw (opposed-none bindings (getD head i 0) (getD constraint i 0) θ k o))
+        pub searching-opposed : opposed bindings (getD head i 0) (getD constraint i 0) ≡ true
+            → false ≡ mayFit bindings head constraint
+        searching-opposed o = rw (ne-eqb (getD head i 0) 0 e, ne-eqb (getD constraint i 0) 0 n, o) at split
 
         -- on to the next column
-        pub searching-next : Searching head constraint bindings (i + 1)
-        searching-next =
+        pub searching-next :
+            opposed bindings (getD head i 0) (getD constraint i 0) ≡ false → Searching head constraint bindings (i + 1)
+        searching-next o =
             rw (add-one i) (record {
               within = l;
               rows = w .rows;
+              symbols = w .symbols;
               letters = every-rest (isBelow alphabet) (cellTerm (getD head i 0)) (cellTerms (drop (suc i) head)) here;
-              clash = λ f. w .clash (λ θ k. split θ ∙ on f (later bindings (cellTerm (getD head i 0)) (cellTerm
-                  (getD constraint i 0)) θ k));
+              same = rw (ne-eqb (getD head i 0) 0 e, ne-eqb (getD constraint i 0) 0 n, o) at split;
             })
-          where
-            on : ((θ : Assignment) → Keeps bindings θ
-                → matchTerms (cellTerms (drop (suc i) head)) (cellTerms (drop (suc i) constraint)) θ ≡ none)
-                → {o : Option Assignment} → Later bindings o
-                → bind o (matchTerms (cellTerms (drop (suc i) head)) (cellTerms (drop (suc i) constraint))) ≡ none
-            on f (never z) = rw z
-            on f (then θ z k) = rw z (f θ k)

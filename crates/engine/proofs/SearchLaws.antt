@@ -16,8 +16,9 @@ use Rattle.semantics.specs.Terms.{Constraint, isBelow, alphabet}
 use Rattle.semantics.specs.Matching.{Assignment, matchConstraint}
 use Rattle.semantics.specs.Strategy.{Match, firstIn, find}
 use Rattle.syntax.specs.Tables.{cellConstraints}
-use Rattle.engine.specs.Cells.{assigned, fitOf, rowConstraint, Rows, Matched}
+use Rattle.engine.specs.Cells.{assigned, fitOf, rowConstraint, mayFit, Rows, Matched}
 use Rattle.engine.specs.Places.{isLettered, foundOf, Seeking, Located}
+use Rattle.engine.proofs.OpposeLaws.{may-not}
 use Rattle.engine.proofs.CellLaws.{every-first, every-rest, constraints-at}
 
 -- the chosen positions from i on hold p where all of them do
@@ -197,10 +198,11 @@ module _ (heads : List ℕ) (n h : ℕ) (cells : List ℕ) (m : ℕ) (chosen bin
 
         -- the head does not fit the constraint there
         pub seek-unfit :
-            matchConstraint (rowConstraint (lent heads h)) (rowConstraint (lent cells p)) (assigned bindings) ≡ none
+            mayFit bindings (lent heads h) (lent cells p) ≡ false
             → Sought heads h cells m chosen bindings (p + 1)
         seek-unfit e =
-            let none-here : matchConstraint (headAt heads h) this (assigned bindings) ≡ none = rw (five h, five p) at e in
+            let none-here : matchConstraint (headAt heads h) this (assigned bindings) ≡ none =
+            rw (five h, five p) at (may-not (lent heads h) (lent cells p) bindings e) in
             skip (rw none-here (cond-none (has p (take h chosen))))
 
         -- what the match there asks

@@ -1,12 +1,13 @@
 -- How the engine's arrays decode; the cells are those of the tables of `syntax`.
 --   assigned, fitOf      bindings of a rule's variables, and what matching answers
+--   opposed, mayFit      what is settled speaks against a match, or not
 --   Matched              what a match promises
 --   swap, merge          a variable's cell replaced; the solution of an equation between cells
 --   instanceCell         a cell of a rule's body, in the state
 -- Assumes nothing.
 use Prim.Native.Nat.{ℕ, _+_, _-_, _*_}
 use mathlib.Core.Bool.{Bool, true, false, cond, not, _&&_}
-use mathlib.Core.List.{List}
+use mathlib.Core.List.{List, [], _∷_}
 use mathlib.Core.Option.{Option, none, some}
 use mathlib.Core.Path.{_≡_}
 use lib.Dec.{eqb, ltb}
@@ -25,11 +26,22 @@ assigned bindings x = cond (eqb (getD bindings x 0) 0) none (some (cellTerm (get
 unfoldable pub fitOf : Bool → List ℕ → Option Assignment
 fitOf fits bindings = cond fits (some (assigned bindings)) none
 
--- whether what is settled speaks against a head's cell being a constraint's: another constant, or a variable that is something
--- else
+-- whether what is settled speaks against a head's cell being a constraint's: another constant, or a variable settled otherwise
 unfoldable pub opposed : List ℕ → ℕ → ℕ → Bool
 opposed bindings h t =
     cond (ltb h 256) (not (eqb h t)) (cond (eqb (getD bindings (h - 256) 0) 0) false (not (eqb (getD bindings (h - 256) 0) t)))
+
+-- whether a head's cells may be a constraint's, column by column up to the first 0: nothing settled speaks against it
+unfoldable pub mayTerms : List ℕ → List ℕ → List ℕ → Bool
+mayTerms bindings [] ts = true
+mayTerms bindings (h ∷ hs) [] = true
+mayTerms bindings (h ∷ hs) (t ∷ ts) =
+    cond (eqb h 0) (eqb t 0) (cond (eqb t 0) false (cond (opposed bindings h t) false (mayTerms bindings hs ts)))
+
+-- whether a head may be a constraint: the symbols are the same, and the terms may be
+unfoldable pub mayFit : List ℕ → List ℕ → List ℕ → Bool
+mayFit bindings head constraint =
+    cond (eqb (getD head 0 0) (getD constraint 0 0)) (mayTerms bindings (drop 1 head) (drop 1 constraint)) false
 
 -- five cells as a constraint
 unfoldable pub rowConstraint : List ℕ → Constraint

@@ -27,8 +27,7 @@ unfoldable pub foundOf : Bool → ℕ → List ℕ → List ℕ → Option Match
 foundOf found n positions bindings =
     cond found (some (record { positions = take n positions; assignment = assigned bindings })) none
 
--- n heads and m constraints of five cells each, positions for all heads but those left, and letters for the variables of those
--- left
+-- n heads and m constraints of five cells each, positions for the heads before those left, and letters for the others' variables
 pub record Seeking (heads : List ℕ) (n left : ℕ) (cells : List ℕ) (m : ℕ) (chosen bindings : List ℕ) : Type 0 where
   pub heads-size : length heads ≡ 5 * n
   pub few : n ≤ 4

@@ -56,7 +56,8 @@ pub record Stepped (rules : List ℕ) (n : ℕ) (bound cells : List ℕ) (m next
   pub low : fired ≡ true → alive ≡ true → every isLow (storeOf cells′ count) ≡ true
   pub few : count ≤ m + 6
 
--- what the derivation asks: room for 518 constraints and for 512 times 26 variables, and a weighing of at most 512 that every rule
+-- what the derivation asks: room for 518 constraints and for 512 times 26 variables, and a weighing of at most 512 that every
+-- rule
 -- lowers
 pub record Startable (rules : List ℕ) (n : ℕ) (cells : List ℕ) (m next : ℕ) : Type 0 where
   pub table : Table rules n

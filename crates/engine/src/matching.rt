@@ -1,12 +1,10 @@
 // Matching a head of a rule against a constraint, under bindings of the rule's variables by value.
-ghost use mathlib.Core.Bool.{false};
-ghost use mathlib.Core.Option.{none};
 ghost use mathlib.Core.Path.{_≡_};
 ghost use Prim.Native.Nat.{_<_};
 ghost use lib.ListN.{length};
 ghost use Rattle.semantics.specs.Matching.{matchTerm, matchTerms, matchConstraint};
 ghost use Rattle.syntax.specs.Tables.{cellTerm};
-ghost use Rattle.engine.specs.Cells.{assigned, rowConstraint, opposed, Matched, Rows};
+ghost use Rattle.engine.specs.Cells.{assigned, rowConstraint, opposed, mayFit, Matched, Rows};
 
 // Whether a match fits, and the bindings under which it does. The array stands first, so that copies of it are aligned.
 pub struct Fit {
@@ -112,9 +110,7 @@ pub fn opposes(head: u16, term: u16, bindings: &[u16]) -> bool
 // Whether a head may be a constraint: false only where it does not fit. It copies nothing, so the search asks it first.
 pub fn may_fit(head: &[u16], constraint: &[u16], bindings: &[u16]) -> bool
     requires { ⌜ Rows (now head) (now constraint) (now bindings) ⌝ }
-    ensures { λ r. ⌜ (r ≡ false
-        → matchConstraint (rowConstraint (now (head .entry))) (rowConstraint (now (constraint .entry)))
-        (assigned (now (bindings .entry))) ≡ none) ⌝ }
+    ensures { λ r. ⌜ r ≡ mayFit (now (bindings .entry)) (now (head .entry)) (now (constraint .entry)) ⌝ }
 {
     if head[0] != constraint[0] {
         return false;

@@ -1,11 +1,10 @@
--- `may_fit` meets its contract: a clash from column i on is a clash of the whole.
+-- `may_fit` meets its contract: the columns from i on give the answer for all of them.
 -- Assumes nothing.
 use Prim.Native.Nat.{_-_}
 use native.Mathlib.Omega.{arith}
 use mathlib.Core.Path.{_∙_, sym}
-use borrow.Author.Tests.{eqb-false}
 use Rattle.engine.proofs.OpposeLaws.{Searching, searching-start, searching-other, searching-head, searching-letter}
-use Rattle.engine.proofs.OpposeLaws.{searching-constraint, searching-opposed, searching-next, no-answer}
+use Rattle.engine.proofs.OpposeLaws.{searching-constraint, searching-opposed, searching-next, searching-end}
 use Rattle.engine.proofs.matching.may_fit.Statement.{statement}
 use Rattle.engine.proofs.matching.may_fit.Tie as tie
 use Rattle.engine.proofs.matching.opposes.Reads as opposes-reads
@@ -24,11 +23,13 @@ shared-slice-read-if1-2 c = omega arith
 
 returns : tie.Need-returns Inv-loop μ-loop
 returns c =
-    λ z. searching-other _ _ _ ((c .if1) .taken)
+    searching-other _ _ _ ((c .if1) .taken)
 
 loop-holds : tie.Need-loop-holds Inv-loop μ-loop
 loop-holds c =
-    searching-start _ _ _ ((c .before .before .before .before .before .before .pre))
+    let pre′ = c .before .before .before .before .before .before .pre in
+    let if1′ = c .if1 in
+    searching-start _ _ _ pre′ (if1′ .left)
 
 mul-h : tie.Need-mul-h Inv-loop μ-loop
 mul-h c = omega arith
@@ -47,7 +48,7 @@ returns-2 c =
     let loop′ = c .before .before .before .before .loop in
     let loop-test′ = c .before .before .before .loop-test in
     let if2′ = c .if2 in
-    λ z. searching-head _ _ _ _ (loop′ .inv) (loop-test′ .taken) (if2′ .taken) (eqb-false _ _ z)
+    searching-head _ _ _ _ (loop′ .inv) (loop-test′ .taken) (if2′ .taken)
 
 returns-3 : tie.Need-returns-3 Inv-loop μ-loop
 returns-3 c =
@@ -55,7 +56,7 @@ returns-3 c =
     let loop-test′ = c .before .before .before .before .loop-test in
     let if2′ = c .before .if2 in
     let if3′ = c .if3 in
-    λ z. searching-constraint _ _ _ _ (loop′ .inv) (loop-test′ .taken) (if2′ .left) (if3′ .taken)
+    searching-constraint _ _ _ _ (loop′ .inv) (loop-test′ .taken) (if2′ .left) (if3′ .taken)
 
 opposes-requires : tie.Need-opposes-requires Inv-loop μ-loop
 opposes-requires c κs =
@@ -72,8 +73,7 @@ returns-4 c =
     let if3′ = c .before .before .if3 in
     let opposes′ = c .before .opposes in
     let if4′ = c .if4 in
-    λ z. searching-opposed _ _ _ _ (loop′ .inv) (loop-test′ .taken) (if2′ .left) (if3′ .left) (sym (opposes′ .ensures)
-    ∙ if4′ .taken)
+    searching-opposed _ _ _ _ (loop′ .inv) (loop-test′ .taken) (if2′ .left) (if3′ .left) (sym (opposes′ .ensures) ∙ if4′ .taken)
 
 add-i : tie.Need-add-i Inv-loop μ-loop
 add-i c = omega arith
@@ -87,10 +87,15 @@ loop-again c =
     let loop-test′ = c .before .before .before .before .before .before .loop-test in
     let if2′ = c .before .before .before .if2 in
     let if3′ = c .before .before .if3 in
-    searching-next _ _ _ _ (loop′ .inv) (loop-test′ .taken) (if2′ .left) (if3′ .left)
+    let opposes′ = c .before .opposes in
+    let if4′ = c .if4 in
+    searching-next _ _ _ _ (loop′ .inv) (loop-test′ .taken) (if2′ .left) (if3′ .left) (sym (opposes′ .ensures) ∙ if4′ .left)
 
 returns-5 : tie.Need-returns-5 Inv-loop μ-loop
-returns-5 c = λ z. no-answer z
+returns-5 c =
+    let loop′ = c .before .loop in
+    let loop-test′ = c .loop-test in
+    searching-end _ _ _ _ (loop′ .inv) (loop-test′ .left)
 
 pub may-fit-spec : {M : Type 1} → statement M
 may-fit-spec =

@@ -2,6 +2,7 @@
 -- call.
 -- Assumes nothing.
 use native.Mathlib.Omega.{arith}
+use mathlib.Core.Path.{_∙_, sym}
 use Rattle.engine.proofs.SearchLaws.{Sought, placing, seek-done, seek-start, seek-rows, seek-next, seek-found}
 use Rattle.engine.proofs.SearchLaws.{seek-dead, seek-misfit, seek-unfit, seek-none}
 use Prim.Native.Nat.{ℕ, _<_, _-_}
@@ -435,7 +436,7 @@ find-loop-again-3 t c =
     let may-fit′ = c .before .may-fit in
     let if2′ = c .if2 in
     seek-unfit _ _ _ _ _ _ _ (placing _ _ _ _ _ _ _ (pre′ .1)) (omega (arith, pre′ .1, if1′ .left)) _ (loop′ .inv)
-    (loop-test′ .taken) (may-fit′ .ensures (if2′ .left))
+    (loop-test′ .taken) (sym (may-fit′ .ensures) ∙ if2′ .left)
 
 find-returns-3 : (t : ℕ) → find-lts.Need-returns-3 (
   may-fit-reads.Asked,
