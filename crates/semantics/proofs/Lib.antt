@@ -20,6 +20,7 @@ pub mod MatchedTerms
 pub mod FireLaws
 pub mod Letters
 pub mod VariantLaws
+pub mod Outcomes
 pub mod Represent
 pub mod Bools
 pub mod Search
