@@ -3,6 +3,7 @@
 --   tabled-same       two tables that agree below n
 --   place-..          the place of the first element that passes a test, one element on
 --   place-append      the place of a name in two lists, one behind the other
+--   spelled-first, spelled-second    the spelling of a constant, from its entry
 -- Assumes nothing.
 use mathlib.Core.Path.{_≡_, refl, sym, ap, ap₂, _∙_}
 use mathlib.Core.Bool.{Bool, true, false, cond, not, _&&_, _||_}
@@ -17,8 +18,7 @@ use lib.ListN.{length, take, drop, getD, length-drop, length-take, length-append
 use lib.Seq.{drop-cons, take-all, take-nil, getD-append-add, getD-drop}
 use Rattle.text.specs.Lists.{placeFrom, placeOf, sameBytes, tabled}
 use Rattle.text.proofs.Laws.{tabled-length, tabled-at}
-use Rattle.syntax.specs.Tables.{part, constantOf, constantsOf, lettersOf}
-use Rattle.syntax.specs.Read.{namesOf}
+use Rattle.syntax.specs.Tables.{part, constantOf, constantsOf, lettersOf, namesOf, spelledAs}
 
 -- a part of a text, with its ends held within the text
 pub part-clamped : (s : List ℕ) (start len a e : ℕ) → a ≡ min start (length s) → e ≡ min (start + len) (length s)
@@ -242,3 +242,14 @@ module _ (first second cells name : List ℕ) (n m : ℕ) where
       (p ∙ ap (λ (l : List ℕ). placeOf name (namesOf second l 2 m)) r)
       ∙ sym (ap (placeOf name) (constants-names first second cells n m)
       ∙ name-second name a (namesOf second (drop (2 * n) cells) 2 m) (omega (arith, names-length first cells name 2 n)))
+
+-- the spelling of a constant, from its entry
+pub spelled-first : (program goal cells : List ℕ) (n i a b : ℕ) → a ≡ getD cells (2 * i) 0 → b ≡ getD cells (2 * i + 1) 0 → i < n
+    → part program a b ≡ spelledAs program goal cells n i
+unfolding spelledAs constantOf
+spelled-first program goal cells n i a b p q h = rw (lt-ltb i n h, p, q)
+
+pub spelled-second : (program goal cells : List ℕ) (n i a b : ℕ) → a ≡ getD cells (2 * i) 0 → b ≡ getD cells (2 * i + 1) 0 → n ≤ i
+    → part goal a b ≡ spelledAs program goal cells n i
+unfolding spelledAs constantOf
+spelled-second program goal cells n i a b p q h = rw (le-ltb i n h, p, q)

@@ -4,5 +4,3 @@ pub mod Forms
 pub mod Programs
 pub mod Goals
 pub mod Tables
-pub mod Read
-pub mod ReadGoal

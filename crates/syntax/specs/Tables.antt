@@ -1,6 +1,7 @@
 -- The flat tables that the readers fill and the engine works on, and how they decode.
 --   cellTerm, cellConstraints, cellEquations      cells as terms, constraints and equations
 --   symbolsOf, rulesOf, constantsOf, lettersOf    the tables of a program and a goal
+--   namesOf, spelledAs                            the names in a table, and the spelling of a constant
 -- A cell holds a symbol's number (below 32), a constant's (from 32), or 256 more than a variable's; 0 stands behind a constraint's
 -- last term. Assumes nothing.
 use Prim.Native.Nat.{ℕ, _+_, _-_, _*_}
@@ -87,3 +88,11 @@ constantsOf program goal cells n m = tabled (constantOf program cells) n ++ tabl
 -- the letters of the first n goal variables
 unfoldable pub lettersOf : List ℕ → ℕ → List (List ℕ)
 lettersOf letters n = tabled (λ i. getD letters i 0 ∷ []) n
+
+-- the names of the first n entries of a table with k cells to each, which begins with its name's place and length
+unfoldable pub namesOf : List ℕ → List ℕ → ℕ → ℕ → List (List ℕ)
+namesOf text cells k n = tabled (λ i. part text (getD cells (k * i) 0) (getD cells (k * i + 1) 0)) n
+
+-- constant i, spelled in the program's text below n and in the goal's from there on
+unfoldable pub spelledAs : List ℕ → List ℕ → List ℕ → ℕ → ℕ → List ℕ
+spelledAs program goal cells n i = constantOf (cond (ltb i n) program goal) cells i

@@ -4,8 +4,7 @@ ghost use Prim.Native.Nat.{_+_, _*_, _≤_, _<_, min};
 ghost use mathlib.Core.List.{[], _∷_};
 ghost use lib.ListN.{length, getD};
 ghost use Rattle.text.specs.Lists.{placeOf};
-ghost use Rattle.syntax.specs.Tables.{part, constantsOf, lettersOf};
-ghost use Rattle.syntax.specs.Read.{namesOf};
+ghost use Rattle.syntax.specs.Tables.{part, constantsOf, lettersOf, namesOf, spelledAs};
 
 // The smaller of two numbers.
 fn least(a: usize, b: usize) -> usize
@@ -87,23 +86,21 @@ pub fn find_letter(letters: &[u8], n: usize, b: u8) -> usize
     n
 }
 
-// The spelling of a constant: a part of the program's text for the first n, and of the goal's for the m more.
+// The spelling of constant i: a part of the program's text for the first n, and of the goal's for the others.
 pub fn spelling<'a>(
     program: &'a [u8],
     goal: &'a [u8],
     cells: &[u16],
     n: usize,
-    m: usize,
     i: usize,
 ) -> &'a [u8]
-    requires { ⌜ (i < n + m) × (2 * (n + m) ≤ length (now cells)) ⌝ }
-    ensures { λ r. ⌜ now r ≡ getD (constantsOf (now (program .entry)) (now (goal .entry)) (now (cells .entry)) n m) i [] ⌝ }
+    requires { ⌜ 2 * i + 1 < length (now cells) ⌝ }
+    ensures { λ r. ⌜ now r ≡ spelledAs (now (program .entry)) (now (goal .entry)) (now (cells .entry)) n i ⌝ }
 {
     let start = wide(cells[2 * i]);
     let len = wide(cells[2 * i + 1]);
     if i < n {
-        part_of(program, start, len)
-    } else {
-        part_of(goal, start, len)
+        return part_of(program, start, len);
     }
+    part_of(goal, start, len)
 }

@@ -9,7 +9,7 @@ use native.Mathlib.Numerals.{add-one}
 use native.Mathlib.Omega.{arith}
 use lib.ListN.{length, drop}
 use Rattle.text.specs.Lists.{sameBytes, placeFrom, placeOf}
-use Rattle.syntax.specs.Read.{namesOf}
+use Rattle.syntax.specs.Tables.{namesOf}
 use Rattle.syntax.proofs.Tabled.{row-fits, row-next, name-here, name-step, name-end}
 use Rattle.syntax.proofs.names.find_name.Statement.{statement}
 use Rattle.syntax.proofs.names.find_name.Tie as tie

@@ -1,12 +1,13 @@
 -- `syntax::names::spelling` meets its contract: the first n constants stand in the program's text. Assumes nothing.
+use mathlib.Core.Path.{_∙_}
 use borrow.Author.Needs.{needs}
-use mathlib.Core.Path.{_≡_, sym, ap, ap₂, _∙_}
-use native.Mathlib.Omega.{arith}
-use Rattle.syntax.specs.Tables.{part, constantOf}
-use Rattle.syntax.proofs.Tabled.{constants-first, constants-second}
-use borrow.Author.Needs.{needs}
+use Rattle.syntax.proofs.Tabled.{spelled-first, spelled-second}
 use Rattle.syntax.proofs.names.spelling.Statement.{statement}
 use Rattle.syntax.proofs.names.spelling.Tie as tie
+use Rattle.syntax.proofs.names.spelling.Reads as reads
+use Rattle.syntax.proofs.names.spelling.Lts as lts
+use Rattle.syntax.proofs.names.part_of.Reads as part-of-reads
+use Rattle.syntax.proofs.names.wide.Reads as wide-reads
 
 mul-wide : tie.Need-mul-wide
 mul-wide c = search needs
@@ -38,20 +39,16 @@ wide-requires-2 c κs = search needs
 part-of-requires : tie.Need-part-of-requires
 part-of-requires c κs = search needs
 
+returns : tie.Need-returns
+returns c =
+    ((c .part-of) .ensures) ∙ spelled-first ((c .before .before .before .before .before .before .before .before .before .args) .program .now) ((c .before .before .before .before .before .before .before .before .before .args) .goal .now) ((c .before .before .before .before .before .before .before .before .before .args) .cells .now) ((c .before .before .before .before .before .before .before .before .before .args) .n) ((c .before .before .before .before .before .before .before .before .before .args) .i) ((c .before .before .before .before .wide) .result) ((c .before .before .wide2) .result) ((c .before .before .before .before .wide) .ensures .0) ((c .before .before .wide2) .ensures .0) ((c .before .if1) .taken)
+
 part-of-requires-2 : tie.Need-part-of-requires-2
 part-of-requires-2 c κs = search needs
 
-returns : tie.Need-returns
-unfolding constantOf
-returns c =
-    (c .part-of) .ensures ∙ ap₂ (part ((c .before .before .before .before .before .before .before .before .before .args) .program .now)) ((c .before .before .before .before .wide) .ensures .0) ((c .before .before .wide2) .ensures .0)
-    ∙ sym (constants-first ((c .before .before .before .before .before .before .before .before .before .args) .program .now) ((c .before .before .before .before .before .before .before .before .before .args) .goal .now) ((c .before .before .before .before .before .before .before .before .before .args) .cells .now) ((c .before .before .before .before .before .before .before .before .before .args) .n) ((c .before .before .before .before .before .before .before .before .before .args) .m) ((c .before .before .before .before .before .before .before .before .before .args) .i) ((c .before .if1) .taken))
-
 returns-2 : tie.Need-returns-2
-unfolding constantOf
 returns-2 c =
-    (c .part-of2) .ensures ∙ ap₂ (part ((c .before .before .before .before .before .before .before .before .before .args) .goal .now)) ((c .before .before .before .before .wide) .ensures .0) ((c .before .before .wide2) .ensures .0)
-    ∙ sym (constants-second ((c .before .before .before .before .before .before .before .before .before .args) .program .now) ((c .before .before .before .before .before .before .before .before .before .args) .goal .now) ((c .before .before .before .before .before .before .before .before .before .args) .cells .now) ((c .before .before .before .before .before .before .before .before .before .args) .n) ((c .before .before .before .before .before .before .before .before .before .args) .m) ((c .before .before .before .before .before .before .before .before .before .args) .i) ((c .before .if1) .left) ((c .before .before .before .before .before .before .before .before .before .pre) .0))
+    ((c .part-of2) .ensures) ∙ spelled-second ((c .before .before .before .before .before .before .before .before .before .args) .program .now) ((c .before .before .before .before .before .before .before .before .before .args) .goal .now) ((c .before .before .before .before .before .before .before .before .before .args) .cells .now) ((c .before .before .before .before .before .before .before .before .before .args) .n) ((c .before .before .before .before .before .before .before .before .before .args) .i) ((c .before .before .before .before .wide) .result) ((c .before .before .wide2) .result) ((c .before .before .before .before .wide) .ensures .0) ((c .before .before .wide2) .ensures .0) ((c .before .if1) .left)
 
 pub spelling-spec : {M : Type 1} → statement M
 spelling-spec =
@@ -67,6 +64,6 @@ spelling-spec =
     shared-slice-read-wide-2
     wide-requires-2
     part-of-requires
-    part-of-requires-2
     returns
+    part-of-requires-2
     returns-2)

@@ -1,0 +1,5 @@
+-- Laws of this crate's definitions. Assumes nothing.
+pub mod GoalLetters
+pub mod GoalCells
+pub mod GoalTerms
+pub mod GoalSteps

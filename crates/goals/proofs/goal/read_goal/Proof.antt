@@ -1,0 +1,133 @@
+-- `goals::goal::read_goal` meets its contract: what its lines say, and the weight. Assumes nothing.
+use borrow.Author.Needs.{needs}
+use mathlib.Core.Path.{_≡_, refl, sym, ap, ap₂, _∙_}
+use mathlib.Core.List.{List, [], _∷_}
+use Prim.Native.Nat.{ℕ, suc, _+_, _*_, _≤_, _<_}
+use native.Mathlib.Omega.{arith}
+use lib.ListN.{length, take, getD}
+use lib.Seq.{length-take-le}
+use Rattle.goals.specs.ReadGoal.{GoalFits, goalLinesAnswer, goalAnswer}
+use Rattle.goals.proofs.GoalSteps.{goal-long, goal-refused, goal-overweight, goal-accepted}
+use Rattle.goals.proofs.goal.read_goal.Statement.{statement}
+use Rattle.goals.proofs.goal.read_goal.Tie as tie
+
+returns : tie.Need-returns
+unfolding goalAnswer
+returns c = (λ p t. goal-long ((c .before .before .before .before .before .before .before .args) .program .now) ((c .before .before .before .before .before .before .before .args) .goal .now) ((c .before .before .before .before .before .before .before .args) .constants .now) ((c .before .before .before .before .before .before .before .args) .n) ((c .before .before .before .before .before .before .before .args) .symbols .now) ((c .before .before .before .before .before .before .before .args) .k) p t ((c .if1) .taken), omega arith)
+
+classes-requires : tie.Need-classes-requires
+classes-requires c κs = search needs
+
+slice-aggregate-goal-lines : tie.Need-slice-aggregate-goal-lines
+slice-aggregate-goal-lines c = search needs
+
+goal-lines-requires : tie.Need-goal-lines-requires
+goal-lines-requires c κs = search needs
+
+enum-known-x : tie.Need-enum-known-x
+enum-known-x c = search needs
+
+enum-known-counts : tie.Need-enum-known-counts
+enum-known-counts c = search needs
+
+mul-end : tie.Need-mul-end
+mul-end c =
+    let f : GoalFits ((c .before .before .before .before .before .before .before .before .before .before .before .before .before .before .before .before .before .before .before .before .before .before .args) .symbols .now) ((c .before .before .before .before .before .before .before .before .before .before .before .before .before .before .before .before .before .before .before .before .before .before .args) .k) ((c .before .before .before .before .before .before .before .before .before .before .before .before .before .before .before .before .before .before .before .before .before .before .args) .n) ((c .before .before .before .before .before .before .before .before .before .goal-lines) .last .1 .1 .1 .1 .1 .1 .1 .0) ((c .before .before .before .before .before .before .before .before .before .goal-lines) .last .1 .1 .1 .1 .1 .1 .1 .1 .0) ((c .before .counts) .given .0 .0) = rw ((c .before .counts) .given .1) at ((c .before .before .before .before .before .before .before .before .before .goal-lines) .ensures .1) in
+    omega (arith, f .few)
+
+slice-reshare-prefix-goal-weight : tie.Need-slice-reshare-prefix-goal-weight
+slice-reshare-prefix-goal-weight c =
+    let f : GoalFits ((c .before .before .before .before .before .before .before .before .before .before .before .before .before .before .before .before .before .before .before .before .before .before .args) .symbols .now) ((c .before .before .before .before .before .before .before .before .before .before .before .before .before .before .before .before .before .before .before .before .before .before .args) .k) ((c .before .before .before .before .before .before .before .before .before .before .before .before .before .before .before .before .before .before .before .before .before .before .args) .n) ((c .before .before .before .before .before .before .before .before .before .goal-lines) .last .1 .1 .1 .1 .1 .1 .1 .0) ((c .before .before .before .before .before .before .before .before .before .goal-lines) .last .1 .1 .1 .1 .1 .1 .1 .1 .0) ((c .before .counts) .given .0 .0) = rw ((c .before .counts) .given .1) at ((c .before .before .before .before .before .before .before .before .before .goal-lines) .ensures .1) in
+    omega (arith, f .few, (c .before .before .before .before .before .before .before .before .before .goal-lines) .kept .1 .1 .1 .1 .1 .1 .1 .0, (c .before .before .before .before .before .before .before .before .before .before .before .before .before .before .before .before .before .before .before .before .before .before .pre) .constraint-cells)
+
+slice-aggregate-goal-weight : tie.Need-slice-aggregate-goal-weight
+slice-aggregate-goal-weight c =
+    let f : GoalFits ((c .before .before .before .before .before .before .before .before .before .before .before .before .before .before .before .before .before .before .before .before .before .before .before .args) .symbols .now) ((c .before .before .before .before .before .before .before .before .before .before .before .before .before .before .before .before .before .before .before .before .before .before .before .args) .k) ((c .before .before .before .before .before .before .before .before .before .before .before .before .before .before .before .before .before .before .before .before .before .before .before .args) .n) ((c .before .before .before .before .before .before .before .before .before .before .goal-lines) .last .1 .1 .1 .1 .1 .1 .1 .0) ((c .before .before .before .before .before .before .before .before .before .before .goal-lines) .last .1 .1 .1 .1 .1 .1 .1 .1 .0) ((c .before .before .counts) .given .0 .0) = rw ((c .before .before .counts) .given .1) at ((c .before .before .before .before .before .before .before .before .before .before .goal-lines) .ensures .1) in
+    sym (length-take-le (5 * (c .before .before .counts) .given .0 .0 .constraints) ((c .before .before .before .before .before .before .before .before .before .before .goal-lines) .last .1 .1 .1 .1 .1 .1 .1 .0) (omega (arith, f .few, (c .before .before .before .before .before .before .before .before .before .before .goal-lines) .kept .1 .1 .1 .1 .1 .1 .1 .0, (c .before .before .before .before .before .before .before .before .before .before .before .before .before .before .before .before .before .before .before .before .before .before .before .pre) .constraint-cells)))
+
+goal-weight-requires : tie.Need-goal-weight-requires
+goal-weight-requires c κs =
+    let f : GoalFits ((c .before .before .before .before .before .before .before .before .before .before .before .before .before .before .before .before .before .before .before .before .before .before .before .args) .symbols .now) ((c .before .before .before .before .before .before .before .before .before .before .before .before .before .before .before .before .before .before .before .before .before .before .before .args) .k) ((c .before .before .before .before .before .before .before .before .before .before .before .before .before .before .before .before .before .before .before .before .before .before .before .args) .n) ((c .before .before .before .before .before .before .before .before .before .before .goal-lines) .last .1 .1 .1 .1 .1 .1 .1 .0) ((c .before .before .before .before .before .before .before .before .before .before .goal-lines) .last .1 .1 .1 .1 .1 .1 .1 .1 .0) ((c .before .before .counts) .given .0 .0) = rw ((c .before .before .counts) .given .1) at ((c .before .before .before .before .before .before .before .before .before .before .goal-lines) .ensures .1) in (
+      omega (arith, (c .before .before .before .before .before .before .before .before .before .before .before .before .before .before .before .before .before .before .before .before .before .before .before .pre) .symbol-cells, (c .before .before .before .before .before .before .before .before .before .before .before .before .before .before .before .before .before .before .before .before .before .before .before .pre) .few-symbols),
+      length-take-le (5 * (c .before .before .counts) .given .0 .0 .constraints) ((c .before .before .before .before .before .before .before .before .before .before .goal-lines) .last .1 .1 .1 .1 .1 .1 .1 .0) (omega (arith, f .few, (c .before .before .before .before .before .before .before .before .before .before .goal-lines) .kept .1 .1 .1 .1 .1 .1 .1 .0, (c .before .before .before .before .before .before .before .before .before .before .before .before .before .before .before .before .before .before .before .before .before .before .before .pre) .constraint-cells)),
+      f .few,
+    )
+
+same-length : tie.Need-same-length
+same-length c = search needs
+
+same-length-2 : tie.Need-same-length-2
+same-length-2 c = search needs
+
+same-length-3 : tie.Need-same-length-3
+same-length-3 c = search needs
+
+returns-2 : tie.Need-returns-2
+unfolding goalLinesAnswer
+returns-2 c = (
+  λ p t. goal-overweight ((c .before .before .before .before .before .before .before .before .before .before .before .before .before .before .before .before .before .before .before .before .before .before .before .before .before .args) .program .now) ((c .before .before .before .before .before .before .before .before .before .before .before .before .before .before .before .before .before .before .before .before .before .before .before .before .before .args) .goal .now) ((c .before .before .before .before .before .before .before .before .before .before .before .before .before .before .before .before .before .before .before .before .before .before .before .before .before .args) .constants .now) ((c .before .before .before .before .before .before .before .before .before .before .before .before .before .before .before .before .before .before .before .before .before .before .before .before .before .args) .n) ((c .before .before .before .before .before .before .before .before .before .before .before .before .before .before .before .before .before .before .before .before .before .before .before .before .before .args) .symbols .now) ((c .before .before .before .before .before .before .before .before .before .before .before .before .before .before .before .before .before .before .before .before .before .before .before .before .before .args) .k) p t (omega (arith, (c .before .before .before .before .before .before .before .before .before .before .before .before .before .before .before .before .before .before .if1) .left)) ((c .before .before .before .before .before .before .before .before .before .before .before .before .goal-lines) .last .1 .1 .1 .1 .1 .0) ((c .before .before .before .before .before .before .before .before .before .before .before .before .goal-lines) .last .1 .1 .1 .1 .1 .1 .1 .0) ((c .before .before .before .before .before .before .before .before .before .before .before .before .goal-lines) .last .1 .1 .1 .1 .1 .1 .1 .1 .0) ((c .before .before .before .before .counts) .given .0 .0) (ap (goalLinesAnswer ((c .before .before .before .before .before .before .before .before .before .before .before .before .before .before .before .before .before .before .before .before .before .before .before .before .before .args) .program .now) ((c .before .before .before .before .before .before .before .before .before .before .before .before .before .before .before .before .before .before .before .before .before .before .before .before .before .args) .goal .now) ((c .before .before .before .before .before .before .before .before .before .before .before .before .goal-lines) .last .1 .1 .1 .1 .1 .0) ((c .before .before .before .before .before .before .before .before .before .before .before .before .before .before .before .before .before .before .before .before .before .before .before .before .before .args) .n) ((c .before .before .before .before .before .before .before .before .before .before .before .before .goal-lines) .last .1 .1 .1 .1 .1 .1 .1 .0) ((c .before .before .before .before .before .before .before .before .before .before .before .before .goal-lines) .last .1 .1 .1 .1 .1 .1 .1 .1 .0)) (sym ((c .before .before .before .before .counts) .given .1)) ∙ (c .before .before .before .before .before .before .before .before .before .before .before .before .goal-lines) .ensures .0)
+      (omega (arith, (c .before .goal-weight) .ensures ((c .before .before .before .before .before .before .before .before .before .before .before .before .before .before .before .before .before .before .before .before .before .before .before .before .before .args) .program .now), (c .if2) .taken)),
+  omega arith,
+)
+
+same-length-4 : tie.Need-same-length-4
+same-length-4 c = search needs
+
+same-length-5 : tie.Need-same-length-5
+same-length-5 c = search needs
+
+same-length-6 : tie.Need-same-length-6
+same-length-6 c = search needs
+
+returns-3 : tie.Need-returns-3
+unfolding goalLinesAnswer goalAnswer
+returns-3 c = (
+  λ p t. goal-refused ((c .before .before .before .before .before .before .before .before .before .before .before .before .before .before .before .before .before .before .before .before .before .before .args) .program .now) ((c .before .before .before .before .before .before .before .before .before .before .before .before .before .before .before .before .before .before .before .before .before .before .args) .goal .now) ((c .before .before .before .before .before .before .before .before .before .before .before .before .before .before .before .before .before .before .before .before .before .before .args) .constants .now) ((c .before .before .before .before .before .before .before .before .before .before .before .before .before .before .before .before .before .before .before .before .before .before .args) .n) ((c .before .before .before .before .before .before .before .before .before .before .before .before .before .before .before .before .before .before .before .before .before .before .args) .symbols .now) ((c .before .before .before .before .before .before .before .before .before .before .before .before .before .before .before .before .before .before .before .before .before .before .args) .k) p t (omega (arith, (c .before .before .before .before .before .before .before .before .before .before .before .before .before .before .before .if1) .left)) ((c .before .x) .given .0 .0) ((c .before .x) .given .0 .1 .0)
+      (ap (goalLinesAnswer ((c .before .before .before .before .before .before .before .before .before .before .before .before .before .before .before .before .before .before .before .before .before .before .args) .program .now) ((c .before .before .before .before .before .before .before .before .before .before .before .before .before .before .before .before .before .before .before .before .before .before .args) .goal .now) ((c .before .before .before .before .before .before .before .before .before .goal-lines) .last .1 .1 .1 .1 .1 .0) ((c .before .before .before .before .before .before .before .before .before .before .before .before .before .before .before .before .before .before .before .before .before .before .args) .n) ((c .before .before .before .before .before .before .before .before .before .goal-lines) .last .1 .1 .1 .1 .1 .1 .1 .0) ((c .before .before .before .before .before .before .before .before .before .goal-lines) .last .1 .1 .1 .1 .1 .1 .1 .1 .0)) (sym ((c .before .x) .given .1)) ∙ (c .before .before .before .before .before .before .before .before .before .goal-lines) .ensures .0),
+  omega arith,
+)
+
+same-length-7 : tie.Need-same-length-7
+same-length-7 c = search needs
+
+same-length-8 : tie.Need-same-length-8
+same-length-8 c = search needs
+
+same-length-9 : tie.Need-same-length-9
+same-length-9 c = search needs
+
+returns-4 : tie.Need-returns-4
+unfolding goalLinesAnswer
+returns-4 c =
+    let f : GoalFits ((c .before .before .before .before .before .before .before .before .before .before .before .before .before .before .before .before .before .before .before .before .before .before .before .before .before .args) .symbols .now) ((c .before .before .before .before .before .before .before .before .before .before .before .before .before .before .before .before .before .before .before .before .before .before .before .before .before .args) .k) ((c .before .before .before .before .before .before .before .before .before .before .before .before .before .before .before .before .before .before .before .before .before .before .before .before .before .args) .n) ((c .before .before .before .before .before .before .before .before .before .before .before .before .goal-lines) .last .1 .1 .1 .1 .1 .1 .1 .0) ((c .before .before .before .before .before .before .before .before .before .before .before .before .goal-lines) .last .1 .1 .1 .1 .1 .1 .1 .1 .0) ((c .before .before .before .before .counts) .given .0 .0) = rw ((c .before .before .before .before .counts) .given .1) at ((c .before .before .before .before .before .before .before .before .before .before .before .before .goal-lines) .ensures .1) in (
+      λ p t. goal-accepted ((c .before .before .before .before .before .before .before .before .before .before .before .before .before .before .before .before .before .before .before .before .before .before .before .before .before .args) .program .now) ((c .before .before .before .before .before .before .before .before .before .before .before .before .before .before .before .before .before .before .before .before .before .before .before .before .before .args) .goal .now) ((c .before .before .before .before .before .before .before .before .before .before .before .before .before .before .before .before .before .before .before .before .before .before .before .before .before .args) .constants .now) ((c .before .before .before .before .before .before .before .before .before .before .before .before .before .before .before .before .before .before .before .before .before .before .before .before .before .args) .n) ((c .before .before .before .before .before .before .before .before .before .before .before .before .before .before .before .before .before .before .before .before .before .before .before .before .before .args) .symbols .now) ((c .before .before .before .before .before .before .before .before .before .before .before .before .before .before .before .before .before .before .before .before .before .before .before .before .before .args) .k) p t (omega (arith, (c .before .before .before .before .before .before .before .before .before .before .before .before .before .before .before .before .before .before .if1) .left)) ((c .before .before .before .before .before .before .before .before .before .before .before .before .goal-lines) .last .1 .1 .1 .1 .1 .0) ((c .before .before .before .before .before .before .before .before .before .before .before .before .goal-lines) .last .1 .1 .1 .1 .1 .1 .1 .0) ((c .before .before .before .before .before .before .before .before .before .before .before .before .goal-lines) .last .1 .1 .1 .1 .1 .1 .1 .1 .0) ((c .before .before .before .before .counts) .given .0 .0) (ap (goalLinesAnswer ((c .before .before .before .before .before .before .before .before .before .before .before .before .before .before .before .before .before .before .before .before .before .before .before .before .before .args) .program .now) ((c .before .before .before .before .before .before .before .before .before .before .before .before .before .before .before .before .before .before .before .before .before .before .before .before .before .args) .goal .now) ((c .before .before .before .before .before .before .before .before .before .before .before .before .goal-lines) .last .1 .1 .1 .1 .1 .0) ((c .before .before .before .before .before .before .before .before .before .before .before .before .before .before .before .before .before .before .before .before .before .before .before .before .before .args) .n) ((c .before .before .before .before .before .before .before .before .before .before .before .before .goal-lines) .last .1 .1 .1 .1 .1 .1 .1 .0) ((c .before .before .before .before .before .before .before .before .before .before .before .before .goal-lines) .last .1 .1 .1 .1 .1 .1 .1 .1 .0)) (sym ((c .before .before .before .before .counts) .given .1)) ∙ (c .before .before .before .before .before .before .before .before .before .before .before .before .goal-lines) .ensures .0)
+          (omega (arith, (c .before .goal-weight) .ensures ((c .before .before .before .before .before .before .before .before .before .before .before .before .before .before .before .before .before .before .before .before .before .before .before .before .before .args) .program .now), (c .if2) .left)),
+      (f, omega (arith, (c .before .goal-weight) .ensures ((c .before .before .before .before .before .before .before .before .before .before .before .before .before .before .before .before .before .before .before .before .before .before .before .before .before .args) .program .now), (c .if2) .left)),
+    )
+
+pub read-goal-spec : {M : Type 1} → statement M
+read-goal-spec =
+    tie.close
+    (tie.spec
+    returns
+    classes-requires
+    slice-aggregate-goal-lines
+    goal-lines-requires
+    enum-known-x
+    enum-known-counts
+    mul-end
+    slice-reshare-prefix-goal-weight
+    slice-aggregate-goal-weight
+    goal-weight-requires
+    same-length
+    same-length-2
+    same-length-3
+    returns-2
+    same-length-4
+    same-length-5
+    same-length-6
+    returns-3
+    same-length-7
+    same-length-8
+    same-length-9
+    returns-4)

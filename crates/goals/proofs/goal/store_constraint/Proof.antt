@@ -1,0 +1,71 @@
+-- `goals::goal::store_constraint` meets its contract: its terms are those of the fields. Assumes nothing.
+use borrow.Author.Needs.{needs}
+use mathlib.Core.Path.{_≡_, refl, sym, ap, ap₂, _∙_}
+use mathlib.Core.List.{List, [], _∷_}
+use Prim.Native.Nat.{ℕ, _*_}
+use native.Mathlib.Omega.{arith}
+use lib.ListN.{length, take, getD}
+use lib.Seq.{length-take-le}
+use Rattle.text.specs.Lists.{placeOf}
+use Rattle.text.specs.Places.{fieldsFrom}
+use Rattle.syntax.specs.Forms.{termOf}
+use Rattle.syntax.specs.Tables.{cellTerms, constantsOf, lettersOf}
+use Rattle.lines.proofs.Steps.{four-list}
+use Rattle.goals.proofs.GoalCells.{stored}
+use Rattle.goals.proofs.goal.store_constraint.Statement.{statement}
+use Rattle.goals.proofs.goal.store_constraint.Tie as tie
+
+terms-of-requires : tie.Need-terms-of-requires
+terms-of-requires c κs = search needs
+
+slice-aggregate-fields-left : tie.Need-slice-aggregate-fields-left
+slice-aggregate-fields-left c = sym (length-take-le ((c .before .before .before .before .before .before .before .before .args) .end) ((c .before .before .before .before .before .before .before .before .args) .goal .now) ((c .before .before .before .before .before .before .before .before .pre) .6))
+
+fields-left-requires : tie.Need-fields-left-requires
+fields-left-requires c κs = search needs
+
+cast-store-row : tie.Need-cast-store-row
+cast-store-row c = search needs
+
+array-read-store-row : tie.Need-array-read-store-row
+array-read-store-row c = search needs
+
+array-read-store-row-2 : tie.Need-array-read-store-row-2
+array-read-store-row-2 c = search needs
+
+array-read-store-row-3 : tie.Need-array-read-store-row-3
+array-read-store-row-3 c = search needs
+
+array-read-store-row-4 : tie.Need-array-read-store-row-4
+array-read-store-row-4 c = search needs
+
+store-row-requires : tie.Need-store-row-requires
+store-row-requires c κs = search needs
+
+same-length : tie.Need-same-length
+same-length c = search needs
+
+returns : tie.Need-returns
+returns c =
+    stored (termOf (λ f. placeOf f (lettersOf ((c .before .before .before .before .before .before .before .before .before .before .before .before .before .args) .letters .now) ((c .before .before .before .before .before .before .before .before .before .before .before .before .before .args) .v)))
+    (constantsOf ((c .before .before .before .before .before .before .before .before .before .before .before .before .before .args) .program .now) ((c .before .before .before .before .before .before .before .before .before .before .before .before .before .args) .goal .now) ((c .before .before .before .before .before .before .before .before .before .before .before .before .before .args) .constants .now) ((c .before .before .before .before .before .before .before .before .before .before .before .before .before .args) .n) ((c .before .before .before .before .before .before .before .before .before .before .before .before .before .args) .more)))
+    (fieldsFrom (take ((c .before .before .before .before .before .before .before .before .before .before .before .before .before .args) .end) ((c .before .before .before .before .before .before .before .before .before .before .before .before .before .args) .goal .now)) ((c .before .before .before .before .before .before .before .before .before .before .before .before .before .args) .at)) ((c .before .before .before .before .before .before .before .before .before .before .before .before .before .args) .s) ((c .before .before .before .before .before .before .before .before .before .before .before .before .before .args) .m)
+    (getD ((c .before .before .before .before .before .before .terms-of) .result) 0 0) (getD ((c .before .before .before .before .before .before .terms-of) .result) 1 0) (getD ((c .before .before .before .before .before .before .terms-of) .result) 2 0) (getD ((c .before .before .before .before .before .before .terms-of) .result) 3 0)
+    ((c .before .before .before .before .fields-left) .result) ((c .before .before .before .before .before .before .before .before .before .before .before .before .before .args) .cells .now) ((c .before .before .store-row) .last .0) ((c .before .before .before .before .fields-left) .ensures) ((c .before .before .before .before .before .before .before .before .before .before .before .before .before .pre) .7)
+    (ap cellTerms (sym (four-list ((c .before .before .before .before .before .before .terms-of) .result) ((c .before .before .before .before .before .before .terms-of) .ensures .1))) ∙ (c .before .before .before .before .before .before .terms-of) .ensures .0) ((c .before .before .before .before .before .before .before .before .before .before .before .before .before .pre) .9) ((c .before .before .store-row) .ensures)
+
+pub store-constraint-spec : {M : Type 1} → statement M
+store-constraint-spec =
+    tie.close
+    (tie.spec
+    terms-of-requires
+    slice-aggregate-fields-left
+    fields-left-requires
+    cast-store-row
+    array-read-store-row
+    array-read-store-row-2
+    array-read-store-row-3
+    array-read-store-row-4
+    store-row-requires
+    same-length
+    returns)

@@ -1,0 +1,132 @@
+-- `lines::terms::add_constants` meets its contract: the constants after the fields left, from those so far, are the answer.
+-- Assumes nothing.
+use borrow.Author.Needs.{needs}
+use mathlib.Core.Path.{_≡_, refl, sym, ap, _∙_}
+use mathlib.Core.List.{List, [], _∷_}
+use mathlib.Core.Option.{Option, none, some}
+use Prim.Native.Nat.{ℕ, suc, _≤_, _<_, _+_, _-_}
+use native.Mathlib.Numerals.{add-one}
+use native.Mathlib.Omega.{arith}
+use lib.ListN.{length, take, drop}
+use lib.Seq.{length-take-le}
+use Rattle.text.specs.Places.{fieldsFrom}
+use Rattle.text.proofs.Cursors.{fields-out}
+use Rattle.syntax.specs.Forms.{constantsAfter}
+use Rattle.syntax.specs.Tables.{constantsOf}
+use Rattle.lines.specs.Read.{addedOf, roomy}
+use Rattle.syntax.proofs.Tabled.{constants-length}
+use Rattle.lines.proofs.Constants.{added-step, added-full, added-end, roomy-is}
+use Rattle.lines.proofs.Cells.{line-field}
+use Rattle.lines.proofs.terms.add_constants.Statement.{statement}
+use Rattle.lines.proofs.terms.add_constants.Tie as tie
+
+abbrev Inv-loop : tie.InvT-loop
+Inv-loop classes first second at end cells₀ n m line count₀ start₀ cells count start =
+    (length cells ≡ 128) × (n + count ≤ 64) × (start ≤ end + 1)
+    × (roomy (constantsAfter (fieldsFrom (take end second) start) (constantsOf first second cells n count))
+    ≡ roomy (constantsAfter (fieldsFrom (take end second) at) (constantsOf first second cells₀ n m)))
+
+abbrev μ-loop : tie.MeasureT-loop
+μ-loop classes first second at end cells₀ n m line count₀ start₀ cells count start = suc end - start
+
+slice-aggregate-line : tie.Need-slice-aggregate-line Inv-loop μ-loop
+slice-aggregate-line c = sym (length-take-le ((c .before .before .before .before .before .args) .end) ((c .before .before .before .before .before .args) .second .now) ((c .before .before .before .before .before .pre) .2))
+
+loop-holds : tie.Need-loop-holds Inv-loop μ-loop
+loop-holds c = ((c .before .before .before .before .before .pre) .4, omega arith, omega arith, refl)
+
+field-end-requires : tie.Need-field-end-requires Inv-loop μ-loop
+field-end-requires c κs = omega (arith, length-take-le ((c .before .before .before .before .before .before .before .args) .end) ((c .before .before .before .before .before .before .before .args) .second .now) ((c .before .before .before .before .before .before .before .pre) .2))
+
+add-constant-requires : tie.Need-add-constant-requires Inv-loop μ-loop
+add-constant-requires c κs =
+    let sized : length (take ((c .before .before .before .before .before .before .before .before .before .args) .end) ((c .before .before .before .before .before .before .before .before .before .args) .second .now)) ≡ (c .before .before .before .before .before .before .before .before .before .args) .end = length-take-le ((c .before .before .before .before .before .before .before .before .before .args) .end) ((c .before .before .before .before .before .before .before .before .before .args) .second .now) ((c .before .before .before .before .before .before .before .before .before .pre) .2) in
+    ((c .before .before .before .before .before .before .before .before .before .pre) .0, (c .before .field-end) .ensures .1, omega (arith, (c .before .field-end) .ensures .2), (c .before .before .before .before .before .before .before .before .before .pre) .3, (c .before .before .before .loop) .inv .0, (c .before .before .before .loop) .inv .1)
+
+enum-told : tie.Need-enum-told Inv-loop μ-loop
+enum-told c = search needs
+
+same-length : tie.Need-same-length Inv-loop μ-loop
+same-length c = (c .before .before .before .before .add-constant) .kept .1 .1 .1 .1 .1 .0 ∙ (c .before .before .before .before .before .before .before .before .loop) .inv .0 ∙ sym ((c .before .before .before .before .before .before .before .before .before .before .before .before .before .before .pre) .4)
+
+returns : tie.Need-returns Inv-loop μ-loop
+unfolding addedOf
+returns c =
+    let sized : length (take ((c .before .before .before .before .before .before .before .before .before .before .before .before .before .before .args) .end) ((c .before .before .before .before .before .before .before .before .before .before .before .before .before .before .args) .second .now)) ≡ (c .before .before .before .before .before .before .before .before .before .before .before .before .before .before .args) .end = length-take-le ((c .before .before .before .before .before .before .before .before .before .before .before .before .before .before .args) .end) ((c .before .before .before .before .before .before .before .before .before .before .before .before .before .before .args) .second .now) ((c .before .before .before .before .before .before .before .before .before .before .before .before .before .before .pre) .2) in
+    added-full (drop ((c .before .before .before .before .before .before .before .before .loop) .start) (take ((c .before .before .before .before .before .before .field-end) .result) ((c .before .before .before .before .before .before .before .before .before .before .before .before .before .before .args) .second .now))) (fieldsFrom (take ((c .before .before .before .before .before .before .before .before .before .before .before .before .before .before .args) .end) ((c .before .before .before .before .before .before .before .before .before .before .before .before .before .before .args) .second .now)) ((c .before .before .before .before .before .before .before .before .loop) .start))
+    (fieldsFrom (take ((c .before .before .before .before .before .before .before .before .before .before .before .before .before .before .args) .end) ((c .before .before .before .before .before .before .before .before .before .before .before .before .before .before .args) .second .now)) (suc ((c .before .before .before .before .before .before .field-end) .result)))
+    (constantsOf ((c .before .before .before .before .before .before .before .before .before .before .before .before .before .before .args) .first .now) ((c .before .before .before .before .before .before .before .before .before .before .before .before .before .before .args) .second .now) ((c .before .before .before .before .before .before .before .before .loop) .cells) ((c .before .before .before .before .before .before .before .before .before .before .before .before .before .before .args) .n) ((c .before .before .before .before .before .before .before .before .loop) .count))
+    (line-field ((c .before .before .before .before .before .before .before .before .before .before .before .before .before .before .args) .second .now) ((c .before .before .before .before .before .before .before .before .loop) .start) ((c .before .before .before .before .before .before .field-end) .result) ((c .before .before .before .before .before .before .before .before .before .before .before .before .before .before .args) .end) ((c .before .before .before .before .before .before .before .loop-test) .taken) ((c .before .before .before .before .before .before .before .before .before .before .before .before .before .before .pre) .2)
+    ((c .before .before .before .before .before .before .field-end) .ensures .0) ((c .before .before .before .before .before .before .field-end) .ensures .2))
+    (ap (addedOf ((c .before .before .before .before .before .before .before .before .before .before .before .before .before .before .args) .first .now) ((c .before .before .before .before .before .before .before .before .before .before .before .before .before .before .args) .second .now) ((c .before .before .before .before .add-constant) .last .1 .1 .1 .1 .1 .0) ((c .before .before .before .before .before .before .before .before .before .before .before .before .before .before .args) .n)) (sym ((c .enum-told) .given .1))
+    ∙ (c .before .before .before .before .add-constant) .ensures)
+    ∙ (c .before .before .before .before .before .before .before .before .loop) .inv .3
+
+enum-known-k : tie.Need-enum-known-k Inv-loop μ-loop
+enum-known-k c = search needs
+
+add-start : tie.Need-add-start Inv-loop μ-loop
+add-start c =
+    let sized : length (take ((c .before .before .before .before .before .before .before .before .before .before .before .before .before .before .before .args) .end) ((c .before .before .before .before .before .before .before .before .before .before .before .before .before .before .before .args) .second .now)) ≡ (c .before .before .before .before .before .before .before .before .before .before .before .before .before .before .before .args) .end = length-take-le ((c .before .before .before .before .before .before .before .before .before .before .before .before .before .before .before .args) .end) ((c .before .before .before .before .before .before .before .before .before .before .before .before .before .before .before .args) .second .now) ((c .before .before .before .before .before .before .before .before .before .before .before .before .before .before .before .pre) .2) in
+    record { fits = omega (arith, (c .before .before .before .before .before .before .before .field-end) .ensures .2, (c .before .before .before .before .before .before .before .before .before .before .before .before .before .before .before .pre) .2, (c .before .before .before .before .before .before .before .before .before .before .before .before .before .before .before .pre) .3) }
+
+loop-less : tie.Need-loop-less Inv-loop μ-loop
+loop-less c =
+    let sized : length (take ((c .before .before .before .before .before .before .before .before .before .before .before .before .before .before .before .args) .end) ((c .before .before .before .before .before .before .before .before .before .before .before .before .before .before .before .args) .second .now)) ≡ (c .before .before .before .before .before .before .before .before .before .before .before .before .before .before .before .args) .end = length-take-le ((c .before .before .before .before .before .before .before .before .before .before .before .before .before .before .before .args) .end) ((c .before .before .before .before .before .before .before .before .before .before .before .before .before .before .before .args) .second .now) ((c .before .before .before .before .before .before .before .before .before .before .before .before .before .before .before .pre) .2) in
+    omega (arith, (c .before .before .before .before .before .before .before .field-end) .ensures .1, (c .before .before .before .before .before .before .before .field-end) .ensures .2, (c .before .before .before .before .before .before .before .before .loop-test) .taken)
+
+loop-again : tie.Need-loop-again Inv-loop μ-loop
+unfolding addedOf
+loop-again c =
+    let sized : length (take ((c .before .before .before .before .before .before .before .before .before .before .before .before .before .before .before .args) .end) ((c .before .before .before .before .before .before .before .before .before .before .before .before .before .before .before .args) .second .now)) ≡ (c .before .before .before .before .before .before .before .before .before .before .before .before .before .before .before .args) .end = length-take-le ((c .before .before .before .before .before .before .before .before .before .before .before .before .before .before .before .args) .end) ((c .before .before .before .before .before .before .before .before .before .before .before .before .before .before .before .args) .second .now) ((c .before .before .before .before .before .before .before .before .before .before .before .before .before .before .before .pre) .2) in
+    let cells : List ℕ = (c .before .before .before .before .before .add-constant) .last .1 .1 .1 .1 .1 .0 in
+    let known : some (constantsOf ((c .before .before .before .before .before .before .before .before .before .before .before .before .before .before .before .args) .first .now) ((c .before .before .before .before .before .before .before .before .before .before .before .before .before .before .before .args) .second .now) cells ((c .before .before .before .before .before .before .before .before .before .before .before .before .before .before .before .args) .n) ((c .before .k) .given .0 .0)) ≡ _ =
+    ap (addedOf ((c .before .before .before .before .before .before .before .before .before .before .before .before .before .before .before .args) .first .now) ((c .before .before .before .before .before .before .before .before .before .before .before .before .before .before .before .args) .second .now) cells ((c .before .before .before .before .before .before .before .before .before .before .before .before .before .before .before .args) .n)) (sym ((c .before .k) .given .1)) ∙ (c .before .before .before .before .before .add-constant) .ensures in (
+      (c .before .before .before .before .before .add-constant) .kept .1 .1 .1 .1 .1 .0 ∙ (c .before .before .before .before .before .before .before .before .before .loop) .inv .0,
+      omega (
+        arith,
+        roomy-is _ _ known .1,
+        ap (λ (l : List (List ℕ)). length l) (roomy-is _ _ known .0),
+        constants-length ((c .before .before .before .before .before .before .before .before .before .before .before .before .before .before .before .args) .first .now) ((c .before .before .before .before .before .before .before .before .before .before .before .before .before .before .before .args) .second .now) cells ((c .before .before .before .before .before .before .before .before .before .before .before .before .before .before .before .args) .n) ((c .before .k) .given .0 .0),
+      ),
+      omega (arith, (c .before .before .before .before .before .before .before .field-end) .ensures .2),
+      rw (add-one ((c .before .before .before .before .before .before .before .field-end) .result))
+          (sym (added-step (drop ((c .before .before .before .before .before .before .before .before .before .loop) .start) (take ((c .before .before .before .before .before .before .before .field-end) .result) ((c .before .before .before .before .before .before .before .before .before .before .before .before .before .before .before .args) .second .now))) (fieldsFrom (take ((c .before .before .before .before .before .before .before .before .before .before .before .before .before .before .before .args) .end) ((c .before .before .before .before .before .before .before .before .before .before .before .before .before .before .before .args) .second .now)) ((c .before .before .before .before .before .before .before .before .before .loop) .start))
+          (fieldsFrom (take ((c .before .before .before .before .before .before .before .before .before .before .before .before .before .before .before .args) .end) ((c .before .before .before .before .before .before .before .before .before .before .before .before .before .before .before .args) .second .now)) (suc ((c .before .before .before .before .before .before .before .field-end) .result)))
+          (constantsOf ((c .before .before .before .before .before .before .before .before .before .before .before .before .before .before .before .args) .first .now) ((c .before .before .before .before .before .before .before .before .before .before .before .before .before .before .before .args) .second .now) ((c .before .before .before .before .before .before .before .before .before .loop) .cells) ((c .before .before .before .before .before .before .before .before .before .before .before .before .before .before .before .args) .n) ((c .before .before .before .before .before .before .before .before .before .loop) .count))
+          (line-field ((c .before .before .before .before .before .before .before .before .before .before .before .before .before .before .before .args) .second .now) ((c .before .before .before .before .before .before .before .before .before .loop) .start) ((c .before .before .before .before .before .before .before .field-end) .result) ((c .before .before .before .before .before .before .before .before .before .before .before .before .before .before .before .args) .end) ((c .before .before .before .before .before .before .before .before .loop-test) .taken) ((c .before .before .before .before .before .before .before .before .before .before .before .before .before .before .before .pre) .2)
+          ((c .before .before .before .before .before .before .before .field-end) .ensures .0) ((c .before .before .before .before .before .before .before .field-end) .ensures .2)) _ known) ∙ (c .before .before .before .before .before .before .before .before .before .loop) .inv .3),
+    )
+
+same-length-2 : tie.Need-same-length-2 Inv-loop μ-loop
+same-length-2 c = (c .before .loop) .inv .0 ∙ sym ((c .before .before .before .before .before .before .before .pre) .4)
+
+returns-2 : tie.Need-returns-2 Inv-loop μ-loop
+unfolding addedOf
+returns-2 c =
+    let sized : length (take ((c .before .before .before .before .before .before .before .args) .end) ((c .before .before .before .before .before .before .before .args) .second .now)) ≡ (c .before .before .before .before .before .before .before .args) .end = length-take-le ((c .before .before .before .before .before .before .before .args) .end) ((c .before .before .before .before .before .before .before .args) .second .now) ((c .before .before .before .before .before .before .before .pre) .2) in
+    added-end (fieldsFrom (take ((c .before .before .before .before .before .before .before .args) .end) ((c .before .before .before .before .before .before .before .args) .second .now)) ((c .before .loop) .start))
+    (constantsOf ((c .before .before .before .before .before .before .before .args) .first .now) ((c .before .before .before .before .before .before .before .args) .second .now) ((c .before .loop) .cells) ((c .before .before .before .before .before .before .before .args) .n) ((c .before .loop) .count))
+    (fields-out (take ((c .before .before .before .before .before .before .before .args) .end) ((c .before .before .before .before .before .before .before .args) .second .now)) ((c .before .loop) .start) (omega (arith, (c .loop-test) .left)))
+    (omega (arith, constants-length ((c .before .before .before .before .before .before .before .args) .first .now) ((c .before .before .before .before .before .before .before .args) .second .now) ((c .before .loop) .cells) ((c .before .before .before .before .before .before .before .args) .n) ((c .before .loop) .count)))
+    ∙ (c .before .loop) .inv .3
+
+pub add-constants-spec : {M : Type 1} → statement M
+add-constants-spec =
+    tie.close
+    (tie.spec
+    Inv-loop
+    μ-loop
+    slice-aggregate-line
+    loop-holds
+    field-end-requires
+    add-constant-requires
+    enum-told
+    same-length
+    returns
+    enum-known-k
+    add-start
+    loop-less
+    loop-again
+    same-length-2
+    returns-2)

@@ -1,0 +1,82 @@
+-- `lines::terms::are_terms` meets its contract: the fields passed are terms, so the rest decides. Assumes nothing.
+use borrow.Author.Needs.{needs}
+use mathlib.Core.Path.{_≡_, refl, sym, ap, _∙_}
+use mathlib.Core.List.{List, [], _∷_}
+use Prim.Native.Nat.{ℕ, suc, _≤_, _<_, _+_, _-_}
+use native.Mathlib.Numerals.{add-one}
+use native.Mathlib.Omega.{arith}
+use borrow.Author.Tests.{not-true, not-false}
+use lib.ListN.{length, take, drop}
+use Rattle.text.specs.Lists.{every}
+use Rattle.text.specs.Fields.{isTerm}
+use Rattle.text.specs.Places.{fieldsFrom}
+use Rattle.text.proofs.Cursors.{fields-out}
+use Rattle.lines.proofs.Cells.{field-cut, terms-fail, terms-step}
+use Rattle.lines.proofs.terms.are_terms.Statement.{statement}
+use Rattle.lines.proofs.terms.are_terms.Tie as tie
+
+abbrev Inv-loop : tie.InvT-loop
+Inv-loop classes line at start₀ start = (start ≤ length line + 1) × (every isTerm (fieldsFrom line start) ≡ every isTerm (fieldsFrom line at))
+
+abbrev μ-loop : tie.MeasureT-loop
+μ-loop classes line at start₀ start = suc (length line) - start
+
+loop-holds : tie.Need-loop-holds Inv-loop μ-loop
+loop-holds c = (omega arith, refl)
+
+field-end-requires : tie.Need-field-end-requires Inv-loop μ-loop
+field-end-requires c κs = search needs
+
+sub-is-term : tie.Need-sub-is-term Inv-loop μ-loop
+sub-is-term c = search needs
+
+part-is-term-start : tie.Need-part-is-term-start Inv-loop μ-loop
+part-is-term-start c = search needs
+
+part-is-term-end : tie.Need-part-is-term-end Inv-loop μ-loop
+part-is-term-end c = search needs
+
+is-term-requires : tie.Need-is-term-requires Inv-loop μ-loop
+is-term-requires c κs = search needs
+
+returns : tie.Need-returns Inv-loop μ-loop
+returns c =
+    sym (terms-fail _ (fieldsFrom ((c .before .before .before .before .before .before .before .before .args) .line .now) ((c .before .before .before .before .before .loop) .start)) _
+    (field-cut ((c .before .before .before .before .before .before .before .before .args) .line .now) ((c .before .before .before .before .before .loop) .start) ((c .before .before .before .field-end) .result) ((c .before .before .before .before .loop-test) .taken) ((c .before .before .before .field-end) .ensures .0))
+    (sym ((c .before .is-term) .ensures) ∙ not-true ((c .before .is-term) .result) ((c .if1) .taken))) ∙ (c .before .before .before .before .before .loop) .inv .1
+
+add-start : tie.Need-add-start Inv-loop μ-loop
+add-start c = search needs
+
+loop-less : tie.Need-loop-less Inv-loop μ-loop
+loop-less c = search needs
+
+loop-again : tie.Need-loop-again Inv-loop μ-loop
+loop-again c = (
+  omega arith,
+  rw add-one (sym (terms-step _ (fieldsFrom ((c .before .before .before .before .before .before .before .before .args) .line .now) ((c .before .before .before .before .before .loop) .start)) _
+      (field-cut ((c .before .before .before .before .before .before .before .before .args) .line .now) ((c .before .before .before .before .before .loop) .start) ((c .before .before .before .field-end) .result) ((c .before .before .before .before .loop-test) .taken) ((c .before .before .before .field-end) .ensures .0))
+      (sym ((c .before .is-term) .ensures) ∙ not-false ((c .before .is-term) .result) ((c .if1) .left))) ∙ (c .before .before .before .before .before .loop) .inv .1),
+)
+
+returns-2 : tie.Need-returns-2 Inv-loop μ-loop
+returns-2 c =
+    sym (ap (every isTerm) (fields-out ((c .before .before .before .before .args) .line .now) ((c .before .loop) .start) ((c .loop-test) .left))) ∙ (c .before .loop) .inv .1
+
+pub are-terms-spec : {M : Type 1} → statement M
+are-terms-spec =
+    tie.close
+    (tie.spec
+    Inv-loop
+    μ-loop
+    loop-holds
+    field-end-requires
+    sub-is-term
+    part-is-term-start
+    part-is-term-end
+    is-term-requires
+    returns
+    add-start
+    loop-less
+    loop-again
+    returns-2)

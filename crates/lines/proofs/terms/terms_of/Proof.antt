@@ -1,0 +1,152 @@
+-- `lines::terms::terms_of` meets its contract: the first cells hold the terms of the fields passed, and 0 stands behind them.
+-- Assumes nothing.
+use borrow.Author.Needs.{needs}
+use mathlib.Core.Path.{_≡_, refl, sym, ap, _∙_}
+use mathlib.Core.Bool.{true}
+use mathlib.Core.List.{List, [], _∷_, map}
+use Prim.Native.Nat.{ℕ, suc, _≤_, _<_, _+_, _-_}
+use native.Mathlib.Numerals.{add-one}
+use native.Mathlib.Omega.{arith}
+use lib.ListN.{length, take, drop}
+use lib.Seq.{length-take-le}
+use Rattle.text.specs.Lists.{every, placeOf}
+use Rattle.text.specs.Fields.{isTerm}
+use Rattle.text.specs.Places.{fieldsFrom}
+use Rattle.text.proofs.Cursors.{fields-out}
+use Rattle.semantics.specs.Terms.{Term}
+use Rattle.syntax.specs.Forms.{termOf}
+use Rattle.syntax.specs.Tables.{lettersOf, constantsOf}
+use Rattle.lines.proofs.Cells.{Filled, filled-start, filled-step, filled-end, field-cut, terms-both}
+use Rattle.lines.proofs.terms.terms_of.Statement.{statement}
+use Rattle.lines.proofs.terms.terms_of.Tie as tie
+
+abbrev termFor : List ℕ → List ℕ → List ℕ → ℕ → ℕ → List ℕ → ℕ → List ℕ → Term
+termFor first second cells n m letters v = termOf (λ g. placeOf g (lettersOf letters v)) (constantsOf first second cells n m)
+
+abbrev Inv-loop : tie.InvT-loop
+Inv-loop classes first second at end cells n m letters v line r₀ j₀ start₀ r j start =
+    (start ≤ end + 1) × (every isTerm (fieldsFrom (take end second) start) ≡ true)
+    × Filled (termFor first second cells n m letters v)
+    (map (termFor first second cells n m letters v) (fieldsFrom (take end second) at)) r j (fieldsFrom (take end second) start)
+
+abbrev μ-loop : tie.MeasureT-loop
+μ-loop classes first second at end cells n m letters v line r₀ j₀ start₀ r j start = suc end - start
+
+slice-aggregate-line : tie.Need-slice-aggregate-line Inv-loop μ-loop
+slice-aggregate-line c = sym (length-take-le ((c .before .before .before .before .before .before .args) .end) ((c .before .before .before .before .before .before .args) .second .now) ((c .before .before .before .before .before .before .pre) .6))
+
+loop-holds : tie.Need-loop-holds Inv-loop μ-loop
+loop-holds c = (
+  omega arith,
+  (c .before .before .before .before .before .before .pre) .8,
+  filled-start (termFor ((c .before .before .before .before .before .before .args) .first .now) ((c .before .before .before .before .before .before .args) .second .now) ((c .before .before .before .before .before .before .args) .cells .now) ((c .before .before .before .before .before .before .args) .n) ((c .before .before .before .before .before .before .args) .m) ((c .before .before .before .before .before .before .args) .letters .now) ((c .before .before .before .before .before .before .args) .v))
+      (fieldsFrom (take ((c .before .before .before .before .before .before .args) .end) ((c .before .before .before .before .before .before .args) .second .now)) ((c .before .before .before .before .before .before .args) .at)) ((c .before .before .before .before .before .before .pre) .7),
+)
+
+field-end-requires : tie.Need-field-end-requires Inv-loop μ-loop
+field-end-requires c κs = omega (arith, length-take-le ((c .before .before .before .before .before .before .before .before .args) .end) ((c .before .before .before .before .before .before .before .before .args) .second .now) ((c .before .before .before .before .before .before .before .before .pre) .6))
+
+sub-term-cell : tie.Need-sub-term-cell Inv-loop μ-loop
+sub-term-cell c = search needs
+
+part-term-cell-start : tie.Need-part-term-cell-start Inv-loop μ-loop
+part-term-cell-start c = search needs
+
+part-term-cell-end : tie.Need-part-term-cell-end Inv-loop μ-loop
+part-term-cell-end c = search needs
+
+term-cell-requires : tie.Need-term-cell-requires Inv-loop μ-loop
+term-cell-requires c κs =
+    let sized : length (take ((c .before .before .before .before .before .before .before .before .before .before .args) .end) ((c .before .before .before .before .before .before .before .before .before .before .args) .second .now)) ≡ (c .before .before .before .before .before .before .before .before .before .before .args) .end = length-take-le ((c .before .before .before .before .before .before .before .before .before .before .args) .end) ((c .before .before .before .before .before .before .before .before .before .before .args) .second .now) ((c .before .before .before .before .before .before .before .before .before .before .pre) .6) in (
+      (c .before .before .before .before .before .before .before .before .before .before .pre) .0,
+      (c .before .before .before .before .before .before .before .before .before .before .pre) .1,
+      (c .before .before .before .before .before .before .before .before .before .before .pre) .2,
+      (c .before .before .before .before .before .before .before .before .before .before .pre) .3,
+      (c .before .before .before .before .before .before .before .before .before .before .pre) .4,
+      terms-both _ (fieldsFrom (take ((c .before .before .before .before .before .before .before .before .before .before .args) .end) ((c .before .before .before .before .before .before .before .before .before .before .args) .second .now)) ((c .before .before .before .loop) .start)) _
+          (field-cut (take ((c .before .before .before .before .before .before .before .before .before .before .args) .end) ((c .before .before .before .before .before .before .before .before .before .before .args) .second .now)) ((c .before .before .before .loop) .start) ((c .before .field-end) .result) (omega (arith, (c .before .before .loop-test) .taken)) ((c .before .field-end) .ensures .0))
+          ((c .before .before .before .loop) .inv .1) .0,
+    )
+
+mul-r : tie.Need-mul-r Inv-loop μ-loop
+mul-r c =
+    let sized : length (take ((c .before .before .before .before .before .before .before .before .before .before .before .args) .end) ((c .before .before .before .before .before .before .before .before .before .before .before .args) .second .now)) ≡ (c .before .before .before .before .before .before .before .before .before .before .before .args) .end = length-take-le ((c .before .before .before .before .before .before .before .before .before .before .before .args) .end) ((c .before .before .before .before .before .before .before .before .before .before .before .args) .second .now) ((c .before .before .before .before .before .before .before .before .before .before .before .pre) .6) in
+    let more : length (fieldsFrom (take ((c .before .before .before .before .before .before .before .before .before .before .before .args) .end) ((c .before .before .before .before .before .before .before .before .before .before .before .args) .second .now)) ((c .before .before .before .before .loop) .start))
+    ≡ suc (length (fieldsFrom (take ((c .before .before .before .before .before .before .before .before .before .before .before .args) .end) ((c .before .before .before .before .before .before .before .before .before .before .before .args) .second .now)) (suc ((c .before .before .field-end) .result)))) =
+    ap (λ (fs : List (List ℕ)). length fs) (field-cut (take ((c .before .before .before .before .before .before .before .before .before .before .before .args) .end) ((c .before .before .before .before .before .before .before .before .before .before .before .args) .second .now)) ((c .before .before .before .before .loop) .start) ((c .before .before .field-end) .result) (omega (arith, (c .before .before .before .loop-test) .taken)) ((c .before .before .field-end) .ensures .0)) in
+    record { fits = omega (arith, (c .before .before .before .before .loop) .inv .2 .fits) }
+
+array-write-r : tie.Need-array-write-r Inv-loop μ-loop
+array-write-r c =
+    let sized : length (take ((c .before .before .before .before .before .before .before .before .before .before .before .args) .end) ((c .before .before .before .before .before .before .before .before .before .before .before .args) .second .now)) ≡ (c .before .before .before .before .before .before .before .before .before .before .before .args) .end = length-take-le ((c .before .before .before .before .before .before .before .before .before .before .before .args) .end) ((c .before .before .before .before .before .before .before .before .before .before .before .args) .second .now) ((c .before .before .before .before .before .before .before .before .before .before .before .pre) .6) in
+    let more : length (fieldsFrom (take ((c .before .before .before .before .before .before .before .before .before .before .before .args) .end) ((c .before .before .before .before .before .before .before .before .before .before .before .args) .second .now)) ((c .before .before .before .before .loop) .start))
+    ≡ suc (length (fieldsFrom (take ((c .before .before .before .before .before .before .before .before .before .before .before .args) .end) ((c .before .before .before .before .before .before .before .before .before .before .before .args) .second .now)) (suc ((c .before .before .field-end) .result)))) =
+    ap (λ (fs : List (List ℕ)). length fs) (field-cut (take ((c .before .before .before .before .before .before .before .before .before .before .before .args) .end) ((c .before .before .before .before .before .before .before .before .before .before .before .args) .second .now)) ((c .before .before .before .before .loop) .start) ((c .before .before .field-end) .result) (omega (arith, (c .before .before .before .loop-test) .taken)) ((c .before .before .field-end) .ensures .0)) in
+    omega (arith, (c .before .before .before .before .loop) .inv .2 .fits)
+
+add-j : tie.Need-add-j Inv-loop μ-loop
+add-j c =
+    let sized : length (take ((c .before .before .before .before .before .before .before .before .before .before .before .args) .end) ((c .before .before .before .before .before .before .before .before .before .before .before .args) .second .now)) ≡ (c .before .before .before .before .before .before .before .before .before .before .before .args) .end = length-take-le ((c .before .before .before .before .before .before .before .before .before .before .before .args) .end) ((c .before .before .before .before .before .before .before .before .before .before .before .args) .second .now) ((c .before .before .before .before .before .before .before .before .before .before .before .pre) .6) in
+    let more : length (fieldsFrom (take ((c .before .before .before .before .before .before .before .before .before .before .before .args) .end) ((c .before .before .before .before .before .before .before .before .before .before .before .args) .second .now)) ((c .before .before .before .before .loop) .start))
+    ≡ suc (length (fieldsFrom (take ((c .before .before .before .before .before .before .before .before .before .before .before .args) .end) ((c .before .before .before .before .before .before .before .before .before .before .before .args) .second .now)) (suc ((c .before .before .field-end) .result)))) =
+    ap (λ (fs : List (List ℕ)). length fs) (field-cut (take ((c .before .before .before .before .before .before .before .before .before .before .before .args) .end) ((c .before .before .before .before .before .before .before .before .before .before .before .args) .second .now)) ((c .before .before .before .before .loop) .start) ((c .before .before .field-end) .result) (omega (arith, (c .before .before .before .loop-test) .taken)) ((c .before .before .field-end) .ensures .0)) in
+    record { fits = omega (arith, (c .before .before .before .before .loop) .inv .2 .fits) }
+
+add-start : tie.Need-add-start Inv-loop μ-loop
+add-start c =
+    let sized : length (take ((c .before .before .before .before .before .before .before .before .before .before .before .args) .end) ((c .before .before .before .before .before .before .before .before .before .before .before .args) .second .now)) ≡ (c .before .before .before .before .before .before .before .before .before .before .before .args) .end = length-take-le ((c .before .before .before .before .before .before .before .before .before .before .before .args) .end) ((c .before .before .before .before .before .before .before .before .before .before .before .args) .second .now) ((c .before .before .before .before .before .before .before .before .before .before .before .pre) .6) in
+    record { fits = omega (arith, (c .before .before .field-end) .ensures .2, (c .before .before .before .before .before .before .before .before .before .before .before .fits) .end, (c .before .before .field-end) .ok) }
+
+loop-less : tie.Need-loop-less Inv-loop μ-loop
+loop-less c =
+    let sized : length (take ((c .before .before .before .before .before .before .before .before .before .before .before .args) .end) ((c .before .before .before .before .before .before .before .before .before .before .before .args) .second .now)) ≡ (c .before .before .before .before .before .before .before .before .before .before .before .args) .end = length-take-le ((c .before .before .before .before .before .before .before .before .before .before .before .args) .end) ((c .before .before .before .before .before .before .before .before .before .before .before .args) .second .now) ((c .before .before .before .before .before .before .before .before .before .before .before .pre) .6) in
+    omega (arith, (c .before .before .field-end) .ensures .1, (c .before .before .field-end) .ensures .2, (c .before .before .before .loop-test) .taken)
+
+loop-again : tie.Need-loop-again Inv-loop μ-loop
+loop-again c =
+    let sized : length (take ((c .before .before .before .before .before .before .before .before .before .before .before .args) .end) ((c .before .before .before .before .before .before .before .before .before .before .before .args) .second .now)) ≡ (c .before .before .before .before .before .before .before .before .before .before .before .args) .end = length-take-le ((c .before .before .before .before .before .before .before .before .before .before .before .args) .end) ((c .before .before .before .before .before .before .before .before .before .before .before .args) .second .now) ((c .before .before .before .before .before .before .before .before .before .before .before .pre) .6) in
+    rw (add-one ((c .before .before .field-end) .result), add-one ((c .before .before .before .before .loop) .j), add-one ((c .before .before .before .before .before .before .before .before .before .before .before .args) .end)) (
+      omega (arith, (c .before .before .field-end) .ensures .2),
+      terms-both _ (fieldsFrom (take ((c .before .before .before .before .before .before .before .before .before .before .before .args) .end) ((c .before .before .before .before .before .before .before .before .before .before .before .args) .second .now)) ((c .before .before .before .before .loop) .start)) _
+          (field-cut (take ((c .before .before .before .before .before .before .before .before .before .before .before .args) .end) ((c .before .before .before .before .before .before .before .before .before .before .before .args) .second .now)) ((c .before .before .before .before .loop) .start) ((c .before .before .field-end) .result) (omega (arith, (c .before .before .before .loop-test) .taken)) ((c .before .before .field-end) .ensures .0))
+          ((c .before .before .before .before .loop) .inv .1) .1,
+      filled-step (termFor ((c .before .before .before .before .before .before .before .before .before .before .before .args) .first .now) ((c .before .before .before .before .before .before .before .before .before .before .before .args) .second .now) ((c .before .before .before .before .before .before .before .before .before .before .before .args) .cells .now) ((c .before .before .before .before .before .before .before .before .before .before .before .args) .n) ((c .before .before .before .before .before .before .before .before .before .before .before .args) .m) ((c .before .before .before .before .before .before .before .before .before .before .before .args) .letters .now) ((c .before .before .before .before .before .before .before .before .before .before .before .args) .v))
+          (map (termFor ((c .before .before .before .before .before .before .before .before .before .before .before .args) .first .now) ((c .before .before .before .before .before .before .before .before .before .before .before .args) .second .now) ((c .before .before .before .before .before .before .before .before .before .before .before .args) .cells .now) ((c .before .before .before .before .before .before .before .before .before .before .before .args) .n) ((c .before .before .before .before .before .before .before .before .before .before .before .args) .m) ((c .before .before .before .before .before .before .before .before .before .before .before .args) .letters .now) ((c .before .before .before .before .before .before .before .before .before .before .before .args) .v))
+          (fieldsFrom (take ((c .before .before .before .before .before .before .before .before .before .before .before .args) .end) ((c .before .before .before .before .before .before .before .before .before .before .before .args) .second .now)) ((c .before .before .before .before .before .before .before .before .before .before .before .args) .at)))
+          ((c .before .before .before .before .loop) .r) ((c .before .before .before .before .loop) .j) _ (fieldsFrom (take ((c .before .before .before .before .before .before .before .before .before .before .before .args) .end) ((c .before .before .before .before .before .before .before .before .before .before .before .args) .second .now)) ((c .before .before .before .before .loop) .start))
+          (fieldsFrom (take ((c .before .before .before .before .before .before .before .before .before .before .before .args) .end) ((c .before .before .before .before .before .before .before .before .before .before .before .args) .second .now)) (suc ((c .before .before .field-end) .result))) ((c .term-cell) .result) ((c .before .before .before .before .loop) .inv .2)
+          (field-cut (take ((c .before .before .before .before .before .before .before .before .before .before .before .args) .end) ((c .before .before .before .before .before .before .before .before .before .before .before .args) .second .now)) ((c .before .before .before .before .loop) .start) ((c .before .before .field-end) .result) (omega (arith, (c .before .before .before .loop-test) .taken)) ((c .before .before .field-end) .ensures .0))
+          ((c .term-cell) .ensures .0) ((c .term-cell) .ensures .1),
+    )
+
+returns : tie.Need-returns Inv-loop μ-loop
+returns c =
+    let sized : length (take ((c .before .before .before .before .before .before .before .before .args) .end) ((c .before .before .before .before .before .before .before .before .args) .second .now)) ≡ (c .before .before .before .before .before .before .before .before .args) .end = length-take-le ((c .before .before .before .before .before .before .before .before .args) .end) ((c .before .before .before .before .before .before .before .before .args) .second .now) ((c .before .before .before .before .before .before .before .before .pre) .6) in (
+      filled-end (termFor ((c .before .before .before .before .before .before .before .before .args) .first .now) ((c .before .before .before .before .before .before .before .before .args) .second .now) ((c .before .before .before .before .before .before .before .before .args) .cells .now) ((c .before .before .before .before .before .before .before .before .args) .n) ((c .before .before .before .before .before .before .before .before .args) .m) ((c .before .before .before .before .before .before .before .before .args) .letters .now) ((c .before .before .before .before .before .before .before .before .args) .v))
+          (map (termFor ((c .before .before .before .before .before .before .before .before .args) .first .now) ((c .before .before .before .before .before .before .before .before .args) .second .now) ((c .before .before .before .before .before .before .before .before .args) .cells .now) ((c .before .before .before .before .before .before .before .before .args) .n) ((c .before .before .before .before .before .before .before .before .args) .m) ((c .before .before .before .before .before .before .before .before .args) .letters .now) ((c .before .before .before .before .before .before .before .before .args) .v))
+          (fieldsFrom (take ((c .before .before .before .before .before .before .before .before .args) .end) ((c .before .before .before .before .before .before .before .before .args) .second .now)) ((c .before .before .before .before .before .before .before .before .args) .at)))
+          ((c .before .loop) .r) ((c .before .loop) .j) (fieldsFrom (take ((c .before .before .before .before .before .before .before .before .args) .end) ((c .before .before .before .before .before .before .before .before .args) .second .now)) ((c .before .loop) .start)) ((c .before .loop) .inv .2)
+          (fields-out (take ((c .before .before .before .before .before .before .before .before .args) .end) ((c .before .before .before .before .before .before .before .before .args) .second .now)) ((c .before .loop) .start) (omega (arith, (c .loop-test) .left))),
+      (c .before .loop) .inv .2 .sized,
+    )
+
+pub terms-of-spec : {M : Type 1} → statement M
+terms-of-spec =
+    tie.close
+    (tie.spec
+    Inv-loop
+    μ-loop
+    slice-aggregate-line
+    loop-holds
+    field-end-requires
+    sub-term-cell
+    part-term-cell-start
+    part-term-cell-end
+    term-cell-requires
+    mul-r
+    array-write-r
+    add-j
+    add-start
+    loop-less
+    loop-again
+    returns)

@@ -1,0 +1,56 @@
+// What a line means, by its first letter, and where it may stand.
+use crate::LineForm;
+ghost use mathlib.Core.Path.{_≡_};
+ghost use Prim.Native.Nat.{_≤_, _<_};
+ghost use lib.ListN.{length};
+ghost use Rattle.text.specs.Places.{fieldsFrom};
+ghost use Rattle.syntax.specs.Forms.{formOfByte, formOf, placeAfter, fieldAt};
+ghost use Rattle.lines.specs.Read.{formMeant, placeMeant, placeAnswer};
+
+// What a byte stands for as the first letter of a line, over all byte values.
+fn form_of_byte(b: u8) -> LineForm
+    ensures { λ r. ⌜ formMeant r ≡ formOfByte b ⌝ }
+{
+    match b {
+        b'K' => LineForm::Symbol,
+        b'R' => LineForm::Rule,
+        b'H' => LineForm::Head,
+        b'B' => LineForm::Body,
+        b'E' => LineForm::Equation,
+        b'G' => LineForm::Goal,
+        b'A'..=b'Z' => LineForm::Nothing,
+        b'a'..=b'z' => LineForm::Nothing,
+        _ => LineForm::Nothing,
+    }
+}
+
+// The form of the line that starts at a place: its first field is one letter.
+pub fn form_at(line: &[u8], at: usize) -> LineForm
+    requires { ⌜ at < length (now line) ⌝ }
+    ensures { λ r. ⌜ formMeant r ≡ formOf (fieldAt 0 (fieldsFrom (now (line .entry)) at)) ⌝ }
+{
+    let end = text::field_end(line, at);
+    if end != at + 1 {
+        return LineForm::Nothing;
+    }
+    form_of_byte(line[at])
+}
+
+// The place behind a line of a form, or 4 where it may not stand: 0 among K lines, 1 behind R or H, 2 behind B, 3 behind E.
+pub fn place_after(form: LineForm, place: u8) -> u8
+    ensures { λ r. ⌜ placeAnswer r ≡ placeAfter (formMeant form) (placeMeant place) ⌝ }
+{
+    match form {
+        LineForm::Symbol => if place == 0 { 0 } else { 4 },
+        LineForm::Rule => 1,
+        LineForm::Head => if place == 1 { 1 } else { 4 },
+        LineForm::Body => if place == 1 {
+            2
+        } else {
+            if place == 2 { 2 } else { 4 }
+        },
+        LineForm::Equation => if place == 0 { 4 } else { 3 },
+        LineForm::Goal => 4,
+        LineForm::Nothing => 4,
+    }
+}

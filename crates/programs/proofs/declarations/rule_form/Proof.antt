@@ -1,0 +1,98 @@
+-- `programs::declarations::rule_form` meets its contract: two fields, then the name decides. Assumes nothing.
+use borrow.Author.Needs.{needs}
+use mathlib.Core.Path.{_≡_, sym, ap, _∙_}
+use mathlib.Core.Bool.{not}
+use mathlib.Core.List.{List, [], _∷_}
+use Prim.Native.Nat.{ℕ, suc, _≤_, _<_, _+_}
+use native.Mathlib.Numerals.{add-one}
+use native.Mathlib.Omega.{arith}
+use borrow.Author.Tests.{not-true, not-false}
+use lib.ListN.{length, take, drop}
+use Rattle.text.specs.Fields.{isName}
+use Rattle.text.specs.Places.{fieldsFrom}
+use Rattle.text.proofs.Cursors.{drop-take}
+use Rattle.lines.proofs.Shapes.{second-within, two-fields, rule-count, rule-shape, field-one}
+use borrow.Author.Needs.{needs}
+use Rattle.programs.proofs.declarations.rule_form.Statement.{statement}
+use Rattle.programs.proofs.declarations.rule_form.Tie as tie
+
+count-fields-requires : tie.Need-count-fields-requires
+count-fields-requires c κs = search needs
+
+returns : tie.Need-returns
+returns c = rule-count (fieldsFrom ((c .before .before .before .before .args) .line .now) ((c .before .before .before .before .args) .at)) (λ e. (c .if1) .taken ((c .before .count-fields) .ensures ∙ e))
+
+field-end-requires : tie.Need-field-end-requires
+field-end-requires c κs = search needs
+
+add-start : tie.Need-add-start
+add-start c = search needs
+
+field-end-requires-2 : tie.Need-field-end-requires-2
+field-end-requires-2 c κs =
+    omega (
+      arith,
+      second-within ((c .before .before .before .before .before .args) .line .now) ((c .before .before .before .before .before .args) .at) ((c .field-end) .result) ((c .before .before .before .before .before .pre) .1) ((c .field-end) .ensures .0)
+          (omega (arith, (c .before .before .count-fields) .ensures, (c .before .if1) .left)),
+    )
+
+sub-is-name : tie.Need-sub-is-name
+sub-is-name c = search needs
+
+part-is-name-start : tie.Need-part-is-name-start
+part-is-name-start c = search needs
+
+part-is-name-end : tie.Need-part-is-name-end
+part-is-name-end c = search needs
+
+is-name-requires : tie.Need-is-name-requires
+is-name-requires c κs = search needs
+
+returns-2 : tie.Need-returns-2
+returns-2 c =
+    let start : ℕ = (c .before .before .before .before .field-end) .result + 1 in
+    let within : suc ((c .before .before .before .before .field-end) .result) ≤ length ((c .before .before .before .before .before .before .before .before .before .args) .line .now) =
+    second-within ((c .before .before .before .before .before .before .before .before .before .args) .line .now) ((c .before .before .before .before .before .before .before .before .before .args) .at) ((c .before .before .before .before .field-end) .result) ((c .before .before .before .before .before .before .before .before .before .pre) .1) ((c .before .before .before .before .field-end) .ensures .0) (omega (arith, (c .before .before .before .before .before .before .count-fields) .ensures, (c .before .before .before .before .before .if1) .left)) in
+    rule-shape (drop ((c .before .before .before .before .before .before .before .before .before .args) .at) (take ((c .before .before .before .before .field-end) .result) ((c .before .before .before .before .before .before .before .before .before .args) .line .now))) (drop start (take ((c .before .before .before .field-end2) .result) ((c .before .before .before .before .before .before .before .before .before .args) .line .now)))
+    (fieldsFrom ((c .before .before .before .before .before .before .before .before .before .args) .line .now) ((c .before .before .before .before .before .before .before .before .before .args) .at)) (fieldsFrom ((c .before .before .before .before .before .before .before .before .before .args) .line .now) (suc ((c .before .before .before .field-end2) .result)))
+    (two-fields ((c .before .before .before .before .before .before .before .before .before .args) .line .now) ((c .before .before .before .before .before .before .before .before .before .args) .at) ((c .before .before .before .before .field-end) .result) ((c .before .before .before .before .before .before .before .before .before .pre) .1) ((c .before .before .before .before .field-end) .ensures .0) start ((c .before .before .before .field-end2) .result)
+    (add-one ((c .before .before .before .before .field-end) .result)) (omega arith) ((c .before .before .before .field-end2) .ensures .0))
+    (sym ((c .before .before .before .before .before .before .count-fields) .ensures) ∙ (c .before .before .before .before .before .if1) .left)
+    ∙ ap not (ap isName (drop-take start ((c .before .before .before .field-end2) .result) ((c .before .before .before .before .before .before .before .before .before .args) .line .now) ((c .before .before .before .field-end2) .ensures .1))
+    ∙ sym ((c .before .is-name) .ensures) ∙ not-true ((c .before .is-name) .result) ((c .if2) .taken))
+
+returns-3 : tie.Need-returns-3
+returns-3 c =
+    let start : ℕ = (c .before .before .before .before .field-end) .result + 1 in
+    let within : suc ((c .before .before .before .before .field-end) .result) ≤ length ((c .before .before .before .before .before .before .before .before .before .args) .line .now) =
+    second-within ((c .before .before .before .before .before .before .before .before .before .args) .line .now) ((c .before .before .before .before .before .before .before .before .before .args) .at) ((c .before .before .before .before .field-end) .result) ((c .before .before .before .before .before .before .before .before .before .pre) .1) ((c .before .before .before .before .field-end) .ensures .0) (omega (arith, (c .before .before .before .before .before .before .count-fields) .ensures, (c .before .before .before .before .before .if1) .left)) in
+    let f : List ℕ = drop ((c .before .before .before .before .before .before .before .before .before .args) .at) (take ((c .before .before .before .before .field-end) .result) ((c .before .before .before .before .before .before .before .before .before .args) .line .now)) in
+    let g : List ℕ = drop start (take ((c .before .before .before .field-end2) .result) ((c .before .before .before .before .before .before .before .before .before .args) .line .now)) in
+    let shape : fieldsFrom ((c .before .before .before .before .before .before .before .before .before .args) .line .now) ((c .before .before .before .before .before .before .before .before .before .args) .at) ≡ f ∷ g ∷ fieldsFrom ((c .before .before .before .before .before .before .before .before .before .args) .line .now) (suc ((c .before .before .before .field-end2) .result)) =
+    two-fields ((c .before .before .before .before .before .before .before .before .before .args) .line .now) ((c .before .before .before .before .before .before .before .before .before .args) .at) ((c .before .before .before .before .field-end) .result) ((c .before .before .before .before .before .before .before .before .before .pre) .1) ((c .before .before .before .before .field-end) .ensures .0) start ((c .before .before .before .field-end2) .result)
+    (add-one ((c .before .before .before .before .field-end) .result)) (omega arith) ((c .before .before .before .field-end2) .ensures .0) in
+    record {
+      fine = rule-shape f g (fieldsFrom ((c .before .before .before .before .before .before .before .before .before .args) .line .now) ((c .before .before .before .before .before .before .before .before .before .args) .at)) (fieldsFrom ((c .before .before .before .before .before .before .before .before .before .args) .line .now) (suc ((c .before .before .before .field-end2) .result))) shape
+          (sym ((c .before .before .before .before .before .before .count-fields) .ensures) ∙ (c .before .before .before .before .before .if1) .left)
+          ∙ ap not (ap isName (drop-take start ((c .before .before .before .field-end2) .result) ((c .before .before .before .before .before .before .before .before .before .args) .line .now) ((c .before .before .before .field-end2) .ensures .1))
+          ∙ sym ((c .before .is-name) .ensures) ∙ not-false ((c .before .is-name) .result) ((c .if2) .left));
+      name = field-one f g (fieldsFrom ((c .before .before .before .before .before .before .before .before .before .args) .line .now) ((c .before .before .before .before .before .before .before .before .before .args) .at)) (fieldsFrom ((c .before .before .before .before .before .before .before .before .before .args) .line .now) (suc ((c .before .before .before .field-end2) .result))) shape;
+      starts = (c .before .before .before .field-end2) .ensures .1;
+      stops = (c .before .before .before .field-end2) .ensures .2;
+    }
+
+pub rule-form-spec : {M : Type 1} → statement M
+rule-form-spec =
+    tie.close
+    (tie.spec
+    count-fields-requires
+    returns
+    field-end-requires
+    add-start
+    field-end-requires-2
+    sub-is-name
+    part-is-name-start
+    part-is-name-end
+    is-name-requires
+    returns-2
+    returns-3)

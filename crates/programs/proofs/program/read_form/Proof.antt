@@ -1,0 +1,186 @@
+-- `programs::program::read_form` meets its contract, form by form. Assumes nothing.
+use borrow.Author.Needs.{needs}
+use mathlib.Core.Path.{_≡_, refl, sym, ap, _∙_}
+use native.Mathlib.Omega.{arith}
+use Rattle.lines.specs.declared.LineForm.{LineForm}
+use Rattle.syntax.specs.Forms.{placeAfter}
+use Rattle.syntax.specs.Programs.{readForm}
+use Rattle.lines.specs.Read.{formMeant, placeMeant}
+use Rattle.programs.specs.Read.{lineAnswer}
+use Rattle.programs.proofs.Whole.{first-place, begun-head, begun-body, begun-sides}
+use borrow.Author.Needs.{needs}
+use Rattle.programs.proofs.program.read_form.Statement.{statement}
+use Rattle.programs.proofs.program.read_form.Tie as tie
+
+enum-told : tie.Need-enum-told
+enum-told c = search needs
+
+symbol-line-requires : tie.Need-symbol-line-requires
+unfolding formMeant
+symbol-line-requires c κs =
+    ((c .before .before .before .before .before .before .before .before .before .pre) .0, (c .before .before .before .before .before .before .before .before .before .pre) .2, (c .before .before .before .before .before .before .before .before .before .pre) .3, (c .before .before .before .before .before .before .before .before .before .pre) .4, (c .before .before .before .before .before .before .before .before .before .pre) .5, (c .before .before .before .before .before .before .before .before .before .pre) .8 .few-symbols, first-place ((c .before .before .before .before .before .before .before .before .before .args) .place) ((c .before .before .before .before .before .before .before .before .before .args) .stage .place) ((c .before .before .before .before .before .before .before .before .before .pre) .10 ∙ ap (λ (f : LineForm). placeAfter (formMeant f) (placeMeant ((c .before .before .before .before .before .before .before .before .before .args) .stage .place))) ((c .before .enum-told) .given .1)) ((c .before .before .before .before .before .before .before .before .before .pre) .9))
+
+enum-told-2 : tie.Need-enum-told-2
+enum-told-2 c = search needs
+
+rule-line-requires : tie.Need-rule-line-requires
+rule-line-requires c κs = ((c .before .before .before .before .before .before .before .before .before .pre) .0, (c .before .before .before .before .before .before .before .before .before .pre) .2, (c .before .before .before .before .before .before .before .before .before .pre) .3, (c .before .before .before .before .before .before .before .before .before .pre) .4, (c .before .before .before .before .before .before .before .before .before .pre) .6, (c .before .before .before .before .before .before .before .before .before .pre) .8 .few-rules)
+
+enum-told-3 : tie.Need-enum-told-3
+enum-told-3 c = search needs
+
+head-line-requires : tie.Need-head-line-requires
+unfolding formMeant
+head-line-requires c κs = (
+  (c .before .before .before .before .before .before .before .before .before .before .before .pre) .0,
+  (c .before .before .before .before .before .before .before .before .before .before .before .pre) .1,
+  (c .before .before .before .before .before .before .before .before .before .before .before .pre) .2,
+  (c .before .before .before .before .before .before .before .before .before .before .before .pre) .3,
+  (c .before .before .before .before .before .before .before .before .before .before .before .pre) .4,
+  (c .before .before .before .before .before .before .before .before .before .before .before .pre) .5,
+  (c .before .before .before .before .before .before .before .before .before .before .before .pre) .6,
+  (c .before .before .before .before .before .before .before .before .before .before .before .pre) .7,
+  (c .before .before .before .before .before .before .before .before .before .before .before .pre) .8,
+  (c .before .before .before .before .before .before .before .before .before .before .before .pre) .8 .begun (begun-head ((c .before .before .before .before .before .before .before .before .before .before .before .args) .place) ((c .before .before .before .before .before .before .before .before .before .before .before .args) .stage .place) ((c .before .before .before .before .before .before .before .before .before .before .before .pre) .10 ∙ ap (λ (f : LineForm). placeAfter (formMeant f) (placeMeant ((c .before .before .before .before .before .before .before .before .before .before .before .args) .stage .place))) ((c .before .before .before .enum-told3) .given .1)) ((c .before .before .before .before .before .before .before .before .before .before .before .pre) .9)),
+)
+
+enum-told-4 : tie.Need-enum-told-4
+enum-told-4 c = search needs
+
+body-line-requires : tie.Need-body-line-requires
+unfolding formMeant
+body-line-requires c κs = (
+  (c .before .before .before .before .before .before .before .before .before .before .before .pre) .0,
+  (c .before .before .before .before .before .before .before .before .before .before .before .pre) .1,
+  (c .before .before .before .before .before .before .before .before .before .before .before .pre) .2,
+  (c .before .before .before .before .before .before .before .before .before .before .before .pre) .3,
+  (c .before .before .before .before .before .before .before .before .before .before .before .pre) .4,
+  (c .before .before .before .before .before .before .before .before .before .before .before .pre) .5,
+  (c .before .before .before .before .before .before .before .before .before .before .before .pre) .6,
+  (c .before .before .before .before .before .before .before .before .before .before .before .pre) .7,
+  (c .before .before .before .before .before .before .before .before .before .before .before .pre) .8,
+  (c .before .before .before .before .before .before .before .before .before .before .before .pre) .8 .begun (begun-body ((c .before .before .before .before .before .before .before .before .before .before .before .args) .place) ((c .before .before .before .before .before .before .before .before .before .before .before .args) .stage .place) ((c .before .before .before .before .before .before .before .before .before .before .before .pre) .10 ∙ ap (λ (f : LineForm). placeAfter (formMeant f) (placeMeant ((c .before .before .before .before .before .before .before .before .before .before .before .args) .stage .place))) ((c .before .before .before .enum-told4) .given .1)) ((c .before .before .before .before .before .before .before .before .before .before .before .pre) .9)),
+)
+
+enum-told-5 : tie.Need-enum-told-5
+enum-told-5 c = search needs
+
+equation-line-requires : tie.Need-equation-line-requires
+unfolding formMeant
+equation-line-requires c κs = (
+  (c .before .before .before .before .before .before .before .before .before .before .before .pre) .0,
+  (c .before .before .before .before .before .before .before .before .before .before .before .pre) .1,
+  (c .before .before .before .before .before .before .before .before .before .before .before .pre) .2,
+  (c .before .before .before .before .before .before .before .before .before .before .before .pre) .3,
+  (c .before .before .before .before .before .before .before .before .before .before .before .pre) .4,
+  (c .before .before .before .before .before .before .before .before .before .before .before .pre) .5,
+  (c .before .before .before .before .before .before .before .before .before .before .before .pre) .6,
+  (c .before .before .before .before .before .before .before .before .before .before .before .pre) .7,
+  (c .before .before .before .before .before .before .before .before .before .before .before .pre) .8,
+  (c .before .before .before .before .before .before .before .before .before .before .before .pre) .8 .begun (begun-sides ((c .before .before .before .before .before .before .before .before .before .before .before .args) .place) ((c .before .before .before .before .before .before .before .before .before .before .before .args) .stage .place) ((c .before .before .before .before .before .before .before .before .before .before .before .pre) .10 ∙ ap (λ (f : LineForm). placeAfter (formMeant f) (placeMeant ((c .before .before .before .before .before .before .before .before .before .before .before .args) .stage .place))) ((c .before .before .before .enum-told5) .given .1)) ((c .before .before .before .before .before .before .before .before .before .before .before .pre) .9)),
+)
+
+enum-told-6 : tie.Need-enum-told-6
+enum-told-6 c = search needs
+
+enum-told-7 : tie.Need-enum-told-7
+enum-told-7 c = search needs
+
+same-length : tie.Need-same-length
+same-length c = search needs
+
+returns : tie.Need-returns
+unfolding formMeant readForm
+returns c =
+    rw ((c .before .before .before .before .enum-told) .given .1)
+    ((c .before .before .symbol-line) .ensures .0 ((c .before .before .before .before .before .before .before .before .before .before .before .before .args) .number) ((c .before .before .before .before .before .before .before .before .before .before .before .before .args) .rules .now) ((c .before .before .before .before .before .before .before .before .before .before .before .before .args) .constants .now), (c .before .before .symbol-line) .ensures .1 ((c .before .before .before .before .before .before .before .before .before .before .before .before .args) .rules .now) ((c .before .before .before .before .before .before .before .before .before .before .before .before .pre) .8))
+
+same-length-2 : tie.Need-same-length-2
+same-length-2 c = search needs
+
+returns-2 : tie.Need-returns-2
+unfolding formMeant readForm
+returns-2 c =
+    rw ((c .before .before .before .before .enum-told2) .given .1) ((c .before .before .rule-line) .ensures .0 ((c .before .before .before .before .before .before .before .before .before .before .before .before .args) .symbols .now) ((c .before .before .before .before .before .before .before .before .before .before .before .before .args) .constants .now), (c .before .before .rule-line) .ensures .1 ((c .before .before .before .before .before .before .before .before .before .before .before .before .pre) .8))
+
+same-length-3 : tie.Need-same-length-3
+same-length-3 c = search needs
+
+same-length-4 : tie.Need-same-length-4
+same-length-4 c = search needs
+
+same-length-5 : tie.Need-same-length-5
+same-length-5 c = search needs
+
+returns-3 : tie.Need-returns-3
+unfolding formMeant
+returns-3 c = rw ((c .before .before .before .before .before .before .before .before .enum-told3) .given .1) ((c .before .before .before .before .head-line) .ensures .0 ((c .before .before .before .before .before .before .before .before .before .before .before .before .before .before .before .before .args) .number), (c .before .before .before .before .head-line) .ensures .1)
+
+same-length-6 : tie.Need-same-length-6
+same-length-6 c = search needs
+
+same-length-7 : tie.Need-same-length-7
+same-length-7 c = search needs
+
+same-length-8 : tie.Need-same-length-8
+same-length-8 c = search needs
+
+returns-4 : tie.Need-returns-4
+unfolding formMeant
+returns-4 c = rw ((c .before .before .before .before .before .before .before .before .enum-told4) .given .1) ((c .before .before .before .before .body-line) .ensures .0 ((c .before .before .before .before .before .before .before .before .before .before .before .before .before .before .before .before .args) .number), (c .before .before .before .before .body-line) .ensures .1)
+
+same-length-9 : tie.Need-same-length-9
+same-length-9 c = search needs
+
+same-length-10 : tie.Need-same-length-10
+same-length-10 c = search needs
+
+same-length-11 : tie.Need-same-length-11
+same-length-11 c = search needs
+
+returns-5 : tie.Need-returns-5
+unfolding formMeant
+returns-5 c = rw ((c .before .before .before .before .before .before .before .before .enum-told5) .given .1) ((c .before .before .before .before .equation-line) .ensures .0 ((c .before .before .before .before .before .before .before .before .before .before .before .before .before .before .before .before .args) .number), (c .before .before .before .before .equation-line) .ensures .1)
+
+returns-6 : tie.Need-returns-6
+unfolding formMeant readForm lineAnswer
+returns-6 c = rw ((c .enum-told6) .given .1) (refl, omega arith)
+
+returns-7 : tie.Need-returns-7
+unfolding formMeant readForm lineAnswer
+returns-7 c = rw ((c .enum-told7) .given .1) (refl, omega arith)
+
+pub read-form-spec : {M : Type 1} → statement M
+read-form-spec =
+    tie.close
+    (tie.spec
+    enum-told
+    symbol-line-requires
+    enum-told-2
+    rule-line-requires
+    enum-told-3
+    head-line-requires
+    enum-told-4
+    body-line-requires
+    enum-told-5
+    equation-line-requires
+    enum-told-6
+    enum-told-7
+    same-length
+    returns
+    same-length-2
+    returns-2
+    same-length-3
+    same-length-4
+    same-length-5
+    returns-3
+    same-length-6
+    same-length-7
+    same-length-8
+    returns-4
+    same-length-9
+    same-length-10
+    same-length-11
+    returns-5
+    returns-6
+    returns-7)

@@ -1,0 +1,37 @@
+-- `programs::program::weight_at` meets its contract. Assumes nothing.
+use borrow.Author.Needs.{needs}
+use mathlib.Core.Path.{_≡_, sym, ap, _∙_}
+use native.Mathlib.Omega.{arith}
+use borrow.Author.Tests.{lt-ltb, le-ltb}
+use Rattle.programs.specs.Read.{weightAt}
+use borrow.Author.Needs.{needs}
+use Rattle.programs.proofs.program.weight_at.Statement.{statement}
+use Rattle.programs.proofs.program.weight_at.Tie as tie
+
+mul-wide : tie.Need-mul-wide
+mul-wide c = search needs
+
+add-wide : tie.Need-add-wide
+add-wide c = search needs
+
+mul-wide-2 : tie.Need-mul-wide-2
+mul-wide-2 c = search needs
+
+shared-slice-read-wide : tie.Need-shared-slice-read-wide
+shared-slice-read-wide c = search needs
+
+wide-requires : tie.Need-wide-requires
+wide-requires c κs = search needs
+
+returns : tie.Need-returns
+unfolding weightAt
+returns c = (rw (lt-ltb ((c .before .before .before .before .args) .s) ((c .before .before .before .before .args) .k) ((c .before .before .if1) .taken)) ((c .wide) .ensures .0), (c .wide) .ensures .1)
+
+returns-2 : tie.Need-returns-2
+unfolding weightAt
+returns-2 c = (rw (le-ltb ((c .before .before .args) .s) ((c .before .before .args) .k) ((c .if1) .left)), omega arith)
+
+pub weight-at-spec : {M : Type 1} → statement M
+weight-at-spec =
+    tie.close
+    (tie.spec mul-wide add-wide mul-wide-2 shared-slice-read-wide wide-requires returns returns-2)
