@@ -1,0 +1,92 @@
+// `readings`: reads each input that an argument names and prints the refusal that it meets, or READ, behind a line with its name.
+// An input whose name begins with r is a program and a goal, as `sheetrun` gets them; any other is a program, as `sheetcheck` does.
+// Then it puts each of the 256 bytes at each place of a program and of a goal, and prints the number that each meets.
+mod sweep;
+
+use goals::GoalRead;
+use goals::read_goal;
+use programs::ProgramRead;
+use programs::read_program;
+use printing::print_refusal;
+
+// The goal over a program whose tables are lent.
+fn read_the_goal(program: &[u8], goal: &[u8], symbols: &[u16; 128], k: usize, constants: &mut [u16; 128], n: usize) {
+    if 32 < k {
+        return;
+    }
+    if 64 < n {
+        return;
+    }
+    let mut cells = [0; 320];
+    let mut letters = [0; 26];
+    match read_goal(program, goal, symbols, k, constants, n, &mut cells, &mut letters) {
+        GoalRead::Refused(number, line) => print_refusal(number, b'G', line),
+        GoalRead::Accepted(_) => {
+            io::write_all(1, b"READ\n");
+        }
+    }
+}
+
+// One input: the program, and the goal.
+fn read_parts(program: &[u8], goal: &[u8]) {
+    let mut symbols = [0; 128];
+    let mut rules = [0; 2048];
+    let mut constants = [0; 128];
+    match read_program(program, &mut symbols, &mut rules, &mut constants) {
+        ProgramRead::Refused(number, line) => print_refusal(number, b'S', line),
+        ProgramRead::Accepted(counts) => {
+            let k = counts.symbols;
+            let n = counts.constants;
+            read_the_goal(program, goal, &symbols, k, &mut constants, n)
+        }
+    }
+}
+
+// An input that may have a goal behind its line `GOAL`.
+fn read_both(input: &[u8]) {
+    let split = text::split_goal(input);
+    let end = split.end;
+    let start = split.start;
+    read_parts(&input[..end], &input[start..]);
+}
+
+// The input that a path names.
+fn read_file(path: &[u8], with_goal: bool) {
+    let fd = os::open_read(path);
+    if fd < 0 {
+        os::fail(path);
+        return;
+    }
+    let mut input = [0u8; 40000];
+    let n = io::read_full(fd, &mut input);
+    libc::close(fd);
+    if with_goal {
+        read_both(&input[..n]);
+    } else {
+        let nothing = [0u8; 1];
+        read_parts(&input[..n], &nothing[..0]);
+    }
+}
+
+// The input that argument i names.
+fn read_argument(i: usize) {
+    let mut path = io::buffer();
+    let length = os::arg(i, &mut path);
+    if length == 0 {
+        return;
+    }
+    io::write_all(1, &path[..length]);
+    io::write_all(1, b"\n");
+    let first = path[0];
+    read_file(&path[..length], first == b'r')
+}
+
+fn main() {
+    let count = os::arg_count();
+    let mut i = 1;
+    while i < count {
+        read_argument(i);
+        i += 1;
+    }
+    sweep::sweep_all();
+}
