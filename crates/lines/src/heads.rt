@@ -1,9 +1,9 @@
 // The symbol and the form of an H, B or G line: numbers 4 and 6.
 use crate::HeadRead;
 use crate::Named;
+use crate::terms::are_terms;
 use syntax::names::find_name;
 use syntax::names::wide;
-use crate::terms::are_terms;
 ghost use mathlib.Core.Path.{_≡_};
 ghost use Prim.Native.Nat.{_+_, _*_, _≤_, _<_};
 ghost use lib.ListN.{length, take};

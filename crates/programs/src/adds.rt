@@ -1,15 +1,15 @@
 // What H, B and E lines add to the last rule: numbers 4, 6 and 7.
-use lines::Added;
 use crate::LineRead;
 use crate::Sides;
 use crate::Stage;
 use crate::TermsRead;
 use crate::declarations::equation_form;
 use crate::declarations::read_terms;
-use syntax::names::wide;
+use lines::Added;
 use lines::rows::add_cells;
 use lines::terms::add_constants;
 use lines::terms::terms_of;
+use syntax::names::wide;
 ghost use mathlib.Core.Path.{_≡_};
 ghost use Prim.Native.Nat.{ℕ, _≤_, _<_};
 ghost use lib.ListN.{length, take};

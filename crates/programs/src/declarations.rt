@@ -1,19 +1,19 @@
 // The lines of a program, form by form: numbers 4 to 7.
-use lines::Added;
 use crate::ConstraintCells;
-use lines::HeadRead;
 use crate::LineRead;
-use lines::Named;
 use crate::Sides;
 use crate::Stage;
 use crate::SymbolFields;
 use crate::TermsRead;
+use lines::Added;
+use lines::HeadRead;
+use lines::Named;
 use lines::heads::constraint_head;
-use syntax::names::find_name;
 use lines::rows::write_cells;
 use lines::terms::add_constants;
 use lines::terms::are_terms;
 use lines::terms::terms_of;
+use syntax::names::find_name;
 ghost use mathlib.Core.Path.{_≡_};
 ghost use Prim.Native.Nat.{ℕ, _+_, _*_, _≤_, _<_};
 ghost use mathlib.Core.List.{List};

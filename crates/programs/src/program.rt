@@ -1,6 +1,5 @@
 // A program's text: its lines in order, then its rules in order.
 use crate::Counts;
-use lines::LineForm;
 use crate::LineRead;
 use crate::LinesRead;
 use crate::ProgramRead;
@@ -9,10 +8,11 @@ use crate::Stage;
 use crate::adds::body_line;
 use crate::adds::equation_line;
 use crate::adds::head_line;
-use lines::forms::form_at;
-use lines::forms::place_after;
 use crate::declarations::rule_line;
 use crate::declarations::symbol_line;
+use lines::LineForm;
+use lines::forms::form_at;
+use lines::forms::place_after;
 use syntax::names::wide;
 ghost use mathlib.Core.Path.{_≡_};
 ghost use mathlib.Core.List.{List};

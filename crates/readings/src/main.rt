@@ -5,12 +5,19 @@ mod sweep;
 
 use goals::GoalRead;
 use goals::read_goal;
+use printing::print_refusal;
 use programs::ProgramRead;
 use programs::read_program;
-use printing::print_refusal;
 
 // The goal over a program whose tables are lent.
-fn read_the_goal(program: &[u8], goal: &[u8], symbols: &[u16; 128], k: usize, constants: &mut [u16; 128], n: usize) {
+fn read_the_goal(
+    program: &[u8],
+    goal: &[u8],
+    symbols: &[u16; 128],
+    k: usize,
+    constants: &mut [u16; 128],
+    n: usize,
+) {
     if 32 < k {
         return;
     }
@@ -19,7 +26,16 @@ fn read_the_goal(program: &[u8], goal: &[u8], symbols: &[u16; 128], k: usize, co
     }
     let mut cells = [0; 320];
     let mut letters = [0; 26];
-    match read_goal(program, goal, symbols, k, constants, n, &mut cells, &mut letters) {
+    match read_goal(
+        program,
+        goal,
+        symbols,
+        k,
+        constants,
+        n,
+        &mut cells,
+        &mut letters,
+    ) {
         GoalRead::Refused(number, line) => print_refusal(number, b'G', line),
         GoalRead::Accepted(_) => {
             io::write_all(1, b"READ\n");

@@ -34,7 +34,16 @@ fn goal_digit(text: &[u8; 16]) -> u8 {
     let mut constants = [0; 128];
     let mut cells = [0; 320];
     let mut letters = [0; 26];
-    match read_goal(b"K,p,2,1\n", text, &symbols, 1, &mut constants, 0, &mut cells, &mut letters) {
+    match read_goal(
+        b"K,p,2,1\n",
+        text,
+        &symbols,
+        1,
+        &mut constants,
+        0,
+        &mut cells,
+        &mut letters,
+    ) {
         GoalRead::Refused(number, _) => digit(number),
         GoalRead::Accepted(_) => 48,
     }
