@@ -53,7 +53,8 @@ row-start named term row o h =
     (placed-start (83 ∷ 44 ∷ (named (getD row 0 0) ++ fieldBytes term (drop 1 row))) o) h) h
 
 -- the terms of a row, as they are lent
-pub shown-from : {constants : List ℕ} {v : ℕ} (row : List ℕ) → AllShown constants v (drop 1 row) → AllShown constants v (from 1 row)
+pub shown-from : {constants : List ℕ} {v : ℕ} (row : List ℕ) → AllShown constants v (drop 1 row)
+    → AllShown constants v (from 1 row)
 shown-from {constants} {v} row s = subst (λ (l : List ℕ). AllShown constants v l) (sym (from-drop 1 row)) s
 
 -- the length of a line from that of its parts

@@ -90,7 +90,8 @@ put-row-requires c κs =
     let more = placed-is (rows-more line (start .args .cells .now) (at-loop .loop .i) (omega (arith, start .pre .0 .size)))
     (at-loop .loop .inv .1) in (
       subst
-          (λ (l : List ℕ). RowShown (start .args .symbols .now) (start .args .constants .now) (length (start .args .numbers .now)) l)
+          (λ (l : List ℕ). RowShown (start .args .symbols .now) (start .args .constants .now)
+          (length (start .args .numbers .now)) l)
           (sym cut) (start .pre .0 .rows (at-loop .loop .i) (at-loop-test .loop-test .taken)),
       rw (cut) (lent-room row rest more (start .pre .1)),
     )
