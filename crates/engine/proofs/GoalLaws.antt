@@ -47,8 +47,8 @@ isUsed (var x) = true
 unfoldable pub programOf : List ℕ → List ℕ → ℕ → List ℕ → ℕ → Program
 programOf text symbols s rules n = record { symbols = symbolsOf text symbols s; rules = rulesOf text rules n }
 
--- what the reading of a program promises: it is well formed, within its counts, its weights are positive, and its constants not
--- 0
+-- what the reading of a program promises: it is well formed, its heads and bodies are within a row's room, its weights are
+-- positive, and its constants not 0
 pub record AsRead (text symbols : List ℕ) (s : ℕ) (rules : List ℕ) (n : ℕ) : Type 0 where
   pub well-formed : isWellFormed (programOf text symbols s rules n) ≡ true
   pub few-symbols : s ≤ 32
@@ -56,7 +56,6 @@ pub record AsRead (text symbols : List ℕ) (s : ℕ) (rules : List ℕ) (n : �
   pub size : 64 * n ≤ length rules
   pub heads-few : (i : ℕ) → i < n → getD (take 64 (drop (64 * i) rules)) 3 0 ≤ 4
   pub body-few : (i : ℕ) → i < n → getD (take 64 (drop (64 * i) rules)) 4 0 ≤ 6
-  pub equations-few : (i : ℕ) → i < n → getD (take 64 (drop (64 * i) rules)) 5 0 ≤ 4
   pub used :
       (i : ℕ) → i < n
       → every (λ (e : Equation). isUsed (e .left) && isUsed (e .right)) (ruleOfRow [] (take 64 (drop
@@ -191,7 +190,6 @@ module _ (text symbols : List ℕ) (s : ℕ) (rules : List ℕ) (n : ℕ) (r : A
           size = length-take-le 64 (drop (64 * i) rules) (omega (arith, r .size, length-drop (64 * i) rules));
           heads-few = r .heads-few i l;
           body-few = r .body-few i l;
-          equations-few = r .equations-few i l;
           heads = every-weaker (isOfRule names) isLettered (ruleOfRow [] row .heads) (λ c h. of-rule c h .1) (parts .0);
           body = every-weaker (isOfRule names) (λ (c : Constraint). isLow c && isLettered c) (ruleOfRow [] row .body) of-body
               (parts .1);

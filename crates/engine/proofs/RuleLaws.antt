@@ -1,6 +1,6 @@
 -- A rule's body and equations, from cells; and the firing that they make up.
 -- Assumes nothing.
-use Prim.Native.Nat.{ℕ, suc, _+_, _-_, _*_, _≤_}
+use Prim.Native.Nat.{ℕ, suc, _+_, _-_, _*_, _≤_, _<_, min}
 use native.Mathlib.Omega.{arith}
 use mathlib.Core.Bool.{Bool, true, false, cond, _&&_}
 use mathlib.Core.List.{List, [], _∷_, _++_, map, append-assoc}
@@ -8,7 +8,7 @@ use mathlib.Core.Logic.{⊎-elim}
 use mathlib.Core.Path.{_≡_, refl, ap, sym, _∙_}
 use lib.Dec.{leb}
 use lib.ListN.{length, getD, take, drop, replicate, length-append, length-drop, length-map}
-use lib.Seq.{take-append-le, length-take-le, take-at}
+use lib.Seq.{take-append-le, take-all, length-take-le, take-at}
 use borrow.Author.Tests.{le-leb}
 use Rattle.text.specs.Lists.{has, every}
 use Rattle.semantics.specs.Terms.{Term, con, var, Constraint, Equation, mapTerms, mapSides, isBelow, alphabet}
@@ -98,14 +98,24 @@ body-appended row bindings next cells out rest k w r room e o =
           );
     }
 
+-- eight cells hold no more than four equations, whatever the count
+take-four : (k : ℕ) (l : List ℕ) → length l ≡ 8 → take (2 * min k 4) l ≡ take (2 * k) l
+take-four k l e = ⊎-elim many few (le-or-lt 4 k)
+  where
+    many : 4 ≤ k → take (2 * min k 4) l ≡ take (2 * k) l
+    many h = take-all (2 * min k 4) l (omega arith) ∙ sym (take-all (2 * k) l (omega arith))
+
+    few : k < 4 → take (2 * min k 4) l ≡ take (2 * k) l
+    few h = let same : 2 * min k 4 ≡ 2 * k = omega arith in rw same
+
 -- the room for a rule's equations
 abbrev eight : List ℕ
 eight = replicate 8 0
 
 module _ (row bindings : List ℕ) (next : ℕ) (cells : List ℕ) (w : ℕ) (q : Equated row bindings next cells)
-    (z : w ≡ getD row 5 0) where
+    (z : w ≡ min (getD row 5 0) 4) where
   few : w ≤ 4
-  few = omega (arith, q .given .equations-few)
+  few = omega arith
 
   -- what the code lends for the equations
   pub equations-room : 2 * w ≡ length (take (2 * w) eight)
@@ -132,8 +142,10 @@ module _ (row bindings : List ℕ) (next : ℕ) (cells : List ℕ) (w : ℕ) (q 
     pub equations-lent : 2 * w ≡ length (take (2 * w) (e ++ rest))
     equations-lent = sym (ap length part ∙ size)
 
-    cells-are : 56 + 2 * w - 56 ≡ 2 * getD row 5 0
-    cells-are = omega arith
+    cells-are : take (56 + 2 * w - 56) (drop 56 row) ≡ take (2 * getD row 5 0) (drop 56 row)
+    cells-are =
+        let count : 56 + 2 * w - 56 ≡ 2 * min (getD row 5 0) 4 = omega arith in
+        rw count (take-four (getD row 5 0) (drop 56 row) (omega (arith, length-drop 56 row, q .given .size)))
 
     pub equations-solvable : Solvable (take (2 * w) (e ++ rest)) w cells
     unfolding ruleOfRow

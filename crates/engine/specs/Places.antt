@@ -52,12 +52,11 @@ isSide (var x) = ltb x alphabet
 unfoldable pub isLow : Constraint → Bool
 isLow c = ltb (c .symbol) 256
 
--- a rule's 64 cells: counts within the row's room, letters for the variables, and terms in the equations
+-- a rule's 64 cells: heads and body within the row's room, letters for the variables, and terms in the equations
 pub record Row (row : List ℕ) : Type 0 where
   pub size : length row ≡ 64
   pub heads-few : getD row 3 0 ≤ 4
   pub body-few : getD row 4 0 ≤ 6
-  pub equations-few : getD row 5 0 ≤ 4
   pub heads : every isLettered (ruleOfRow [] row .heads) ≡ true
   pub body : every (λ c. isLow c && isLettered c) (ruleOfRow [] row .body) ≡ true
   pub equations : every (λ (e : Equation). isSide (e .left) && isSide (e .right)) (ruleOfRow [] row .equations) ≡ true

@@ -4,7 +4,7 @@ use crate::search::wide;
 use crate::solving::solve;
 ghost use mathlib.Core.List.{map};
 ghost use mathlib.Core.Path.{_≡_};
-ghost use Prim.Native.Nat.{_+_, _*_, _≤_};
+ghost use Prim.Native.Nat.{_+_, _*_, _≤_, min};
 ghost use lib.ListN.{length, take};
 ghost use Rattle.engine.specs.Cells.{instanceCell, movedRow};
 ghost use Rattle.engine.specs.Places.{Row};
@@ -86,6 +86,13 @@ pub fn append_body(row: &[u16], bindings: &[u16], next: u16, cells: &mut [u16], 
     k + n
 }
 
+// How many equations a row holds, by the number in its cell: it has room for four.
+pub fn at_most_four(cell: u16) -> usize
+    ensures { λ r. ⌜ r ≡ min cell 4 ⌝ }
+{
+    if cell < 4 { wide(cell) } else { 4 }
+}
+
 // Solves a rule's equations in the state; false where it fails.
 pub fn solve_rule(
     row: &[u16],
@@ -98,7 +105,7 @@ pub fn solve_rule(
     ensures { λ r. ⌜ SolvedRule r (now (row .entry)) (now (bindings .entry)) next (now (bound .entry)) (now (cells .entry))
         (now (bound .exit)) (now (cells .exit)) ⌝ }
 {
-    let n = wide(row[5]);
+    let n = at_most_four(row[5]);
     let e = 56 + 2 * n;
     let t = 2 * n;
     let mut equations = [0u16; 8];

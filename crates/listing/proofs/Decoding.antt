@@ -17,9 +17,10 @@ use Rattle.text.specs.Lists.{has, every, placeFrom, tabled, gather}
 use Rattle.semantics.specs.Terms.{Term, con, var, Constraint, Symbol, symbolAt, noSymbol}
 use Rattle.syntax.specs.Forms.{firstConstant}
 use Rattle.syntax.specs.Tables.{cellTerm, cellTerms, cellConstraints, symbolOf, symbolsOf, constantOf, constantsOf, lettersOf}
+use Rattle.syntax.specs.Tables.{spelledAs}
 use Rattle.listing.specs.Listing.{decimal, fieldsBehind, lineOf, Naming, termShown, constraintShown, constraintLines}
 use Rattle.listing.specs.Listing.{unbound, boundLines}
-use Rattle.listing.specs.Pieces.{spelledAs, namedAs, termBytes, fieldBytes, boundBytes, rowBytes, boundsBytes, rowsBytes}
+use Rattle.listing.specs.Pieces.{namedAs, termBytes, fieldBytes, boundBytes, rowBytes, boundsBytes, rowsBytes}
 use Rattle.listing.specs.Numbers.{Numbering, numberIn}
 use Rattle.listing.specs.Runs.{TermCell, isTermOf, isConstraintOf}
 use Rattle.listing.proofs.TermLaws.{term-constant, term-variable}

@@ -1,5 +1,5 @@
 -- Laws of lines as bytes.
---   name-within, name-part              a symbol's name is a part of the program's text
+--   name-part, name-few                 a symbol's name is a part of the program's text
 --   bound-start, row-start              a line's first bytes, written
 --   shown-from                          the terms of a row, as they are lent
 --   bound-size, row-size                the length of a line from that of its parts
@@ -14,7 +14,7 @@ use lib.Seq.{drop-cons, drop-drop}
 use Rattle.syntax.specs.Tables.{part, symbolOf}
 use Rattle.listing.specs.Listing.{decimal}
 use Rattle.listing.specs.Pieces.{namedAs, fieldBytes, boundBytes, rowBytes, headBytes, boundsBytes, rowsBytes, endBytes}
-use Rattle.listing.specs.Pieces.{Named, AllShown}
+use Rattle.listing.specs.Pieces.{AllShown}
 use Rattle.listing.proofs.Laying.{Placed, placed-start, placed-byte, from, from-drop}
 
 -- what is read of symbol k, w being its number: where its name starts and how many bytes it has
@@ -23,16 +23,10 @@ pub record NameEntry (symbols : List ℕ) (k w a b : ℕ) : Type 0 where
   pub start : a ≡ getD symbols (4 * w) 0
   pub size : b ≡ getD symbols (4 * w + 1) 0
 
-pub name-within : {program symbols : List ℕ} {k w a b : ℕ} → Named program symbols k → NameEntry symbols k w a b
-    → a + b ≤ length program
-name-within {program} {symbols} {k} {w} {a} {b} s e = rw (e .start, e .size, e .number) (s .within)
-
 pub name-part : (program : List ℕ) {symbols : List ℕ} {k w a b : ℕ} → NameEntry symbols k w a b
-    → take ((a + b) - a) (drop a program) ≡ namedAs program symbols k
-unfolding namedAs symbolOf part
-name-part program {symbols} {k} {w} {a} {b} e =
-    let size : (a + b) - a ≡ b = omega arith in
-    rw (size, e .start, e .size, e .number)
+    → part program a b ≡ namedAs program symbols k
+unfolding namedAs symbolOf
+name-part program {symbols} {k} {w} {a} {b} e = rw (e .start, e .size, e .number)
 
 -- a name has at most as many bytes as its entry says
 pub name-few : (program symbols : List ℕ) (k : ℕ) → length (namedAs program symbols k) ≤ getD symbols (4 * k + 1) 0
@@ -59,10 +53,9 @@ row-start named term row o h =
     (placed-start (83 ∷ 44 ∷ (named (getD row 0 0) ++ fieldBytes term (drop 1 row))) o) h) h
 
 -- the terms of a row, as they are lent
-pub shown-from : {program goal constants : List ℕ} {n v : ℕ} (row : List ℕ) → AllShown program goal constants n v (drop 1 row)
-    → AllShown program goal constants n v (from 1 row)
-shown-from {program} {goal} {constants} {n} {v} row s =
-    subst (λ (l : List ℕ). AllShown program goal constants n v l) (sym (from-drop 1 row)) s
+pub shown-from : {constants : List ℕ} {v : ℕ} (row : List ℕ) → AllShown constants v (drop 1 row)
+    → AllShown constants v (from 1 row)
+shown-from {constants} {v} row s = subst (λ (l : List ℕ). AllShown constants v l) (sym (from-drop 1 row)) s
 
 -- the length of a line from that of its parts
 pub bound-size : (term : ℕ → List ℕ) (letter x : ℕ) → length (boundBytes term letter x) ≡ 5 + length (term x)

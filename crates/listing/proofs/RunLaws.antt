@@ -7,7 +7,7 @@
 use mathlib.Core.Path.{_≡_, refl, sym, ap, _∙_, subst}
 use mathlib.Core.Bool.{Bool, true, false, cond}
 use mathlib.Core.List.{List, [], _∷_, _++_, map}
-use Prim.Native.Nat.{ℕ, suc, _+_, _-_, _*_, _≤_, _<_}
+use Prim.Native.Nat.{ℕ, suc, _+_, _*_, _≤_, _<_}
 use native.Mathlib.Omega.{arith}
 use lib.Dec.{ltb, eqb}
 use lib.ListN.{length, take, drop, getD, length-drop, length-take}
@@ -17,10 +17,10 @@ use Rattle.text.specs.Bytes.{ascii}
 use Rattle.text.specs.Lists.{every, tabled}
 use Rattle.semantics.specs.Terms.{Term, Constraint, State}
 use Rattle.semantics.specs.Overlaps.{appearingIn, appearing}
-use Rattle.syntax.specs.Tables.{cellTerm, cellTerms, cellConstraints, lettersOf}
+use Rattle.syntax.specs.Tables.{cellTerm, cellTerms, cellConstraints, lettersOf, spelledAs}
 use Rattle.listing.specs.Listing.{decimal, fieldsBehind, lineOf, Naming, unbound, boundLines, constraintLines}
 use Rattle.listing.specs.Listing.{stateListing, endListing}
-use Rattle.listing.specs.Pieces.{laid, spelledAs, namedAs, termBytes, headBytes, boundsBytes, rowBytes, rowsBytes}
+use Rattle.listing.specs.Pieces.{laid, namedAs, termBytes, headBytes, boundsBytes, rowBytes, rowsBytes}
 use Rattle.listing.specs.Pieces.{endBytes, Put}
 use Rattle.listing.specs.Pieces.{Spelt, Shown, AllShown, Named, RowShown, BoundShown, RowsShown}
 use Rattle.listing.specs.Numbers.{numberIn, numbersOf, Numbering, Within, RowsWithin}
@@ -37,20 +37,16 @@ use Rattle.listing.proofs.Decoding.{tabled-length, tabled-at, letters-t
 row-size : (cells : List ℕ) (i m : ℕ) → i < m → length cells ≡ 5 * m → length (take 5 (drop (5 * i) cells)) ≡ 5
 row-size cells i m h e = omega (arith, length-take 5 (drop (5 * i) cells), length-drop (5 * i) cells)
 
-module _ {program goal symbols constants letters bound cells : List ℕ} {v : ℕ} {k : Counts}
-    (l : Listable program goal symbols constants letters bound cells v k) where
+module _ {symbols constants letters bound cells : List ℕ} {v : ℕ} {k : Counts}
+    (l : Listable symbols constants letters bound cells v k) where
   -- a term
-  cell-shown : (x : ℕ) → TermCell (k .own + k .more) v x → Shown program goal constants (k .own) v x
+  cell-shown : (x : ℕ) → TermCell (k .own + k .more) v x → Shown constants v x
   cell-shown x cell = record { constant = constant; variable = cell .variable }
     where
-      constant : x < 256 → Spelt program goal constants (k .own) x
+      constant : x < 256 → Spelt constants x
       constant h =
           let bounds = cell .constant h in
-          record {
-            low = bounds .0;
-            entry = omega (arith, bounds .0, bounds .1, l .spellings-room);
-            within = l .spellings (x - 32) (omega (arith, bounds .0, bounds .1));
-          }
+          record { low = bounds .0; entry = omega (arith, bounds .0, bounds .1, l .spellings-room) }
 
   -- the symbol and the terms of constraint i
   row-symbol : (i : ℕ) → i < k .constraints → getD (take 5 (drop (5 * i) cells)) 0 0 < k .symbols
@@ -65,7 +61,7 @@ module _ {program goal symbols constants letters bound cells : List ℕ} {v : �
       (row-listed (k .symbols) (k .own + k .more) v cells (k .constraints) i (l .size) h (l .rows) .1)
 
   -- what the A lines ask
-  pub bound-shown : BoundShown program goal constants (k .own) v letters bound
+  pub bound-shown : BoundShown constants v letters bound
   bound-shown =
       record {
         each = λ i h. cell-shown (getD bound i 0) (l .bound-terms i h);
@@ -74,19 +70,14 @@ module _ {program goal symbols constants letters bound cells : List ℕ} {v : �
       }
 
   -- what the S lines ask
-  pub rows-shown : RowsShown program goal symbols constants (k .own) v cells (k .constraints)
+  pub rows-shown : RowsShown symbols constants v cells (k .constraints)
   rows-shown = record { size = l .size; rows = row; few = omega (arith, l .few) }
     where
-      row : (i : ℕ) → i < k .constraints → RowShown program goal symbols constants (k .own) v (take 5 (drop (5 * i) cells))
+      row : (i : ℕ) → i < k .constraints → RowShown symbols constants v (take 5 (drop (5 * i) cells))
       row i h =
-          let symbol = row-symbol i h in
           record {
             size = row-size cells i (k .constraints) h (l .size);
-            named =
-                record {
-                  entry = omega (arith, symbol, l .names-room);
-                  within = l .names (getD (take 5 (drop (5 * i) cells)) 0 0) symbol;
-                };
+            named = record { entry = omega (arith, row-symbol i h, l .names-room) };
             terms =
                 record {
                   each = λ j p front some.
@@ -123,14 +114,14 @@ term-some k v x cell = go (ltb x 256) refl
     go false e = omega (arith, ltb-false x 256 e)
 
 -- the listing of a state that has not failed
-pub end-listing : {program goal symbols constants letters bound cells numbers : List ℕ} {k : Counts} {count : ℕ}
-    → Listable program goal symbols constants letters bound cells (length numbers) k
+pub end-listing : (program goal : List ℕ) {symbols constants letters bound cells numbers : List ℕ} {k : Counts} {count : ℕ}
+    → Listable symbols constants letters bound cells (length numbers) k
     → Numbering (appearing (appearingIn [] (cellTerms bound)) (cellConstraints cells)) numbers count
     → runBytes (tableNaming program goal symbols constants k) letters false 0 bound cells (k .firings)
     ≡ endBytes (namedAs program symbols) (termBytes (spelledAs program goal constants (k .own)) numbers)
     (k .firings) letters bound cells
 unfolding runBytes endListing stateListing stateOf tableNaming endBytes headBytes lineOf fieldsBehind ascii
-end-listing {program} {goal} {symbols} {constants} {letters} {bound} {cells} {numbers} {k} {count} l numbered =
+end-listing program goal {symbols} {constants} {letters} {bound} {cells} {numbers} {k} {count} l numbered =
     let naming = tableNaming program goal symbols constants k in
     let names = named-at program symbols (k .symbols) in
     let spells = spelled-at program goal constants (k .own) (k .more) in
@@ -159,12 +150,12 @@ end-listing {program} {goal} {symbols} {constants} {letters} {bound} {cells} {nu
     ∙ ap (λ (r : List ℕ). head ++ (boundsBytes (termBytes spelled numbers) letters bound ++ r)) rows
 
 -- the table of numbers afterwards
-pub end-numbers : {program goal symbols constants letters bound cells numbers : List ℕ} {k : Counts} {count : ℕ} (before : List ℕ)
-    → Listable program goal symbols constants letters bound cells (length before) k → length numbers ≡ length before
+pub end-numbers : {symbols constants letters bound cells numbers : List ℕ} {k : Counts} {count : ℕ} (before : List ℕ)
+    → Listable symbols constants letters bound cells (length before) k → length numbers ≡ length before
     → Numbering (appearing (appearingIn [] (cellTerms bound)) (cellConstraints cells)) numbers count
     → numbers ≡ numbersAfter false bound cells before
 unfolding numbersAfter numbersOf
-end-numbers {program} {goal} {symbols} {constants} {letters} {bound} {cells} {numbers} {k} {count} before l size numbered =
+end-numbers {symbols} {constants} {letters} {bound} {cells} {numbers} {k} {count} before l size numbered =
     let all = k .own + k .more in
     let terms : cellTerms bound ≡ map cellTerm bound =
     terms-all bound (λ i h. term-some all (length before) (getD bound i 0) (l .bound-terms i h)) in

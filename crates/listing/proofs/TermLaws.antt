@@ -1,6 +1,6 @@
 -- Laws of terms and fields as bytes.
 --   term-constant, term-variable        a cell is a constant or a variable
---   spelled-program, spelled-goal       a constant is a part of the program's text, or of the goal's
+--   spelled-few                         a constant has at most as many bytes as its entry says
 --   fields-more, fields-stop, fields-end      the fields of cells from place i on
 --   front-more                          one more cell before the first 0
 --   field-constant, field-variable      a comma and a term, written
@@ -11,12 +11,12 @@ use mathlib.Core.List.{List, [], _∷_, _++_, append-assoc}
 use Prim.Native.Nat.{ℕ, suc, _+_, _-_, _*_, _≤_, _<_}
 use native.Mathlib.Omega.{arith}
 use lib.Dec.{ltb, eqb}
-use lib.ListN.{length, take, drop, getD, set, length-take, length-set, length-append, length-drop, drop-of-length-le}
+use lib.ListN.{length, drop, getD, set, length-take, length-set, length-append, length-drop, drop-of-length-le}
 use lib.Seq.{drop-cons, drop-nil, length-take-le}
 use borrow.Author.Tests.{lt-ltb, le-ltb, eq-eqb, ne-eqb, eqb-true, eqb-false}
-use Rattle.syntax.specs.Tables.{part, constantOf}
+use Rattle.syntax.specs.Tables.{part, constantOf, spelledAs}
 use Rattle.listing.specs.Listing.{decimal}
-use Rattle.listing.specs.Pieces.{spelledAs, termBytes, fieldBytes, Put, laid, Spelt}
+use Rattle.listing.specs.Pieces.{termBytes, fieldBytes, Put, laid}
 use Rattle.listing.proofs.Laying.{Placed, placed-start, placed-byte, from, back, from-drop, lent-last}
 
 pub term-constant : (spelled : ℕ → List ℕ) (numbers : List ℕ) (x : ℕ) → x < 256 → termBytes spelled numbers x ≡ spelled (x - 32)
@@ -28,45 +28,7 @@ pub term-variable : (spelled : ℕ → List ℕ) (numbers : List ℕ) (x : ℕ) 
 unfolding termBytes
 term-variable spelled numbers x h = rw (le-ltb x 256 h)
 
--- what is read of constant x, w being its cell: where it starts and how many bytes it has
-pub record Entry (constants : List ℕ) (x w a b : ℕ) : Type 0 where
-  pub cell : w ≡ x
-  pub start : a ≡ getD constants (2 * (w - 32)) 0
-  pub size : b ≡ getD constants (2 * (w - 32) + 1) 0
-
--- it lies inside the program's text, or inside the goal's
-pub entry-program : {program goal constants : List ℕ} {n x w a b : ℕ} → Spelt program goal constants n x
-    → Entry constants x w a b → w - 32 < n
-    → a + b ≤ length program
-entry-program {program} {goal} {constants} {n} {x} {w} {a} {b} s e h =
-    let z : x - 32 < n = omega (arith, e .cell) in
-    rw (e .start, e .size, e .cell) (rw (lt-ltb (x - 32) n z) at (s .within))
-
-pub entry-goal : {program goal constants : List ℕ} {n x w a b : ℕ} → Spelt program goal constants n x → Entry constants x w a b
-    → n ≤ w - 32
-    → a + b ≤ length goal
-entry-goal {program} {goal} {constants} {n} {x} {w} {a} {b} s e h =
-    let z : n ≤ x - 32 = omega (arith, e .cell) in
-    rw (e .start, e .size, e .cell) (rw (le-ltb (x - 32) n z) at (s .within))
-
--- a constant is a part of the program's text, or of the goal's
-pub spelled-program : (program goal : List ℕ) {constants : List ℕ} {n x w a b : ℕ} → Entry constants x w a b → w - 32 < n
-    → take ((a + b) - a) (drop a program) ≡ spelledAs program goal constants n (x - 32)
-unfolding spelledAs constantOf part
-spelled-program program goal {constants} {n} {x} {w} {a} {b} e h =
-    let size : (a + b) - a ≡ b = omega arith in
-    let z : x - 32 < n = omega (arith, e .cell) in
-    rw (lt-ltb (x - 32) n z, size, e .start, e .size, e .cell)
-
-pub spelled-goal : (program goal : List ℕ) {constants : List ℕ} {n x w a b : ℕ} → Entry constants x w a b → n ≤ w - 32
-    → take ((a + b) - a) (drop a goal) ≡ spelledAs program goal constants n (x - 32)
-unfolding spelledAs constantOf part
-spelled-goal program goal {constants} {n} {x} {w} {a} {b} e h =
-    let size : (a + b) - a ≡ b = omega arith in
-    let z : n ≤ x - 32 = omega (arith, e .cell) in
-    rw (le-ltb (x - 32) n z, size, e .start, e .size, e .cell)
-
--- it has at most as many bytes as its entry says
+-- a constant has at most as many bytes as its entry says
 pub spelled-few : (program goal constants : List ℕ) (n i : ℕ) → length (spelledAs program goal constants n i) ≤ getD constants
     (2 * i + 1) 0
 unfolding spelledAs constantOf part

@@ -1,11 +1,10 @@
 -- What the functions of this crate say of their parts: bytes put into the front of an output, and the terms that can be shown.
 --   laid, Put          the front of an output replaced by bytes, and what a function that writes promises
---   spelledAs          a constant's bytes, from the text that first had it
 --   termBytes          a cell's bytes, under the U numbers of the variables
 --   fieldBytes         the fields of cells and the line feed behind them
 --   boundBytes, rowBytes, headBytes    an A line, an S line and the first line
 --   Sized              what a function that counts bytes promises
---   Spelt, Shown       a cell that can be shown: its table's entry exists and lies inside its text
+--   Spelt, Shown       a cell that can be shown: its table has its entry
 -- Assumes nothing.
 use Prim.Native.Nat.{ℕ, _+_, _-_, _*_, _≤_, _<_}
 use mathlib.Core.Bool.{Bool, true, false, cond}
@@ -13,7 +12,7 @@ use mathlib.Core.List.{List, [], _∷_, _++_}
 use mathlib.Core.Path.{_≡_}
 use lib.Dec.{ltb, eqb}
 use lib.ListN.{length, take, drop, getD}
-use Rattle.syntax.specs.Tables.{constantOf, symbolOf}
+use Rattle.syntax.specs.Tables.{symbolOf}
 use Rattle.listing.specs.Listing.{decimal}
 
 -- an output with its front replaced by bytes
@@ -25,10 +24,6 @@ laid bytes before = bytes ++ drop (length bytes) before
 pub record Put (bytes before after : List ℕ) (count : ℕ) : Type 0 where
   pub placed : after ≡ laid bytes before
   pub counted : count ≡ length bytes
-
--- the spelling of constant i: the first n are in the program's text, the others in the goal's
-unfoldable pub spelledAs : List ℕ → List ℕ → List ℕ → ℕ → ℕ → List ℕ
-spelledAs program goal constants n i = constantOf (cond (ltb i n) program goal) constants i
 
 -- the bytes of a cell: a constant's spelling, or U and the variable's number
 unfoldable pub termBytes : (ℕ → List ℕ) → List ℕ → ℕ → List ℕ
@@ -80,43 +75,40 @@ pub record Sized (bytes : List ℕ) (most count : ℕ) : Type 0 where
   pub counted : count ≡ length bytes
   pub few : count ≤ most
 
--- a constant's cell whose entry is in the table and lies inside its text
-pub record Spelt (program goal constants : List ℕ) (n x : ℕ) : Type 0 where
+-- a constant's cell whose entry is in the table
+pub record Spelt (constants : List ℕ) (x : ℕ) : Type 0 where
   pub low : 32 ≤ x
   pub entry : 2 * (x - 32) + 1 < length constants
-  pub within :
-      getD constants (2 * (x - 32)) 0 + getD constants (2 * (x - 32) + 1) 0 ≤ length (cond (ltb (x - 32) n) program goal)
 
 -- a cell that can be shown: such a constant, or one of v variables
-pub record Shown (program goal constants : List ℕ) (n v x : ℕ) : Type 0 where
-  pub constant : x < 256 → Spelt program goal constants n x
+pub record Shown (constants : List ℕ) (v x : ℕ) : Type 0 where
+  pub constant : x < 256 → Spelt constants x
   pub variable : 256 ≤ x → x - 256 < v
 
 -- cells that can be shown, up to the first 0
-pub record AllShown (program goal constants : List ℕ) (n v : ℕ) (cells : List ℕ) : Type 0 where
+pub record AllShown (constants : List ℕ) (v : ℕ) (cells : List ℕ) : Type 0 where
   pub each :
       (i : ℕ) → i < length cells → ((j : ℕ) → j < i → 0 < getD cells j 0) → 0 < getD cells i 0
-      → Shown program goal constants n v (getD cells i 0)
+      → Shown constants v (getD cells i 0)
 
--- a symbol whose entry is in the table and lies inside the program's text
-pub record Named (program symbols : List ℕ) (k : ℕ) : Type 0 where
+-- a symbol whose entry is in the table
+pub record Named (symbols : List ℕ) (k : ℕ) : Type 0 where
   pub entry : 4 * k + 1 < length symbols
-  pub within : getD symbols (4 * k) 0 + getD symbols (4 * k + 1) 0 ≤ length program
 
 -- five cells of a constraint that can be shown
-pub record RowShown (program goal symbols constants : List ℕ) (n v : ℕ) (row : List ℕ) : Type 0 where
+pub record RowShown (symbols constants : List ℕ) (v : ℕ) (row : List ℕ) : Type 0 where
   pub size : length row ≡ 5
-  pub named : Named program symbols (getD row 0 0)
-  pub terms : AllShown program goal constants n v (drop 1 row)
+  pub named : Named symbols (getD row 0 0)
+  pub terms : AllShown constants v (drop 1 row)
 
 -- the goal variables' cells: each can be shown, and has its letter
-pub record BoundShown (program goal constants : List ℕ) (n v : ℕ) (letters bound : List ℕ) : Type 0 where
-  pub each : (i : ℕ) → i < length bound → Shown program goal constants n v (getD bound i 0)
+pub record BoundShown (constants : List ℕ) (v : ℕ) (letters bound : List ℕ) : Type 0 where
+  pub each : (i : ℕ) → i < length bound → Shown constants v (getD bound i 0)
   pub lettered : length bound ≤ length letters
   pub few : length bound < 65536
 
 -- the cells of m constraints, each of which can be shown
-pub record RowsShown (program goal symbols constants : List ℕ) (n v : ℕ) (cells : List ℕ) (m : ℕ) : Type 0 where
+pub record RowsShown (symbols constants : List ℕ) (v : ℕ) (cells : List ℕ) (m : ℕ) : Type 0 where
   pub size : length cells ≡ 5 * m
-  pub rows : (i : ℕ) → i < m → RowShown program goal symbols constants n v (take 5 (drop (5 * i) cells))
+  pub rows : (i : ℕ) → i < m → RowShown symbols constants v (take 5 (drop (5 * i) cells))
   pub few : m < 65536

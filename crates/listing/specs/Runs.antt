@@ -75,16 +75,12 @@ isTermOf k v (var x) = ltb x v
 unfoldable pub isConstraintOf : ℕ → ℕ → ℕ → Constraint → Bool
 isConstraintOf s k v c = ltb (c .symbol) s && every (isTermOf k v) (c .terms)
 
--- what is asked of a state that has not failed, with v entries for its variables' numbers: names and spellings lie inside their
--- texts, each goal variable has its letter, and every symbol and term has its entry; nothing is asked of cells behind a
--- constraint's first 0
-pub record Listable (program goal symbols constants letters bound cells : List ℕ) (v : ℕ) (k : Counts) : Type 0 where
+-- what is asked of a state that has not failed, with v entries for its variables' numbers: the tables hold their counts, each
+-- goal variable has its letter, and every symbol and term has its entry; nothing is asked of where an entry's bytes stand, nor of
+-- cells behind a constraint's first 0
+pub record Listable (symbols constants letters bound cells : List ℕ) (v : ℕ) (k : Counts) : Type 0 where
   pub names-room : 4 * k .symbols ≤ length symbols
-  pub names : (i : ℕ) → i < k .symbols → getD symbols (4 * i) 0 + getD symbols (4 * i + 1) 0 ≤ length program
   pub spellings-room : 2 * (k .own + k .more) ≤ length constants
-  pub spellings :
-      (i : ℕ) → i < k .own + k .more
-      → getD constants (2 * i) 0 + getD constants (2 * i + 1) 0 ≤ length (cond (ltb i (k .own)) program goal)
   pub lettered : length bound ≤ length letters
   pub bound-terms : (i : ℕ) → i < length bound → TermCell (k .own + k .more) v (getD bound i 0)
   pub size : length cells ≡ 5 * k .constraints
@@ -92,8 +88,8 @@ pub record Listable (program goal symbols constants letters bound cells : List �
   pub few : length bound + 4 * k .constraints < 65536
 
 -- what the listing of a run asks
-pub record RunListable (program goal symbols constants letters bound cells : List ℕ) (v : ℕ) (hasFailed : Bool)
+pub record RunListable (symbols constants letters bound cells : List ℕ) (v : ℕ) (hasFailed : Bool)
     (k : Counts) : Type 0
   where
     pub firings : k .firings < 65536
-    pub live : hasFailed ≡ false → Listable program goal symbols constants letters bound cells v k
+    pub live : hasFailed ≡ false → Listable symbols constants letters bound cells v k

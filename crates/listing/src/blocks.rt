@@ -6,7 +6,8 @@ use crate::lines::row_length;
 ghost use mathlib.Core.Path.{_≡_};
 ghost use Prim.Native.Nat.{_≤_, _*_};
 ghost use lib.ListN.{length};
-ghost use Rattle.listing.specs.Pieces.{spelledAs, namedAs, termBytes, rowBytes, boundsBytes, rowsBytes};
+ghost use Rattle.syntax.specs.Tables.{spelledAs};
+ghost use Rattle.listing.specs.Pieces.{namedAs, termBytes, rowBytes, boundsBytes, rowsBytes};
 ghost use Rattle.listing.specs.Pieces.{Put, Sized, BoundShown, RowsShown};
 
 // How many bytes the A lines have.
@@ -19,7 +20,7 @@ pub fn bounds_length<'a>(
     letters: &[u8],
     bound: &[u16],
 ) -> usize
-    requires { ⌜ BoundShown (now program) (now goal) (now constants) n (length (now numbers)) (now letters) (now bound) ⌝ }
+    requires { ⌜ BoundShown (now constants) (length (now numbers)) (now letters) (now bound) ⌝ }
     ensures { λ r. ⌜ Sized
         (boundsBytes (termBytes (spelledAs (now (program .entry)) (now (goal .entry)) (now (constants .entry)) n)
         (now (numbers .entry)))
@@ -45,7 +46,7 @@ pub fn put_bounds<'a>(
     letters: &[u8],
     bound: &[u16],
 ) -> usize
-    requires { ⌜ BoundShown (now program) (now goal) (now constants) n (length (now numbers)) (now letters) (now bound)
+    requires { ⌜ BoundShown (now constants) (length (now numbers)) (now letters) (now bound)
         × (length (boundsBytes (termBytes (spelledAs (now program) (now goal) (now constants) n) (now numbers)) (now letters)
         (now bound))
         ≤ length (now out)) ⌝ }
@@ -83,7 +84,7 @@ pub fn rows_length<'a>(
     cells: &[u16],
     m: usize,
 ) -> usize
-    requires { ⌜ RowsShown (now program) (now goal) (now symbols) (now constants) n (length (now numbers)) (now cells) m ⌝ }
+    requires { ⌜ RowsShown (now symbols) (now constants) (length (now numbers)) (now cells) m ⌝ }
     ensures { λ r. ⌜ Sized
         (rowsBytes (rowBytes (namedAs (now (program .entry)) (now (symbols .entry)))
         (termBytes (spelledAs (now (program .entry)) (now (goal .entry)) (now (constants .entry)) n) (now (numbers .entry))))
@@ -112,7 +113,7 @@ pub fn put_rows<'a>(
     cells: &[u16],
     m: usize,
 ) -> usize
-    requires { ⌜ RowsShown (now program) (now goal) (now symbols) (now constants) n (length (now numbers)) (now cells) m
+    requires { ⌜ RowsShown (now symbols) (now constants) (length (now numbers)) (now cells) m
         × (length (rowsBytes (rowBytes (namedAs (now program) (now symbols))
         (termBytes (spelledAs (now program) (now goal) (now constants) n) (now numbers))) (now cells)) ≤ length (now out)) ⌝ }
     ensures { λ r. ⌜ Put

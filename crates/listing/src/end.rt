@@ -8,7 +8,8 @@ use crate::writing::digits;
 ghost use mathlib.Core.Path.{_≡_};
 ghost use Prim.Native.Nat.{_≤_, _<_};
 ghost use lib.ListN.{length};
-ghost use Rattle.listing.specs.Pieces.{spelledAs, namedAs, termBytes, endBytes, Put, BoundShown, RowsShown};
+ghost use Rattle.syntax.specs.Tables.{spelledAs};
+ghost use Rattle.listing.specs.Pieces.{namedAs, termBytes, endBytes, Put, BoundShown, RowsShown};
 
 // How many bytes the listing has.
 pub fn end_length<'a>(
@@ -24,8 +25,8 @@ pub fn end_length<'a>(
     m: usize,
     firings: usize,
 ) -> usize
-    requires { ⌜ BoundShown (now program) (now goal) (now constants) n (length (now numbers)) (now letters) (now bound)
-        × RowsShown (now program) (now goal) (now symbols) (now constants) n (length (now numbers)) (now cells) m
+    requires { ⌜ BoundShown (now constants) (length (now numbers)) (now letters) (now bound)
+        × RowsShown (now symbols) (now constants) (length (now numbers)) (now cells) m
         × (firings < 65536) ⌝ }
     ensures { λ r. ⌜ r ≡ length (endBytes (namedAs (now (program .entry)) (now (symbols .entry)))
         (termBytes (spelledAs (now (program .entry)) (now (goal .entry)) (now (constants .entry)) n) (now (numbers .entry)))
@@ -51,8 +52,8 @@ pub fn put_end<'a>(
     m: usize,
     firings: usize,
 ) -> usize
-    requires { ⌜ BoundShown (now program) (now goal) (now constants) n (length (now numbers)) (now letters) (now bound)
-        × RowsShown (now program) (now goal) (now symbols) (now constants) n (length (now numbers)) (now cells) m
+    requires { ⌜ BoundShown (now constants) (length (now numbers)) (now letters) (now bound)
+        × RowsShown (now symbols) (now constants) (length (now numbers)) (now cells) m
         × (length (endBytes (namedAs (now program) (now symbols))
         (termBytes (spelledAs (now program) (now goal) (now constants) n) (now numbers)) firings (now letters) (now bound)
         (now cells))

@@ -62,7 +62,7 @@ pub fn list_end<'a>(
     cells: &[u16],
     counts: Counts,
 ) -> Listed
-    requires { ⌜ RunListable (now program) (now goal) (now symbols) (now constants) (now letters) (now bound) (now cells)
+    requires { ⌜ RunListable (now symbols) (now constants) (now letters) (now bound) (now cells)
         (length (now numbers)) false counts ⌝ }
     ensures { λ r. ⌜ ListedAs
         (runBytes (tableNaming (now (program .entry)) (now (goal .entry)) (now (symbols .entry)) (now (constants .entry)) counts)
@@ -121,7 +121,7 @@ pub fn list_run<'a>(
     failed: bool,
     counts: Counts,
 ) -> Listed
-    requires { ⌜ RunListable (now program) (now goal) (now symbols) (now constants) (now letters) (now bound) (now cells)
+    requires { ⌜ RunListable (now symbols) (now constants) (now letters) (now bound) (now cells)
         (length (now numbers)) failed counts ⌝ }
     ensures { λ r. ⌜ ListedAs
         (runBytes (tableNaming (now (program .entry)) (now (goal .entry)) (now (symbols .entry)) (now (constants .entry)) counts)

@@ -3,24 +3,26 @@ use crate::terms::fields_length;
 use crate::terms::put_field;
 use crate::terms::put_fields;
 use crate::terms::term_length;
-use crate::terms::wide;
 use crate::writing::copy;
 use crate::writing::put_decimal;
+use syntax::names::part_of;
+use syntax::names::wide;
 ghost use mathlib.Core.Path.{_≡_};
 ghost use Prim.Native.Nat.{_≤_};
 ghost use lib.ListN.{length};
-ghost use Rattle.listing.specs.Pieces.{spelledAs, namedAs, termBytes, boundBytes, rowBytes, headBytes};
+ghost use Rattle.syntax.specs.Tables.{spelledAs};
+ghost use Rattle.listing.specs.Pieces.{namedAs, termBytes, boundBytes, rowBytes, headBytes};
 ghost use Rattle.listing.specs.Pieces.{Put, Sized, Named, Shown, RowShown};
 
 // The name of a symbol: a part of the program's text.
 pub fn name<'a>(program: &'a [u8], symbols: &[u16], k: u16) -> &'a [u8]
-    requires { ⌜ Named (now program) (now symbols) k ⌝ }
+    requires { ⌜ Named (now symbols) k ⌝ }
     ensures { λ r. ⌜ now r ≡ namedAs (now (program .entry)) (now (symbols .entry)) k ⌝ }
 {
     let a = 4 * wide(k);
     let start = wide(symbols[a]);
-    let end = start + wide(symbols[a + 1]);
-    &program[start..end]
+    let len = wide(symbols[a + 1]);
+    part_of(program, start, len)
 }
 
 // The first line: a word with its comma, and the firings.
@@ -44,7 +46,7 @@ pub fn bound_length<'a>(
     letter: u8,
     x: u16,
 ) -> usize
-    requires { ⌜ Shown (now program) (now goal) (now constants) n (length (now numbers)) x ⌝ }
+    requires { ⌜ Shown (now constants) (length (now numbers)) x ⌝ }
     ensures { λ r. ⌜ Sized
         (boundBytes (termBytes (spelledAs (now (program .entry)) (now (goal .entry)) (now (constants .entry)) n)
         (now (numbers .entry)))
@@ -64,7 +66,7 @@ pub fn put_bound<'a>(
     letter: u8,
     x: u16,
 ) -> usize
-    requires { ⌜ Shown (now program) (now goal) (now constants) n (length (now numbers)) x
+    requires { ⌜ Shown (now constants) (length (now numbers)) x
         × (length (boundBytes (termBytes (spelledAs (now program) (now goal) (now constants) n) (now numbers)) letter x)
         ≤ length (now out)) ⌝ }
     ensures { λ r. ⌜ Put
@@ -90,7 +92,7 @@ pub fn row_length<'a>(
     numbers: &[u16],
     row: &[u16],
 ) -> usize
-    requires { ⌜ RowShown (now program) (now goal) (now symbols) (now constants) n (length (now numbers)) (now row) ⌝ }
+    requires { ⌜ RowShown (now symbols) (now constants) (length (now numbers)) (now row) ⌝ }
     ensures { λ r. ⌜ Sized
         (rowBytes (namedAs (now (program .entry)) (now (symbols .entry)))
         (termBytes (spelledAs (now (program .entry)) (now (goal .entry)) (now (constants .entry)) n) (now (numbers .entry)))
@@ -111,7 +113,7 @@ pub fn put_row<'a>(
     numbers: &[u16],
     row: &[u16],
 ) -> usize
-    requires { ⌜ RowShown (now program) (now goal) (now symbols) (now constants) n (length (now numbers)) (now row)
+    requires { ⌜ RowShown (now symbols) (now constants) (length (now numbers)) (now row)
         × (length (rowBytes (namedAs (now program) (now symbols))
         (termBytes (spelledAs (now program) (now goal) (now constants) n) (now numbers)) (now row)) ≤ length (now out)) ⌝ }
     ensures { λ r. ⌜ Put

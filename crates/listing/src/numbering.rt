@@ -1,5 +1,5 @@
 // The U numbers of the variables of a final state, by first appearance, in a lent table.
-use crate::terms::wide;
+use syntax::names::wide;
 ghost use mathlib.Core.List.{[], _∷_};
 ghost use Prim.Native.Nat.{_+_, _-_, _*_, _≤_, _<_};
 ghost use mathlib.Core.Path.{_≡_};

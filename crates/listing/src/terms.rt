@@ -2,20 +2,15 @@
 use crate::writing::copy;
 use crate::writing::digits;
 use crate::writing::put_decimal;
+use syntax::names::wide;
 ghost use mathlib.Core.List.{_∷_};
 ghost use mathlib.Core.Path.{_≡_};
 ghost use Prim.Native.Nat.{_-_, _≤_, _<_};
 ghost use lib.ListN.{length};
-ghost use Rattle.listing.specs.Pieces.{spelledAs, termBytes, fieldBytes, Put, Sized, Spelt, Shown, AllShown};
+ghost use Rattle.syntax.specs.Tables.{spelledAs};
+ghost use Rattle.listing.specs.Pieces.{termBytes, fieldBytes, Put, Sized, Spelt, Shown, AllShown};
 
-// A cell as a number of the machine's width.
-pub fn wide(cell: u16) -> usize
-    ensures { λ r. ⌜ (r ≡ cell) × (r < 65536) ⌝ }
-{
-    cell as usize
-}
-
-// The spelling of a constant: a part of the text that first had it.
+// The spelling of a constant's cell: a part of the text that first had it.
 pub fn spelling<'a>(
     program: &'a [u8],
     goal: &'a [u8],
@@ -23,17 +18,10 @@ pub fn spelling<'a>(
     n: usize,
     x: u16,
 ) -> &'a [u8]
-    requires { ⌜ Spelt (now program) (now goal) (now constants) n x ⌝ }
+    requires { ⌜ Spelt (now constants) x ⌝ }
     ensures { λ r. ⌜ now r ≡ spelledAs (now (program .entry)) (now (goal .entry)) (now (constants .entry)) n (x - 32) ⌝ }
 {
-    let i = wide(x) - 32;
-    let a = 2 * i;
-    let start = wide(constants[a]);
-    let end = start + wide(constants[a + 1]);
-    if i < n {
-        return &program[start..end];
-    }
-    &goal[start..end]
+    syntax::names::spelling(program, goal, constants, n, wide(x) - 32)
 }
 
 // How many bytes a term has.
@@ -45,7 +33,7 @@ pub fn term_length<'a>(
     numbers: &[u16],
     x: u16,
 ) -> usize
-    requires { ⌜ Shown (now program) (now goal) (now constants) n (length (now numbers)) x ⌝ }
+    requires { ⌜ Shown (now constants) (length (now numbers)) x ⌝ }
     ensures { λ r. ⌜ Sized
         (termBytes (spelledAs (now (program .entry)) (now (goal .entry)) (now (constants .entry)) n) (now (numbers .entry)) x)
         65537 r ⌝ }
@@ -68,7 +56,7 @@ pub fn put_field<'a>(
     numbers: &[u16],
     x: u16,
 ) -> usize
-    requires { ⌜ Shown (now program) (now goal) (now constants) n (length (now numbers)) x
+    requires { ⌜ Shown (now constants) (length (now numbers)) x
         × (length (44 ∷ termBytes (spelledAs (now program) (now goal) (now constants) n) (now numbers) x) ≤ length (now out)) ⌝ }
     ensures { λ r. ⌜ Put
         (44 ∷ termBytes (spelledAs (now (program .entry)) (now (goal .entry)) (now (constants .entry)) n)
@@ -94,7 +82,7 @@ pub fn fields_length<'a>(
     numbers: &[u16],
     cells: &[u16],
 ) -> usize
-    requires { ⌜ AllShown (now program) (now goal) (now constants) n (length (now numbers)) (now cells)
+    requires { ⌜ AllShown (now constants) (length (now numbers)) (now cells)
         × (length (now cells) ≤ 4) ⌝ }
     ensures { λ r. ⌜ Sized
         (fieldBytes (termBytes (spelledAs (now (program .entry)) (now (goal .entry)) (now (constants .entry)) n)
@@ -124,7 +112,7 @@ pub fn put_fields<'a>(
     numbers: &[u16],
     cells: &[u16],
 ) -> usize
-    requires { ⌜ AllShown (now program) (now goal) (now constants) n (length (now numbers)) (now cells)
+    requires { ⌜ AllShown (now constants) (length (now numbers)) (now cells)
         × (length (fieldBytes (termBytes (spelledAs (now program) (now goal) (now constants) n) (now numbers)) (now cells))
         ≤ length (now out)) ⌝ }
     ensures { λ r. ⌜ Put

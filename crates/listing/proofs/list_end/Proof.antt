@@ -20,7 +20,7 @@ end-length-requires c κs =
     let start = at-number .before .before .before .before .before .before .before .before .before .before .before in
     let args = (start .args) in
     let asked = start .pre .live refl in
-    let listable = subst (λ (v : ℕ). Listable (args .program .now) (args .goal .now) (args .symbols .now) (args .constants .now)
+    let listable = subst (λ (v : ℕ). Listable (args .symbols .now) (args .constants .now)
     (args .letters .now) (args .bound .now) (args .cells .now) v (args .counts)) (sym (at-number .number .kept .0)) asked in
     (bound-shown listable, rows-shown listable, start .pre .firings)
 
@@ -34,9 +34,9 @@ returns c =
     let start = at-number .before .before .before .before .before .before .before .before .before .before .before in
     let args = (start .args) in
     let asked = start .pre .live refl in
-    let listable = subst (λ (v : ℕ). Listable (args .program .now) (args .goal .now) (args .symbols .now) (args .constants .now)
+    let listable = subst (λ (v : ℕ). Listable (args .symbols .now) (args .constants .now)
     (args .letters .now) (args .bound .now) (args .cells .now) v (args .counts)) (sym (at-number .number .kept .0)) asked in
-    let same = end-listing listable (at-number .number .ensures) in
+    let same = end-listing (args .program .now) (args .goal .now) listable (at-number .number .ensures) in
     let numbered = end-numbers (args .numbers .now) asked (at-number .number .kept .0) (at-number .number .ensures) in
     (listed-is (sym same) (listed-short (omega (arith, at-end-length .end-length .ensures, c .if1 .taken))), numbered)
 
@@ -48,7 +48,7 @@ put-end-requires c κs =
     let start = at-number .before .before .before .before .before .before .before .before .before .before .before in
     let args = (start .args) in
     let asked = start .pre .live refl in
-    let listable = subst (λ (v : ℕ). Listable (args .program .now) (args .goal .now) (args .symbols .now) (args .constants .now)
+    let listable = subst (λ (v : ℕ). Listable (args .symbols .now) (args .constants .now)
     (args .letters .now) (args .bound .now) (args .cells .now) v (args .counts)) (sym (at-number .number .kept .0)) asked in
     (bound-shown listable, rows-shown listable, omega (arith, at-end-length .end-length .ensures, at-if1 .if1 .left))
 
@@ -67,9 +67,9 @@ returns-2 c =
     let start = at-number .before .before .before .before .before .before .before .before .before .before .before in
     let args = (start .args) in
     let asked = start .pre .live refl in
-    let listable = subst (λ (v : ℕ). Listable (args .program .now) (args .goal .now) (args .symbols .now) (args .constants .now)
+    let listable = subst (λ (v : ℕ). Listable (args .symbols .now) (args .constants .now)
     (args .letters .now) (args .bound .now) (args .cells .now) v (args .counts)) (sym (at-number .number .kept .0)) asked in
-    let same = end-listing listable (at-number .number .ensures) in
+    let same = end-listing (args .program .now) (args .goal .now) listable (at-number .number .ensures) in
     let numbered = end-numbers (args .numbers .now) asked (at-number .number .kept .0) (at-number .number .ensures) in (
       listed-is (sym same)
           (listed-written (omega (arith, at-end-length .end-length .ensures, at-if1 .if1 .left))

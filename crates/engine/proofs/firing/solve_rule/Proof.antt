@@ -6,14 +6,14 @@ use Rattle.engine.proofs.RuleLaws.{rule-solved}
 use Rattle.engine.proofs.firing.solve_rule.Statement.{statement}
 use Rattle.engine.proofs.firing.solve_rule.Tie as tie
 use Rattle.engine.proofs.firing.instantiate.Reads as instantiate-reads
-use Rattle.engine.proofs.search.wide.Reads as wide-reads
+use Rattle.engine.proofs.firing.at_most_four.Reads as at-most-four-reads
 use Rattle.engine.proofs.solving.solve.Reads as solve-reads
 
-shared-slice-read-wide : tie.Need-shared-slice-read-wide
-shared-slice-read-wide c = search needs
+shared-slice-read-at-most-four : tie.Need-shared-slice-read-at-most-four
+shared-slice-read-at-most-four c = search needs
 
-wide-requires : tie.Need-wide-requires
-wide-requires c κs = search needs
+at-most-four-requires : tie.Need-at-most-four-requires
+at-most-four-requires c κs = search needs
 
 mul-e : tie.Need-mul-e
 mul-e c = search needs
@@ -39,35 +39,35 @@ array-borrow-prefix-equations c = search needs
 slice-aggregate-instantiate : tie.Need-slice-aggregate-instantiate
 slice-aggregate-instantiate c =
     let pre′ = c .before .before .before .before .before .before .before .before .pre in
-    let wide′ = c .before .before .wide in
-    equations-room _ _ _ _ _ pre′ (wide′ .ensures)
+    let count′ = c .before .before .at-most-four in
+    equations-room _ _ _ _ _ pre′ (count′ .ensures)
 
 instantiate-requires : tie.Need-instantiate-requires
 instantiate-requires c κs =
     let pre′ = c .before .before .before .before .before .before .before .before .pre in
-    let wide′ = c .before .before .wide in
-    equations-asked _ _ _ _ _ pre′ (wide′ .ensures)
+    let count′ = c .before .before .at-most-four in
+    equations-asked _ _ _ _ _ pre′ (count′ .ensures)
 
 array-borrow-prefix-equations-2 : tie.Need-array-borrow-prefix-equations-2
 array-borrow-prefix-equations-2 c =
     let pre′ = c .before .before .before .before .before .before .before .before .before .before .pre in
-    let wide′ = c .before .before .before .before .wide in
+    let count′ = c .before .before .before .before .at-most-four in
     let instantiate′ = c .before .instantiate in
-    equations-prefix _ _ _ _ _ pre′ (wide′ .ensures) _ _ (instantiate′ .ensures)
+    equations-prefix _ _ _ _ _ pre′ (count′ .ensures) _ _ (instantiate′ .ensures)
 
 slice-aggregate-solve : tie.Need-slice-aggregate-solve
 slice-aggregate-solve c =
     let pre′ = c .before .before .before .before .before .before .before .before .before .before .before .pre in
-    let wide′ = c .before .before .before .before .before .wide in
+    let count′ = c .before .before .before .before .before .at-most-four in
     let instantiate′ = c .before .before .instantiate in
-    equations-lent _ _ _ _ _ pre′ (wide′ .ensures) _ _ (instantiate′ .ensures)
+    equations-lent _ _ _ _ _ pre′ (count′ .ensures) _ _ (instantiate′ .ensures)
 
 solve-requires : tie.Need-solve-requires
 solve-requires c κs =
     let pre′ = c .before .before .before .before .before .before .before .before .before .before .before .before .before .pre in
-    let wide′ = c .before .before .before .before .before .before .before .wide in
+    let count′ = c .before .before .before .before .before .before .before .at-most-four in
     let instantiate′ = c .before .before .before .before .instantiate in
-    equations-solvable _ _ _ _ _ pre′ (wide′ .ensures) _ _ (instantiate′ .ensures)
+    equations-solvable _ _ _ _ _ pre′ (count′ .ensures) _ _ (instantiate′ .ensures)
 
 same-length : tie.Need-same-length
 same-length c = search needs
@@ -79,18 +79,18 @@ returns : tie.Need-returns
 returns c =
     let pre′ = c .before .before .before .before .before .before .before .before .before .before .before .before .before .before
     .before .before .before .before .before .pre in
-    let wide′ = c .before .before .before .before .before .before .before .before .before .before .before .before .before .wide
-    in
+    let count′ = c .before .before .before .before .before .before .before .before .before .before .before .before .before
+    .at-most-four in
     let instantiate′ = c .before .before .before .before .before .before .before .before .before .before .instantiate in
     let solve′ = c .before .before .before .before .before .solve in
-    rule-solved _ _ _ _ _ pre′ (wide′ .ensures) _ _ (instantiate′ .ensures) _ _ _ _ (solve′ .ensures)
+    rule-solved _ _ _ _ _ pre′ (count′ .ensures) _ _ (instantiate′ .ensures) _ _ _ _ (solve′ .ensures)
 
 pub solve-rule-spec : {M : Type 1} → statement M
 solve-rule-spec =
     tie.close
     (tie.spec
-    shared-slice-read-wide
-    wide-requires
+    shared-slice-read-at-most-four
+    at-most-four-requires
     mul-e
     add-e
     mul-t

@@ -4,7 +4,8 @@ use Prim.Native.Nat.{suc, _+_, _-_, _*_, _≤_}
 use native.Mathlib.Omega.{arith}
 use native.Mathlib.Numerals.{add-one}
 use lib.ListN.{length, getD, drop, length-append}
-use Rattle.listing.specs.Pieces.{spelledAs, termBytes, boundBytes, boundsBytes}
+use Rattle.syntax.specs.Tables.{spelledAs}
+use Rattle.listing.specs.Pieces.{termBytes, boundBytes, boundsBytes}
 use Rattle.listing.proofs.LineLaws.{bounds-more, bounds-end}
 use Rattle.listing.proofs.blocks.bounds_length.Statement.{statement}
 use Rattle.listing.proofs.blocks.bounds_length.Tie as tie

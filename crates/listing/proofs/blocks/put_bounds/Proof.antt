@@ -3,7 +3,8 @@ use Prim.Native.Nat.{suc, _-_, _≤_}
 use native.Mathlib.Omega.{arith}
 use native.Mathlib.Numerals.{add-one}
 use lib.ListN.{length, getD, drop}
-use Rattle.listing.specs.Pieces.{spelledAs, termBytes, boundBytes, boundsBytes}
+use Rattle.syntax.specs.Tables.{spelledAs}
+use Rattle.listing.specs.Pieces.{termBytes, boundBytes, boundsBytes}
 use Rattle.listing.proofs.Laying.{Placed, placed-start, placed-is, placed-all, placed-count, placed-length, lent-part}
 use Rattle.listing.proofs.Laying.{lent-room}
 use Rattle.listing.proofs.LineLaws.{bounds-more, bounds-end}

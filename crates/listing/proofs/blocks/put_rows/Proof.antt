@@ -4,7 +4,8 @@ use mathlib.Core.List.{List}
 use Prim.Native.Nat.{ℕ, _+_, _-_, _*_, _≤_}
 use native.Mathlib.Omega.{arith}
 use lib.ListN.{length, take, drop}
-use Rattle.listing.specs.Pieces.{spelledAs, namedAs, termBytes, rowBytes, rowsBytes, RowShown}
+use Rattle.syntax.specs.Tables.{spelledAs}
+use Rattle.listing.specs.Pieces.{namedAs, termBytes, rowBytes, rowsBytes, RowShown}
 use Rattle.listing.proofs.Laying.{Placed, placed-start, placed-is, placed-all, placed-count, placed-length, lent-part}
 use Rattle.listing.proofs.Laying.{lent-room, put-is}
 use Rattle.listing.proofs.LineLaws.{row-cut, rows-more, rows-end}
@@ -89,8 +90,7 @@ put-row-requires c κs =
     let more = placed-is (rows-more line (start .args .cells .now) (at-loop .loop .i) (omega (arith, start .pre .0 .size)))
     (at-loop .loop .inv .1) in (
       subst
-          (λ (l : List ℕ). RowShown (start .args .program .now) (start .args .goal .now) (start .args .symbols .now)
-          (start .args .constants .now) (start .args .n)
+          (λ (l : List ℕ). RowShown (start .args .symbols .now) (start .args .constants .now)
           (length (start .args .numbers .now)) l)
           (sym cut) (start .pre .0 .rows (at-loop .loop .i) (at-loop-test .loop-test .taken)),
       rw (cut) (lent-room row rest more (start .pre .1)),

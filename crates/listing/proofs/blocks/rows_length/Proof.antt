@@ -4,7 +4,8 @@ use mathlib.Core.List.{List}
 use Prim.Native.Nat.{ℕ, _+_, _-_, _*_, _≤_}
 use native.Mathlib.Omega.{arith}
 use lib.ListN.{length, take, drop, length-append}
-use Rattle.listing.specs.Pieces.{spelledAs, namedAs, termBytes, rowBytes, rowsBytes, RowShown}
+use Rattle.syntax.specs.Tables.{spelledAs}
+use Rattle.listing.specs.Pieces.{namedAs, termBytes, rowBytes, rowsBytes, RowShown}
 use Rattle.listing.proofs.LineLaws.{row-cut, rows-more, rows-end}
 use Rattle.listing.proofs.blocks.rows_length.Statement.{statement}
 use Rattle.listing.proofs.blocks.rows_length.Tie as tie
@@ -56,9 +57,7 @@ row-length-requires c κs =
     let start = at-loop .before .before .before .before .before .before .before in
     let cut = row-cut (start .args .cells .now) (at-loop .loop .i) in
     subst
-    (λ (l : List ℕ). RowShown (start .args .program .now) (start .args .goal .now) (start .args .symbols .now)
-    (start .args .constants .now) (start .args .n)
-    (length (start .args .numbers .now)) l)
+    (λ (l : List ℕ). RowShown (start .args .symbols .now) (start .args .constants .now) (length (start .args .numbers .now)) l)
     (sym cut) (start .pre .rows (at-loop .loop .i) (at-loop-test .loop-test .taken))
 
 add-size : tie.Need-add-size Inv-loop μ-loop

@@ -1,7 +1,8 @@
 -- `listing::end::end_length` meets its contract. Assumes nothing.
 use borrow.Author.Needs.{needs}
 use native.Mathlib.Omega.{arith}
-use Rattle.listing.specs.Pieces.{spelledAs, termBytes, namedAs}
+use Rattle.syntax.specs.Tables.{spelledAs}
+use Rattle.listing.specs.Pieces.{termBytes, namedAs}
 use Rattle.listing.proofs.Decimals.{decimal-few}
 use Rattle.listing.proofs.LineLaws.{end-size}
 use Rattle.listing.proofs.end.end_length.Statement.{statement}

@@ -1,7 +1,8 @@
 -- `listing::end::put_end` meets its contract. Assumes nothing.
 use mathlib.Core.List.{[], _∷_, _++_}
 use native.Mathlib.Omega.{arith}
-use Rattle.listing.specs.Pieces.{spelledAs, termBytes, namedAs, boundsBytes, rowsBytes, rowBytes, endBytes}
+use Rattle.syntax.specs.Tables.{spelledAs}
+use Rattle.listing.specs.Pieces.{termBytes, namedAs, boundsBytes, rowsBytes, rowBytes, endBytes}
 use Rattle.listing.proofs.Laying.{put-placed, placed-count, placed-length, lent-part, lent-room, lent-room-last, lent-last}
 use Rattle.listing.proofs.LineLaws.{head-size, end-size}
 use Rattle.listing.proofs.end.put_end.Statement.{statement}

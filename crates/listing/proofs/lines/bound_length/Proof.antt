@@ -3,7 +3,8 @@ use mathlib.Core.Path.{sym, ap, _∙_}
 use Prim.Native.Nat.{ℕ, _+_}
 use borrow.Author.Needs.{needs}
 use native.Mathlib.Omega.{arith}
-use Rattle.listing.specs.Pieces.{spelledAs, termBytes}
+use Rattle.syntax.specs.Tables.{spelledAs}
+use Rattle.listing.specs.Pieces.{termBytes}
 use Rattle.listing.proofs.LineLaws.{bound-size}
 use Rattle.listing.proofs.lines.bound_length.Statement.{statement}
 use Rattle.listing.proofs.lines.bound_length.Tie as tie

@@ -2,7 +2,8 @@
 use mathlib.Core.List.{[], _∷_}
 use native.Mathlib.Omega.{arith}
 use lib.ListN.{length-set}
-use Rattle.listing.specs.Pieces.{spelledAs, termBytes}
+use Rattle.syntax.specs.Tables.{spelledAs}
+use Rattle.listing.specs.Pieces.{termBytes}
 use Rattle.listing.proofs.Laying.{placed-byte, placed-all, placed-count, placed-length, lent-part, lent-room}
 use Rattle.listing.proofs.LineLaws.{bound-start, bound-size}
 use Rattle.listing.proofs.lines.put_bound.Statement.{statement}

@@ -2,7 +2,8 @@
 use mathlib.Core.Path.{ap}
 use native.Mathlib.Omega.{arith}
 use lib.ListN.{length-set, getD, drop}
-use Rattle.listing.specs.Pieces.{spelledAs, termBytes, namedAs, fieldBytes}
+use Rattle.syntax.specs.Tables.{spelledAs}
+use Rattle.listing.specs.Pieces.{termBytes, namedAs, fieldBytes}
 use Rattle.listing.proofs.Laying.{placed-count, placed-length, lent-part, lent-room, lent-room-last, lent-last, put-is}
 use Rattle.listing.proofs.Laying.{put-length, from-drop}
 use Rattle.listing.proofs.LineLaws.{row-start, row-size, shown-from}

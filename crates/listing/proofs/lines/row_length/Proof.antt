@@ -3,7 +3,8 @@ use mathlib.Core.Path.{ap}
 use Prim.Native.Nat.{_+_, _*_}
 use native.Mathlib.Omega.{arith}
 use lib.ListN.{length, getD, length-drop}
-use Rattle.listing.specs.Pieces.{spelledAs, termBytes, namedAs}
+use Rattle.syntax.specs.Tables.{spelledAs}
+use Rattle.listing.specs.Pieces.{termBytes, namedAs}
 use Rattle.listing.proofs.Laying.{from-drop}
 use Rattle.listing.proofs.LineLaws.{row-size, shown-from, name-few}
 use Rattle.listing.proofs.lines.row_length.Statement.{statement}

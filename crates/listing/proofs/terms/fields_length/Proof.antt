@@ -4,7 +4,8 @@ use Prim.Native.Nat.{ℕ, _+_, _-_, _*_, _≤_, _<_}
 use native.Mathlib.Omega.{arith}
 use native.Mathlib.Numerals.{add-one}
 use lib.ListN.{length, drop, getD}
-use Rattle.listing.specs.Pieces.{spelledAs, termBytes, fieldBytes}
+use Rattle.syntax.specs.Tables.{spelledAs}
+use Rattle.listing.specs.Pieces.{termBytes, fieldBytes}
 use Rattle.listing.proofs.TermLaws.{fields-stop, fields-end, fields-count, front-more}
 use Rattle.listing.proofs.terms.fields_length.Statement.{statement}
 use Rattle.listing.proofs.terms.fields_length.Tie as tie

@@ -4,8 +4,9 @@ use mathlib.Core.List.{_∷_}
 use Prim.Native.Nat.{ℕ, _-_}
 use native.Mathlib.Omega.{arith}
 use lib.ListN.{length, getD, set, length-set, length-drop}
+use Rattle.syntax.specs.Tables.{spelledAs}
 use Rattle.listing.specs.Listing.{decimal}
-use Rattle.listing.specs.Pieces.{spelledAs, termBytes}
+use Rattle.listing.specs.Pieces.{termBytes}
 use Rattle.listing.proofs.Decimals.{decimal-few}
 use Rattle.listing.proofs.Laying.{from-drop, put-length}
 use Rattle.listing.proofs.TermLaws.{term-constant, term-variable, field-constant, field-variable, field-variable-room}

@@ -4,7 +4,8 @@ use Prim.Native.Nat.{ℕ, suc, _-_, _≤_, _<_}
 use native.Mathlib.Omega.{arith}
 use native.Mathlib.Numerals.{add-one}
 use lib.ListN.{length, getD, drop}
-use Rattle.listing.specs.Pieces.{spelledAs, termBytes, fieldBytes}
+use Rattle.syntax.specs.Tables.{spelledAs}
+use Rattle.listing.specs.Pieces.{termBytes, fieldBytes}
 use Rattle.listing.proofs.Laying.{Placed, placed-start, placed-is, placed-byte, placed-all, placed-length}
 use Rattle.listing.proofs.Laying.{placed-count, lent-part, lent-room}
 use Rattle.listing.proofs.TermLaws.{fields-more, fields-stop, fields-end, front-more}

@@ -3,8 +3,8 @@ use mathlib.Core.Path.{_≡_, ap, _∙_}
 use Prim.Native.Nat.{ℕ, _+_, _-_, _*_}
 use native.Mathlib.Omega.{arith}
 use lib.ListN.{length, getD}
+use Rattle.syntax.specs.Tables.{spelledAs}
 use Rattle.listing.specs.Listing.{decimal}
-use Rattle.listing.specs.Pieces.{spelledAs}
 use Rattle.listing.proofs.Decimals.{decimal-few}
 use Rattle.listing.proofs.TermLaws.{term-constant, term-variable, spelled-few}
 use Rattle.listing.proofs.terms.term_length.Statement.{statement}
