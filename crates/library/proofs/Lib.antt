@@ -6,5 +6,7 @@ pub mod Demand3
 pub mod Instances
 pub mod LineNumbers
 pub mod CellLaws
+pub mod StageLaws
 pub mod ReadyLaws
 pub mod ReplyLaws
+pub mod ReadingLaws

@@ -12,8 +12,8 @@ use mathlib.Core.List.{List, [], _∷_, map}
 use mathlib.Core.Option.{Option, none, some}
 use mathlib.Core.Path.{_≡_, refl, sym, ap, subst, _∙_}
 use lib.Dec.{ltb}
-use lib.ListN.{length, length-append, take, drop, getD}
-use lib.Seq.{getD-drop, getD-take, length-take-le}
+use lib.ListN.{length, length-append, length-drop, take, drop, getD}
+use lib.Seq.{length-take-le}
 use borrow.Author.Tests.{lt-ltb, le-leb, ltb-true, ltb-false}
 use Rattle.text.specs.Lists.{every, onward, tabled}
 use Rattle.text.proofs.Laws.{tabled-length, tabled-at}
@@ -45,11 +45,8 @@ use Rattle.library.specs.Answers.{Replied}
 use Rattle.library.specs.declared.Sizes.{Sizes}
 use Rattle.library.specs.Replies.{goalText, replyOf, fitted, namingOf, runListing, runReply}
 use Rattle.library.specs.Stages.{programTable, ProgramReady, Ready}
+use Rattle.library.proofs.StageLaws.{count-few}
 use Rattle.library.proofs.CellLaws.{all-at, all-mapped, bound-start}
-
--- a cell of a rule's row
-row-cell : (rules : List ℕ) (i j : ℕ) → j < 64 → getD (take 64 (drop (64 * i) rules)) j 0 ≡ getD rules (64 * i + j) 0
-row-cell rules i j h = getD-take 64 (drop (64 * i) rules) j 0 h ∙ getD-drop (64 * i) rules j 0
 
 -- a constant with a number is not 0
 over-used : (k : ℕ) (t : Term) → TermOver (ConstantOf k) t → isUsed t ≡ true
@@ -62,7 +59,7 @@ module _ {program symbols rules : List ℕ} {k n : ℕ} {p : Reading} (r : Progr
   abbrev small : ReadSmall p
   small = read-small program (r .read)
 
-  few-symbols : k ≤ 32
+  pub few-symbols : k ≤ 32
   unfolding programTable symbolsOf
   few-symbols =
       let e : length (p .program .symbols) ≡ k = ap (λ (q : Program). length (q .symbols)) (r .holds) ∙ tabled-length (symbolOf program symbols) k in
@@ -84,20 +81,41 @@ module _ {program symbols rules : List ℕ} {k n : ℕ} {p : Reading} (r : Progr
       let weighs : SymbolSmall (symbolOf program symbols i) = subst SymbolSmall (tabled-at (symbolOf program symbols) k i noSymbol h) at in
       weighs .heavy
 
+  -- a rule is within the limits
+  small-rule : (i : ℕ) → i < n → RuleSmall (length (p .constants)) (ruleOf program rules i)
+  unfolding programTable rulesOf
+  small-rule i h =
+      let all : All (RuleSmall (length (p .constants))) (tabled (ruleOf program rules) n) =
+      subst (λ (q : Program). All (RuleSmall (length (p .constants))) (q .rules)) (r .holds) (small .rules) in
+      let at = all-at (ruleOf program rules i) i all (omega (arith, tabled-length (ruleOf program rules) n)) in
+      subst (RuleSmall (length (p .constants))) (tabled-at (ruleOf program rules) n i (ruleOf program rules i) h) at
+
+  -- its row has 64 cells
+  row-size : (i : ℕ) → i < n → length (take 64 (drop (64 * i) rules)) ≡ 64
+  row-size i h = length-take-le 64 (drop (64 * i) rules) (omega (arith, few-rules, r .rules-size, length-drop (64 * i) rules))
+
+  -- a rule's counts
+  heads-few : (i : ℕ) → i < n → getD (take 64 (drop (64 * i) rules)) 3 0 ≤ 4
+  unfolding ruleOf ruleOfRow
+  heads-few i h =
+      let row = take 64 (drop (64 * i) rules) in
+      count-few 4 (getD row 3 0) (drop 6 row) (omega (arith, row-size i h, length-drop 6 row)) (small-rule i h .heads-few)
+
+  body-few : (i : ℕ) → i < n → getD (take 64 (drop (64 * i) rules)) 4 0 ≤ 6
+  unfolding ruleOf ruleOfRow
+  body-few i h =
+      let row = take 64 (drop (64 * i) rules) in
+      count-few 6 (getD row 4 0) (drop 26 row) (omega (arith, row-size i h, length-drop 26 row)) (small-rule i h .body-few)
+
   -- a rule's equations
   used :
       (i : ℕ) → i < n
       → every (λ (e : Equation). isUsed (e .left) && isUsed (e .right)) (ruleOfRow [] (take 64 (drop (64 * i) rules)) .equations) ≡ true
-  unfolding programTable rulesOf ruleOf ruleOfRow
+  unfolding ruleOf ruleOfRow
   used i h =
-      let all : All (RuleSmall (length (p .constants))) (tabled (ruleOf program rules) n) =
-      subst (λ (q : Program). All (RuleSmall (length (p .constants))) (q .rules)) (r .holds) (small .rules) in
-      let at = all-at (ruleOf program rules i) i all (omega (arith, tabled-length (ruleOf program rules) n)) in
-      let rule : RuleSmall (length (p .constants)) (ruleOf program rules i) =
-      subst (RuleSmall (length (p .constants))) (tabled-at (ruleOf program rules) n i (ruleOf program rules i) h) at in
       all-every (λ (e : Equation). isUsed (e .left) && isUsed (e .right))
       (all-mono (λ e o. rw (over-used (length (p .constants)) (e .left) (o .0), over-used (length (p .constants)) (e .right) (o .1)))
-      (rule .over .equations))
+      (small-rule i h .over .equations))
 
   -- the engine runs such a program
   pub as-read : AsRead program symbols k rules n
@@ -107,10 +125,9 @@ module _ {program symbols rules : List ℕ} {k n : ℕ} {p : Reading} (r : Progr
         well-formed = subst (λ (q : Program). isWellFormed q ≡ true) (r .holds) (read-wellFormed program (r .read));
         few-symbols = few-symbols;
         heavy = heavy;
-        size = omega (arith, few-rules, r .fit .rules-size);
-        heads-few = λ i h. rw (row-cell rules i 3 (omega arith)) (r .fit .heads-few i h);
-        body-few = λ i h. rw (row-cell rules i 4 (omega arith)) (r .fit .body-few i h);
-        equations-few = λ i h. rw (row-cell rules i 5 (omega arith)) (r .fit .equations-few i h);
+        size = omega (arith, few-rules, r .rules-size);
+        heads-few = heads-few;
+        body-few = body-few;
         used = used;
       }
 
@@ -260,7 +277,7 @@ module _ {program goal symbols rules constants letters cells : List ℕ} {z : Si
           subst (SpokenState (r .p .program .symbols) vocabulary (r .g .goal .variables)
           (r .g .goal .variables + alphabet * final .firings)) (sym same) spoken
 
-      few-numbers : number ≤ 13338
+      pub few-numbers : number ≤ 13338
       unfolding alphabet
       few-numbers = omega (arith, live-spoken .numbered, variables, few-variables, few-firings)
 
@@ -269,13 +286,13 @@ module _ {program goal symbols rules constants letters cells : List ℕ} {z : Si
 
       -- a term's cell
       cell-fits :
-          (x : ℕ) → TermOver vocabulary (cellTerm x) → TermBelow number (cellTerm x) → listing.TermCell (z .own + z .more) 13338 x
+          (x : ℕ) → TermOver vocabulary (cellTerm x) → TermBelow number (cellTerm x) → listing.TermCell (z .own + z .more) number x
       unfolding cellTerm
       cell-fits x over below = go (ltb x 256) refl over below
         where
           go :
               (b : Bool) → ltb x 256 ≡ b → TermOver vocabulary (cond b (con x) (var (x - 256)))
-              → TermBelow number (cond b (con x) (var (x - 256))) → listing.TermCell (z .own + z .more) 13338 x
+              → TermBelow number (cond b (con x) (var (x - 256))) → listing.TermCell (z .own + z .more) number x
           go true t o u =
               record {
                 constant = λ _. (o .0, omega (arith, o .1, count-constants));
@@ -284,26 +301,26 @@ module _ {program goal symbols rules constants letters cells : List ℕ} {z : Si
           go false t o u =
               record {
                 constant = λ h. absurd (omega (arith, ltb-false x 256 t));
-                variable = λ _. omega (arith, u, few-numbers);
+                variable = λ _. u;
               }
 
       -- a goal variable's cell
-      bound-fits : (i : ℕ) → i < length bound′ → listing.TermCell (z .own + z .more) 13338 (getD bound′ i 0)
+      bound-fits : (i : ℕ) → i < length bound′ → listing.TermCell (z .own + z .more) number (getD bound′ i 0)
       bound-fits i h =
           cell-fits (getD bound′ i 0) (all-mapped cellTerm bound′ 0 i (live-spoken .bound) h)
           (all-mapped cellTerm bound′ 0 i (live-spoken .scoped .bound) h)
 
       -- a constraint
       term-fits :
-          (t : Term) → TermOver vocabulary t → TermBelow number t → listing.isTermOf (z .own + z .more) 13338 t ≡ true
+          (t : Term) → TermOver vocabulary t → TermBelow number t → listing.isTermOf (z .own + z .more) number t ≡ true
       unfolding listing.isTermOf
       term-fits (con c) over below =
           rw (le-leb 32 c (over .0), lt-ltb c (32 + (z .own + z .more)) (omega (arith, over .1, count-constants)))
-      term-fits (var x) over below = lt-ltb x 13338 (omega (arith, below, few-numbers))
+      term-fits (var x) over below = lt-ltb x number below
 
       terms-fit :
           (ts : List Term) → All (TermOver vocabulary) ts → All (TermBelow number) ts
-          → every (listing.isTermOf (z .own + z .more) 13338) ts ≡ true
+          → every (listing.isTermOf (z .own + z .more) number) ts ≡ true
       terms-fit [] over below = refl
       terms-fit (t ∷ ts) (also o os) (also b bs) = rw (term-fits t o b, terms-fit ts os bs)
 
@@ -316,7 +333,7 @@ module _ {program goal symbols rules constants letters cells : List ℕ} {z : Si
 
       rows-fit :
           (cs : List Constraint) → All (λ c. isDeclared (r .p .program .symbols) c ≡ true) cs → All (ConstraintOver vocabulary) cs
-          → All (ConstraintBelow number) cs → every (listing.isConstraintOf (z .symbols) (z .own + z .more) 13338) cs ≡ true
+          → All (ConstraintBelow number) cs → every (listing.isConstraintOf (z .symbols) (z .own + z .more) number) cs ≡ true
       unfolding listing.isConstraintOf
       rows-fit [] declared over below = refl
       rows-fit (c ∷ cs) (also d ds) (also o os) (also b bs) =
@@ -334,15 +351,13 @@ module _ {program goal symbols rules constants letters cells : List ℕ} {z : Si
           }
 
       -- the end can be listed
-      pub live-lists : listing.RunListable program goal symbols constants letters bound′ shown 13338 false counts
+      pub live-lists : listing.RunListable symbols constants letters bound′ shown number false counts
       live-lists =
           record {
             firings = omega (arith, ready-few);
             live = λ _. record {
-              names-room = omega (arith, few-symbols (r .first), r .first .fit .symbols-size);
-              names = r .first .fit .names;
+              names-room = omega (arith, few-symbols (r .first), r .first .symbols-size);
               spellings-room = omega (arith, r .constants-size, count-constants, goal-read .few-constants);
-              spellings = r .spellings;
               lettered = omega (arith, few-variables, r .letters-size);
               bound-terms = bound-fits;
               size = shown-size;
@@ -386,7 +401,7 @@ module _ {program goal symbols rules constants letters cells : List ℕ} {z : Si
             firings = firings;
           }
 
-      pub failed-lists : (shown : List ℕ) → listing.RunListable program goal symbols constants letters bound′ shown 13338 true failed-counts
+      pub failed-lists : (shown : List ℕ) → listing.RunListable symbols constants letters bound′ shown 0 true failed-counts
       failed-lists shown =
           record { firings = omega (arith, ready-few); live = λ h. absurd (let w : _≡_ {A = ℕ} 0 1 = cc in omega arith) }
 

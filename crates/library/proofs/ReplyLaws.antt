@@ -1,8 +1,9 @@
 -- The reply of a run, case by case.
 --   refused-program, refused-goal      a text that is refused
 --   listed-short, listed-written       a listing that does not fit, and one that does
+--   byte-few, reply-number             the byte of a letter; the number of a reply's answer is the reply's
 -- Assumes nothing.
-use Prim.Native.Nat.{ℕ}
+use Prim.Native.Nat.{ℕ, _+_, _*_, _≤_}
 use native.Mathlib.Omega.{arith}
 use mathlib.Core.Bool.{Bool, true, false, cond}
 use mathlib.Core.List.{List}
@@ -18,8 +19,10 @@ use Rattle.listing.specs.Runs.{listedIn, ListedAs}
 use Rattle.listing.specs.Runs as runs
 use Rattle.listing.specs.declared.Listed.{Listed}
 use Rattle.listing.specs.declared.Listed.the-variants.{TooShort, Written}
-use Rattle.library.specs.Replies.{goalText, refusal, listing, replyOf, fitted, runReply, outputAfter}
-use Rattle.library.specs.Answers.{textMeant, replyMeant, letterOf, answerOf, Replied}
+use Rattle.library.specs.Replies.{Text, programText, goalText, Reply, refusal, listing, replyOf, fitted, runReply, outputAfter}
+use Rattle.library.specs.Answers.{textMeant, replyMeant, letterOf, answerOf, Replied, nameByte}
+use Rattle.library.specs.Answers.{answerNumber, textByte, replyNumber}
+use Rattle.library.specs.declared.TextName.{TextName}
 use Rattle.library.specs.declared.TextName.the-variants.{S, G}
 use Rattle.library.specs.declared.RunReply.the-variants.{Refused, Listed as ListedTo}
 
@@ -65,3 +68,20 @@ listed-written {bytes} {before} {after} {reply} n l e = go (ltb (length before) 
     go false a o =
         let size : n ≡ length bytes = cc in
         record { meant = rw (o, size) (ap listing (take-at bytes (drop (length bytes) before) (length bytes) refl)); answer = rw size; output = o }
+
+-- a letter's byte
+pub byte-few : (t : TextName) → nameByte t ≤ 83
+unfolding nameByte
+byte-few S = omega arith
+byte-few G = omega arith
+
+letter-byte : (t : Text) → nameByte (letterOf t) ≡ textByte t
+unfolding nameByte letterOf textByte
+letter-byte programText = refl
+letter-byte goalText = refl
+
+-- the number of a reply's answer is the reply's
+pub reply-number : (reply : Reply) → answerNumber (answerOf reply) ≡ replyNumber reply
+unfolding answerNumber answerOf replyNumber
+reply-number (refusal number text line) = ap (λ (b : ℕ). 4294967296 * number + 65536 * b + line) (letter-byte text)
+reply-number (listing bytes) = refl

@@ -2,6 +2,7 @@
 --   textMeant, replyMeant     an answer, with the output afterwards, as a reply
 --   answerOf                  the answer of a reply
 --   Replied                   what `run` promises: the reply, and every byte of the output afterwards
+--   answerNumber              an answer as one number
 --   replyNumber, Returned     what its C export promises: a reply as one number, and every byte of the output afterwards
 -- Assumes nothing.
 use Prim.Native.Nat.{ℕ, _+_, _*_}
@@ -39,6 +40,16 @@ pub record Replied (reply : Reply) (before after : List ℕ) (r : RunReply) : Ty
   pub meant : replyMeant r after ≡ reply
   pub answer : r ≡ answerOf reply
   pub output : after ≡ outputAfter reply before
+
+-- the byte of a letter
+unfoldable pub nameByte : TextName → ℕ
+nameByte S = 83
+nameByte G = 71
+
+-- an answer as one number: a listing's length; or 2^32 times a refusal's number, 2^16 times the byte of its letter, and its line
+unfoldable pub answerNumber : RunReply → ℕ
+answerNumber (Refused r) = 4294967296 * r .number + 65536 * nameByte (r .text) + r .line
+answerNumber (Listed n) = n
 
 -- the byte of a text's letter
 unfoldable pub textByte : Text → ℕ

@@ -1,6 +1,9 @@
 // The two replies, from bytes to bytes: the public functions, thin over the readers, the engine and the listing.
 // Their promises are the definitions of specs/Replies.antt, through specs/Answers.antt.
+mod exported;
 mod running;
+
+pub use running::run;
 
 // The letter of a text: S for a program's, G for a goal's.
 pub enum TextName {

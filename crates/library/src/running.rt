@@ -1,12 +1,16 @@
-// The stages of a run behind the readers: the derivation, and its listing.
+// The stages of a run: reading the program, reading the goal, the derivation, and its listing.
 use crate::Refusal;
 use crate::RunReply;
 use crate::Sizes;
 use crate::TextName;
 use engine::derivation::normalise;
+use goals::GoalRead;
+use goals::read_goal;
 use listing::Counts;
 use listing::Listed;
 use listing::list_run;
+use programs::ProgramRead;
+use programs::read_program;
 ghost use mathlib.Core.Path.{_≡_};
 ghost use Prim.Native.Nat.{ℕ, _+_, _*_, _≤_, _<_};
 ghost use lib.ListN.{length};
@@ -14,7 +18,7 @@ ghost use Rattle.text.specs.Lists.{tabled};
 ghost use Rattle.listing.specs.Runs.{tableNaming, runBytes, RunListable};
 ghost use Rattle.library.specs.Replies.{goalText, fitted, runReply};
 ghost use Rattle.library.specs.Answers.{Replied};
-ghost use Rattle.library.specs.Stages.{Ready};
+ghost use Rattle.library.specs.Stages.{GoalReady, Ready};
 
 // Each goal variable is itself.
 fn start_bound(bound: &mut [u16])
@@ -28,7 +32,7 @@ fn start_bound(bound: &mut [u16])
     }
 }
 
-// The listing of a final state, or number 11.
+// The listing of a final state whose variables are below v, or number 11.
 fn list_final<'a>(
     program: &'a [u8],
     goal: &'a [u8],
@@ -37,12 +41,13 @@ fn list_final<'a>(
     letters: &[u8],
     bound: &[u16],
     cells: &[u16],
+    v: usize,
     failed: bool,
     counts: Counts,
     output: &mut [u8],
 ) -> RunReply
-    requires { ⌜ RunListable (now program) (now goal) (now symbols) (now constants) (now letters) (now bound) (now cells)
-        13338 failed counts ⌝ }
+    requires { ⌜ RunListable (now symbols) (now constants) (now letters) (now bound) (now cells)
+        v failed counts × (v ≤ 13338) ⌝ }
     ensures { λ r. ⌜ Replied (fitted goalText (length (now (output .entry)))
         (runBytes (tableNaming (now (program .entry)) (now (goal .entry)) (now (symbols .entry)) (now (constants .entry)) counts)
         (now (letters .entry)) failed 0 (now (bound .entry)) (now (cells .entry)) (counts .firings)))
@@ -51,7 +56,7 @@ fn list_final<'a>(
     let mut numbers = [0; 13338];
     match list_run(
         output,
-        &mut numbers,
+        &mut numbers[..v],
         program,
         goal,
         symbols,
@@ -72,7 +77,7 @@ fn list_final<'a>(
 }
 
 // The run of a goal as read, from its tables.
-pub fn run_read<'a>(
+fn run_read<'a>(
     program: &'a [u8],
     goal: &'a [u8],
     symbols: &[u16],
@@ -96,6 +101,7 @@ pub fn run_read<'a>(
     let end = normalise(rules, n, bound, cells, m, next);
     let firings = end.firings;
     if end.alive {
+        let v = end.next as usize;
         let count = end.count;
         let e = 5 * count;
         let counts = Counts {
@@ -113,6 +119,7 @@ pub fn run_read<'a>(
             letters,
             bound,
             &cells[..e],
+            v,
             false,
             counts,
             output,
@@ -133,8 +140,102 @@ pub fn run_read<'a>(
         letters,
         bound,
         cells,
+        0,
         true,
         counts,
         output,
     )
+}
+
+// The run of a goal's text over a program as read.
+fn run_goal<'a>(
+    program: &'a [u8],
+    goal: &'a [u8],
+    symbols: &[u16],
+    rules: &[u16],
+    constants: &mut [u16],
+    k: usize,
+    n: usize,
+    own: usize,
+    output: &mut [u8],
+) -> RunReply
+    requires { ⌜ GoalReady (now program) (now symbols) (now rules) (now constants) k n own ⌝ }
+    ensures { λ r. ⌜ Replied (runReply (now (program .entry)) (now (goal .entry)) (length (now (output .entry))))
+        (now (output .entry)) (now (output .exit)) r ⌝ }
+{
+    let mut letters = [0; 26];
+    let mut cells = [0; 2590];
+    match read_goal(
+        program,
+        goal,
+        symbols,
+        k,
+        constants,
+        own,
+        &mut cells,
+        &mut letters,
+    ) {
+        GoalRead::Refused(number, line) => RunReply::Refused(Refusal {
+            number: number,
+            text: TextName::G,
+            line: line,
+        }),
+        GoalRead::Accepted(counts) => {
+            let v = counts.letters;
+            let mut bound = [0; 26];
+            let sizes = Sizes {
+                symbols: k,
+                rules: n,
+                own: own,
+                more: counts.constants,
+                constraints: counts.constraints,
+                variables: v,
+            };
+            run_read(
+                program,
+                goal,
+                symbols,
+                rules,
+                constants,
+                &letters,
+                &mut bound[..v],
+                &mut cells,
+                sizes,
+                output,
+            )
+        }
+    }
+}
+
+// The run of a goal over a program, from their texts into the lent output: every input has its reply.
+pub fn run<'a>(program: &'a [u8], goal: &'a [u8], output: &mut [u8]) -> RunReply
+    ensures { λ r. ⌜ Replied (runReply (now (program .entry)) (now (goal .entry)) (length (now (output .entry))))
+        (now (output .entry)) (now (output .exit)) r ⌝ }
+{
+    let mut symbols = [0; 128];
+    let mut rules = [0; 2048];
+    let mut constants = [0; 128];
+    match read_program(program, &mut symbols, &mut rules, &mut constants) {
+        ProgramRead::Refused(number, line) => RunReply::Refused(Refusal {
+            number: number,
+            text: TextName::S,
+            line: line,
+        }),
+        ProgramRead::Accepted(counts) => {
+            let k = counts.symbols;
+            let n = counts.rules;
+            let own = counts.constants;
+            run_goal(
+                program,
+                goal,
+                &symbols,
+                &rules,
+                &mut constants,
+                k,
+                n,
+                own,
+                output,
+            )
+        }
+    }
 }

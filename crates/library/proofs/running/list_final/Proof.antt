@@ -1,14 +1,23 @@
 -- `library::running::list_final` meets its contract. Assumes nothing.
+use Prim.Native.Nat.{ℕ}
+use mathlib.Core.Path.{sym, subst}
+use lib.Seq.{length-take-le}
 use borrow.Author.Needs.{needs}
+use Rattle.listing.specs.Runs.{RunListable}
 use Rattle.library.proofs.ReplyLaws.{listed-short, listed-written}
 use Rattle.library.proofs.running.list_final.Statement.{statement}
 use Rattle.library.proofs.running.list_final.Tie as tie
 
+array-borrow-prefix-numbers : tie.Need-array-borrow-prefix-numbers
+array-borrow-prefix-numbers c = search needs
+
 slice-aggregate-list-run : tie.Need-slice-aggregate-list-run
-slice-aggregate-list-run c = search needs
+slice-aggregate-list-run c = sym (length-take-le ((c .before .before .before .before .before .before .before .before .before .before .args) .v) _ ((c .before .before .before .before .before .before .before .before .before .before .pre) .1))
 
 list-run-requires : tie.Need-list-run-requires
-list-run-requires c κs = search needs
+list-run-requires c κs =
+    subst (λ (m : ℕ). RunListable ((c .before .before .before .before .before .before .before .before .before .before .args) .symbols .now) ((c .before .before .before .before .before .before .before .before .before .before .args) .constants .now) ((c .before .before .before .before .before .before .before .before .before .before .args) .letters .now) ((c .before .before .before .before .before .before .before .before .before .before .args) .bound .now) ((c .before .before .before .before .before .before .before .before .before .before .args) .cells .now) m ((c .before .before .before .before .before .before .before .before .before .before .args) .failed) ((c .before .before .before .before .before .before .before .before .before .before .args) .counts))
+    (sym (length-take-le ((c .before .before .before .before .before .before .before .before .before .before .args) .v) _ ((c .before .before .before .before .before .before .before .before .before .before .pre) .1))) ((c .before .before .before .before .before .before .before .before .before .before .pre) .0)
 
 enum-told : tie.Need-enum-told
 enum-told c = search needs
@@ -20,20 +29,21 @@ same-length : tie.Need-same-length
 same-length c = search needs
 
 returns : tie.Need-returns
-returns c = listed-short (c .before .before .before .before .before .list-run .ensures .0) (c .enum-told .given .1)
+returns c = listed-short ((c .before .before .before .before .before .list-run) .ensures .0) ((c .enum-told) .given .1)
 
 same-length-2 : tie.Need-same-length-2
 same-length-2 c = search needs
 
 returns-2 : tie.Need-returns-2
 returns-2 c =
-    listed-written (c .before .n .given .0 .0) (c .before .before .before .before .before .before .list-run .ensures .0)
-    (c .before .n .given .1)
+    listed-written ((c .before .n) .given .0 .0) ((c .before .before .before .before .before .before .list-run) .ensures .0)
+    ((c .before .n) .given .1)
 
 pub list-final-spec : {M : Type 1} → statement M
 list-final-spec =
     tie.close
     (tie.spec
+    array-borrow-prefix-numbers
     slice-aggregate-list-run
     list-run-requires
     enum-told

@@ -6,7 +6,7 @@ use mathlib.Core.Path.{sym, ap, _∙_}
 use lib.Seq.{length-take-le}
 use borrow.Author.Needs.{needs}
 use Rattle.text.specs.Lists.{tabled}
-use Rattle.library.proofs.ReadyLaws.{few-variables, ready-starts, live-lists, live-replies, failed-lists, failed-replies}
+use Rattle.library.proofs.ReadyLaws.{few-variables, ready-starts, few-numbers, live-lists, live-replies, failed-lists, failed-replies}
 use Rattle.library.proofs.running.run_read.Statement.{statement}
 use Rattle.library.proofs.running.run_read.Tie as tie
 
@@ -19,19 +19,24 @@ cast-next c = omega (arith, few-variables ((c .before .before .before .before .b
 normalise-requires : tie.Need-normalise-requires
 normalise-requires c κs = ready-starts ((c .before .before .before .before .before .before .before .before .before .before .before .before .before .before .before .before .pre) .0)
 
+cast-v : tie.Need-cast-v
+cast-v c = search needs
+
 mul-e : tie.Need-mul-e
-mul-e c = omega (arith, (c .before .before .before .before .before .normalise) .ensures .few ((c .if1) .taken))
+mul-e c = omega (arith, (c .before .before .before .before .before .before .normalise) .ensures .few ((c .before .if1) .taken))
 
 slice-reshare-prefix-list-final : tie.Need-slice-reshare-prefix-list-final
-slice-reshare-prefix-list-final c = omega (arith, (c .before .before .before .before .before .before .normalise) .ensures .few ((c .before .if1) .taken), (c .before .before .before .before .before .before .before .before .before .before .before .before .before .before .before .before .before .before .before .before .before .before .before .pre) .0 .cells-size)
+slice-reshare-prefix-list-final c = omega (arith, (c .before .before .before .before .before .before .before .normalise) .ensures .few ((c .before .before .if1) .taken), (c .before .before .before .before .before .before .before .before .before .before .before .before .before .before .before .before .before .before .before .before .before .before .before .before .pre) .0 .cells-size)
 
 slice-aggregate-list-final : tie.Need-slice-aggregate-list-final
 slice-aggregate-list-final c =
-    sym (length-take-le (5 * (c .before .before .before .before .before .before .before .normalise) .result .count) _ (omega (arith, (c .before .before .before .before .before .before .before .normalise) .ensures .few ((c .before .before .if1) .taken), (c .before .before .before .before .before .before .before .before .before .before .before .before .before .before .before .before .before .before .before .before .before .before .before .before .pre) .0 .cells-size)))
+    sym (length-take-le (5 * (c .before .before .before .before .before .before .before .before .normalise) .result .count) _ (omega (arith, (c .before .before .before .before .before .before .before .before .normalise) .ensures .few ((c .before .before .before .if1) .taken), (c .before .before .before .before .before .before .before .before .before .before .before .before .before .before .before .before .before .before .before .before .before .before .before .before .before .pre) .0 .cells-size)))
 
 list-final-requires : tie.Need-list-final-requires
-list-final-requires c κs =
-    live-lists ((c .before .before .before .before .before .before .before .before .before .before .before .before .before .before .before .before .before .before .before .before .before .before .before .before .before .pre) .0) ((c .before .before .before .before .before .before .before .before .before .before .before .before .before .before .start-bound) .ensures ∙ ap (tabled (λ (i : ℕ). 256 + i)) ((c .before .before .before .before .before .before .before .before .before .before .before .before .before .before .before .before .before .before .before .before .before .before .before .before .before .pre) .1)) ((c .before .before .before .before .before .before .before .before .normalise) .ensures) ((c .before .before .before .if1) .taken) (omega (arith, (c .before .before .before .before .before .before .before .before .before .before .before .before .before .before .before .before .before .before .before .before .before .before .before .before .before .pre) .1)) (omega (arith, (c .before .before .before .before .before .before .before .before .before .before .before .before .before .before .before .before .before .before .before .before .before .before .before .before .before .pre) .0 .cells-size))
+list-final-requires c κs = (
+  live-lists ((c .before .before .before .before .before .before .before .before .before .before .before .before .before .before .before .before .before .before .before .before .before .before .before .before .before .before .pre) .0) ((c .before .before .before .before .before .before .before .before .before .before .before .before .before .before .before .start-bound) .ensures ∙ ap (tabled (λ (i : ℕ). 256 + i)) ((c .before .before .before .before .before .before .before .before .before .before .before .before .before .before .before .before .before .before .before .before .before .before .before .before .before .before .pre) .1)) ((c .before .before .before .before .before .before .before .before .before .normalise) .ensures) ((c .before .before .before .before .if1) .taken) (omega (arith, (c .before .before .before .before .before .before .before .before .before .before .before .before .before .before .before .before .before .before .before .before .before .before .before .before .before .before .pre) .1)) (omega (arith, (c .before .before .before .before .before .before .before .before .before .before .before .before .before .before .before .before .before .before .before .before .before .before .before .before .before .before .pre) .0 .cells-size)),
+  few-numbers ((c .before .before .before .before .before .before .before .before .before .before .before .before .before .before .before .before .before .before .before .before .before .before .before .before .before .before .pre) .0) ((c .before .before .before .before .before .before .before .before .before .before .before .before .before .before .before .start-bound) .ensures ∙ ap (tabled (λ (i : ℕ). 256 + i)) ((c .before .before .before .before .before .before .before .before .before .before .before .before .before .before .before .before .before .before .before .before .before .before .before .before .before .before .pre) .1)) ((c .before .before .before .before .before .before .before .before .before .normalise) .ensures) ((c .before .before .before .before .if1) .taken) (omega (arith, (c .before .before .before .before .before .before .before .before .before .before .before .before .before .before .before .before .before .before .before .before .before .before .before .before .before .before .pre) .1)) (omega (arith, (c .before .before .before .before .before .before .before .before .before .before .before .before .before .before .before .before .before .before .before .before .before .before .before .before .before .before .pre) .0 .cells-size)),
+)
 
 same-length : tie.Need-same-length
 same-length c = search needs
@@ -44,12 +49,12 @@ same-length-3 c = search needs
 
 returns : tie.Need-returns
 returns c =
-    live-replies ((c .before .before .before .before .before .before .before .before .before .before .before .before .before .before .before .before .before .before .before .before .before .before .before .before .before .before .before .before .pre) .0) ((c .before .before .before .before .before .before .before .before .before .before .before .before .before .before .before .before .before .start-bound) .ensures ∙ ap (tabled (λ (i : ℕ). 256 + i)) ((c .before .before .before .before .before .before .before .before .before .before .before .before .before .before .before .before .before .before .before .before .before .before .before .before .before .before .before .before .pre) .1)) ((c .before .before .before .before .before .before .before .before .before .before .before .normalise) .ensures) ((c .before .before .before .before .before .before .if1) .taken) (omega (arith, (c .before .before .before .before .before .before .before .before .before .before .before .before .before .before .before .before .before .before .before .before .before .before .before .before .before .before .before .before .pre) .1)) (omega (arith, (c .before .before .before .before .before .before .before .before .before .before .before .before .before .before .before .before .before .before .before .before .before .before .before .before .before .before .before .before .pre) .0 .cells-size))
+    live-replies ((c .before .before .before .before .before .before .before .before .before .before .before .before .before .before .before .before .before .before .before .before .before .before .before .before .before .before .before .before .before .pre) .0) ((c .before .before .before .before .before .before .before .before .before .before .before .before .before .before .before .before .before .before .start-bound) .ensures ∙ ap (tabled (λ (i : ℕ). 256 + i)) ((c .before .before .before .before .before .before .before .before .before .before .before .before .before .before .before .before .before .before .before .before .before .before .before .before .before .before .before .before .before .pre) .1)) ((c .before .before .before .before .before .before .before .before .before .before .before .before .normalise) .ensures) ((c .before .before .before .before .before .before .before .if1) .taken) (omega (arith, (c .before .before .before .before .before .before .before .before .before .before .before .before .before .before .before .before .before .before .before .before .before .before .before .before .before .before .before .before .before .pre) .1)) (omega (arith, (c .before .before .before .before .before .before .before .before .before .before .before .before .before .before .before .before .before .before .before .before .before .before .before .before .before .before .before .before .before .pre) .0 .cells-size))
     ((c .before .before .list-final) .ensures)
 
 list-final-requires-2 : tie.Need-list-final-requires-2
 list-final-requires-2 c κs =
-    failed-lists ((c .before .before .before .before .before .before .before .before .before .before .before .before .before .before .before .before .before .before .before .before .before .before .before .before .before .pre) .0) ((c .before .before .before .before .before .before .before .before .before .before .before .before .before .before .start-bound) .ensures ∙ ap (tabled (λ (i : ℕ). 256 + i)) ((c .before .before .before .before .before .before .before .before .before .before .before .before .before .before .before .before .before .before .before .before .before .before .before .before .before .pre) .1)) ((c .before .before .before .before .before .before .before .before .normalise) .ensures) ((c .before .before .before .if1) .left) (omega (arith, (c .before .before .before .before .before .before .before .before .before .before .before .before .before .before .before .before .before .before .before .before .before .before .before .before .before .pre) .1)) _
+    (failed-lists ((c .before .before .before .before .before .before .before .before .before .before .before .before .before .before .before .before .before .before .before .before .before .before .before .before .before .pre) .0) ((c .before .before .before .before .before .before .before .before .before .before .before .before .before .before .start-bound) .ensures ∙ ap (tabled (λ (i : ℕ). 256 + i)) ((c .before .before .before .before .before .before .before .before .before .before .before .before .before .before .before .before .before .before .before .before .before .before .before .before .before .pre) .1)) ((c .before .before .before .before .before .before .before .before .normalise) .ensures) ((c .before .before .before .if1) .left) (omega (arith, (c .before .before .before .before .before .before .before .before .before .before .before .before .before .before .before .before .before .before .before .before .before .before .before .before .before .pre) .1)) _, omega arith)
 
 same-length-4 : tie.Need-same-length-4
 same-length-4 c = search needs
@@ -71,6 +76,7 @@ run-read-spec =
     start-bound-requires
     cast-next
     normalise-requires
+    cast-v
     mul-e
     slice-reshare-prefix-list-final
     slice-aggregate-list-final
