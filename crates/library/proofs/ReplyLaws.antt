@@ -1,6 +1,7 @@
 -- The reply of a run, case by case.
 --   refused-program, refused-goal      a text that is refused
 --   listed-short, listed-written       a listing that does not fit, and one that does
+--   listed-within                      a listing lies inside the output
 --   byte-few, reply-number             the byte of a letter; the number of a reply's answer is the reply's
 -- Assumes nothing.
 use Prim.Native.Nat.{ℕ, _+_, _*_, _≤_}
@@ -9,7 +10,7 @@ use mathlib.Core.Bool.{Bool, true, false, cond}
 use mathlib.Core.List.{List}
 use mathlib.Core.Path.{_≡_, refl, sym, ap, _∙_}
 use lib.Dec.{ltb}
-use lib.ListN.{length, drop}
+use lib.ListN.{length, length-append, drop}
 use lib.Seq.{take-at}
 use Rattle.syntax.specs.Answers.{refused, accepted}
 use Rattle.syntax.specs.Programs.{Reading, readProgram}
@@ -24,6 +25,7 @@ use Rattle.library.specs.Answers.{textMeant, replyMeant, letterOf, answe
 use Rattle.library.specs.Answers.{answerNumber, textByte, replyNumber}
 use Rattle.library.specs.declared.TextName.{TextName}
 use Rattle.library.specs.declared.TextName.the-variants.{S, G}
+use Rattle.library.specs.declared.RunReply.{RunReply}
 use Rattle.library.specs.declared.RunReply.the-variants.{Refused, Listed as ListedTo}
 
 -- a program's text that is refused
@@ -68,6 +70,18 @@ listed-written {bytes} {before} {after} {reply} n l e = go (ltb (length before) 
     go false a o =
         let size : n ≡ length bytes = cc in
         record { meant = rw (o, size) (ap listing (take-at bytes (drop (length bytes) before) (length bytes) refl)); answer = rw size; output = o }
+
+-- a listing lies inside the output
+pub listed-within :
+    {reply : Reply} {before after : List ℕ} {r : RunReply} (n : ℕ) → Replied reply before after r → r ≡ ListedTo n → n ≤ length after
+unfolding answerOf outputAfter
+listed-within {reply} {before} {after} {r} n p e = go reply (sym e ∙ p .answer) (p .output)
+  where
+    go : (reply : Reply) → ListedTo n ≡ answerOf reply → after ≡ outputAfter reply before → n ≤ length after
+    go (refusal number text line) a o = absurd (let z : _≡_ {A = ℕ} 0 1 = cc in omega arith)
+    go (listing bytes) a o =
+        let size : n ≡ length bytes = cc in
+        omega (arith, ap length o, length-append bytes (drop (length bytes) before))
 
 -- a letter's byte
 pub byte-few : (t : TextName) → nameByte t ≤ 83
