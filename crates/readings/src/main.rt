@@ -8,22 +8,21 @@ use goals::read_goal;
 use printing::print_refusal;
 use programs::ProgramRead;
 use programs::read_program;
+ghost use Rattle.library.specs.Stages.{GoalReady};
 
-// The goal over a program whose tables are lent.
+// The goal over a program as read, in its tables.
 fn read_the_goal(
     program: &[u8],
     goal: &[u8],
-    symbols: &[u16; 128],
+    symbols: &[u16],
+    rules: &[u16],
+    constants: &mut [u16],
     k: usize,
-    constants: &mut [u16; 128],
     n: usize,
-) {
-    if 32 < k {
-        return;
-    }
-    if 64 < n {
-        return;
-    }
+    own: usize,
+)
+    requires { ⌜ GoalReady (now program) (now symbols) (now rules) (now constants) k n own ⌝ }
+{
     let mut cells = [0; 320];
     let mut letters = [0; 26];
     match read_goal(
@@ -32,7 +31,7 @@ fn read_the_goal(
         symbols,
         k,
         constants,
-        n,
+        own,
         &mut cells,
         &mut letters,
     ) {
@@ -52,8 +51,9 @@ fn read_parts(program: &[u8], goal: &[u8]) {
         ProgramRead::Refused(number, line) => print_refusal(number, b'S', line),
         ProgramRead::Accepted(counts) => {
             let k = counts.symbols;
-            let n = counts.constants;
-            read_the_goal(program, goal, &symbols, k, &mut constants, n)
+            let n = counts.rules;
+            let own = counts.constants;
+            read_the_goal(program, goal, &symbols, &rules, &mut constants, k, n, own)
         }
     }
 }
