@@ -1,6 +1,5 @@
 -- `library::exported::answer_number` meets its contract. Assumes nothing.
 use native.Mathlib.Omega.{arith}
-use mathlib.Core.Path.{_∙_, ap, refl}
 use borrow.Author.Needs.{needs}
 use Rattle.library.specs.Answers.{nameByte, answerNumber}
 use Rattle.library.proofs.ReplyLaws.{byte-few}
