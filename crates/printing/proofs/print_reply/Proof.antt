@@ -30,7 +30,9 @@ array-share-prefix-output c =
 
 slice-aggregate-write-all : tie.Need-slice-aggregate-write-all
 slice-aggregate-write-all c =
-    sym (length-take-le _ _ (listed-within ((c .before .before .n) .given .0 .0) ((c .before .before .before .before .before .run) .ensures) ((c .before .before .n) .given .1)))
+    let n′ = c .before .before .n in
+    let run′ = c .before .before .before .before .before .run in
+    sym (length-take-le _ _ (listed-within (n′ .given .0 .0) (run′ .ensures) (n′ .given .1)))
 
 write-all-requires : tie.Need-write-all-requires
 write-all-requires c κs = search needs

@@ -33,9 +33,14 @@ is-name-byte-requires c κs = search needs
 
 returns : tie.Need-returns Inv-loop μ-loop
 returns c =
-    sym (every-fails test ((c .before .before .before .before .before .before .before .args) .f .now) ((c .before .before .before .before .loop) .i) ((c .before .before .before .loop-test) .taken)
-    (sym ((c .before .is-name-byte) .ensures) ∙ not-true ((c .before .is-name-byte) .result) ((c .if1) .taken)))
-    ∙ (c .before .before .before .before .loop) .inv .1
+    let args′ = c .before .before .before .before .before .before .before .args in
+    let loop′ = c .before .before .before .before .loop in
+    let loop-test′ = c .before .before .before .loop-test in
+    let is-name-byte′ = c .before .is-name-byte in
+    let if1′ = c .if1 in
+    let f′ = args′ .f .now in
+    sym (every-fails test f′ (loop′ .i) (loop-test′ .taken) (sym (is-name-byte′ .ensures) ∙ not-true (is-name-byte′ .result)
+    (if1′ .taken))) ∙ loop′ .inv .1
 
 add-i : tie.Need-add-i Inv-loop μ-loop
 add-i c = search needs
@@ -44,15 +49,25 @@ loop-less : tie.Need-loop-less Inv-loop μ-loop
 loop-less c = search needs
 
 loop-again : tie.Need-loop-again Inv-loop μ-loop
-loop-again c = (
-  omega arith,
-  rw add-one (sym (every-step test ((c .before .before .before .before .before .before .before .args) .f .now) ((c .before .before .before .before .loop) .i) ((c .before .before .before .loop-test) .taken)
-      (sym ((c .before .is-name-byte) .ensures) ∙ not-false ((c .before .is-name-byte) .result) ((c .if1) .left)))
-      ∙ (c .before .before .before .before .loop) .inv .1),
+loop-again c =
+    let args′ = c .before .before .before .before .before .before .before .args in
+    let loop′ = c .before .before .before .before .loop in
+    let loop-test′ = c .before .before .before .loop-test in
+    let is-name-byte′ = c .before .is-name-byte in
+    let if1′ = c .if1 in
+    let f′ = args′ .f .now in
+    ( omega arith, rw add-one (sym (every-step test f′ (loop′ .i) (loop-test′ .taken)
+    (sym (is-name-byte′ .ensures) ∙ not-false (is-name-byte′ .result) (if1′ .left))) ∙ loop′ .inv .1),
+
 )
 
 returns-2 : tie.Need-returns-2 Inv-loop μ-loop
-returns-2 c = sym (every-end test ((c .before .before .before .before .args) .f .now) ((c .before .loop) .i) ((c .loop-test) .left)) ∙ (c .before .loop) .inv .1
+returns-2 c =
+    let args′ = c .before .before .before .before .args in
+    let loop′ = c .before .loop in
+    let loop-test′ = c .loop-test in
+    let f′ = args′ .f .now in
+    sym (every-end test f′ (loop′ .i) (loop-test′ .left)) ∙ loop′ .inv .1
 
 pub are-name-bytes-spec : {M : Type 1} → statement M
 are-name-bytes-spec =

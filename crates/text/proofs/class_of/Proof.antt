@@ -19,7 +19,11 @@ shared-slice-read-result c =
 returns : tie.Need-returns
 unfolding classTable
 returns c =
-    ap (λ (l : List ℕ). getD l ((c .before .args) .b) 0) ((c .before .pre)) ∙ tabled-at (λ (b : ℕ). classNumber (classOf b)) 256 ((c .before .args) .b) 0 (omega (arith, (c .before .fits) .b))
+    let args′ = c .before .args in
+    let pre′ = c .before .pre in
+    let fits′ = c .before .fits in
+    let b′ = args′ .b in
+    ap (λ (l : List ℕ). getD l b′ 0) pre′ ∙ tabled-at (λ (b : ℕ). classNumber (classOf b)) 256 b′ 0 (omega (arith, fits′ .b))
 
 pub class-of-spec : {M : Type 1} → statement M
 class-of-spec = tie.close (tie.spec shared-slice-read-result returns)

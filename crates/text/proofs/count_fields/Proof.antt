@@ -36,16 +36,25 @@ loop-less c = search needs
 
 loop-again : tie.Need-loop-again Inv-loop μ-loop
 loop-again c =
-    rw add-one (⊎-elim
-    (λ w. (omega arith, omega arith, omega arith, omega (arith, count-comma ((c .before .before .before .before .args) .line .now) ((c .before .before .before .loop) .i) ((c .before .before .loop-test) .taken) (w .0 .taken))))
-    (λ w. (omega arith, omega arith, omega arith, omega (arith, count-other ((c .before .before .before .before .args) .line .now) ((c .before .before .before .loop) .i) ((c .before .before .loop-test) .taken) (w .0 .left))))
-    ((c .if1) .came))
+    let args′ = c .before .before .before .before .args in
+    let loop′ = c .before .before .before .loop in
+    let loop-test′ = c .before .before .loop-test in
+    let if1′ = c .if1 in
+    let line′ = args′ .line .now in
+    rw add-one (⊎-elim (λ w. (omega arith, omega arith, omega arith, omega (arith, count-comma line′ (loop′ .i)
+    (loop-test′ .taken) (w .0 .taken)))) (λ w. (omega arith, omega arith, omega arith, omega (arith, count-other line′ (loop′ .i)
+    (loop-test′ .taken) (w .0 .left)))) (if1′ .came))
 
 returns : tie.Need-returns Inv-loop μ-loop
 returns c =
-    (let z : (c .before .loop) .n ≡ length (fields (drop ((c .before .before .args) .at) ((c .before .before .args) .line .now))) =
-    omega (arith, count-end ((c .before .before .args) .line .now) ((c .before .loop) .i) ((c .loop-test) .left)) in z)
-    ∙ ap (λ (fs : List (List ℕ)). length fs) (sym (fields-in ((c .before .before .args) .line .now) ((c .before .before .args) .at) ((c .before .before .pre))))
+    let loop′ = c .before .loop in
+    let args′ = c .before .before .args in
+    let loop-test′ = c .loop-test in
+    let pre′ = c .before .before .pre in
+    let at′ = args′ .at in
+    let line′ = args′ .line .now in
+    (let z : loop′ .n ≡ length (fields (drop at′ line′)) = omega (arith, count-end line′ (loop′ .i) (loop-test′ .left)) in z) ∙ ap
+    (λ (fs : List (List ℕ)). length fs) (sym (fields-in line′ at′ pre′))
 
 pub count-fields-spec : {M : Type 1} → statement M
 count-fields-spec =

@@ -24,7 +24,14 @@ shared-slice-read-if1 : tie.Need-shared-slice-read-if1 Inv-loop μ-loop
 shared-slice-read-if1 c = search needs
 
 returns : tie.Need-returns Inv-loop μ-loop
-returns c = (omega (arith, before-here ((c .before .before .before .before .args) .x) ((c .before .before .before .before .args) .s .now) ((c .before .before .before .loop) .i) ((c .before .before .loop-test) .taken) ((c .if1) .taken)), omega arith, omega arith)
+returns c =
+    let args′ = c .before .before .before .before .args in
+    let loop′ = c .before .before .before .loop in
+    let loop-test′ = c .before .before .loop-test in
+    let if1′ = c .if1 in
+    let x′ = args′ .x in
+    let s′ = args′ .s .now in
+    (omega (arith, before-here x′ s′ (loop′ .i) (loop-test′ .taken) (if1′ .taken)), omega arith, omega arith)
 
 add-i : tie.Need-add-i Inv-loop μ-loop
 add-i c = search needs
@@ -33,15 +40,25 @@ loop-less : tie.Need-loop-less Inv-loop μ-loop
 loop-less c = search needs
 
 loop-again : tie.Need-loop-again Inv-loop μ-loop
-loop-again c = (
-  omega arith,
-  omega arith,
-  rw add-one (omega (arith, before-step ((c .before .before .before .before .args) .x) ((c .before .before .before .before .args) .s .now) ((c .before .before .before .loop) .i) ((c .before .before .loop-test) .taken) ((c .if1) .left))),
+loop-again c =
+    let args′ = c .before .before .before .before .args in
+    let loop′ = c .before .before .before .loop in
+    let loop-test′ = c .before .before .loop-test in
+    let if1′ = c .if1 in
+    let x′ = args′ .x in
+    let s′ = args′ .s .now in
+    ( omega arith, omega arith, rw add-one (omega (arith, before-step x′ s′ (loop′ .i) (loop-test′ .taken) (if1′ .left))),
+
 )
 
 returns-2 : tie.Need-returns-2 Inv-loop μ-loop
 returns-2 c =
-    (omega (arith, before-end ((c .before .before .args) .x) ((c .before .before .args) .s .now) ((c .before .loop) .i) ((c .loop-test) .left)), omega arith, omega arith)
+    let args′ = c .before .before .args in
+    let loop′ = c .before .loop in
+    let loop-test′ = c .loop-test in
+    let x′ = args′ .x in
+    let s′ = args′ .s .now in
+    (omega (arith, before-end x′ s′ (loop′ .i) (loop-test′ .left)), omega arith, omega arith)
 
 pub find-byte-spec : {M : Type 1} → statement M
 find-byte-spec =

@@ -36,9 +36,14 @@ class-of-requires c κs = search needs
 returns : tie.Need-returns Inv-loop μ-loop
 unfolding isOther classNumber
 returns c =
-    ap not (sym (every-fails test ((c .before .before .before .before .before .before .before .args) .f .now) ((c .before .before .before .before .loop) .i) ((c .before .before .before .loop-test) .taken)
-    (ap (λ (n : ℕ). not (eqb n 5)) (sym ((c .before .class-of) .ensures)) ∙ ap not (eq-eqb ((c .before .class-of) .result) 5 ((c .if1) .taken))))
-    ∙ (c .before .before .before .before .loop) .inv .1)
+    let args′ = c .before .before .before .before .before .before .before .args in
+    let loop′ = c .before .before .before .before .loop in
+    let loop-test′ = c .before .before .before .loop-test in
+    let class-of′ = c .before .class-of in
+    let if1′ = c .if1 in
+    let f′ = args′ .f .now in
+    ap not (sym (every-fails test f′ (loop′ .i) (loop-test′ .taken) (ap (λ (n : ℕ). not (eqb n 5)) (sym (class-of′ .ensures)) ∙ ap
+    not (eq-eqb (class-of′ .result) 5 (if1′ .taken)))) ∙ loop′ .inv .1)
 
 add-i : tie.Need-add-i Inv-loop μ-loop
 add-i c = search needs
@@ -48,15 +53,26 @@ loop-less c = search needs
 
 loop-again : tie.Need-loop-again Inv-loop μ-loop
 unfolding isOther classNumber
-loop-again c = (
-  omega arith,
-  rw add-one (sym (every-step test ((c .before .before .before .before .before .before .before .args) .f .now) ((c .before .before .before .before .loop) .i) ((c .before .before .before .loop-test) .taken)
-      (ap (λ (n : ℕ). not (eqb n 5)) (sym ((c .before .class-of) .ensures)) ∙ ap not (ne-eqb ((c .before .class-of) .result) 5 ((c .if1) .left))))
-      ∙ (c .before .before .before .before .loop) .inv .1),
+loop-again c =
+    let args′ = c .before .before .before .before .before .before .before .args in
+    let loop′ = c .before .before .before .before .loop in
+    let loop-test′ = c .before .before .before .loop-test in
+    let class-of′ = c .before .class-of in
+    let if1′ = c .if1 in
+    let f′ = args′ .f .now in
+    ( omega arith, rw add-one (sym (every-step test f′ (loop′ .i) (loop-test′ .taken)
+    (ap (λ (n : ℕ). not (eqb n 5)) (sym (class-of′ .ensures)) ∙ ap not (ne-eqb (class-of′ .result) 5 (if1′ .left)))) ∙
+    loop′ .inv .1),
+
 )
 
 returns-2 : tie.Need-returns-2 Inv-loop μ-loop
-returns-2 c = ap not (sym (every-end test ((c .before .before .before .before .args) .f .now) ((c .before .loop) .i) ((c .loop-test) .left)) ∙ (c .before .loop) .inv .1)
+returns-2 c =
+    let args′ = c .before .before .before .before .args in
+    let loop′ = c .before .loop in
+    let loop-test′ = c .loop-test in
+    let f′ = args′ .f .now in
+    ap not (sym (every-end test f′ (loop′ .i) (loop-test′ .left)) ∙ loop′ .inv .1)
 
 pub has-other-spec : {M : Type 1} → statement M
 has-other-spec =

@@ -21,9 +21,13 @@ use Rattle.text.proofs.is_faulty_line.Tie as tie
 returns : tie.Need-returns
 unfolding lineAt
 returns c =
-    let s : List ℕ = (c .before .before .before .args) .s .now in
-    let part : List ℕ = drop ((c .before .before .before .args) .at) (take ((c .before .before .before .args) .end) s) in
-    sym (faulty-empty part (ltb ((c .before .before .before .args) .end) (length s)) (omega (arith, length-slice ((c .before .before .before .args) .at) ((c .before .before .before .args) .end) s ((c .before .before .before .pre) .2))))
+    let start′ = c .before .before .before in
+    let args′ = start′ .args in
+    let pre′ = start′ .pre in
+    let at′ = args′ .at in
+    let end′ = args′ .end in
+    let s : List ℕ = args′ .s .now in let part : List ℕ = drop at′ (take end′ s) in sym
+    (faulty-empty part (ltb end′ (length s)) (omega (arith, length-slice at′ end′ s (pre′ .2))))
 
 sub-if2 : tie.Need-sub-if2
 sub-if2 c = search needs
@@ -31,18 +35,27 @@ sub-if2 c = search needs
 returns-2 : tie.Need-returns-2
 unfolding lineAt
 returns-2 c =
-    let s : List ℕ = (c .before .before .before .before .args) .s .now in
-    let part : List ℕ = drop ((c .before .before .before .before .args) .at) (take ((c .before .before .before .before .args) .end) s) in
-    sym (faulty-long part (ltb ((c .before .before .before .before .args) .end) (length s)) (omega (arith, length-slice ((c .before .before .before .before .args) .at) ((c .before .before .before .before .args) .end) s ((c .before .before .before .before .pre) .2))))
+    let start′ = c .before .before .before .before in
+    let args′ = start′ .args in
+    let pre′ = start′ .pre in
+    let at′ = args′ .at in
+    let end′ = args′ .end in
+    let s : List ℕ = args′ .s .now in let part : List ℕ = drop at′ (take end′ s) in sym
+    (faulty-long part (ltb end′ (length s)) (omega (arith, length-slice at′ end′ s (pre′ .2))))
 
 returns-3 : tie.Need-returns-3
 unfolding lineAt
 returns-3 c =
-    let s : List ℕ = (c .before .before .before .before .before .args) .s .now in
-    let part : List ℕ = drop ((c .before .before .before .before .before .args) .at) (take ((c .before .before .before .before .before .args) .end) s) in
-    let sized : length part ≡ (c .before .before .before .before .before .args) .end - (c .before .before .before .before .before .args) .at = length-slice ((c .before .before .before .before .before .args) .at) ((c .before .before .before .before .before .args) .end) s ((c .before .before .before .before .before .pre) .2) in
-    rw (le-ltb ((c .before .before .before .before .before .args) .end) (length s) (omega arith))
-    (sym (faulty-open part (omega (arith, (c .before .before .if1) .left)) (omega (arith, (c .before .if2) .left))))
+    let start′ = c .before .before .before .before .before in
+    let args′ = start′ .args in
+    let pre′ = start′ .pre in
+    let if1′ = c .before .before .if1 in
+    let if2′ = c .before .if2 in
+    let at′ = args′ .at in
+    let end′ = args′ .end in
+    let s : List ℕ = args′ .s .now in let part : List ℕ = drop at′ (take end′ s) in let sized : length part ≡ args′ .end -
+    args′ .at = length-slice at′ end′ s (pre′ .2) in rw (le-ltb end′ (length s) (omega arith))
+    (sym (faulty-open part (omega (arith, if1′ .left)) (omega (arith, if2′ .left))))
 
 sub-has-other : tie.Need-sub-has-other
 sub-has-other c = search needs
@@ -59,13 +72,19 @@ has-other-requires c κs = search needs
 returns-4 : tie.Need-returns-4
 unfolding lineAt
 returns-4 c =
-    let s : List ℕ = (c .before .before .before .before .before .before .before .args) .s .now in
-    let part : List ℕ = drop ((c .before .before .before .before .before .before .before .args) .at) (take ((c .before .before .before .before .before .before .before .args) .end) s) in
-    let sized : length part ≡ (c .before .before .before .before .before .before .before .args) .end - (c .before .before .before .before .before .before .before .args) .at = length-slice ((c .before .before .before .before .before .before .before .args) .at) ((c .before .before .before .before .before .before .before .args) .end) s ((c .before .before .before .before .before .before .before .pre) .2) in
-    rw (lt-ltb ((c .before .before .before .before .before .before .before .args) .end) (length s) (omega (arith, (c .before .before .if3) .left)))
-    ((c .has-other) .ensures
-    ∙ ap (λ (l : List ℕ). not (every (λ b. not (isOther b)) l)) (sym (drop-take ((c .before .before .before .before .before .before .before .args) .at) ((c .before .before .before .before .before .before .before .args) .end) s ((c .before .before .before .before .before .before .before .pre) .1)))
-    ∙ sym (faulty-bytes part (omega (arith, (c .before .before .before .before .if1) .left)) (omega (arith, (c .before .before .before .if2) .left))))
+    let start′ = c .before .before .before .before .before .before .before in
+    let args′ = start′ .args in
+    let pre′ = start′ .pre in
+    let if3′ = c .before .before .if3 in
+    let has-other′ = c .has-other in
+    let if1′ = c .before .before .before .before .if1 in
+    let if2′ = c .before .before .before .if2 in
+    let at′ = args′ .at in
+    let end′ = args′ .end in
+    let s : List ℕ = args′ .s .now in let part : List ℕ = drop at′ (take end′ s) in let sized : length part ≡ args′ .end -
+    args′ .at = length-slice at′ end′ s (pre′ .2) in rw (lt-ltb end′ (length s) (omega (arith, if3′ .left)))
+    (has-other′ .ensures ∙ ap (λ (l : List ℕ). not (every (λ b. not (isOther b)) l)) (sym (drop-take at′ end′ s (pre′ .1))) ∙ sym
+    (faulty-bytes part (omega (arith, if1′ .left)) (omega (arith, if2′ .left))))
 
 pub is-faulty-line-spec : {M : Type 1} → statement M
 is-faulty-line-spec =

@@ -19,9 +19,10 @@ sub-if1 c = search needs
 
 returns : tie.Need-returns
 returns c =
-    let s : List ℕ = (c .before .before .before .args) .s .now in
-    sym (same-lengths (take 5 (drop ((c .before .before .before .args) .at) s)) goalLine
-    (λ e. omega (arith, e, goal-length, length-take 5 (drop ((c .before .before .before .args) .at) s), length-drop ((c .before .before .before .args) .at) s)))
+    let args′ = c .before .before .before .args in
+    let at′ = args′ .at in
+    let s : List ℕ = args′ .s .now in sym (same-lengths (take 5 (drop at′ s)) goalLine (λ e. omega (arith, e, goal-length,
+    length-take 5 (drop at′ s), length-drop at′ s)))
 
 add-end : tie.Need-add-end
 add-end c = search needs
@@ -41,9 +42,12 @@ same-bytes-requires c κs = search needs
 returns-2 : tie.Need-returns-2
 unfolding goalLine ascii
 returns-2 c =
-    (c .same-bytes) .ensures
-    ∙ ap (λ (n : ℕ). sameBytes (take n (drop ((c .before .before .before .before .before .before .args) .at) ((c .before .before .before .before .before .before .args) .s .now))) goalLine)
-    (let z : (c .before .before .before .before .before .before .args) .at + 5 - (c .before .before .before .before .before .before .args) .at ≡ 5 = omega arith in z)
+    let same-bytes′ = c .same-bytes in
+    let args′ = c .before .before .before .before .before .before .args in
+    let at′ = args′ .at in
+    let s′ = args′ .s .now in
+    same-bytes′ .ensures ∙ ap (λ (n : ℕ). sameBytes (take n (drop at′ s′)) goalLine)
+    (let z : args′ .at + 5 - args′ .at ≡ 5 = omega arith in z)
 
 pub is-goal-line-spec : {M : Type 1} → statement M
 is-goal-line-spec =

@@ -14,7 +14,12 @@ returns c = rw (lt-leb 1 (length ((c .before .before .before .args) .f .now)) ((
 
 returns-2 : tie.Need-returns-2
 unfolding isName between
-returns-2 c = rw (le-leb 1 (length ((c .before .before .before .before .args) .f .now)) ((c .before .if1) .left), lt-leb (length ((c .before .before .before .before .args) .f .now)) 8 ((c .if2) .taken))
+returns-2 c =
+    let args′ = c .before .before .before .before .args in
+    let if1′ = c .before .if1 in
+    let if2′ = c .if2 in
+    let f′ = args′ .f .now in
+    rw (le-leb 1 (length f′) (if1′ .left), lt-leb (length f′) 8 (if2′ .taken))
 
 are-name-bytes-requires : tie.Need-are-name-bytes-requires
 are-name-bytes-requires c κs = search needs
@@ -22,7 +27,12 @@ are-name-bytes-requires c κs = search needs
 returns-3 : tie.Need-returns-3
 unfolding isName between
 returns-3 c =
-    rw (le-leb 1 (length ((c .before .before .before .before .before .args) .f .now)) ((c .before .before .if1) .left), le-leb (length ((c .before .before .before .before .before .args) .f .now)) 8 ((c .before .if2) .left)) ((c .are-name-bytes) .ensures)
+    let args′ = c .before .before .before .before .before .args in
+    let if1′ = c .before .before .if1 in
+    let if2′ = c .before .if2 in
+    let are-name-bytes′ = c .are-name-bytes in
+    let f′ = args′ .f .now in
+    rw (le-leb 1 (length f′) (if1′ .left), le-leb (length f′) 8 (if2′ .left)) (are-name-bytes′ .ensures)
 
 pub is-name-spec : {M : Type 1} → statement M
 is-name-spec = tie.close (tie.spec returns returns-2 are-name-bytes-requires returns-3)

@@ -11,10 +11,20 @@ class-of-requires : tie.Need-class-of-requires
 class-of-requires c κs = search needs
 
 returns : tie.Need-returns
-returns c = sym (name-class-zero (classOf ((c .before .before .before .args) .b)) (sym ((c .before .class-of) .ensures) ∙ (c .if1) .taken))
+returns c =
+    let args′ = c .before .before .before .args in
+    let class-of′ = c .before .class-of in
+    let if1′ = c .if1 in
+    let b′ = args′ .b in
+    sym (name-class-zero (classOf b′) (sym (class-of′ .ensures) ∙ if1′ .taken))
 
 returns-2 : tie.Need-returns-2
-returns-2 c = name-class-more (classOf ((c .before .before .before .args) .b)) ((c .before .class-of) .result) ((c .before .class-of) .ensures) ((c .if1) .left)
+returns-2 c =
+    let args′ = c .before .before .before .args in
+    let class-of′ = c .before .class-of in
+    let if1′ = c .if1 in
+    let b′ = args′ .b in
+    name-class-more (classOf b′) (class-of′ .result) (class-of′ .ensures) (if1′ .left)
 
 pub is-name-byte-spec : {M : Type 1} → statement M
 is-name-byte-spec = tie.close (tie.spec class-of-requires returns returns-2)

@@ -17,7 +17,12 @@ is-digit-requires : tie.Need-is-digit-requires
 is-digit-requires c κs = search needs
 
 returns : tie.Need-returns
-returns c = (c .is-digit) .ensures ∙ sym (number-one ((c .before .before .before .before .args) .f .now) ((c .before .before .if1) .taken))
+returns c =
+    let is-digit′ = c .is-digit in
+    let args′ = c .before .before .before .before .args in
+    let if1′ = c .before .before .if1 in
+    let f′ = args′ .f .now in
+    is-digit′ .ensures ∙ sym (number-one f′ (if1′ .taken))
 
 returns-2 : tie.Need-returns-2
 returns-2 c = sym (number-more ((c .before .before .before .args) .f .now) ((c .before .if1) .left) ((c .if2) .taken))
@@ -30,7 +35,12 @@ is-digit-requires-2 c κs = search needs
 
 returns-3 : tie.Need-returns-3
 returns-3 c =
-    rw (number-two ((c .before .before .before .before .before .before .args) .f .now) ((c .before .before .before .if2) .left), sym ((c .before .is-digit2) .ensures) ∙ not-true ((c .before .is-digit2) .result) ((c .if3) .taken))
+    let args′ = c .before .before .before .before .before .before .args in
+    let if2′ = c .before .before .before .if2 in
+    let is-digit2′ = c .before .is-digit2 in
+    let if3′ = c .if3 in
+    let f′ = args′ .f .now in
+    rw (number-two f′ (if2′ .left), sym (is-digit2′ .ensures) ∙ not-true (is-digit2′ .result) (if3′ .taken))
 
 shared-slice-read-is-digit-3 : tie.Need-shared-slice-read-is-digit-3
 shared-slice-read-is-digit-3 c = search needs
@@ -40,8 +50,13 @@ is-digit-requires-3 c κs = search needs
 
 returns-4 : tie.Need-returns-4
 returns-4 c =
-    rw (number-two ((c .before .before .before .before .before .before .before .before .args) .f .now) ((c .before .before .before .before .before .if2) .left), sym ((c .before .before .before .is-digit2) .ensures) ∙ not-false ((c .before .before .before .is-digit2) .result) ((c .before .before .if3) .left))
-    ((c .is-digit3) .ensures)
+    let args′ = c .before .before .before .before .before .before .before .before .args in
+    let if2′ = c .before .before .before .before .before .if2 in
+    let is-digit2′ = c .before .before .before .is-digit2 in
+    let if3′ = c .before .before .if3 in
+    let is-digit3′ = c .is-digit3 in
+    let f′ = args′ .f .now in
+    rw (number-two f′ (if2′ .left), sym (is-digit2′ .ensures) ∙ not-false (is-digit2′ .result) (if3′ .left)) (is-digit3′ .ensures)
 
 pub is-short-number-spec : {M : Type 1} → statement M
 is-short-number-spec =

@@ -17,14 +17,24 @@ shared-slice-read-if2 c = search needs
 
 returns-2 : tie.Need-returns-2
 unfolding between
-returns-2 c = rw (variable-one ((c .before .before .before .args) .f .now) ((c .before .before .if1) .left), lt-leb 65 (getD ((c .before .before .before .args) .f .now) 0 0) ((c .if2) .taken))
+returns-2 c =
+    let args′ = c .before .before .before .args in
+    let if1′ = c .before .before .if1 in
+    let if2′ = c .if2 in
+    let f′ = args′ .f .now in
+    rw (variable-one f′ (if1′ .left), lt-leb 65 (getD f′ 0 0) (if2′ .taken))
 
 shared-slice-read-result : tie.Need-shared-slice-read-result
 shared-slice-read-result c = search needs
 
 returns-3 : tie.Need-returns-3
 unfolding between
-returns-3 c = rw (variable-one ((c .before .before .before .before .args) .f .now) ((c .before .before .before .if1) .left), le-leb 65 (getD ((c .before .before .before .before .args) .f .now) 0 0) ((c .before .if2) .left))
+returns-3 c =
+    let args′ = c .before .before .before .before .args in
+    let if1′ = c .before .before .before .if1 in
+    let if2′ = c .before .if2 in
+    let f′ = args′ .f .now in
+    rw (variable-one f′ (if1′ .left), le-leb 65 (getD f′ 0 0) (if2′ .left))
 
 pub is-variable-spec : {M : Type 1} → statement M
 is-variable-spec =

@@ -30,7 +30,12 @@ shared-slice-read-if2-2 c = search needs
 
 returns-2 : tie.Need-returns-2 Inv-loop μ-loop
 returns-2 c =
-    sym (same-fails ((c .before .before .before .before .before .before .args) .a .now) ((c .before .before .before .before .before .before .args) .b .now) ((c .before .before .before .before .loop) .i) (omega arith) (omega arith) ((c .if2) .taken)) ∙ (c .before .before .before .before .loop) .inv .2
+    let args′ = c .before .before .before .before .before .before .args in
+    let loop′ = c .before .before .before .before .loop in
+    let if2′ = c .if2 in
+    let a′ = args′ .a .now in
+    let b′ = args′ .b .now in
+    sym (same-fails a′ b′ (loop′ .i) (omega arith) (omega arith) (if2′ .taken)) ∙ loop′ .inv .2
 
 add-i : tie.Need-add-i Inv-loop μ-loop
 add-i c = search needs
@@ -39,14 +44,24 @@ loop-less : tie.Need-loop-less Inv-loop μ-loop
 loop-less c = search needs
 
 loop-again : tie.Need-loop-again Inv-loop μ-loop
-loop-again c = (
-  omega arith,
-  omega arith,
-  rw add-one (sym (same-step ((c .before .before .before .before .before .before .args) .a .now) ((c .before .before .before .before .before .before .args) .b .now) ((c .before .before .before .before .loop) .i) (omega arith) (omega arith) ((c .if2) .left)) ∙ (c .before .before .before .before .loop) .inv .2),
+loop-again c =
+    let args′ = c .before .before .before .before .before .before .args in
+    let loop′ = c .before .before .before .before .loop in
+    let if2′ = c .if2 in
+    let a′ = args′ .a .now in
+    let b′ = args′ .b .now in
+    ( omega arith, omega arith, rw add-one (sym (same-step a′ b′ (loop′ .i) (omega arith) (omega arith) (if2′ .left)) ∙
+    loop′ .inv .2),
+
 )
 
 returns-3 : tie.Need-returns-3 Inv-loop μ-loop
-returns-3 c = sym (same-end ((c .before .before .before .args) .a .now) ((c .before .before .before .args) .b .now) ((c .before .loop) .i) (omega arith) (omega arith)) ∙ (c .before .loop) .inv .2
+returns-3 c =
+    let args′ = c .before .before .before .args in
+    let loop′ = c .before .loop in
+    let a′ = args′ .a .now in
+    let b′ = args′ .b .now in
+    sym (same-end a′ b′ (loop′ .i) (omega arith) (omega arith)) ∙ loop′ .inv .2
 
 pub same-bytes-spec : {M : Type 1} → statement M
 same-bytes-spec =

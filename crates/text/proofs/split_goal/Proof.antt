@@ -30,16 +30,26 @@ is-goal-line-requires c κs = search needs
 
 add-t7 : tie.Need-add-t7 Inv-loop μ-loop
 add-t7 c =
-    record { fits = omega (arith, goal-room ((c .before .before .before .before .before .before .args) .s .now) ((c .before .before .before .before .loop) .i) (sym ((c .before .is-goal-line) .ensures) ∙ (c .if2) .taken)) }
+    let args′ = c .before .before .before .before .before .before .args in
+    let loop′ = c .before .before .before .before .loop in
+    let is-goal-line′ = c .before .is-goal-line in
+    let if2′ = c .if2 in
+    let s′ = args′ .s .now in
+    record { fits = omega (arith, goal-room s′ (loop′ .i) (sym (is-goal-line′ .ensures) ∙ if2′ .taken)) }
 
 returns : tie.Need-returns Inv-loop μ-loop
 returns c =
-    let found : sameBytes (take 5 (drop ((c .before .before .before .before .loop) .i) ((c .before .before .before .before .before .before .args) .s .now))) goalLine ≡ true = sym ((c .before .is-goal-line) .ensures) ∙ (c .if2) .taken in (
-      (c .before .before .before .before .loop) .inv .1 ∙ parted-found ((c .before .before .before .before .before .before .args) .s .now) ((c .before .before .before .before .loop) .i) ((c .before .before .before .before .loop) .fresh) ((c .before .before .before .loop-test) .taken)
-          (ap (λ (t : Bool). t && sameBytes (take 5 (drop ((c .before .before .before .before .loop) .i) ((c .before .before .before .before .before .before .args) .s .now))) goalLine) ((c .before .before .if1) .taken) ∙ found),
-      omega arith,
-      omega (arith, goal-room ((c .before .before .before .before .before .before .args) .s .now) ((c .before .before .before .before .loop) .i) found),
-    )
+    let loop′ = c .before .before .before .before .loop in
+    let args′ = c .before .before .before .before .before .before .args in
+    let is-goal-line′ = c .before .is-goal-line in
+    let if2′ = c .if2 in
+    let loop-test′ = c .before .before .before .loop-test in
+    let if1′ = c .before .before .if1 in
+    let s′ = args′ .s .now in
+    let found : sameBytes (take 5 (drop (loop′ .i) s′)) goalLine ≡ true = sym (is-goal-line′ .ensures) ∙ if2′ .taken in
+    ( loop′ .inv .1 ∙ parted-found s′ (loop′ .i) (loop′ .fresh) (loop-test′ .taken)
+    (ap (λ (t : Bool). t && sameBytes (take 5 (drop (loop′ .i) s′)) goalLine) (if1′ .taken) ∙ found), omega arith, omega
+    (arith, goal-room s′ (loop′ .i) found), )
 
 shared-slice-read-fresh : tie.Need-shared-slice-read-fresh Inv-loop μ-loop
 shared-slice-read-fresh c = search needs
@@ -52,15 +62,22 @@ loop-less c = search needs
 
 loop-again : tie.Need-loop-again Inv-loop μ-loop
 loop-again c =
-    let test : ((c .before .before .before .loop) .fresh && sameBytes (take 5 (drop ((c .before .before .before .loop) .i) ((c .before .before .before .before .before .args) .s .now))) goalLine) ≡ false =
-    ⊎-elim
-    (λ w. rw (w .0 .taken, sym (w .1 .ensures) ∙ w .2 .left))
-    (λ w. rw (w .left))
-    ((c .before .if1) .came) in
-    (omega arith, rw add-one ((c .before .before .before .loop) .inv .1 ∙ parted-step ((c .before .before .before .before .before .args) .s .now) ((c .before .before .before .loop) .i) ((c .before .before .before .loop) .fresh) ((c .before .before .loop-test) .taken) test))
+    let loop′ = c .before .before .before .loop in
+    let args′ = c .before .before .before .before .before .args in
+    let if1′ = c .before .if1 in
+    let loop-test′ = c .before .before .loop-test in
+    let s′ = args′ .s .now in
+    let test : (loop′ .fresh && sameBytes (take 5 (drop (loop′ .i) s′)) goalLine) ≡ false = ⊎-elim
+    (λ w. rw (w .0 .taken, sym (w .1 .ensures) ∙ w .2 .left)) (λ w. rw (w .left)) (if1′ .came) in
+    (omega arith, rw add-one (loop′ .inv .1 ∙ parted-step s′ (loop′ .i) (loop′ .fresh) (loop-test′ .taken) test))
 
 returns-2 : tie.Need-returns-2 Inv-loop μ-loop
-returns-2 c = ((c .before .loop) .inv .1 ∙ parted-end ((c .before .before .before .args) .s .now) ((c .before .loop) .i) ((c .before .loop) .fresh) ((c .loop-test) .left), omega arith, omega arith)
+returns-2 c =
+    let loop′ = c .before .loop in
+    let args′ = c .before .before .before .args in
+    let loop-test′ = c .loop-test in
+    let s′ = args′ .s .now in
+    (loop′ .inv .1 ∙ parted-end s′ (loop′ .i) (loop′ .fresh) (loop-test′ .left), omega arith, omega arith)
 
 pub split-goal-spec : {M : Type 1} → statement M
 split-goal-spec =

@@ -18,7 +18,12 @@ digit-value-requires : tie.Need-digit-value-requires
 digit-value-requires c κs = search needs
 
 returns-2 : tie.Need-returns-2
-returns-2 c = (c .before .digit-value) .ensures .0 ∙ sym (value-one ((c .before .before .before .before .before .args) .f .now) ((c .if2) .taken))
+returns-2 c =
+    let digit-value′ = c .before .digit-value in
+    let args′ = c .before .before .before .before .before .args in
+    let if2′ = c .if2 in
+    let f′ = args′ .f .now in
+    digit-value′ .ensures .0 ∙ sym (value-one f′ (if2′ .taken))
 
 mul-result : tie.Need-mul-result
 mul-result c = search needs
@@ -33,7 +38,14 @@ add-result : tie.Need-add-result
 add-result c = search needs
 
 returns-3 : tie.Need-returns-3
-returns-3 c = omega (arith, value-two ((c .before .before .before .before .before .before .before .args) .f .now) (omega (arith, (c .before .before .before .before .before .if1) .left, (c .before .before .if2) .left)), (c .before .before .before .digit-value) .ensures .0, (c .digit-value2) .ensures .0)
+returns-3 c =
+    let args′ = c .before .before .before .before .before .before .before .args in
+    let if1′ = c .before .before .before .before .before .if1 in
+    let if2′ = c .before .before .if2 in
+    let digit-value′ = c .before .before .before .digit-value in
+    let digit-value2′ = c .digit-value2 in
+    let f′ = args′ .f .now in
+    omega (arith, value-two f′ (omega (arith, if1′ .left, if2′ .left)), digit-value′ .ensures .0, digit-value2′ .ensures .0)
 
 pub value-of-spec : {M : Type 1} → statement M
 value-of-spec =

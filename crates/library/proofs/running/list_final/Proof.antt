@@ -12,12 +12,28 @@ array-borrow-prefix-numbers : tie.Need-array-borrow-prefix-numbers
 array-borrow-prefix-numbers c = search needs
 
 slice-aggregate-list-run : tie.Need-slice-aggregate-list-run
-slice-aggregate-list-run c = sym (length-take-le ((c .before .before .before .before .before .before .before .before .before .before .args) .v) _ ((c .before .before .before .before .before .before .before .before .before .before .pre) .1))
+slice-aggregate-list-run c =
+    let start′ = c .before .before .before .before .before .before .before .before .before .before in
+    let args′ = start′ .args in
+    let pre′ = start′ .pre in
+    let v′ = args′ .v in
+    sym (length-take-le v′ _ (pre′ .1))
 
 list-run-requires : tie.Need-list-run-requires
 list-run-requires c κs =
-    subst (λ (m : ℕ). RunListable ((c .before .before .before .before .before .before .before .before .before .before .args) .symbols .now) ((c .before .before .before .before .before .before .before .before .before .before .args) .constants .now) ((c .before .before .before .before .before .before .before .before .before .before .args) .letters .now) ((c .before .before .before .before .before .before .before .before .before .before .args) .bound .now) ((c .before .before .before .before .before .before .before .before .before .before .args) .cells .now) m ((c .before .before .before .before .before .before .before .before .before .before .args) .failed) ((c .before .before .before .before .before .before .before .before .before .before .args) .counts))
-    (sym (length-take-le ((c .before .before .before .before .before .before .before .before .before .before .args) .v) _ ((c .before .before .before .before .before .before .before .before .before .before .pre) .1))) ((c .before .before .before .before .before .before .before .before .before .before .pre) .0)
+    let start′ = c .before .before .before .before .before .before .before .before .before .before in
+    let args′ = start′ .args in
+    let pre′ = start′ .pre in
+    let symbols′ = args′ .symbols .now in
+    let constants′ = args′ .constants .now in
+    let letters′ = args′ .letters .now in
+    let bound′ = args′ .bound .now in
+    let cells′ = args′ .cells .now in
+    let failed′ = args′ .failed in
+    let counts′ = args′ .counts in
+    let v′ = args′ .v in
+    subst (λ (m : ℕ). RunListable symbols′ constants′ letters′ bound′ cells′ m failed′ counts′)
+    (sym (length-take-le v′ _ (pre′ .1))) (pre′ .0)
 
 enum-told : tie.Need-enum-told
 enum-told c = search needs

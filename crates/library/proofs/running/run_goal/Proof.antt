@@ -26,23 +26,64 @@ slice-aggregate-run-read : tie.Need-slice-aggregate-run-read
 slice-aggregate-run-read c = search needs
 
 array-borrow-prefix-bound : tie.Need-array-borrow-prefix-bound
-array-borrow-prefix-bound c = few-letters (c .before .before .before .before .before .before .before .before .before .before .before .before .before .before .before .before .before .before .before .pre) ((c .before .before .before .before .before .before .before .before .before .before .before .before .before .before .before .before .before .before .before .args) .goal .now) ((c .before .before .before .before .before .before .before .before .before .read-goal) .last .1 .1 .1 .1 .0) ((c .before .before .before .before .before .before .before .before .before .read-goal) .last .1 .1 .1 .1 .1 .1 .0) ((c .before .before .before .before .before .before .before .before .before .read-goal) .last .1 .1 .1 .1 .1 .1 .1 .0) ((c .before .before .before .before .before .before .before .before .before .read-goal) .ensures .0) ((c .before .before .before .counts) .given .1) ((c .before .before .before .before .before .before .before .before .before .read-goal) .ensures .1)
+array-borrow-prefix-bound c =
+    let start′ = c .before .before .before .before .before .before .before .before .before .before .before .before
+    .before .before .before .before .before .before .before in
+    let pre′ = start′ .pre in
+    let args′ = start′ .args in
+    let read-goal′ = c .before .before .before .before .before .before .before .before .before .read-goal in
+    let counts′ = c .before .before .before .counts in
+    let goal′ = args′ .goal .now in
+    few-letters pre′ goal′ (read-goal′ .last .1 .1 .1 .1 .0) (read-goal′ .last .1 .1 .1 .1 .1 .1 .0)
+    (read-goal′ .last .1 .1 .1 .1 .1 .1 .1 .0) (read-goal′ .ensures .0) (counts′ .given .1) (read-goal′ .ensures .1)
 
 slice-aggregate-run-read-2 : tie.Need-slice-aggregate-run-read-2
 slice-aggregate-run-read-2 c =
-    sym (length-take-le ((c .before .before .before .before .counts) .given .0 .0 .letters) _ (few-letters (c .before .before .before .before .before .before .before .before .before .before .before .before .before .before .before .before .before .before .before .before .pre) ((c .before .before .before .before .before .before .before .before .before .before .before .before .before .before .before .before .before .before .before .before .args) .goal .now) ((c .before .before .before .before .before .before .before .before .before .before .read-goal) .last .1 .1 .1 .1 .0) ((c .before .before .before .before .before .before .before .before .before .before .read-goal) .last .1 .1 .1 .1 .1 .1 .0) ((c .before .before .before .before .before .before .before .before .before .before .read-goal) .last .1 .1 .1 .1 .1 .1 .1 .0) ((c .before .before .before .before .before .before .before .before .before .before .read-goal) .ensures .0) ((c .before .before .before .before .counts) .given .1) ((c .before .before .before .before .before .before .before .before .before .before .read-goal) .ensures .1)))
+    let start′ = c .before .before .before .before .before .before .before .before .before .before .before .before
+    .before .before .before .before .before .before .before .before in
+    let counts′ = c .before .before .before .before .counts in
+    let pre′ = start′ .pre in
+    let args′ = start′ .args in
+    let read-goal′ = c .before .before .before .before .before .before .before .before .before .before .read-goal in
+    let goal′ = args′ .goal .now in
+    sym (length-take-le (counts′ .given .0 .0 .letters) _ (few-letters pre′ goal′ (read-goal′ .last .1 .1 .1 .1 .0)
+    (read-goal′ .last .1 .1 .1 .1 .1 .1 .0) (read-goal′ .last .1 .1 .1 .1 .1 .1 .1 .0) (read-goal′ .ensures .0)
+    (counts′ .given .1) (read-goal′ .ensures .1)))
 
 slice-aggregate-run-read-3 : tie.Need-slice-aggregate-run-read-3
 slice-aggregate-run-read-3 c = search needs
 
 run-read-requires : tie.Need-run-read-requires
-run-read-requires c κs = (goal-ready (c .before .before .before .before .before .before .before .before .before .before .before .before .before .before .before .before .before .before .before .before .before .before .pre) ((c .before .before .before .before .before .before .before .before .before .before .before .before .before .before .before .before .before .before .before .before .before .before .args) .goal .now) ((c .before .before .before .before .before .before .before .before .before .before .before .before .read-goal) .last .1 .1 .1 .1 .0) ((c .before .before .before .before .before .before .before .before .before .before .before .before .read-goal) .last .1 .1 .1 .1 .1 .1 .0) ((c .before .before .before .before .before .before .before .before .before .before .before .before .read-goal) .last .1 .1 .1 .1 .1 .1 .1 .0) ((c .before .before .before .before .before .before .before .before .before .before .before .before .read-goal) .ensures .0) ((c .before .before .before .before .before .before .counts) .given .1) ((c .before .before .before .before .before .before .before .before .before .before .before .before .read-goal) .ensures .1) (omega (arith, (c .before .before .before .before .before .before .before .before .before .before .before .before .before .before .before .before .before .before .before .before .before .before .pre) .constants-size)) (omega arith) (omega arith), length-take-le ((c .before .before .before .before .before .before .counts) .given .0 .0 .letters) _ (few-letters (c .before .before .before .before .before .before .before .before .before .before .before .before .before .before .before .before .before .before .before .before .before .before .pre) ((c .before .before .before .before .before .before .before .before .before .before .before .before .before .before .before .before .before .before .before .before .before .before .args) .goal .now) ((c .before .before .before .before .before .before .before .before .before .before .before .before .read-goal) .last .1 .1 .1 .1 .0) ((c .before .before .before .before .before .before .before .before .before .before .before .before .read-goal) .last .1 .1 .1 .1 .1 .1 .0) ((c .before .before .before .before .before .before .before .before .before .before .before .before .read-goal) .last .1 .1 .1 .1 .1 .1 .1 .0) ((c .before .before .before .before .before .before .before .before .before .before .before .before .read-goal) .ensures .0) ((c .before .before .before .before .before .before .counts) .given .1) ((c .before .before .before .before .before .before .before .before .before .before .before .before .read-goal) .ensures .1)))
+run-read-requires c κs =
+    let start′ = c .before .before .before .before .before .before .before .before .before .before .before .before
+    .before .before .before .before .before .before .before .before .before .before in
+    let pre′ = start′ .pre in
+    let args′ = start′ .args in
+    let read-goal′ = c .before .before .before .before .before .before .before .before .before .before .before .before .read-goal
+    in
+    let counts′ = c .before .before .before .before .before .before .counts in
+    let goal′ = args′ .goal .now in
+    (goal-ready pre′ goal′ (read-goal′ .last .1 .1 .1 .1 .0) (read-goal′ .last .1 .1 .1 .1 .1 .1 .0)
+    (read-goal′ .last .1 .1 .1 .1 .1 .1 .1 .0) (read-goal′ .ensures .0) (counts′ .given .1) (read-goal′ .ensures .1)
+    (omega (arith, pre′ .constants-size)) (omega arith) (omega arith), length-take-le (counts′ .given .0 .0 .letters) _
+    (few-letters pre′ goal′ (read-goal′ .last .1 .1 .1 .1 .0) (read-goal′ .last .1 .1 .1 .1 .1 .1 .0)
+    (read-goal′ .last .1 .1 .1 .1 .1 .1 .1 .0) (read-goal′ .ensures .0) (counts′ .given .1) (read-goal′ .ensures .1)))
 
 same-length : tie.Need-same-length
 same-length c = search needs
 
 returns : tie.Need-returns
-returns c = goal-refused (c .before .before .before .before .before .before .before .before .before .before .before .before .before .before .before .before .before .pre) ((c .before .before .before .before .before .before .before .before .before .before .before .before .before .before .before .before .before .args) .goal .now) ((c .before .before .before .before .before .before .before .read-goal) .last .1 .1 .1 .1 .0) ((c .before .before .before .before .before .before .before .read-goal) .last .1 .1 .1 .1 .1 .1 .0) ((c .before .before .before .before .before .before .before .read-goal) .last .1 .1 .1 .1 .1 .1 .1 .0) ((c .before .before .before .before .before .before .before .read-goal) .ensures .0) ((c .before .number) .given .0 .0) ((c .before .number) .given .0 .1 .0) ((c .before .number) .given .1)
+returns c =
+    let start′ = c .before .before .before .before .before .before .before .before .before .before .before .before
+    .before .before .before .before .before in
+    let pre′ = start′ .pre in
+    let args′ = start′ .args in
+    let read-goal′ = c .before .before .before .before .before .before .before .read-goal in
+    let number′ = c .before .number in
+    let goal′ = args′ .goal .now in
+    goal-refused pre′ goal′ (read-goal′ .last .1 .1 .1 .1 .0) (read-goal′ .last .1 .1 .1 .1 .1 .1 .0)
+    (read-goal′ .last .1 .1 .1 .1 .1 .1 .1 .0) (read-goal′ .ensures .0) (number′ .given .0 .0) (number′ .given .0 .1 .0)
+    (number′ .given .1)
 
 same-length-2 : tie.Need-same-length-2
 same-length-2 c = search needs

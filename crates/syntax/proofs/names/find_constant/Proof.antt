@@ -14,10 +14,18 @@ find-name-requires : tie.Need-find-name-requires
 find-name-requires c κs = search needs
 
 returns : tie.Need-returns
-returns c = (
-  constant-first ((c .before .before .before .before .before .before .args) .first .now) ((c .before .before .before .before .before .before .args) .second .now) ((c .before .before .before .before .before .before .args) .cells .now) ((c .before .before .before .before .before .before .args) .name .now) ((c .before .before .before .before .before .before .args) .n) ((c .before .before .before .before .before .before .args) .m)
-      ((c .before .find-name) .result) ((c .before .find-name) .ensures .0) ((c .if1) .taken),
-  omega arith,
+returns c =
+    let args′ = c .before .before .before .before .before .before .args in
+    let find-name′ = c .before .find-name in
+    let if1′ = c .if1 in
+    let first′ = args′ .first .now in
+    let second′ = args′ .second .now in
+    let cells′ = args′ .cells .now in
+    let name′ = args′ .name .now in
+    let n′ = args′ .n in
+    let m′ = args′ .m in
+    ( constant-first first′ second′ cells′ name′ n′ m′ (find-name′ .result) (find-name′ .ensures .0) (if1′ .taken), omega arith,
+
 )
 
 mul-from : tie.Need-mul-from
@@ -42,12 +50,21 @@ add-result : tie.Need-add-result
 add-result c = search needs
 
 returns-2 : tie.Need-returns-2
-returns-2 c = (
-  constant-second ((c .before .before .before .before .before .before .before .before .args) .first .now) ((c .before .before .before .before .before .before .before .before .args) .second .now) ((c .before .before .before .before .before .before .before .before .args) .cells .now) ((c .before .before .before .before .before .before .before .before .args) .name .now) ((c .before .before .before .before .before .before .before .before .args) .n) ((c .before .before .before .before .before .before .before .before .args) .m)
-      ((c .before .before .before .find-name) .result) ((c .find-name2) .result) _ ((c .before .before .before .find-name) .ensures .0) ((c .before .before .if1) .left)
-      (take-all (length ((c .before .before .before .before .before .before .before .before .args) .cells .now) - 2 * (c .before .before .before .before .before .before .before .before .args) .n) (drop (2 * (c .before .before .before .before .before .before .before .before .args) .n) ((c .before .before .before .before .before .before .before .before .args) .cells .now))
-      (omega (arith, length-drop (2 * (c .before .before .before .before .before .before .before .before .args) .n) ((c .before .before .before .before .before .before .before .before .args) .cells .now)))) ((c .find-name2) .ensures .0),
-  omega arith,
+returns-2 c =
+    let args′ = c .before .before .before .before .before .before .before .before .args in
+    let find-name′ = c .before .before .before .find-name in
+    let find-name2′ = c .find-name2 in
+    let if1′ = c .before .before .if1 in
+    let first′ = args′ .first .now in
+    let second′ = args′ .second .now in
+    let cells′ = args′ .cells .now in
+    let name′ = args′ .name .now in
+    let n′ = args′ .n in
+    let m′ = args′ .m in
+    ( constant-second first′ second′ cells′ name′ n′ m′ (find-name′ .result) (find-name2′ .result) _ (find-name′ .ensures .0)
+    (if1′ .left) (take-all (length cells′ - 2 * args′ .n) (drop (2 * args′ .n) cells′)
+    (omega (arith, length-drop (2 * args′ .n) cells′))) (find-name2′ .ensures .0), omega arith,
+
 )
 
 pub find-constant-spec : {M : Type 1} → statement M

@@ -28,7 +28,14 @@ shared-slice-read-if1 c = search needs
 
 returns : tie.Need-returns Inv-loop μ-loop
 returns c =
-    (sym (letter-here ((c .before .before .before .before .args) .letters .now) ((c .before .before .before .before .args) .b) ((c .before .before .before .before .args) .n) ((c .before .before .before .loop) .i) ((c .before .before .loop-test) .taken) ((c .if1) .taken)) ∙ (c .before .before .before .loop) .inv .1, omega arith)
+    let args′ = c .before .before .before .before .args in
+    let loop′ = c .before .before .before .loop in
+    let loop-test′ = c .before .before .loop-test in
+    let if1′ = c .if1 in
+    let letters′ = args′ .letters .now in
+    let b′ = args′ .b in
+    let n′ = args′ .n in
+    (sym (letter-here letters′ b′ n′ (loop′ .i) (loop-test′ .taken) (if1′ .taken)) ∙ loop′ .inv .1, omega arith)
 
 add-i : tie.Need-add-i Inv-loop μ-loop
 add-i c = search needs
@@ -37,16 +44,26 @@ loop-less : tie.Need-loop-less Inv-loop μ-loop
 loop-less c = search needs
 
 loop-again : tie.Need-loop-again Inv-loop μ-loop
-loop-again c = (
-  omega arith,
-  rw add-one
-      (sym (letter-step ((c .before .before .before .before .args) .letters .now) ((c .before .before .before .before .args) .b) ((c .before .before .before .before .args) .n) ((c .before .before .before .loop) .i) ((c .before .before .loop-test) .taken) ((c .if1) .left)) ∙ (c .before .before .before .loop) .inv .1),
+loop-again c =
+    let args′ = c .before .before .before .before .args in
+    let loop′ = c .before .before .before .loop in
+    let loop-test′ = c .before .before .loop-test in
+    let if1′ = c .if1 in
+    let letters′ = args′ .letters .now in
+    let b′ = args′ .b in
+    let n′ = args′ .n in
+    ( omega arith, rw add-one (sym (letter-step letters′ b′ n′ (loop′ .i) (loop-test′ .taken) (if1′ .left)) ∙ loop′ .inv .1),
+
 )
 
 returns-2 : tie.Need-returns-2 Inv-loop μ-loop
 returns-2 c =
-    let e : (c .before .loop) .i ≡ (c .before .before .args) .n = omega arith in
-    (sym (letter-end ((c .before .before .args) .letters .now) ((c .before .before .args) .b) ((c .before .before .args) .n)) ∙ (rw e at ((c .before .loop) .inv .1)), omega arith)
+    let loop′ = c .before .loop in
+    let args′ = c .before .before .args in
+    let letters′ = args′ .letters .now in
+    let b′ = args′ .b in
+    let n′ = args′ .n in
+    let e : loop′ .i ≡ args′ .n = omega arith in (sym (letter-end letters′ b′ n′) ∙ (rw e at (loop′ .inv .1)), omega arith)
 
 pub find-letter-spec : {M : Type 1} → statement M
 find-letter-spec =

@@ -28,26 +28,66 @@ loop-holds c = (omega arith, omega arith, refl)
 
 mul-wide : tie.Need-mul-wide Inv-loop μ-loop
 mul-wide c =
-    omega (arith, row-fits ((c .before .before .before .before .before .args) .stride) ((c .before .loop) .i) ((c .before .before .before .before .before .args) .n) (length ((c .before .before .before .before .before .args) .cells .now)) ((c .before .before .before .before .before .pre) .0) ((c .loop-test) .taken) ((c .before .before .before .before .before .pre) .1))
+    let start′ = c .before .before .before .before .before in
+    let args′ = start′ .args in
+    let loop′ = c .before .loop in
+    let pre′ = start′ .pre in
+    let loop-test′ = c .loop-test in
+    let stride′ = args′ .stride in
+    let n′ = args′ .n in
+    let cells′ = args′ .cells .now in
+    omega (arith, row-fits stride′ (loop′ .i) n′ (length cells′) (pre′ .0) (loop-test′ .taken) (pre′ .1))
 
 shared-slice-read-wide : tie.Need-shared-slice-read-wide Inv-loop μ-loop
 shared-slice-read-wide c =
-    omega (arith, row-fits ((c .before .before .before .before .before .before .args) .stride) ((c .before .before .loop) .i) ((c .before .before .before .before .before .before .args) .n) (length ((c .before .before .before .before .before .before .args) .cells .now)) ((c .before .before .before .before .before .before .pre) .0) ((c .before .loop-test) .taken) ((c .before .before .before .before .before .before .pre) .1))
+    let start′ = c .before .before .before .before .before .before in
+    let args′ = start′ .args in
+    let loop′ = c .before .before .loop in
+    let pre′ = start′ .pre in
+    let loop-test′ = c .before .loop-test in
+    let stride′ = args′ .stride in
+    let n′ = args′ .n in
+    let cells′ = args′ .cells .now in
+    omega (arith, row-fits stride′ (loop′ .i) n′ (length cells′) (pre′ .0) (loop-test′ .taken) (pre′ .1))
 
 wide-requires : tie.Need-wide-requires Inv-loop μ-loop
 wide-requires c κs = search needs
 
 add-wide : tie.Need-add-wide Inv-loop μ-loop
 add-wide c =
-    omega (arith, row-fits ((c .before .before .before .before .before .before .before .args) .stride) ((c .before .before .before .loop) .i) ((c .before .before .before .before .before .before .before .args) .n) (length ((c .before .before .before .before .before .before .before .args) .cells .now)) ((c .before .before .before .before .before .before .before .pre) .0) ((c .before .before .loop-test) .taken) ((c .before .before .before .before .before .before .before .pre) .1))
+    let start′ = c .before .before .before .before .before .before .before in
+    let args′ = start′ .args in
+    let loop′ = c .before .before .before .loop in
+    let pre′ = start′ .pre in
+    let loop-test′ = c .before .before .loop-test in
+    let stride′ = args′ .stride in
+    let n′ = args′ .n in
+    let cells′ = args′ .cells .now in
+    omega (arith, row-fits stride′ (loop′ .i) n′ (length cells′) (pre′ .0) (loop-test′ .taken) (pre′ .1))
 
 mul-wide-2 : tie.Need-mul-wide-2 Inv-loop μ-loop
 mul-wide-2 c =
-    omega (arith, row-fits ((c .before .before .before .before .before .before .before .args) .stride) ((c .before .before .before .loop) .i) ((c .before .before .before .before .before .before .before .args) .n) (length ((c .before .before .before .before .before .before .before .args) .cells .now)) ((c .before .before .before .before .before .before .before .pre) .0) ((c .before .before .loop-test) .taken) ((c .before .before .before .before .before .before .before .pre) .1))
+    let start′ = c .before .before .before .before .before .before .before in
+    let args′ = start′ .args in
+    let loop′ = c .before .before .before .loop in
+    let pre′ = start′ .pre in
+    let loop-test′ = c .before .before .loop-test in
+    let stride′ = args′ .stride in
+    let n′ = args′ .n in
+    let cells′ = args′ .cells .now in
+    omega (arith, row-fits stride′ (loop′ .i) n′ (length cells′) (pre′ .0) (loop-test′ .taken) (pre′ .1))
 
 shared-slice-read-wide-2 : tie.Need-shared-slice-read-wide-2 Inv-loop μ-loop
 shared-slice-read-wide-2 c =
-    omega (arith, row-fits ((c .before .before .before .before .before .before .before .before .args) .stride) ((c .before .before .before .before .loop) .i) ((c .before .before .before .before .before .before .before .before .args) .n) (length ((c .before .before .before .before .before .before .before .before .args) .cells .now)) ((c .before .before .before .before .before .before .before .before .pre) .0) ((c .before .before .before .loop-test) .taken) ((c .before .before .before .before .before .before .before .before .pre) .1))
+    let start′ = c .before .before .before .before .before .before .before .before in
+    let args′ = start′ .args in
+    let loop′ = c .before .before .before .before .loop in
+    let pre′ = start′ .pre in
+    let loop-test′ = c .before .before .before .loop-test in
+    let stride′ = args′ .stride in
+    let n′ = args′ .n in
+    let cells′ = args′ .cells .now in
+    omega (arith, row-fits stride′ (loop′ .i) n′ (length cells′) (pre′ .0) (loop-test′ .taken) (pre′ .1))
 
 wide-requires-2 : tie.Need-wide-requires-2 Inv-loop μ-loop
 wide-requires-2 c κs = search needs
@@ -59,11 +99,24 @@ same-bytes-requires : tie.Need-same-bytes-requires Inv-loop μ-loop
 same-bytes-requires c κs = search needs
 
 returns : tie.Need-returns Inv-loop μ-loop
-returns c = (
-  sym (name-here ((c .before .before .before .before .before .before .before .before .before .before .before .before .args) .text .now) ((c .before .before .before .before .before .before .before .before .before .before .before .before .args) .cells .now) ((c .before .before .before .before .before .before .before .before .before .before .before .before .args) .name .now) ((c .before .before .before .before .before .before .before .before .before .before .before .before .args) .stride) ((c .before .before .before .before .before .before .before .before .before .before .before .before .args) .n) ((c .before .before .before .before .before .before .before .before .loop) .i) ((c .before .before .before .before .before .before .before .before .loop) .at)
-      ((c .before .before .before .before .before .wide) .result) ((c .before .before .before .wide2) .result) ((c .before .before .part-of) .result .now) ((c .before .before .before .before .before .before .before .loop-test) .taken) ((c .before .before .before .before .before .before .before .before .loop) .inv .1) ((c .before .before .before .before .before .wide) .ensures .0) ((c .before .before .before .wide2) .ensures .0)
-      ((c .before .before .part-of) .ensures) (sym ((c .before .same-bytes) .ensures) ∙ (c .if1) .taken)) ∙ (c .before .before .before .before .before .before .before .before .loop) .inv .2,
-  omega arith,
+returns c =
+    let args′ = c .before .before .before .before .before .before .before .before .before .before .before .before .args in
+    let loop′ = c .before .before .before .before .before .before .before .before .loop in
+    let wide′ = c .before .before .before .before .before .wide in
+    let wide2′ = c .before .before .before .wide2 in
+    let part-of′ = c .before .before .part-of in
+    let loop-test′ = c .before .before .before .before .before .before .before .loop-test in
+    let same-bytes′ = c .before .same-bytes in
+    let if1′ = c .if1 in
+    let text′ = args′ .text .now in
+    let cells′ = args′ .cells .now in
+    let name′ = args′ .name .now in
+    let stride′ = args′ .stride in
+    let n′ = args′ .n in
+    ( sym (name-here text′ cells′ name′ stride′ n′ (loop′ .i) (loop′ .at) (wide′ .result) (wide2′ .result) (part-of′ .result .now)
+    (loop-test′ .taken) (loop′ .inv .1) (wide′ .ensures .0) (wide2′ .ensures .0) (part-of′ .ensures)
+    (sym (same-bytes′ .ensures) ∙ if1′ .taken)) ∙ loop′ .inv .2, omega arith,
+
 )
 
 add-i : tie.Need-add-i Inv-loop μ-loop
@@ -71,25 +124,52 @@ add-i c = search needs
 
 add-at : tie.Need-add-at Inv-loop μ-loop
 add-at c =
-    omega (arith, row-next ((c .before .before .before .before .before .before .before .before .before .before .before .before .args) .stride) ((c .before .before .before .before .before .before .before .before .loop) .i) ((c .before .before .before .before .before .before .before .before .before .before .before .before .args) .n) (length ((c .before .before .before .before .before .before .before .before .before .before .before .before .args) .cells .now)) ((c .before .before .before .before .before .before .before .loop-test) .taken) ((c .before .before .before .before .before .before .before .before .before .before .before .before .pre) .1))
+    let start′ = c .before .before .before .before .before .before .before .before .before .before .before .before in
+    let args′ = start′ .args in
+    let loop′ = c .before .before .before .before .before .before .before .before .loop in
+    let loop-test′ = c .before .before .before .before .before .before .before .loop-test in
+    let pre′ = start′ .pre in
+    let stride′ = args′ .stride in
+    let n′ = args′ .n in
+    let cells′ = args′ .cells .now in
+    omega (arith, row-next stride′ (loop′ .i) n′ (length cells′) (loop-test′ .taken) (pre′ .1))
 
 loop-less : tie.Need-loop-less Inv-loop μ-loop
 loop-less c = search needs
 
 loop-again : tie.Need-loop-again Inv-loop μ-loop
-loop-again c = (
-  omega arith,
-  rw (add-one ((c .before .before .before .before .before .before .before .before .loop) .i), mul-suc ((c .before .before .before .before .before .before .before .before .before .before .before .before .args) .stride) ((c .before .before .before .before .before .before .before .before .loop) .i)) (omega arith),
-  rw add-one
-      (sym (name-step ((c .before .before .before .before .before .before .before .before .before .before .before .before .args) .text .now) ((c .before .before .before .before .before .before .before .before .before .before .before .before .args) .cells .now) ((c .before .before .before .before .before .before .before .before .before .before .before .before .args) .name .now) ((c .before .before .before .before .before .before .before .before .before .before .before .before .args) .stride) ((c .before .before .before .before .before .before .before .before .before .before .before .before .args) .n) ((c .before .before .before .before .before .before .before .before .loop) .i) ((c .before .before .before .before .before .before .before .before .loop) .at)
-      ((c .before .before .before .before .before .wide) .result) ((c .before .before .before .wide2) .result) ((c .before .before .part-of) .result .now) ((c .before .before .before .before .before .before .before .loop-test) .taken) ((c .before .before .before .before .before .before .before .before .loop) .inv .1) ((c .before .before .before .before .before .wide) .ensures .0) ((c .before .before .before .wide2) .ensures .0)
-      ((c .before .before .part-of) .ensures) (sym ((c .before .same-bytes) .ensures) ∙ (c .if1) .left)) ∙ (c .before .before .before .before .before .before .before .before .loop) .inv .2),
+loop-again c =
+    let loop′ = c .before .before .before .before .before .before .before .before .loop in
+    let args′ = c .before .before .before .before .before .before .before .before .before .before .before .before .args in
+    let wide′ = c .before .before .before .before .before .wide in
+    let wide2′ = c .before .before .before .wide2 in
+    let part-of′ = c .before .before .part-of in
+    let loop-test′ = c .before .before .before .before .before .before .before .loop-test in
+    let same-bytes′ = c .before .same-bytes in
+    let if1′ = c .if1 in
+    let stride′ = args′ .stride in
+    let text′ = args′ .text .now in
+    let cells′ = args′ .cells .now in
+    let name′ = args′ .name .now in
+    let n′ = args′ .n in
+    ( omega arith, rw (add-one (loop′ .i), mul-suc stride′ (loop′ .i)) (omega arith), rw add-one
+    (sym (name-step text′ cells′ name′ stride′ n′ (loop′ .i) (loop′ .at) (wide′ .result) (wide2′ .result) (part-of′ .result .now)
+    (loop-test′ .taken) (loop′ .inv .1) (wide′ .ensures .0) (wide2′ .ensures .0) (part-of′ .ensures)
+    (sym (same-bytes′ .ensures) ∙ if1′ .left)) ∙ loop′ .inv .2),
+
 )
 
 returns-2 : tie.Need-returns-2 Inv-loop μ-loop
 returns-2 c =
-    let e : (c .before .loop) .i ≡ (c .before .before .before .before .before .args) .n = omega arith in
-    (sym (name-end ((c .before .before .before .before .before .args) .text .now) ((c .before .before .before .before .before .args) .cells .now) ((c .before .before .before .before .before .args) .name .now) ((c .before .before .before .before .before .args) .stride) ((c .before .before .before .before .before .args) .n)) ∙ (rw e at ((c .before .loop) .inv .2)), omega arith)
+    let loop′ = c .before .loop in
+    let args′ = c .before .before .before .before .before .args in
+    let text′ = args′ .text .now in
+    let cells′ = args′ .cells .now in
+    let name′ = args′ .name .now in
+    let stride′ = args′ .stride in
+    let n′ = args′ .n in
+    let e : loop′ .i ≡ args′ .n = omega arith in (sym (name-end text′ cells′ name′ stride′ n′) ∙ (rw e at (loop′ .inv .2)), omega
+    arith)
 
 pub find-name-spec : {M : Type 1} → statement M
 find-name-spec =

@@ -25,7 +25,13 @@ part-result-end c = search needs
 
 returns : tie.Need-returns
 returns c =
-    part-clamped ((c .before .before .before .before .args) .text .now) ((c .before .before .before .before .args) .start) ((c .before .before .before .before .args) .len) ((c .before .before .least) .result) ((c .before .least2) .result) ((c .before .before .least) .ensures) ((c .before .least2) .ensures)
+    let args′ = c .before .before .before .before .args in
+    let least′ = c .before .before .least in
+    let least2′ = c .before .least2 in
+    let text′ = args′ .text .now in
+    let start′ = args′ .start in
+    let len′ = args′ .len in
+    part-clamped text′ start′ len′ (least′ .result) (least2′ .result) (least′ .ensures) (least2′ .ensures)
 
 pub part-of-spec : {M : Type 1} → statement M
 part-of-spec =

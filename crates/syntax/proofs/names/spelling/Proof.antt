@@ -41,14 +41,36 @@ part-of-requires c κs = search needs
 
 returns : tie.Need-returns
 returns c =
-    ((c .part-of) .ensures) ∙ spelled-first ((c .before .before .before .before .before .before .before .before .before .args) .program .now) ((c .before .before .before .before .before .before .before .before .before .args) .goal .now) ((c .before .before .before .before .before .before .before .before .before .args) .cells .now) ((c .before .before .before .before .before .before .before .before .before .args) .n) ((c .before .before .before .before .before .before .before .before .before .args) .i) ((c .before .before .before .before .wide) .result) ((c .before .before .wide2) .result) ((c .before .before .before .before .wide) .ensures .0) ((c .before .before .wide2) .ensures .0) ((c .before .if1) .taken)
+    let part-of′ = c .part-of in
+    let args′ = c .before .before .before .before .before .before .before .before .before .args in
+    let wide′ = c .before .before .before .before .wide in
+    let wide2′ = c .before .before .wide2 in
+    let if1′ = c .before .if1 in
+    let program′ = args′ .program .now in
+    let goal′ = args′ .goal .now in
+    let cells′ = args′ .cells .now in
+    let n′ = args′ .n in
+    let i′ = args′ .i in
+    (part-of′ .ensures) ∙ spelled-first program′ goal′ cells′ n′ i′ (wide′ .result) (wide2′ .result) (wide′ .ensures .0)
+    (wide2′ .ensures .0) (if1′ .taken)
 
 part-of-requires-2 : tie.Need-part-of-requires-2
 part-of-requires-2 c κs = search needs
 
 returns-2 : tie.Need-returns-2
 returns-2 c =
-    ((c .part-of2) .ensures) ∙ spelled-second ((c .before .before .before .before .before .before .before .before .before .args) .program .now) ((c .before .before .before .before .before .before .before .before .before .args) .goal .now) ((c .before .before .before .before .before .before .before .before .before .args) .cells .now) ((c .before .before .before .before .before .before .before .before .before .args) .n) ((c .before .before .before .before .before .before .before .before .before .args) .i) ((c .before .before .before .before .wide) .result) ((c .before .before .wide2) .result) ((c .before .before .before .before .wide) .ensures .0) ((c .before .before .wide2) .ensures .0) ((c .before .if1) .left)
+    let part-of2′ = c .part-of2 in
+    let args′ = c .before .before .before .before .before .before .before .before .before .args in
+    let wide′ = c .before .before .before .before .wide in
+    let wide2′ = c .before .before .wide2 in
+    let if1′ = c .before .if1 in
+    let program′ = args′ .program .now in
+    let goal′ = args′ .goal .now in
+    let cells′ = args′ .cells .now in
+    let n′ = args′ .n in
+    let i′ = args′ .i in
+    (part-of2′ .ensures) ∙ spelled-second program′ goal′ cells′ n′ i′ (wide′ .result) (wide2′ .result) (wide′ .ensures .0)
+    (wide2′ .ensures .0) (if1′ .left)
 
 pub spelling-spec : {M : Type 1} → statement M
 spelling-spec =
