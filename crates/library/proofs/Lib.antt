@@ -10,3 +10,5 @@ pub mod StageLaws
 pub mod ReadyLaws
 pub mod ReplyLaws
 pub mod ReadingLaws
+pub mod Parting
+pub mod Prefix
