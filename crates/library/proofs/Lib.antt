@@ -12,3 +12,5 @@ pub mod ReplyLaws
 pub mod ReadingLaws
 pub mod Parting
 pub mod Prefix
+pub mod ShortNames
+pub mod Room

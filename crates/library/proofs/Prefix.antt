@@ -3,12 +3,11 @@
 --   agree-replies               inputs whose parts agree over enough bytes have the same reply
 --   prefix-replies              so do an input and its first n bytes, for any n from 32,774 on
 -- Assumes nothing.
-use Prim.Native.Nat.{ℕ, _+_, _≤_, _<_}
+use Prim.Native.Nat.{ℕ, _≤_, _<_}
 use native.Mathlib.Decide.{decLt}
 use native.Mathlib.Omega.{arith}
 use mathlib.Core.List.{List}
 use mathlib.Core.Path.{_≡_, refl, sym, ap, _∙_}
-use lib.Dec.{ltb}
 use lib.ListN.{length, take}
 use lib.Seq.{take-all}
 use borrow.Author.Tests.{lt-ltb}
@@ -16,7 +15,8 @@ use Rattle.text.specs.Lines.{Parts, parted}
 use Rattle.syntax.specs.Answers.{Answer, refused, accepted}
 use Rattle.syntax.specs.Programs.{Reading, maxText, readProgram}
 use Rattle.syntax.specs.Goals.{readGoal}
-use Rattle.library.specs.Replies.{Reply, refusal, programText, goalText, replyOf, fitted, runListing, runReply, printed, ample, sheetrun}
+use Rattle.library.specs.Replies.{refusal, programText, goalText, replyOf, fitted, runListing, runReply}
+use Rattle.library.specs.Replies.{printed, ample, sheetrun}
 use Rattle.library.proofs.Parting.{Agree, sameProgram, longPrograms, parted-agrees}
 
 -- a text of more than 16,384 bytes meets number 1
