@@ -10,3 +10,7 @@ pub mod StageLaws
 pub mod ReadyLaws
 pub mod ReplyLaws
 pub mod ReadingLaws
+pub mod Parting
+pub mod Prefix
+pub mod ShortNames
+pub mod Room
