@@ -42,7 +42,7 @@ use Rattle.goals.specs.declared.goal.GoalRead.the-variants.{Refused as g
 use Rattle.goals.specs.ReadGoal.{goalAnswer}
 use Rattle.goals.specs.ReadGoal.{GoalRoom, LettersFit, RowFits, GoalFits, Stored, ReadFrom, goalDraftOf, goalLineAnswer, goalReadingOf}
 use Rattle.goals.proofs.GoalLetters.{letters-length}
-use Rattle.goals.proofs.GoalCells.{cells-length}
+use Rattle.lines.proofs.Constraints.{constraints-length}
 use Rattle.goals.proofs.GoalTerms.{row-more, row-new, arity-is}
 
 -- a G line
@@ -115,7 +115,7 @@ module _ (program goal constants : List ℕ) (n : ℕ) (cells letters symbols : 
     filled : length (goalDraftOf program goal constants n cells letters counts .constraints) ≡ counts .constraints
     unfolding goalDraftOf
     filled =
-        cells-length (counts .constraints) (take (5 * counts .constraints) cells)
+        constraints-length (counts .constraints) (take (5 * counts .constraints) cells)
         (length-take-le (5 * counts .constraints) cells (omega arith))
 
     pub refuses-many : 64 ≤ counts .constraints → Refuses 7
@@ -148,7 +148,7 @@ module _ (program goal constants : List ℕ) (n : ℕ) (cells letters symbols : 
   held : length (cellConstraints (take (5 * counts .constraints) cells)) ≡ m
   held =
       ap (λ (j : ℕ). length (cellConstraints (take (5 * j) cells))) (sym e)
-      ∙ cells-length m (take (5 * m) cells) (length-take-le (5 * m) cells (omega arith))
+      ∙ constraints-length m (take (5 * m) cells) (length-take-le (5 * m) cells (omega arith))
 
   pub next-is : (i : ℕ) → goalLineAnswer program goal constants′ n cells′ letters′ i (Next next)
       ≡ readConstraintOfGoal (symbolsOf program symbols k) i (fieldsFrom (take end goal) at)

@@ -8,8 +8,8 @@ use lines::heads::fields_left;
 use lines::rows::write_cells;
 use lines::terms::add_constants;
 use lines::terms::terms_of;
+use lines::weights::weight_of;
 use syntax::names::find_letter;
-use syntax::names::wide;
 ghost use mathlib.Core.Path.{_≡_};
 ghost use mathlib.Core.Bool.{true, cond};
 ghost use mathlib.Core.List.{List, [], map};
@@ -21,7 +21,6 @@ ghost use Rattle.text.specs.Lists.{every, withName, placeOf};
 ghost use Rattle.text.specs.Lines.{lines};
 ghost use Rattle.text.specs.Fields.{isName, isTerm};
 ghost use Rattle.text.specs.Places.{classTable, fieldsFrom, lineAt};
-ghost use Rattle.semantics.specs.Terms.{weight};
 ghost use Rattle.syntax.specs.Forms.{formOf, fieldAt, termOf};
 ghost use Rattle.syntax.specs.Programs.{Reading};
 ghost use Rattle.syntax.specs.Goals.{lettersAfter, isGoalForm, readConstraintOfGoal, readGoalLine, readGoalLines, readGoal};
@@ -334,32 +333,6 @@ fn goal_lines(
     GoalRead::Accepted(counts)
 }
 
-// The weight of symbol s, and 0 behind the first k.
-fn symbol_weight(symbols: &[u16], k: usize, s: usize) -> usize
-    requires { ⌜ 4 * k ≤ length (now symbols) ⌝ }
-    ensures { λ r. ⌜ (r ≡ cond (ltb s k) (getD (now (symbols .entry)) (4 * s + 3) 0) 0) × (r < 65536) ⌝ }
-{
-    if s < k {
-        return wide(symbols[4 * s + 3]);
-    }
-    0
-}
-
-// The weight of the constraints that cells hold, five to each.
-fn goal_weight(symbols: &[u16], k: usize, rows: &[u16], m: usize) -> usize
-    requires { ⌜ (4 * k ≤ length (now symbols)) × (length (now rows) ≡ 5 * m) × (m ≤ 64) ⌝ }
-    ensures { λ r. ⌜ ((text : List ℕ) → r ≡ weight (symbolsOf text (now (symbols .entry)) k) (cellConstraints (now (rows .entry)))) ⌝ }
-{
-    let mut sum = 0;
-    let mut i = 0;
-    while i < m {
-        let s = wide(rows[5 * i]);
-        sum += symbol_weight(symbols, k, s);
-        i += 1;
-    }
-    sum
-}
-
 // A goal's text over a program: numbers 1 to 7, and 10.
 pub fn read_goal(
     program: &[u8],
@@ -394,9 +367,8 @@ pub fn read_goal(
     ) {
         GoalRead::Refused(x, i) => GoalRead::Refused(x, i),
         GoalRead::Accepted(counts) => {
-            let m = counts.constraints;
-            let end = 5 * m;
-            if 512 < goal_weight(symbols, k, &cells[..end], m) {
+            let end = 5 * counts.constraints;
+            if 512 < weight_of(symbols, k, &cells[..end]) {
                 return GoalRead::Refused(10, 0);
             }
             GoalRead::Accepted(counts)

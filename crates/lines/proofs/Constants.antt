@@ -1,5 +1,6 @@
 -- Laws of the constants of a line: one field, and all of them.
 --   after-none, after-known, after-full, after-new    the constants after one field, as the code goes by cases
+--   added-fits                                         constants in a table that do not pass the limit are at most 64
 --   added-grows                                        the constants after more fields are not fewer
 -- Assumes nothing.
 use mathlib.Core.Path.{_≡_, refl, sym, ap, ap₂, _∙_}
@@ -108,6 +109,11 @@ roomy-is cs ds e = go (ltb 64 (length cs)) refl e
     go : (t : Bool) → ltb 64 (length cs) ≡ t → some ds ≡ cond t none (some cs) → (cs ≡ ds) × (length cs ≤ 64)
     go true p q = absurd (let z : _≡_ {A = ℕ} 0 1 = cc in omega arith)
     go false p q = (let z : cs ≡ ds = cc in z, ltb-false 64 (length cs) p)
+
+pub added-fits : (first second cells : List ℕ) (n m : ℕ) (cs : List (List ℕ)) → some (constantsOf first second cells n m) ≡ roomy cs → n + m ≤ 64
+added-fits first second cells n m cs e =
+    let r : (cs ≡ constantsOf first second cells n m) × (length cs ≤ 64) = roomy-is cs (constantsOf first second cells n m) e in
+    omega (arith, r .1, ap (λ (l : List (List ℕ)). length l) (r .0), constants-length first second cells n m)
 
 pub roomy-not : (cs : List (List ℕ)) → none ≡ roomy cs → 64 < length cs
 unfolding roomy maxConstants

@@ -1,7 +1,7 @@
 -- Laws of a line by number 2, its form and its place, and of all lines.
 --   line-faulty, line-placeless, line-formed    a line, by the tests that decide it
 --   some-bytes            a line that is not faulty has a byte
---   begun-.., first-place where a line of a form stands
+--   begun, first-place   where a line of a form stands
 --   lines-refused, lines-next, lines-end    the lines from a place on, one line on
 -- Assumes nothing.
 use mathlib.Core.Path.{_≡_, refl, sym, ap, ap₂, _∙_}
@@ -23,11 +23,12 @@ use Rattle.text.specs.Places.{before, lineAt, fieldsFrom}
 use Rattle.text.proofs.Cursors.{line-at, fields-in}
 use Rattle.text.proofs.Forms.{faulty-empty}
 use Rattle.syntax.specs.Answers.{Answer, refused, accepted, refuseIf, andThen}
-use Rattle.syntax.specs.Forms.{Form, Place, inSymbols, inHeads, inBody, inEquations, symbolForm, headForm, bodyForm, equationForm, formOf}
+use Rattle.syntax.specs.Forms.{Form, Place, inSymbols, inHeads, inBody, inEquations, symbolForm, formOf}
 use Rattle.syntax.specs.Forms.{placeAfter, fieldAt}
 use Rattle.syntax.specs.Programs.{Draft, Reading, maxText, blank, readForm, readLine, readLines, checkRules, readProgram}
 use Rattle.syntax.specs.Tables.{constantOf, constantsOf}
-use Rattle.lines.specs.Read.{placeMeant, placeAnswer}
+use Rattle.lines.specs.declared.LineForm.{LineForm}
+use Rattle.lines.specs.Read.{formMeant, placeMeant, placeAnswer}
 use Rattle.syntax.proofs.Tabled.{tabled-same}
 
 pub some-bytes : (s : List ℕ) (start end : ℕ) → start ≤ end → end ≤ length s → lineIsFaulty (lineAt s start end) ≡ false → start < end
@@ -104,20 +105,14 @@ first-place (suc (suc (suc p))) q e h = absurd (inside (placeMeant q) (place-som
     inside inBody z = let y : _≡_ {A = ℕ} 0 1 = cc in omega arith
     inside inEquations z = let y : _≡_ {A = ℕ} 0 1 = cc in omega arith
 
-pub begun-head : (p q : ℕ) → placeAnswer p ≡ placeAfter headForm (placeMeant q) → p < 4 → 0 < q
-unfolding placeMeant placeAfter
-begun-head p zero e h = absurd (let z : none ≡ some (placeMeant p) = place-some p none e h in let y : _≡_ {A = ℕ} 0 1 = cc in omega arith)
-begun-head p (suc q) e h = omega arith
-
-pub begun-body : (p q : ℕ) → placeAnswer p ≡ placeAfter bodyForm (placeMeant q) → p < 4 → 0 < q
-unfolding placeMeant placeAfter
-begun-body p zero e h = absurd (let z : none ≡ some (placeMeant p) = place-some p none e h in let y : _≡_ {A = ℕ} 0 1 = cc in omega arith)
-begun-body p (suc q) e h = omega arith
-
-pub begun-sides : (p q : ℕ) → placeAnswer p ≡ placeAfter equationForm (placeMeant q) → p < 4 → 0 < q
-unfolding placeMeant placeAfter
-begun-sides p zero e h = absurd (let z : none ≡ some (placeMeant p) = place-some p none e h in let y : _≡_ {A = ℕ} 0 1 = cc in omega arith)
-begun-sides p (suc q) e h = omega arith
+pub begun : (form f : LineForm) (p q : ℕ) → placeAfter (formMeant f) inSymbols ≡ none → placeAnswer p ≡ placeAfter (formMeant form) (placeMeant q)
+    → form ≡ f → p < 4 → 0 < q
+unfolding placeMeant
+begun form f p zero x e g h =
+    let z : none ≡ some (placeMeant p) =
+    sym (ap (λ (o : LineForm). placeAfter (formMeant o) inSymbols) g ∙ x) ∙ place-some p (placeAfter (formMeant form) inSymbols) e h in
+    absurd (let y : _≡_ {A = ℕ} 0 1 = cc in omega arith)
+begun form f p (suc q) x e g h = omega arith
 
 -- the lines from a place on
 module _ (s : List ℕ) (start end n : ℕ) (d : Draft) (h : start < length s) (e : end ≡ start + before 10 (drop start s)) where

@@ -5,28 +5,27 @@ use crate::LinesRead;
 use crate::ProgramRead;
 use crate::RulesRead;
 use crate::Stage;
-use crate::adds::body_line;
+use crate::adds::constraint_line;
 use crate::adds::equation_line;
-use crate::adds::head_line;
 use crate::declarations::rule_line;
 use crate::declarations::symbol_line;
 use lines::LineForm;
 use lines::forms::form_at;
 use lines::forms::place_after;
+use lines::weights::weight_of;
 use syntax::names::wide;
 ghost use mathlib.Core.Path.{_≡_};
 ghost use mathlib.Core.List.{List};
-ghost use Prim.Native.Nat.{ℕ, _+_, _*_, _≤_, _<_};
-ghost use lib.ListN.{length, take, getD};
-ghost use Rattle.text.specs.Lists.{total};
+ghost use Prim.Native.Nat.{ℕ, _*_, _≤_, _<_};
+ghost use lib.ListN.{length, take};
 ghost use Rattle.text.specs.Lines.{lines};
 ghost use Rattle.text.specs.Places.{classTable, lineAt, fieldsFrom};
 ghost use Rattle.syntax.specs.Programs.{blank, readForm, readLine, readLines, checkRules, readProgram};
 ghost use Rattle.syntax.specs.Forms.{placeAfter};
-ghost use Rattle.syntax.specs.Tables.{cellConstraints, ruleOfRow, symbolsOf, rulesOf, startsOf};
+ghost use Rattle.syntax.specs.Tables.{ruleOfRow, symbolsOf, rulesOf, startsOf};
 ghost use Rattle.lines.specs.Read.{alphabetLetters, formMeant, placeMeant, placeAnswer};
 ghost use Rattle.programs.specs.Read.{draftOf, lineAnswer, Sound, soundAfter};
-ghost use Rattle.programs.specs.Read.{linesAnswer, linesSound, weightAt, met, ruleTests, rulesAnswer, programAnswer};
+ghost use Rattle.programs.specs.Read.{linesAnswer, linesSound, met, ruleTests, rulesAnswer, programAnswer};
 
 // A line of a form that may stand where it does.
 fn read_form(
@@ -54,7 +53,7 @@ fn read_form(
     match form {
         LineForm::Symbol => symbol_line(classes, text, at, end, symbols, stage, place),
         LineForm::Rule => rule_line(classes, text, at, end, number, rules, stage, place),
-        LineForm::Head => head_line(
+        LineForm::Head => constraint_line(
             classes,
             letters,
             text,
@@ -65,8 +64,9 @@ fn read_form(
             constants,
             stage,
             place,
+            0,
         ),
-        LineForm::Body => body_line(
+        LineForm::Body => constraint_line(
             classes,
             letters,
             text,
@@ -77,6 +77,7 @@ fn read_form(
             constants,
             stage,
             place,
+            1,
         ),
         LineForm::Equation => equation_line(
             classes,
@@ -189,32 +190,6 @@ fn read_lines(
         number += 1;
     }
     LinesRead::Read(stage)
-}
-
-// The weight of a constraint by its symbol's number: 0 where no symbol has it.
-fn weight_at(symbols: &[u16], k: usize, s: usize) -> usize
-    requires { ⌜ 4 * k ≤ length (now symbols) ⌝ }
-    ensures { λ r. ⌜ (r ≡ weightAt (now (symbols .entry)) k s) × (r < 65536) ⌝ }
-{
-    if s < k {
-        return wide(symbols[4 * s + 3]);
-    }
-    0
-}
-
-// The weight of the constraints that cells hold, five to each.
-pub fn weight_of(symbols: &[u16], k: usize, cells: &[u16]) -> usize
-    requires { ⌜ (4 * k ≤ length (now symbols)) × (length (now cells) ≤ 4096) ⌝ }
-    ensures { λ r. ⌜ (r ≡ total (λ c. weightAt (now (symbols .entry)) k (c .symbol)) (cellConstraints (now (cells .entry)))) × (r ≤ 65536 * length (now (cells .entry))) ⌝ }
-{
-    let mut sum = 0;
-    let mut at = 0;
-    while at + 5 <= cells.len() {
-        let s = wide(cells[at]);
-        sum += weight_at(symbols, k, s);
-        at += 5;
-    }
-    sum
 }
 
 // The first cells of a part, as far as it goes.

@@ -32,25 +32,24 @@ enum-known-counts c = search needs
 
 mul-end : tie.Need-mul-end
 mul-end c =
-    let f : GoalFits ((c .before .before .before .before .before .before .before .before .before .before .before .before .before .before .before .before .before .before .before .before .before .before .args) .symbols .now) ((c .before .before .before .before .before .before .before .before .before .before .before .before .before .before .before .before .before .before .before .before .before .before .args) .k) ((c .before .before .before .before .before .before .before .before .before .before .before .before .before .before .before .before .before .before .before .before .before .before .args) .n) ((c .before .before .before .before .before .before .before .before .before .goal-lines) .last .1 .1 .1 .1 .1 .1 .1 .0) ((c .before .before .before .before .before .before .before .before .before .goal-lines) .last .1 .1 .1 .1 .1 .1 .1 .1 .0) ((c .before .counts) .given .0 .0) = rw ((c .before .counts) .given .1) at ((c .before .before .before .before .before .before .before .before .before .goal-lines) .ensures .1) in
+    let f : GoalFits ((c .before .before .before .before .before .before .before .before .before .before .before .before .before .before .before .before .before .before .before .before .before .before .before .args) .symbols .now) ((c .before .before .before .before .before .before .before .before .before .before .before .before .before .before .before .before .before .before .before .before .before .before .before .args) .k) ((c .before .before .before .before .before .before .before .before .before .before .before .before .before .before .before .before .before .before .before .before .before .before .before .args) .n) ((c .before .before .before .before .before .before .before .before .before .before .goal-lines) .last .1 .1 .1 .1 .1 .1 .1 .0) ((c .before .before .before .before .before .before .before .before .before .before .goal-lines) .last .1 .1 .1 .1 .1 .1 .1 .1 .0) ((c .before .before .counts) .given .0 .0) = rw ((c .before .before .counts) .given .1) at ((c .before .before .before .before .before .before .before .before .before .before .goal-lines) .ensures .1) in
     omega (arith, f .few)
 
-slice-reshare-prefix-goal-weight : tie.Need-slice-reshare-prefix-goal-weight
-slice-reshare-prefix-goal-weight c =
-    let f : GoalFits ((c .before .before .before .before .before .before .before .before .before .before .before .before .before .before .before .before .before .before .before .before .before .before .args) .symbols .now) ((c .before .before .before .before .before .before .before .before .before .before .before .before .before .before .before .before .before .before .before .before .before .before .args) .k) ((c .before .before .before .before .before .before .before .before .before .before .before .before .before .before .before .before .before .before .before .before .before .before .args) .n) ((c .before .before .before .before .before .before .before .before .before .goal-lines) .last .1 .1 .1 .1 .1 .1 .1 .0) ((c .before .before .before .before .before .before .before .before .before .goal-lines) .last .1 .1 .1 .1 .1 .1 .1 .1 .0) ((c .before .counts) .given .0 .0) = rw ((c .before .counts) .given .1) at ((c .before .before .before .before .before .before .before .before .before .goal-lines) .ensures .1) in
-    omega (arith, f .few, (c .before .before .before .before .before .before .before .before .before .goal-lines) .kept .1 .1 .1 .1 .1 .1 .1 .0, (c .before .before .before .before .before .before .before .before .before .before .before .before .before .before .before .before .before .before .before .before .before .before .pre) .constraint-cells)
-
-slice-aggregate-goal-weight : tie.Need-slice-aggregate-goal-weight
-slice-aggregate-goal-weight c =
+slice-reshare-prefix-weight-of : tie.Need-slice-reshare-prefix-weight-of
+slice-reshare-prefix-weight-of c =
     let f : GoalFits ((c .before .before .before .before .before .before .before .before .before .before .before .before .before .before .before .before .before .before .before .before .before .before .before .args) .symbols .now) ((c .before .before .before .before .before .before .before .before .before .before .before .before .before .before .before .before .before .before .before .before .before .before .before .args) .k) ((c .before .before .before .before .before .before .before .before .before .before .before .before .before .before .before .before .before .before .before .before .before .before .before .args) .n) ((c .before .before .before .before .before .before .before .before .before .before .goal-lines) .last .1 .1 .1 .1 .1 .1 .1 .0) ((c .before .before .before .before .before .before .before .before .before .before .goal-lines) .last .1 .1 .1 .1 .1 .1 .1 .1 .0) ((c .before .before .counts) .given .0 .0) = rw ((c .before .before .counts) .given .1) at ((c .before .before .before .before .before .before .before .before .before .before .goal-lines) .ensures .1) in
-    sym (length-take-le (5 * (c .before .before .counts) .given .0 .0 .constraints) ((c .before .before .before .before .before .before .before .before .before .before .goal-lines) .last .1 .1 .1 .1 .1 .1 .1 .0) (omega (arith, f .few, (c .before .before .before .before .before .before .before .before .before .before .goal-lines) .kept .1 .1 .1 .1 .1 .1 .1 .0, (c .before .before .before .before .before .before .before .before .before .before .before .before .before .before .before .before .before .before .before .before .before .before .before .pre) .constraint-cells)))
+    omega (arith, f .few, (c .before .before .before .before .before .before .before .before .before .before .goal-lines) .kept .1 .1 .1 .1 .1 .1 .1 .0, (c .before .before .before .before .before .before .before .before .before .before .before .before .before .before .before .before .before .before .before .before .before .before .before .pre) .constraint-cells)
 
-goal-weight-requires : tie.Need-goal-weight-requires
-goal-weight-requires c κs =
-    let f : GoalFits ((c .before .before .before .before .before .before .before .before .before .before .before .before .before .before .before .before .before .before .before .before .before .before .before .args) .symbols .now) ((c .before .before .before .before .before .before .before .before .before .before .before .before .before .before .before .before .before .before .before .before .before .before .before .args) .k) ((c .before .before .before .before .before .before .before .before .before .before .before .before .before .before .before .before .before .before .before .before .before .before .before .args) .n) ((c .before .before .before .before .before .before .before .before .before .before .goal-lines) .last .1 .1 .1 .1 .1 .1 .1 .0) ((c .before .before .before .before .before .before .before .before .before .before .goal-lines) .last .1 .1 .1 .1 .1 .1 .1 .1 .0) ((c .before .before .counts) .given .0 .0) = rw ((c .before .before .counts) .given .1) at ((c .before .before .before .before .before .before .before .before .before .before .goal-lines) .ensures .1) in (
-      omega (arith, (c .before .before .before .before .before .before .before .before .before .before .before .before .before .before .before .before .before .before .before .before .before .before .before .pre) .symbol-cells, (c .before .before .before .before .before .before .before .before .before .before .before .before .before .before .before .before .before .before .before .before .before .before .before .pre) .few-symbols),
-      length-take-le (5 * (c .before .before .counts) .given .0 .0 .constraints) ((c .before .before .before .before .before .before .before .before .before .before .goal-lines) .last .1 .1 .1 .1 .1 .1 .1 .0) (omega (arith, f .few, (c .before .before .before .before .before .before .before .before .before .before .goal-lines) .kept .1 .1 .1 .1 .1 .1 .1 .0, (c .before .before .before .before .before .before .before .before .before .before .before .before .before .before .before .before .before .before .before .before .before .before .before .pre) .constraint-cells)),
-      f .few,
+slice-aggregate-weight-of : tie.Need-slice-aggregate-weight-of
+slice-aggregate-weight-of c =
+    let f : GoalFits ((c .before .before .before .before .before .before .before .before .before .before .before .before .before .before .before .before .before .before .before .before .before .before .before .before .args) .symbols .now) ((c .before .before .before .before .before .before .before .before .before .before .before .before .before .before .before .before .before .before .before .before .before .before .before .before .args) .k) ((c .before .before .before .before .before .before .before .before .before .before .before .before .before .before .before .before .before .before .before .before .before .before .before .before .args) .n) ((c .before .before .before .before .before .before .before .before .before .before .before .goal-lines) .last .1 .1 .1 .1 .1 .1 .1 .0) ((c .before .before .before .before .before .before .before .before .before .before .before .goal-lines) .last .1 .1 .1 .1 .1 .1 .1 .1 .0) ((c .before .before .before .counts) .given .0 .0) = rw ((c .before .before .before .counts) .given .1) at ((c .before .before .before .before .before .before .before .before .before .before .before .goal-lines) .ensures .1) in
+    sym (length-take-le (5 * (c .before .before .before .counts) .given .0 .0 .constraints) ((c .before .before .before .before .before .before .before .before .before .before .before .goal-lines) .last .1 .1 .1 .1 .1 .1 .1 .0) (omega (arith, f .few, (c .before .before .before .before .before .before .before .before .before .before .before .goal-lines) .kept .1 .1 .1 .1 .1 .1 .1 .0, (c .before .before .before .before .before .before .before .before .before .before .before .before .before .before .before .before .before .before .before .before .before .before .before .before .pre) .constraint-cells)))
+
+weight-of-requires : tie.Need-weight-of-requires
+weight-of-requires c κs =
+    let f : GoalFits ((c .before .before .before .before .before .before .before .before .before .before .before .before .before .before .before .before .before .before .before .before .before .before .before .before .args) .symbols .now) ((c .before .before .before .before .before .before .before .before .before .before .before .before .before .before .before .before .before .before .before .before .before .before .before .before .args) .k) ((c .before .before .before .before .before .before .before .before .before .before .before .before .before .before .before .before .before .before .before .before .before .before .before .before .args) .n) ((c .before .before .before .before .before .before .before .before .before .before .before .goal-lines) .last .1 .1 .1 .1 .1 .1 .1 .0) ((c .before .before .before .before .before .before .before .before .before .before .before .goal-lines) .last .1 .1 .1 .1 .1 .1 .1 .1 .0) ((c .before .before .before .counts) .given .0 .0) = rw ((c .before .before .before .counts) .given .1) at ((c .before .before .before .before .before .before .before .before .before .before .before .goal-lines) .ensures .1) in (
+      omega (arith, (c .before .before .before .before .before .before .before .before .before .before .before .before .before .before .before .before .before .before .before .before .before .before .before .before .pre) .symbol-cells, (c .before .before .before .before .before .before .before .before .before .before .before .before .before .before .before .before .before .before .before .before .before .before .before .before .pre) .few-symbols),
+      omega (arith, f .few, length-take-le (5 * (c .before .before .before .counts) .given .0 .0 .constraints) ((c .before .before .before .before .before .before .before .before .before .before .before .goal-lines) .last .1 .1 .1 .1 .1 .1 .1 .0) (omega (arith, f .few, (c .before .before .before .before .before .before .before .before .before .before .before .goal-lines) .kept .1 .1 .1 .1 .1 .1 .1 .0, (c .before .before .before .before .before .before .before .before .before .before .before .before .before .before .before .before .before .before .before .before .before .before .before .before .pre) .constraint-cells))),
     )
 
 same-length : tie.Need-same-length
@@ -65,8 +64,8 @@ same-length-3 c = search needs
 returns-2 : tie.Need-returns-2
 unfolding goalLinesAnswer
 returns-2 c = (
-  λ p t. goal-overweight ((c .before .before .before .before .before .before .before .before .before .before .before .before .before .before .before .before .before .before .before .before .before .before .before .before .before .args) .program .now) ((c .before .before .before .before .before .before .before .before .before .before .before .before .before .before .before .before .before .before .before .before .before .before .before .before .before .args) .goal .now) ((c .before .before .before .before .before .before .before .before .before .before .before .before .before .before .before .before .before .before .before .before .before .before .before .before .before .args) .constants .now) ((c .before .before .before .before .before .before .before .before .before .before .before .before .before .before .before .before .before .before .before .before .before .before .before .before .before .args) .n) ((c .before .before .before .before .before .before .before .before .before .before .before .before .before .before .before .before .before .before .before .before .before .before .before .before .before .args) .symbols .now) ((c .before .before .before .before .before .before .before .before .before .before .before .before .before .before .before .before .before .before .before .before .before .before .before .before .before .args) .k) p t (omega (arith, (c .before .before .before .before .before .before .before .before .before .before .before .before .before .before .before .before .before .before .if1) .left)) ((c .before .before .before .before .before .before .before .before .before .before .before .before .goal-lines) .last .1 .1 .1 .1 .1 .0) ((c .before .before .before .before .before .before .before .before .before .before .before .before .goal-lines) .last .1 .1 .1 .1 .1 .1 .1 .0) ((c .before .before .before .before .before .before .before .before .before .before .before .before .goal-lines) .last .1 .1 .1 .1 .1 .1 .1 .1 .0) ((c .before .before .before .before .counts) .given .0 .0) (ap (goalLinesAnswer ((c .before .before .before .before .before .before .before .before .before .before .before .before .before .before .before .before .before .before .before .before .before .before .before .before .before .args) .program .now) ((c .before .before .before .before .before .before .before .before .before .before .before .before .before .before .before .before .before .before .before .before .before .before .before .before .before .args) .goal .now) ((c .before .before .before .before .before .before .before .before .before .before .before .before .goal-lines) .last .1 .1 .1 .1 .1 .0) ((c .before .before .before .before .before .before .before .before .before .before .before .before .before .before .before .before .before .before .before .before .before .before .before .before .before .args) .n) ((c .before .before .before .before .before .before .before .before .before .before .before .before .goal-lines) .last .1 .1 .1 .1 .1 .1 .1 .0) ((c .before .before .before .before .before .before .before .before .before .before .before .before .goal-lines) .last .1 .1 .1 .1 .1 .1 .1 .1 .0)) (sym ((c .before .before .before .before .counts) .given .1)) ∙ (c .before .before .before .before .before .before .before .before .before .before .before .before .goal-lines) .ensures .0)
-      (omega (arith, (c .before .goal-weight) .ensures ((c .before .before .before .before .before .before .before .before .before .before .before .before .before .before .before .before .before .before .before .before .before .before .before .before .before .args) .program .now), (c .if2) .taken)),
+  λ p t. goal-overweight ((c .before .before .before .before .before .before .before .before .before .before .before .before .before .before .before .before .before .before .before .before .before .before .before .before .before .before .args) .program .now) ((c .before .before .before .before .before .before .before .before .before .before .before .before .before .before .before .before .before .before .before .before .before .before .before .before .before .before .args) .goal .now) ((c .before .before .before .before .before .before .before .before .before .before .before .before .before .before .before .before .before .before .before .before .before .before .before .before .before .before .args) .constants .now) ((c .before .before .before .before .before .before .before .before .before .before .before .before .before .before .before .before .before .before .before .before .before .before .before .before .before .before .args) .n) ((c .before .before .before .before .before .before .before .before .before .before .before .before .before .before .before .before .before .before .before .before .before .before .before .before .before .before .args) .symbols .now) ((c .before .before .before .before .before .before .before .before .before .before .before .before .before .before .before .before .before .before .before .before .before .before .before .before .before .before .args) .k) p t (omega (arith, (c .before .before .before .before .before .before .before .before .before .before .before .before .before .before .before .before .before .before .before .if1) .left)) ((c .before .before .before .before .before .before .before .before .before .before .before .before .before .goal-lines) .last .1 .1 .1 .1 .1 .0) ((c .before .before .before .before .before .before .before .before .before .before .before .before .before .goal-lines) .last .1 .1 .1 .1 .1 .1 .1 .0) ((c .before .before .before .before .before .before .before .before .before .before .before .before .before .goal-lines) .last .1 .1 .1 .1 .1 .1 .1 .1 .0) ((c .before .before .before .before .before .counts) .given .0 .0) (ap (goalLinesAnswer ((c .before .before .before .before .before .before .before .before .before .before .before .before .before .before .before .before .before .before .before .before .before .before .before .before .before .before .args) .program .now) ((c .before .before .before .before .before .before .before .before .before .before .before .before .before .before .before .before .before .before .before .before .before .before .before .before .before .before .args) .goal .now) ((c .before .before .before .before .before .before .before .before .before .before .before .before .before .goal-lines) .last .1 .1 .1 .1 .1 .0) ((c .before .before .before .before .before .before .before .before .before .before .before .before .before .before .before .before .before .before .before .before .before .before .before .before .before .before .args) .n) ((c .before .before .before .before .before .before .before .before .before .before .before .before .before .goal-lines) .last .1 .1 .1 .1 .1 .1 .1 .0) ((c .before .before .before .before .before .before .before .before .before .before .before .before .before .goal-lines) .last .1 .1 .1 .1 .1 .1 .1 .1 .0)) (sym ((c .before .before .before .before .before .counts) .given .1)) ∙ (c .before .before .before .before .before .before .before .before .before .before .before .before .before .goal-lines) .ensures .0)
+      (omega (arith, (c .before .weight-of) .ensures ((c .before .before .before .before .before .before .before .before .before .before .before .before .before .before .before .before .before .before .before .before .before .before .before .before .before .before .args) .program .now), (c .if2) .taken)),
   omega arith,
 )
 
@@ -99,10 +98,10 @@ same-length-9 c = search needs
 returns-4 : tie.Need-returns-4
 unfolding goalLinesAnswer
 returns-4 c =
-    let f : GoalFits ((c .before .before .before .before .before .before .before .before .before .before .before .before .before .before .before .before .before .before .before .before .before .before .before .before .before .args) .symbols .now) ((c .before .before .before .before .before .before .before .before .before .before .before .before .before .before .before .before .before .before .before .before .before .before .before .before .before .args) .k) ((c .before .before .before .before .before .before .before .before .before .before .before .before .before .before .before .before .before .before .before .before .before .before .before .before .before .args) .n) ((c .before .before .before .before .before .before .before .before .before .before .before .before .goal-lines) .last .1 .1 .1 .1 .1 .1 .1 .0) ((c .before .before .before .before .before .before .before .before .before .before .before .before .goal-lines) .last .1 .1 .1 .1 .1 .1 .1 .1 .0) ((c .before .before .before .before .counts) .given .0 .0) = rw ((c .before .before .before .before .counts) .given .1) at ((c .before .before .before .before .before .before .before .before .before .before .before .before .goal-lines) .ensures .1) in (
-      λ p t. goal-accepted ((c .before .before .before .before .before .before .before .before .before .before .before .before .before .before .before .before .before .before .before .before .before .before .before .before .before .args) .program .now) ((c .before .before .before .before .before .before .before .before .before .before .before .before .before .before .before .before .before .before .before .before .before .before .before .before .before .args) .goal .now) ((c .before .before .before .before .before .before .before .before .before .before .before .before .before .before .before .before .before .before .before .before .before .before .before .before .before .args) .constants .now) ((c .before .before .before .before .before .before .before .before .before .before .before .before .before .before .before .before .before .before .before .before .before .before .before .before .before .args) .n) ((c .before .before .before .before .before .before .before .before .before .before .before .before .before .before .before .before .before .before .before .before .before .before .before .before .before .args) .symbols .now) ((c .before .before .before .before .before .before .before .before .before .before .before .before .before .before .before .before .before .before .before .before .before .before .before .before .before .args) .k) p t (omega (arith, (c .before .before .before .before .before .before .before .before .before .before .before .before .before .before .before .before .before .before .if1) .left)) ((c .before .before .before .before .before .before .before .before .before .before .before .before .goal-lines) .last .1 .1 .1 .1 .1 .0) ((c .before .before .before .before .before .before .before .before .before .before .before .before .goal-lines) .last .1 .1 .1 .1 .1 .1 .1 .0) ((c .before .before .before .before .before .before .before .before .before .before .before .before .goal-lines) .last .1 .1 .1 .1 .1 .1 .1 .1 .0) ((c .before .before .before .before .counts) .given .0 .0) (ap (goalLinesAnswer ((c .before .before .before .before .before .before .before .before .before .before .before .before .before .before .before .before .before .before .before .before .before .before .before .before .before .args) .program .now) ((c .before .before .before .before .before .before .before .before .before .before .before .before .before .before .before .before .before .before .before .before .before .before .before .before .before .args) .goal .now) ((c .before .before .before .before .before .before .before .before .before .before .before .before .goal-lines) .last .1 .1 .1 .1 .1 .0) ((c .before .before .before .before .before .before .before .before .before .before .before .before .before .before .before .before .before .before .before .before .before .before .before .before .before .args) .n) ((c .before .before .before .before .before .before .before .before .before .before .before .before .goal-lines) .last .1 .1 .1 .1 .1 .1 .1 .0) ((c .before .before .before .before .before .before .before .before .before .before .before .before .goal-lines) .last .1 .1 .1 .1 .1 .1 .1 .1 .0)) (sym ((c .before .before .before .before .counts) .given .1)) ∙ (c .before .before .before .before .before .before .before .before .before .before .before .before .goal-lines) .ensures .0)
-          (omega (arith, (c .before .goal-weight) .ensures ((c .before .before .before .before .before .before .before .before .before .before .before .before .before .before .before .before .before .before .before .before .before .before .before .before .before .args) .program .now), (c .if2) .left)),
-      (f, omega (arith, (c .before .goal-weight) .ensures ((c .before .before .before .before .before .before .before .before .before .before .before .before .before .before .before .before .before .before .before .before .before .before .before .before .before .args) .program .now), (c .if2) .left)),
+    let f : GoalFits ((c .before .before .before .before .before .before .before .before .before .before .before .before .before .before .before .before .before .before .before .before .before .before .before .before .before .before .args) .symbols .now) ((c .before .before .before .before .before .before .before .before .before .before .before .before .before .before .before .before .before .before .before .before .before .before .before .before .before .before .args) .k) ((c .before .before .before .before .before .before .before .before .before .before .before .before .before .before .before .before .before .before .before .before .before .before .before .before .before .before .args) .n) ((c .before .before .before .before .before .before .before .before .before .before .before .before .before .goal-lines) .last .1 .1 .1 .1 .1 .1 .1 .0) ((c .before .before .before .before .before .before .before .before .before .before .before .before .before .goal-lines) .last .1 .1 .1 .1 .1 .1 .1 .1 .0) ((c .before .before .before .before .before .counts) .given .0 .0) = rw ((c .before .before .before .before .before .counts) .given .1) at ((c .before .before .before .before .before .before .before .before .before .before .before .before .before .goal-lines) .ensures .1) in (
+      λ p t. goal-accepted ((c .before .before .before .before .before .before .before .before .before .before .before .before .before .before .before .before .before .before .before .before .before .before .before .before .before .before .args) .program .now) ((c .before .before .before .before .before .before .before .before .before .before .before .before .before .before .before .before .before .before .before .before .before .before .before .before .before .before .args) .goal .now) ((c .before .before .before .before .before .before .before .before .before .before .before .before .before .before .before .before .before .before .before .before .before .before .before .before .before .before .args) .constants .now) ((c .before .before .before .before .before .before .before .before .before .before .before .before .before .before .before .before .before .before .before .before .before .before .before .before .before .before .args) .n) ((c .before .before .before .before .before .before .before .before .before .before .before .before .before .before .before .before .before .before .before .before .before .before .before .before .before .before .args) .symbols .now) ((c .before .before .before .before .before .before .before .before .before .before .before .before .before .before .before .before .before .before .before .before .before .before .before .before .before .before .args) .k) p t (omega (arith, (c .before .before .before .before .before .before .before .before .before .before .before .before .before .before .before .before .before .before .before .if1) .left)) ((c .before .before .before .before .before .before .before .before .before .before .before .before .before .goal-lines) .last .1 .1 .1 .1 .1 .0) ((c .before .before .before .before .before .before .before .before .before .before .before .before .before .goal-lines) .last .1 .1 .1 .1 .1 .1 .1 .0) ((c .before .before .before .before .before .before .before .before .before .before .before .before .before .goal-lines) .last .1 .1 .1 .1 .1 .1 .1 .1 .0) ((c .before .before .before .before .before .counts) .given .0 .0) (ap (goalLinesAnswer ((c .before .before .before .before .before .before .before .before .before .before .before .before .before .before .before .before .before .before .before .before .before .before .before .before .before .before .args) .program .now) ((c .before .before .before .before .before .before .before .before .before .before .before .before .before .before .before .before .before .before .before .before .before .before .before .before .before .before .args) .goal .now) ((c .before .before .before .before .before .before .before .before .before .before .before .before .before .goal-lines) .last .1 .1 .1 .1 .1 .0) ((c .before .before .before .before .before .before .before .before .before .before .before .before .before .before .before .before .before .before .before .before .before .before .before .before .before .before .args) .n) ((c .before .before .before .before .before .before .before .before .before .before .before .before .before .goal-lines) .last .1 .1 .1 .1 .1 .1 .1 .0) ((c .before .before .before .before .before .before .before .before .before .before .before .before .before .goal-lines) .last .1 .1 .1 .1 .1 .1 .1 .1 .0)) (sym ((c .before .before .before .before .before .counts) .given .1)) ∙ (c .before .before .before .before .before .before .before .before .before .before .before .before .before .goal-lines) .ensures .0)
+          (omega (arith, (c .before .weight-of) .ensures ((c .before .before .before .before .before .before .before .before .before .before .before .before .before .before .before .before .before .before .before .before .before .before .before .before .before .before .args) .program .now), (c .if2) .left)),
+      (f, omega (arith, (c .before .weight-of) .ensures ((c .before .before .before .before .before .before .before .before .before .before .before .before .before .before .before .before .before .before .before .before .before .before .before .before .before .before .args) .program .now), (c .if2) .left)),
     )
 
 pub read-goal-spec : {M : Type 1} → statement M
@@ -116,9 +115,9 @@ read-goal-spec =
     enum-known-x
     enum-known-counts
     mul-end
-    slice-reshare-prefix-goal-weight
-    slice-aggregate-goal-weight
-    goal-weight-requires
+    slice-reshare-prefix-weight-of
+    slice-aggregate-weight-of
+    weight-of-requires
     same-length
     same-length-2
     same-length-3

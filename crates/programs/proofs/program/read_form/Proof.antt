@@ -3,12 +3,12 @@ use borrow.Author.Needs.{needs}
 use mathlib.Core.Path.{_≡_, refl, sym, ap, _∙_}
 use native.Mathlib.Omega.{arith}
 use Rattle.lines.specs.declared.LineForm.{LineForm}
+use Rattle.lines.specs.declared.LineForm.the-variants.{Head, Body, Equation}
 use Rattle.syntax.specs.Forms.{placeAfter}
 use Rattle.syntax.specs.Programs.{readForm}
 use Rattle.lines.specs.Read.{formMeant, placeMeant}
-use Rattle.programs.specs.Read.{lineAnswer}
-use Rattle.programs.proofs.Whole.{first-place, begun-head, begun-body, begun-sides}
-use borrow.Author.Needs.{needs}
+use Rattle.programs.specs.Read.{partForm, lineAnswer}
+use Rattle.programs.proofs.Whole.{first-place, begun}
 use Rattle.programs.proofs.program.read_form.Statement.{statement}
 use Rattle.programs.proofs.program.read_form.Tie as tie
 
@@ -29,56 +29,61 @@ rule-line-requires c κs = ((c .before .before .before .before .before .before .
 enum-told-3 : tie.Need-enum-told-3
 enum-told-3 c = search needs
 
-head-line-requires : tie.Need-head-line-requires
-unfolding formMeant
-head-line-requires c κs = (
-  (c .before .before .before .before .before .before .before .before .before .before .before .pre) .0,
-  (c .before .before .before .before .before .before .before .before .before .before .before .pre) .1,
-  (c .before .before .before .before .before .before .before .before .before .before .before .pre) .2,
-  (c .before .before .before .before .before .before .before .before .before .before .before .pre) .3,
-  (c .before .before .before .before .before .before .before .before .before .before .before .pre) .4,
-  (c .before .before .before .before .before .before .before .before .before .before .before .pre) .5,
-  (c .before .before .before .before .before .before .before .before .before .before .before .pre) .6,
-  (c .before .before .before .before .before .before .before .before .before .before .before .pre) .7,
-  (c .before .before .before .before .before .before .before .before .before .before .before .pre) .8,
-  (c .before .before .before .before .before .before .before .before .before .before .before .pre) .8 .begun (begun-head ((c .before .before .before .before .before .before .before .before .before .before .before .args) .place) ((c .before .before .before .before .before .before .before .before .before .before .before .args) .stage .place) ((c .before .before .before .before .before .before .before .before .before .before .before .pre) .10 ∙ ap (λ (f : LineForm). placeAfter (formMeant f) (placeMeant ((c .before .before .before .before .before .before .before .before .before .before .before .args) .stage .place))) ((c .before .before .before .enum-told3) .given .1)) ((c .before .before .before .before .before .before .before .before .before .before .before .pre) .9)),
-)
+constraint-line-requires : tie.Need-constraint-line-requires
+unfolding formMeant placeAfter
+constraint-line-requires c κs =
+    let pre′ = (c .before .before .before .before .before .before .before .before .before .before .before .pre) in (
+      pre′ .0,
+      pre′ .1,
+      pre′ .2,
+      pre′ .3,
+      pre′ .4,
+      pre′ .5,
+      pre′ .6,
+      pre′ .7,
+      pre′ .8,
+      pre′ .8 .begun (begun _ Head _ _ refl (pre′ .10) ((c .before .before .before .enum-told3) .given .1) (pre′ .9)),
+      omega arith,
+    )
 
 enum-told-4 : tie.Need-enum-told-4
 enum-told-4 c = search needs
 
-body-line-requires : tie.Need-body-line-requires
-unfolding formMeant
-body-line-requires c κs = (
-  (c .before .before .before .before .before .before .before .before .before .before .before .pre) .0,
-  (c .before .before .before .before .before .before .before .before .before .before .before .pre) .1,
-  (c .before .before .before .before .before .before .before .before .before .before .before .pre) .2,
-  (c .before .before .before .before .before .before .before .before .before .before .before .pre) .3,
-  (c .before .before .before .before .before .before .before .before .before .before .before .pre) .4,
-  (c .before .before .before .before .before .before .before .before .before .before .before .pre) .5,
-  (c .before .before .before .before .before .before .before .before .before .before .before .pre) .6,
-  (c .before .before .before .before .before .before .before .before .before .before .before .pre) .7,
-  (c .before .before .before .before .before .before .before .before .before .before .before .pre) .8,
-  (c .before .before .before .before .before .before .before .before .before .before .before .pre) .8 .begun (begun-body ((c .before .before .before .before .before .before .before .before .before .before .before .args) .place) ((c .before .before .before .before .before .before .before .before .before .before .before .args) .stage .place) ((c .before .before .before .before .before .before .before .before .before .before .before .pre) .10 ∙ ap (λ (f : LineForm). placeAfter (formMeant f) (placeMeant ((c .before .before .before .before .before .before .before .before .before .before .before .args) .stage .place))) ((c .before .before .before .enum-told4) .given .1)) ((c .before .before .before .before .before .before .before .before .before .before .before .pre) .9)),
-)
+constraint-line-requires-2 : tie.Need-constraint-line-requires-2
+unfolding formMeant placeAfter
+constraint-line-requires-2 c κs =
+    let pre′ = (c .before .before .before .before .before .before .before .before .before .before .before .pre) in (
+      pre′ .0,
+      pre′ .1,
+      pre′ .2,
+      pre′ .3,
+      pre′ .4,
+      pre′ .5,
+      pre′ .6,
+      pre′ .7,
+      pre′ .8,
+      pre′ .8 .begun (begun _ Body _ _ refl (pre′ .10) ((c .before .before .before .enum-told4) .given .1) (pre′ .9)),
+      omega arith,
+    )
 
 enum-told-5 : tie.Need-enum-told-5
 enum-told-5 c = search needs
 
 equation-line-requires : tie.Need-equation-line-requires
-unfolding formMeant
-equation-line-requires c κs = (
-  (c .before .before .before .before .before .before .before .before .before .before .before .pre) .0,
-  (c .before .before .before .before .before .before .before .before .before .before .before .pre) .1,
-  (c .before .before .before .before .before .before .before .before .before .before .before .pre) .2,
-  (c .before .before .before .before .before .before .before .before .before .before .before .pre) .3,
-  (c .before .before .before .before .before .before .before .before .before .before .before .pre) .4,
-  (c .before .before .before .before .before .before .before .before .before .before .before .pre) .5,
-  (c .before .before .before .before .before .before .before .before .before .before .before .pre) .6,
-  (c .before .before .before .before .before .before .before .before .before .before .before .pre) .7,
-  (c .before .before .before .before .before .before .before .before .before .before .before .pre) .8,
-  (c .before .before .before .before .before .before .before .before .before .before .before .pre) .8 .begun (begun-sides ((c .before .before .before .before .before .before .before .before .before .before .before .args) .place) ((c .before .before .before .before .before .before .before .before .before .before .before .args) .stage .place) ((c .before .before .before .before .before .before .before .before .before .before .before .pre) .10 ∙ ap (λ (f : LineForm). placeAfter (formMeant f) (placeMeant ((c .before .before .before .before .before .before .before .before .before .before .before .args) .stage .place))) ((c .before .before .before .enum-told5) .given .1)) ((c .before .before .before .before .before .before .before .before .before .before .before .pre) .9)),
-)
+unfolding formMeant placeAfter
+equation-line-requires c κs =
+    let pre′ = (c .before .before .before .before .before .before .before .before .before .before .before .pre) in (
+      pre′ .0,
+      pre′ .1,
+      pre′ .2,
+      pre′ .3,
+      pre′ .4,
+      pre′ .5,
+      pre′ .6,
+      pre′ .7,
+      pre′ .8,
+      pre′ .8 .begun (begun _ Equation _ _ refl (pre′ .10) ((c .before .before .before .enum-told5) .given .1) (pre′ .9)),
+    )
 
 enum-told-6 : tie.Need-enum-told-6
 enum-told-6 c = search needs
@@ -113,8 +118,8 @@ same-length-5 : tie.Need-same-length-5
 same-length-5 c = search needs
 
 returns-3 : tie.Need-returns-3
-unfolding formMeant
-returns-3 c = rw ((c .before .before .before .before .before .before .before .before .enum-told3) .given .1) ((c .before .before .before .before .head-line) .ensures .0 ((c .before .before .before .before .before .before .before .before .before .before .before .before .before .before .before .before .args) .number), (c .before .before .before .before .head-line) .ensures .1)
+unfolding formMeant partForm
+returns-3 c = rw ((c .before .before .before .before .before .before .before .before .enum-told3) .given .1) ((c .before .before .before .before .constraint-line) .ensures .0 ((c .before .before .before .before .before .before .before .before .before .before .before .before .before .before .before .before .args) .number), (c .before .before .before .before .constraint-line) .ensures .1)
 
 same-length-6 : tie.Need-same-length-6
 same-length-6 c = search needs
@@ -126,8 +131,8 @@ same-length-8 : tie.Need-same-length-8
 same-length-8 c = search needs
 
 returns-4 : tie.Need-returns-4
-unfolding formMeant
-returns-4 c = rw ((c .before .before .before .before .before .before .before .before .enum-told4) .given .1) ((c .before .before .before .before .body-line) .ensures .0 ((c .before .before .before .before .before .before .before .before .before .before .before .before .before .before .before .before .args) .number), (c .before .before .before .before .body-line) .ensures .1)
+unfolding formMeant partForm
+returns-4 c = rw ((c .before .before .before .before .before .before .before .before .enum-told4) .given .1) ((c .before .before .before .before .constraint-line2) .ensures .0 ((c .before .before .before .before .before .before .before .before .before .before .before .before .before .before .before .before .args) .number), (c .before .before .before .before .constraint-line2) .ensures .1)
 
 same-length-9 : tie.Need-same-length-9
 same-length-9 c = search needs
@@ -159,9 +164,9 @@ read-form-spec =
     enum-told-2
     rule-line-requires
     enum-told-3
-    head-line-requires
+    constraint-line-requires
     enum-told-4
-    body-line-requires
+    constraint-line-requires-2
     enum-told-5
     equation-line-requires
     enum-told-6
