@@ -33,7 +33,9 @@ same-length c = search needs
 
 returns : tie.Need-returns
 returns c =
-    ap₂ (λ (l : List ℕ) (v : ℕ). set l ((c .before .before .before .before .before .before .before .args) .slot) v) ((c .before .before .write-cells) .ensures) (add-one (getD ((c .before .before .before .before .before .before .before .args) .row .now) ((c .before .before .before .before .before .before .before .args) .slot) 0))
+    let args′ = c .before .before .before .before .before .before .before .args in
+    ap₂ (λ (l : List ℕ) (v : ℕ). set l (args′ .slot) v) ((c .before .before .write-cells) .ensures)
+    (add-one (getD (args′ .row .now) (args′ .slot) 0))
 
 pub add-cells-spec : {M : Type 1} → statement M
 add-cells-spec =

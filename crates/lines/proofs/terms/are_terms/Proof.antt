@@ -41,9 +41,14 @@ is-term-requires c κs = search needs
 
 returns : tie.Need-returns Inv-loop μ-loop
 returns c =
-    sym (terms-fail _ (fieldsFrom ((c .before .before .before .before .before .before .before .before .args) .line .now) ((c .before .before .before .before .before .loop) .start)) _
-    (field-cut ((c .before .before .before .before .before .before .before .before .args) .line .now) ((c .before .before .before .before .before .loop) .start) ((c .before .before .before .field-end) .result) ((c .before .before .before .before .loop-test) .taken) ((c .before .before .before .field-end) .ensures .0))
-    (sym ((c .before .is-term) .ensures) ∙ not-true ((c .before .is-term) .result) ((c .if1) .taken))) ∙ (c .before .before .before .before .before .loop) .inv .1
+    let args′ = c .before .before .before .before .before .before .before .before .args in
+    let loop′ = c .before .before .before .before .before .loop in
+    let field-end′ = c .before .before .before .field-end in
+    let is-term′ = c .before .is-term in
+    sym (terms-fail _ (fieldsFrom (args′ .line .now) (loop′ .start)) _
+    (field-cut (args′ .line .now) (loop′ .start) (field-end′ .result) ((c .before .before .before .before .loop-test) .taken)
+    (field-end′ .ensures .0))
+    (sym (is-term′ .ensures) ∙ not-true (is-term′ .result) ((c .if1) .taken))) ∙ loop′ .inv .1
 
 add-start : tie.Need-add-start Inv-loop μ-loop
 add-start c = search needs
@@ -52,16 +57,23 @@ loop-less : tie.Need-loop-less Inv-loop μ-loop
 loop-less c = search needs
 
 loop-again : tie.Need-loop-again Inv-loop μ-loop
-loop-again c = (
-  omega arith,
-  rw add-one (sym (terms-step _ (fieldsFrom ((c .before .before .before .before .before .before .before .before .args) .line .now) ((c .before .before .before .before .before .loop) .start)) _
-      (field-cut ((c .before .before .before .before .before .before .before .before .args) .line .now) ((c .before .before .before .before .before .loop) .start) ((c .before .before .before .field-end) .result) ((c .before .before .before .before .loop-test) .taken) ((c .before .before .before .field-end) .ensures .0))
-      (sym ((c .before .is-term) .ensures) ∙ not-false ((c .before .is-term) .result) ((c .if1) .left))) ∙ (c .before .before .before .before .before .loop) .inv .1),
-)
+loop-again c =
+    let args′ = c .before .before .before .before .before .before .before .before .args in
+    let loop′ = c .before .before .before .before .before .loop in
+    let field-end′ = c .before .before .before .field-end in
+    let is-term′ = c .before .is-term in (
+      omega arith,
+      rw add-one (sym (terms-step _ (fieldsFrom (args′ .line .now) (loop′ .start)) _
+          (field-cut (args′ .line .now) (loop′ .start) (field-end′ .result)
+          ((c .before .before .before .before .loop-test) .taken) (field-end′ .ensures .0))
+          (sym (is-term′ .ensures) ∙ not-false (is-term′ .result) ((c .if1) .left))) ∙ loop′ .inv .1),
+    )
 
 returns-2 : tie.Need-returns-2 Inv-loop μ-loop
 returns-2 c =
-    sym (ap (every isTerm) (fields-out ((c .before .before .before .before .args) .line .now) ((c .before .loop) .start) ((c .loop-test) .left))) ∙ (c .before .loop) .inv .1
+    let loop′ = c .before .loop in
+    sym (ap (every isTerm) (fields-out ((c .before .before .before .before .args) .line .now) (loop′ .start)
+    ((c .loop-test) .left))) ∙ loop′ .inv .1
 
 pub are-terms-spec : {M : Type 1} → statement M
 are-terms-spec =

@@ -22,7 +22,9 @@ wide-requires : tie.Need-wide-requires
 wide-requires c κs = search needs
 
 returns : tie.Need-returns
-returns c = (λ text. (c .wide) .ensures .0 ∙ sym (weight-known text _ _ _ ((c .before .before .if1) .taken)), (c .wide) .ensures .1)
+returns c =
+    let wide′ = c .wide in
+    (λ text. wide′ .ensures .0 ∙ sym (weight-known text _ _ _ ((c .before .before .if1) .taken)), wide′ .ensures .1)
 
 returns-2 : tie.Need-returns-2
 returns-2 c = (λ text. sym (weight-none text _ _ _ ((c .if1) .left)), omega arith)

@@ -40,21 +40,24 @@ weight-at-requires c κs = (c .before .before .before .before .before .before .p
 
 add-sum : tie.Need-add-sum Inv-loop μ-loop
 add-sum c =
-    let loop′ = (c .before .before .before .before .loop) in
-    record { fits = omega (arith, loop′ .inv .0, loop′ .inv .1, (c .weight-at) .ensures .1, (c .before .before .before .before .before .before .before .pre) .1) }
+    let pre′ = c .before .before .before .before .before .before .before .pre in
+    let loop′ = c .before .before .before .before .loop in
+    record { fits = omega (arith, loop′ .inv .0, loop′ .inv .1, (c .weight-at) .ensures .1, pre′ .1) }
 
 add-at : tie.Need-add-at Inv-loop μ-loop
-add-at c = record { fits = omega (arith, (c .before .before .before .loop-test) .taken, (c .before .before .before .before .before .before .before .pre) .1) }
+add-at c =
+    let pre′ = c .before .before .before .before .before .before .before .pre in
+    record { fits = omega (arith, (c .before .before .before .loop-test) .taken, pre′ .1) }
 
 loop-less : tie.Need-loop-less Inv-loop μ-loop
 loop-less c = omega (arith, (c .before .before .before .loop-test) .taken)
 
 loop-again : tie.Need-loop-again Inv-loop μ-loop
 loop-again c =
-    let args′ = (c .before .before .before .before .before .before .before .args) in
-    let loop′ = (c .before .before .before .before .loop) in
-    let test′ = (c .before .before .before .loop-test) in
-    let weight′ = (c .weight-at) in (
+    let args′ = c .before .before .before .before .before .before .before .args in
+    let loop′ = c .before .before .before .before .loop in
+    let test′ = c .before .before .before .loop-test in
+    let weight′ = c .weight-at in (
       omega (arith, test′ .taken),
       omega (arith, loop′ .inv .1, weight′ .ensures .1),
       λ text.
@@ -69,8 +72,8 @@ loop-again c =
 
 returns : tie.Need-returns Inv-loop μ-loop
 returns c =
-    let args′ = (c .before .before .before .before .args) in
-    let loop′ = (c .before .loop) in
+    let args′ = c .before .before .before .before .args in
+    let loop′ = c .before .loop in
     λ text. omega (
       arith,
       loop′ .inv .2 text,

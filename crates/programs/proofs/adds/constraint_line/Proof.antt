@@ -68,14 +68,18 @@ slice-aggregate-add-cells c = search needs
 add-cells-requires : tie.Need-add-cells-requires
 unfolding termsAnswer
 add-cells-requires c κs =
-    let pre′ = (c .before .before .before .before .before .before .before .before .before .before .before .before .before .before .before .before .before .pre) in
-    let args′ = (c .before .before .before .before .before .before .before .before .before .before .before .before .before .before .before .before .before .args) in
-    let wide′ = (c .before .before .before .before .before .before .before .before .before .wide) in
-    let read′ = (c .before .before .before .before .before .before .before .read-terms) in
-    let cells′ = (c .before .before .before .cells) in
-    constraint-fits (args′ .text .now) (args′ .symbols .now) (args′ .rules .now) (args′ .constants .now) (args′ .stage) (args′ .place) _ (pre′ .6) (pre′ .8) (pre′ .9)
+    let pre′ = c .before .before .before .before .before .before .before .before .before .before .before .before .before .before
+    .before .before .before .pre in
+    let args′ = c .before .before .before .before .before .before .before .before .before .before .before .before .before .before
+    .before .before .before .args in
+    let text′ = args′ .text .now in
+    let wide′ = c .before .before .before .before .before .before .before .before .before .wide in
+    let read′ = c .before .before .before .before .before .before .before .read-terms in
+    let cells′ = c .before .before .before .cells in
+    constraint-fits text′ (args′ .symbols .now) (args′ .rules .now) (args′ .constants .now) (args′ .stage) (args′ .place) _
+    (pre′ .6) (pre′ .8) (pre′ .9)
     (args′ .part) (wide′ .result) (pre′ .10) (wide′ .ensures .0) _
-    (ap (termsAnswer (args′ .text .now) (read′ .last .1 .1 .1 .1 .1 .1 .1 .0) 0) (sym (cells′ .given .1)) ∙ read′ .ensures .0 0)
+    (ap (termsAnswer text′ (read′ .last .1 .1 .1 .1 .1 .1 .1 .0) 0) (sym (cells′ .given .1)) ∙ read′ .ensures .0 0)
 
 same-length : tie.Need-same-length
 same-length c = search needs
@@ -83,14 +87,18 @@ same-length c = search needs
 returns : tie.Need-returns
 unfolding termsAnswer lineAnswer
 returns c =
-    let pre′ = (c .before .before .before .before .before .before .before .before .before .before .before .before .before .before .before .pre) in
-    let args′ = (c .before .before .before .before .before .before .before .before .before .before .before .before .before .before .before .args) in
-    let wide′ = (c .before .before .before .before .before .before .before .wide) in
-    let read′ = (c .before .before .before .before .before .read-terms) in
-    let x′ = (c .before .x) in (
-      λ n. constraint-refused (args′ .text .now) (args′ .symbols .now) (args′ .rules .now) (args′ .constants .now) (args′ .stage) (args′ .place) _ (pre′ .6) (pre′ .8) (pre′ .9)
+    let pre′ = c .before .before .before .before .before .before .before .before .before .before .before .before .before .before
+    .before .pre in
+    let args′ = c .before .before .before .before .before .before .before .before .before .before .before .before .before .before
+    .before .args in
+    let text′ = args′ .text .now in
+    let wide′ = c .before .before .before .before .before .before .before .wide in
+    let read′ = c .before .before .before .before .before .read-terms in
+    let x′ = c .before .x in (
+      λ n. constraint-refused text′ (args′ .symbols .now) (args′ .rules .now) (args′ .constants .now) (args′ .stage)
+          (args′ .place) _ (pre′ .6) (pre′ .8) (pre′ .9)
           (args′ .part) (wide′ .result) (pre′ .10) (wide′ .ensures .0) n _
-          (ap (termsAnswer (args′ .text .now) (read′ .last .1 .1 .1 .1 .1 .1 .1 .0) n) (sym (x′ .given .1)) ∙ read′ .ensures .0 n),
+          (ap (termsAnswer text′ (read′ .last .1 .1 .1 .1 .1 .1 .1 .0) n) (sym (x′ .given .1)) ∙ read′ .ensures .0 n),
       omega arith,
     )
 
@@ -103,15 +111,19 @@ same-length-3 c = search needs
 returns-2 : tie.Need-returns-2
 unfolding termsAnswer lineAnswer cellsMeant
 returns-2 c =
-    let pre′ = (c .before .before .before .before .before .before .before .before .before .before .before .before .before .before .before .before .before .before .before .before .pre) in
-    let args′ = (c .before .before .before .before .before .before .before .before .before .before .before .before .before .before .before .before .before .before .before .before .args) in
-    let wide′ = (c .before .before .before .before .before .before .before .before .before .before .before .before .wide) in
-    let read′ = (c .before .before .before .before .before .before .before .before .before .before .read-terms) in
-    let cells′ = (c .before .before .before .before .before .before .cells) in
+    let pre′ = c .before .before .before .before .before .before .before .before .before .before .before .before .before .before
+    .before .before .before .before .before .before .pre in
+    let args′ = c .before .before .before .before .before .before .before .before .before .before .before .before .before .before
+    .before .before .before .before .before .before .args in
+    let text′ = args′ .text .now in
+    let wide′ = c .before .before .before .before .before .before .before .before .before .before .before .before .wide in
+    let read′ = c .before .before .before .before .before .before .before .before .before .before .read-terms in
+    let cells′ = c .before .before .before .before .before .before .cells in
     let fit : cells′ .given .0 .1 .0 ≤ 64 = rw (cells′ .given .1) at (read′ .ensures .1) in
-    constraint-next (args′ .text .now) (args′ .symbols .now) (args′ .rules .now) (args′ .constants .now) (args′ .stage) (args′ .place) _ (pre′ .6) (pre′ .8) (pre′ .9)
+    constraint-next text′ (args′ .symbols .now) (args′ .rules .now) (args′ .constants .now) (args′ .stage) (args′ .place) _
+    (pre′ .6) (pre′ .8) (pre′ .9)
     (args′ .part) (wide′ .result) (pre′ .10) (wide′ .ensures .0) _ _ _ _ _ _ _ _ fit ((c .before .before .add-cells) .ensures)
-    (λ n. ap (termsAnswer (args′ .text .now) (read′ .last .1 .1 .1 .1 .1 .1 .1 .0) n) (sym (cells′ .given .1)) ∙ read′ .ensures .0 n)
+    (λ n. ap (termsAnswer text′ (read′ .last .1 .1 .1 .1 .1 .1 .1 .0) n) (sym (cells′ .given .1)) ∙ read′ .ensures .0 n)
 
 pub constraint-line-spec : {M : Type 1} → statement M
 constraint-line-spec =

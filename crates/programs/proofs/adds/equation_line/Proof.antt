@@ -23,10 +23,16 @@ mul-base : tie.Need-mul-base
 mul-base c = search needs
 
 slice-aggregate-line : tie.Need-slice-aggregate-line
-slice-aggregate-line c = sym (length-take-le ((c .before .before .before .before .before .before .before .args) .end) ((c .before .before .before .before .before .before .before .args) .text .now) ((c .before .before .before .before .before .before .before .pre) .3))
+slice-aggregate-line c =
+    let args′ = c .before .before .before .before .before .before .before .args in
+    let pre′ = c .before .before .before .before .before .before .before .pre in
+    sym (length-take-le (args′ .end) (args′ .text .now) (pre′ .3))
 
 equation-form-requires : tie.Need-equation-form-requires
-equation-form-requires c κs = ((c .before .before .before .before .before .before .before .pre) .0, omega (arith, length-take-le ((c .before .before .before .before .before .before .before .args) .end) ((c .before .before .before .before .before .before .before .args) .text .now) ((c .before .before .before .before .before .before .before .pre) .3), (c .before .before .before .before .before .before .before .pre) .2))
+equation-form-requires c κs =
+    let pre′ = c .before .before .before .before .before .before .before .pre in
+    let args′ = c .before .before .before .before .before .before .before .args in
+    (pre′ .0, omega (arith, length-take-le (args′ .end) (args′ .text .now) (pre′ .3), pre′ .2))
 
 enum-told : tie.Need-enum-told
 enum-told c = search needs
@@ -49,22 +55,34 @@ wide-requires c κs = search needs
 returns : tie.Need-returns
 unfolding lineAnswer
 returns c =
-    let pre′ = (c .before .before .before .before .before .before .before .before .before .before .before .before .before .before .pre) in
-    let args′ = (c .before .before .before .before .before .before .before .before .before .before .before .before .before .before .args) in
-    let from′ = (c .before .before .before .before .from) in
-    let sides : SidesAt (take (args′ .end) (args′ .text .now)) (args′ .at) (from′ .given .0 .0) = rw (from′ .given .1) at ((c .before .before .before .before .before .before .equation-form) .ensures) in (
-      λ n. sides-full (args′ .text .now) (args′ .symbols .now) (args′ .rules .now) (args′ .constants .now) (args′ .stage) (args′ .place) _
-          (pre′ .6) (pre′ .8) (pre′ .9) ((c .before .wide) .result) ((c .before .wide) .ensures .0) (take (args′ .end) (args′ .text .now)) (args′ .at) _ refl sides n ((c .if1) .taken),
+    let equation-form′ = c .before .before .before .before .before .before .equation-form in
+    let wide′ = c .before .wide in
+    let pre′ = c .before .before .before .before .before .before .before .before .before .before .before .before .before .before
+    .pre in
+    let args′ = c .before .before .before .before .before .before .before .before .before .before .before .before .before .before
+    .args in
+    let text′ = args′ .text .now in
+    let from′ = c .before .before .before .before .from in
+    let sides : SidesAt (take (args′ .end) text′) (args′ .at) (from′ .given .0 .0) =
+    rw (from′ .given .1) at (equation-form′ .ensures) in (
+      λ n. sides-full text′ (args′ .symbols .now) (args′ .rules .now) (args′ .constants .now) (args′ .stage) (args′ .place) _
+          (pre′ .6) (pre′ .8) (pre′ .9) (wide′ .result) (wide′ .ensures .0) (take (args′ .end) text′) (args′ .at) _ refl sides n
+          ((c .if1) .taken),
       omega arith,
     )
 
 add-constants-requires : tie.Need-add-constants-requires
 add-constants-requires c κs =
-    let pre′ = (c .before .before .before .before .before .before .before .before .before .before .before .before .before .before .before .pre) in
-    let args′ = (c .before .before .before .before .before .before .before .before .before .before .before .before .before .before .before .args) in
-    let from′ = (c .before .before .before .before .before .from) in
-    let sides : SidesAt (take (args′ .end) (args′ .text .now)) (args′ .at) (from′ .given .0 .0) = rw (from′ .given .1) at ((c .before .before .before .before .before .before .before .equation-form) .ensures) in
-    let sized : length (take (args′ .end) (args′ .text .now)) ≡ args′ .end = length-take-le (args′ .end) (args′ .text .now) (pre′ .3) in
+    let equation-form′ = c .before .before .before .before .before .before .before .equation-form in
+    let pre′ = c .before .before .before .before .before .before .before .before .before .before .before .before .before .before
+    .before .pre in
+    let args′ = c .before .before .before .before .before .before .before .before .before .before .before .before .before .before
+    .before .args in
+    let text′ = args′ .text .now in
+    let from′ = c .before .before .before .before .before .from in
+    let sides : SidesAt (take (args′ .end) text′) (args′ .at) (from′ .given .0 .0) =
+    rw (from′ .given .1) at (equation-form′ .ensures) in
+    let sized : length (take (args′ .end) text′) ≡ args′ .end = length-take-le (args′ .end) text′ (pre′ .3) in
     (pre′ .0, omega (arith, sides .within), pre′ .3, pre′ .4, pre′ .7, omega (arith, pre′ .8 .few-constants))
 
 enum-told-2 : tie.Need-enum-told-2
@@ -76,18 +94,24 @@ enum-known-count c = search needs
 terms-of-requires : tie.Need-terms-of-requires
 unfolding addedOf alphabetLetters
 terms-of-requires c κs =
-    let pre′ = (c .before .before .before .before .before .before .before .before .before .before .before .before .before .before .before .before .before .before .before .before .before .before .pre) in
-    let args′ = (c .before .before .before .before .before .before .before .before .before .before .before .before .before .before .before .before .before .before .before .before .before .before .args) in
-    let from′ = (c .before .before .before .before .before .before .before .before .before .before .before .before .from) in
-    let sides : SidesAt (take (args′ .end) (args′ .text .now)) (args′ .at) (from′ .given .0 .0) = rw (from′ .given .1) at ((c .before .before .before .before .before .before .before .before .before .before .before .before .before .before .equation-form) .ensures) in
-    let sized : length (take (args′ .end) (args′ .text .now)) ≡ args′ .end = length-take-le (args′ .end) (args′ .text .now) (pre′ .3) in
-    let added′ = (c .before .before .before .before .before .before .add-constants) in
-    let count′ = (c .before .before .count) in
-    let known : some (constantsOf (args′ .text .now) (args′ .text .now) (added′ .last .1 .1 .1 .1 .1 .0) 0 (count′ .given .0 .0)) ≡ _ =
-    ap (addedOf (args′ .text .now) (args′ .text .now) (added′ .last .1 .1 .1 .1 .1 .0) 0) (sym (count′ .given .1)) ∙ added′ .ensures in (
+    let equation-form′ = c .before .before .before .before .before .before .before .before .before .before .before .before .before
+    .before .equation-form in
+    let pre′ = c .before .before .before .before .before .before .before .before .before .before .before .before .before .before
+    .before .before .before .before .before .before .before .before .pre in
+    let args′ = c .before .before .before .before .before .before .before .before .before .before .before .before .before .before
+    .before .before .before .before .before .before .before .before .args in
+    let text′ = args′ .text .now in
+    let from′ = c .before .before .before .before .before .before .before .before .before .before .before .before .from in
+    let sides : SidesAt (take (args′ .end) text′) (args′ .at) (from′ .given .0 .0) =
+    rw (from′ .given .1) at (equation-form′ .ensures) in
+    let sized : length (take (args′ .end) text′) ≡ args′ .end = length-take-le (args′ .end) text′ (pre′ .3) in
+    let added′ = c .before .before .before .before .before .before .add-constants in
+    let count′ = c .before .before .count in
+    let known : some (constantsOf text′ text′ (added′ .last .1 .1 .1 .1 .1 .0) 0 (count′ .given .0 .0)) ≡ _ =
+    ap (addedOf text′ text′ (added′ .last .1 .1 .1 .1 .1 .0) 0) (sym (count′ .given .1)) ∙ added′ .ensures in (
       pre′ .0,
       added′ .kept .1 .1 .1 .1 .1 .0 ∙ pre′ .7,
-      added-fits (args′ .text .now) (args′ .text .now) (added′ .last .1 .1 .1 .1 .1 .0) 0 (count′ .given .0 .0) _ known,
+      added-fits text′ text′ (added′ .last .1 .1 .1 .1 .1 .0) 0 (count′ .given .0 .0) _ known,
       omega arith,
       rw (pre′ .1) (omega (arith, tabled-length (λ (i : ℕ). 65 + i) 26)),
       omega (arith, sides .within),
@@ -110,32 +134,46 @@ add-start c = search needs
 
 add-add-cells : tie.Need-add-add-cells
 add-add-cells c =
-    let pre′ = (c .before .before .before .before .before .before .before .before .before .before .before .before .before .before .before .before .before .before .before .before .before .before .before .before .pre) in
+    let pre′ = c .before .before .before .before .before .before .before .before .before .before .before .before .before .before
+    .before .before .before .before .before .before .before .before .before .before .pre in
     record { fits = omega (arith, pre′ .8 .few-rules, pre′ .9) }
 
 add-add-cells-2 : tie.Need-add-add-cells-2
 add-add-cells-2 c =
-    let pre′ = (c .before .before .before .before .before .before .before .before .before .before .before .before .before .before .before .before .before .before .before .before .before .before .before .before .pre) in
-    record { fits = omega (arith, (c .before .before .before .before .before .before .before .before .before .before .if1) .left, pre′ .8 .few-rules, pre′ .9) }
+    let if1′ = c .before .before .before .before .before .before .before .before .before .before .if1 in
+    let pre′ = c .before .before .before .before .before .before .before .before .before .before .before .before .before .before
+    .before .before .before .before .before .before .before .before .before .before .pre in
+    record { fits = omega (arith, if1′ .left, pre′ .8 .few-rules, pre′ .9) }
 
 slice-aggregate-add-cells : tie.Need-slice-aggregate-add-cells
 slice-aggregate-add-cells c = search needs
 
 add-cells-requires : tie.Need-add-cells-requires
 add-cells-requires c κs =
-    let pre′ = (c .before .before .before .before .before .before .before .before .before .before .before .before .before .before .before .before .before .before .before .before .before .before .before .before .before .pre) in
-    let args′ = (c .before .before .before .before .before .before .before .before .before .before .before .before .before .before .before .before .before .before .before .before .before .before .before .before .before .args) in
-    let from′ = (c .before .before .before .before .before .before .before .before .before .before .before .before .before .before .before .from) in
-    let sides : SidesAt (take (args′ .end) (args′ .text .now)) (args′ .at) (from′ .given .0 .0) = rw (from′ .given .1) at ((c .before .before .before .before .before .before .before .before .before .before .before .before .before .before .before .before .before .equation-form) .ensures) in
-    sides-fit (args′ .text .now) (args′ .symbols .now) (args′ .rules .now) (args′ .constants .now) (args′ .stage) (args′ .place) _
-    (pre′ .6) (pre′ .8) (pre′ .9) ((c .before .before .before .before .before .before .before .before .before .before .before .before .wide) .result) ((c .before .before .before .before .before .before .before .before .before .before .before .before .wide) .ensures .0) (take (args′ .end) (args′ .text .now)) (args′ .at) _ refl sides ((c .before .before .before .before .before .before .before .before .before .before .before .if1) .left)
+    let equation-form′ = c .before .before .before .before .before .before .before .before .before .before .before .before .before
+    .before .before .before .before .equation-form in
+    let wide′ = c .before .before .before .before .before .before .before .before .before .before .before .before .wide in
+    let if1′ = c .before .before .before .before .before .before .before .before .before .before .before .if1 in
+    let pre′ = c .before .before .before .before .before .before .before .before .before .before .before .before .before .before
+    .before .before .before .before .before .before .before .before .before .before .before .pre in
+    let args′ = c .before .before .before .before .before .before .before .before .before .before .before .before .before .before
+    .before .before .before .before .before .before .before .before .before .before .before .args in
+    let text′ = args′ .text .now in
+    let from′ = c .before .before .before .before .before .before .before .before .before .before .before .before .before .before
+    .before .from in
+    let sides : SidesAt (take (args′ .end) text′) (args′ .at) (from′ .given .0 .0) =
+    rw (from′ .given .1) at (equation-form′ .ensures) in
+    sides-fit text′ (args′ .symbols .now) (args′ .rules .now) (args′ .constants .now) (args′ .stage) (args′ .place) _
+    (pre′ .6) (pre′ .8) (pre′ .9) (wide′ .result) (wide′ .ensures .0) (take (args′ .end) text′) (args′ .at) _ refl sides
+    (if1′ .left)
 
 returns-2 : tie.Need-returns-2
 unfolding lineAnswer
 returns-2 c =
-    let pre′ = (c .before .before .before .before .before .before .before .before .before .before .pre) in
-    let args′ = (c .before .before .before .before .before .before .before .before .before .before .args) in (
-      λ n. sides-faulty (args′ .text .now) (args′ .symbols .now) (args′ .rules .now) (args′ .constants .now) (args′ .stage) (args′ .place) _
+    let pre′ = c .before .before .before .before .before .before .before .before .before .before .pre in
+    let args′ = c .before .before .before .before .before .before .before .before .before .before .args in (
+      λ n. sides-faulty (args′ .text .now) (args′ .symbols .now) (args′ .rules .now) (args′ .constants .now) (args′ .stage)
+          (args′ .place) _
           (pre′ .6) (pre′ .8) (pre′ .9) n (rw ((c .enum-told) .given .1) at ((c .before .before .equation-form) .ensures)),
       omega arith,
     )
@@ -146,14 +184,23 @@ same-length c = search needs
 returns-3 : tie.Need-returns-3
 unfolding lineAnswer addedOf
 returns-3 c =
-    let pre′ = (c .before .before .before .before .before .before .before .before .before .before .before .before .before .before .before .before .before .before .before .before .pre) in
-    let args′ = (c .before .before .before .before .before .before .before .before .before .before .before .before .before .before .before .before .before .before .before .before .args) in
-    let from′ = (c .before .before .before .before .before .before .before .before .before .before .from) in
-    let sides : SidesAt (take (args′ .end) (args′ .text .now)) (args′ .at) (from′ .given .0 .0) = rw (from′ .given .1) at ((c .before .before .before .before .before .before .before .before .before .before .before .before .equation-form) .ensures) in
-    let added′ = (c .before .before .before .before .add-constants) in (
-      λ n. sides-many (args′ .text .now) (args′ .symbols .now) (args′ .rules .now) (args′ .constants .now) (args′ .stage) (args′ .place) _
-          (pre′ .6) (pre′ .8) (pre′ .9) ((c .before .before .before .before .before .before .before .wide) .result) ((c .before .before .before .before .before .before .before .wide) .ensures .0) (take (args′ .end) (args′ .text .now)) (args′ .at) _ refl sides n ((c .before .before .before .before .before .before .if1) .left)
-          (ap (addedOf (args′ .text .now) (args′ .text .now) (added′ .last .1 .1 .1 .1 .1 .0) 0) (sym ((c .enum-told2) .given .1)) ∙ added′ .ensures),
+    let equation-form′ = c .before .before .before .before .before .before .before .before .before .before .before .before
+    .equation-form in
+    let wide′ = c .before .before .before .before .before .before .before .wide in
+    let if1′ = c .before .before .before .before .before .before .if1 in
+    let pre′ = c .before .before .before .before .before .before .before .before .before .before .before .before .before .before
+    .before .before .before .before .before .before .pre in
+    let args′ = c .before .before .before .before .before .before .before .before .before .before .before .before .before .before
+    .before .before .before .before .before .before .args in
+    let text′ = args′ .text .now in
+    let from′ = c .before .before .before .before .before .before .before .before .before .before .from in
+    let sides : SidesAt (take (args′ .end) text′) (args′ .at) (from′ .given .0 .0) =
+    rw (from′ .given .1) at (equation-form′ .ensures) in
+    let added′ = c .before .before .before .before .add-constants in (
+      λ n. sides-many text′ (args′ .symbols .now) (args′ .rules .now) (args′ .constants .now) (args′ .stage) (args′ .place) _
+          (pre′ .6) (pre′ .8) (pre′ .9) (wide′ .result) (wide′ .ensures .0) (take (args′ .end) text′) (args′ .at) _ refl sides n
+          (if1′ .left)
+          (ap (addedOf text′ text′ (added′ .last .1 .1 .1 .1 .1 .0) 0) (sym ((c .enum-told2) .given .1)) ∙ added′ .ensures),
       omega arith,
     )
 
@@ -166,18 +213,32 @@ same-length-3 c = search needs
 returns-4 : tie.Need-returns-4
 unfolding lineAnswer addedOf
 returns-4 c =
-    let pre′ = (c .before .before .before .before .before .before .before .before .before .before .before .before .before .before .before .before .before .before .before .before .before .before .before .before .before .before .before .before .pre) in
-    let args′ = (c .before .before .before .before .before .before .before .before .before .before .before .before .before .before .before .before .before .before .before .before .before .before .before .before .before .before .before .before .args) in
-    let from′ = (c .before .before .before .before .before .before .before .before .before .before .before .before .before .before .before .before .before .before .from) in
-    let sides : SidesAt (take (args′ .end) (args′ .text .now)) (args′ .at) (from′ .given .0 .0) = rw (from′ .given .1) at ((c .before .before .before .before .before .before .before .before .before .before .before .before .before .before .before .before .before .before .before .before .equation-form) .ensures) in
-    let added′ = (c .before .before .before .before .before .before .before .before .before .before .before .before .add-constants) in
-    let count′ = (c .before .before .before .before .before .before .before .before .count) in
-    let known : some (constantsOf (args′ .text .now) (args′ .text .now) (added′ .last .1 .1 .1 .1 .1 .0) 0 (count′ .given .0 .0)) ≡ _ =
-    ap (addedOf (args′ .text .now) (args′ .text .now) (added′ .last .1 .1 .1 .1 .1 .0) 0) (sym (count′ .given .1)) ∙ added′ .ensures in
-    sides-next (args′ .text .now) (args′ .symbols .now) (args′ .rules .now) (args′ .constants .now) (args′ .stage) (args′ .place) _
-    (pre′ .6) (pre′ .8) (pre′ .9) ((c .before .before .before .before .before .before .before .before .before .before .before .before .before .before .before .wide) .result) ((c .before .before .before .before .before .before .before .before .before .before .before .before .before .before .before .wide) .ensures .0) (take (args′ .end) (args′ .text .now)) (args′ .at) _ refl sides
-    (args′ .letters .now) ((c .before .before .before .before .before .terms-of) .result) _ (added′ .last .1 .1 .1 .1 .1 .0) (count′ .given .0 .0) ((c .before .before .before .before .before .before .before .before .before .before .before .before .before .before .if1) .left) (pre′ .1) ((c .before .before .before .before .before .terms-of) .ensures .1) known
-    ((c .before .before .before .before .before .terms-of) .ensures .0) ((c .before .before .add-cells) .ensures)
+    let equation-form′ = c .before .before .before .before .before .before .before .before .before .before .before .before .before
+    .before .before .before .before .before .before .before .equation-form in
+    let wide′ = c .before .before .before .before .before .before .before .before .before .before .before .before .before .before
+    .before .wide in
+    let if1′ = c .before .before .before .before .before .before .before .before .before .before .before .before .before .before
+    .if1 in
+    let terms-of′ = c .before .before .before .before .before .terms-of in
+    let pre′ = c .before .before .before .before .before .before .before .before .before .before .before .before .before .before
+    .before .before .before .before .before .before .before .before .before .before .before .before .before .before .pre in
+    let args′ = c .before .before .before .before .before .before .before .before .before .before .before .before .before .before
+    .before .before .before .before .before .before .before .before .before .before .before .before .before .before .args in
+    let text′ = args′ .text .now in
+    let from′ = c .before .before .before .before .before .before .before .before .before .before .before .before .before .before
+    .before .before .before .before .from in
+    let sides : SidesAt (take (args′ .end) text′) (args′ .at) (from′ .given .0 .0) =
+    rw (from′ .given .1) at (equation-form′ .ensures) in
+    let added′ = c .before .before .before .before .before .before .before .before .before .before .before .before
+    .add-constants in
+    let count′ = c .before .before .before .before .before .before .before .before .count in
+    let known : some (constantsOf text′ text′ (added′ .last .1 .1 .1 .1 .1 .0) 0 (count′ .given .0 .0)) ≡ _ =
+    ap (addedOf text′ text′ (added′ .last .1 .1 .1 .1 .1 .0) 0) (sym (count′ .given .1)) ∙ added′ .ensures in
+    sides-next text′ (args′ .symbols .now) (args′ .rules .now) (args′ .constants .now) (args′ .stage) (args′ .place) _
+    (pre′ .6) (pre′ .8) (pre′ .9) (wide′ .result) (wide′ .ensures .0) (take (args′ .end) text′) (args′ .at) _ refl sides
+    (args′ .letters .now) (terms-of′ .result) _ (added′ .last .1 .1 .1 .1 .1 .0) (count′ .given .0 .0) (if1′ .left) (pre′ .1)
+    (terms-of′ .ensures .1) known
+    (terms-of′ .ensures .0) ((c .before .before .add-cells) .ensures)
 
 pub equation-line-spec : {M : Type 1} → statement M
 equation-line-spec =

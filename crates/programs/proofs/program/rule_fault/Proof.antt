@@ -19,11 +19,13 @@ wide-requires-2 c κs = search needs
 
 returns : tie.Need-returns
 returns c =
-    let args′ = (c .before .before .before .before .before .before .before .args) in
-    let h′ = (c .before .before .before .wide) in
-    let b′ = (c .before .wide2) in
-    λ text n. tests-eight text (args′ .symbols .now) (args′ .row .now) (args′ .k) (h′ .result) (b′ .result) (h′ .ensures .0) (b′ .ensures .0)
-    ((c .before .before .before .before .before .before .before .pre) .1) n ((c .if1) .taken)
+    let pre′ = c .before .before .before .before .before .before .before .pre in
+    let args′ = c .before .before .before .before .before .before .before .args in
+    let h′ = c .before .before .before .wide in
+    let b′ = c .before .wide2 in
+    λ text n. tests-eight text (args′ .symbols .now) (args′ .row .now) (args′ .k) (h′ .result) (b′ .result) (h′ .ensures .0)
+    (b′ .ensures .0)
+    (pre′ .1) n ((c .if1) .taken)
 
 sub-prefix-of : tie.Need-sub-prefix-of
 sub-prefix-of c = search needs
@@ -42,9 +44,10 @@ prefix-of-requires c κs = search needs
 
 weight-of-requires : tie.Need-weight-of-requires
 weight-of-requires c κs =
-    let pre′ = (c .before .before .before .before .before .before .before .before .before .pre) in
-    let args′ = (c .before .before .before .before .before .before .before .before .before .args) in
-    (pre′ .0, part-short (args′ .row .now) _ ((c .before .before .before .before .before .wide) .result) 6 ((c .prefix-of) .ensures) (pre′ .1))
+    let wide′ = c .before .before .before .before .before .wide in
+    let pre′ = c .before .before .before .before .before .before .before .before .before .pre in
+    let args′ = c .before .before .before .before .before .before .before .before .before .args in
+    (pre′ .0, part-short (args′ .row .now) _ (wide′ .result) 6 ((c .prefix-of) .ensures) (pre′ .1))
 
 sub-prefix-of-2 : tie.Need-sub-prefix-of-2
 sub-prefix-of-2 c = search needs
@@ -63,31 +66,46 @@ prefix-of-requires-2 c κs = search needs
 
 weight-of-requires-2 : tie.Need-weight-of-requires-2
 weight-of-requires-2 c κs =
-    let pre′ = (c .before .before .before .before .before .before .before .before .before .before .before .before .pre) in
-    let args′ = (c .before .before .before .before .before .before .before .before .before .before .before .before .args) in
-    (pre′ .0, part-short (args′ .row .now) _ ((c .before .before .before .before .before .before .wide2) .result) 26 ((c .prefix-of2) .ensures) (pre′ .1))
+    let wide2′ = c .before .before .before .before .before .before .wide2 in
+    let pre′ = c .before .before .before .before .before .before .before .before .before .before .before .before .pre in
+    let args′ = c .before .before .before .before .before .before .before .before .before .before .before .before .args in
+    (pre′ .0, part-short (args′ .row .now) _ (wide2′ .result) 26 ((c .prefix-of2) .ensures) (pre′ .1))
 
 returns-2 : tie.Need-returns-2
 returns-2 c =
-    let args′ = (c .before .before .before .before .before .before .before .before .before .before .before .before .before .before .args) in
-    let h′ = (c .before .before .before .before .before .before .before .before .before .before .wide) in
-    let b′ = (c .before .before .before .before .before .before .before .before .wide2) in
-    let heads′ = (c .before .before .before .before .weight-of) in
-    let body′ = (c .before .weight-of2) in
-    λ text n. tests-nine text (args′ .symbols .now) (args′ .row .now) (args′ .k) (h′ .result) (b′ .result) (h′ .ensures .0) (b′ .ensures .0)
-    ((c .before .before .before .before .before .before .before .before .before .before .before .before .before .before .pre) .1) n _ _ (heads′ .result) (body′ .result) ((c .before .before .before .before .before .prefix-of) .ensures) ((c .before .before .prefix-of2) .ensures) (heads′ .ensures text) (body′ .ensures text)
-    (omega (arith, (c .before .before .before .before .before .before .before .if1) .left)) ((c .if2) .taken)
+    let pre′ = c .before .before .before .before .before .before .before .before .before .before .before .before .before .before
+    .pre in
+    let if1′ = c .before .before .before .before .before .before .before .if1 in
+    let prefix-of′ = c .before .before .before .before .before .prefix-of in
+    let args′ = c .before .before .before .before .before .before .before .before .before .before .before .before .before .before
+    .args in
+    let h′ = c .before .before .before .before .before .before .before .before .before .before .wide in
+    let b′ = c .before .before .before .before .before .before .before .before .wide2 in
+    let heads′ = c .before .before .before .before .weight-of in
+    let body′ = c .before .weight-of2 in
+    λ text n. tests-nine text (args′ .symbols .now) (args′ .row .now) (args′ .k) (h′ .result) (b′ .result) (h′ .ensures .0)
+    (b′ .ensures .0)
+    (pre′ .1) n _ _ (heads′ .result) (body′ .result) (prefix-of′ .ensures) ((c .before .before .prefix-of2) .ensures)
+    (heads′ .ensures text) (body′ .ensures text)
+    (omega (arith, if1′ .left)) ((c .if2) .taken)
 
 returns-3 : tie.Need-returns-3
 returns-3 c =
-    let args′ = (c .before .before .before .before .before .before .before .before .before .before .before .before .before .before .args) in
-    let h′ = (c .before .before .before .before .before .before .before .before .before .before .wide) in
-    let b′ = (c .before .before .before .before .before .before .before .before .wide2) in
-    let heads′ = (c .before .before .before .before .weight-of) in
-    let body′ = (c .before .weight-of2) in
-    λ text n. tests-none text (args′ .symbols .now) (args′ .row .now) (args′ .k) (h′ .result) (b′ .result) (h′ .ensures .0) (b′ .ensures .0)
-    ((c .before .before .before .before .before .before .before .before .before .before .before .before .before .before .pre) .1) n _ _ (heads′ .result) (body′ .result) ((c .before .before .before .before .before .prefix-of) .ensures) ((c .before .before .prefix-of2) .ensures) (heads′ .ensures text) (body′ .ensures text)
-    (omega (arith, (c .before .before .before .before .before .before .before .if1) .left)) ((c .if2) .left)
+    let pre′ = c .before .before .before .before .before .before .before .before .before .before .before .before .before .before
+    .pre in
+    let if1′ = c .before .before .before .before .before .before .before .if1 in
+    let prefix-of′ = c .before .before .before .before .before .prefix-of in
+    let args′ = c .before .before .before .before .before .before .before .before .before .before .before .before .before .before
+    .args in
+    let h′ = c .before .before .before .before .before .before .before .before .before .before .wide in
+    let b′ = c .before .before .before .before .before .before .before .before .wide2 in
+    let heads′ = c .before .before .before .before .weight-of in
+    let body′ = c .before .weight-of2 in
+    λ text n. tests-none text (args′ .symbols .now) (args′ .row .now) (args′ .k) (h′ .result) (b′ .result) (h′ .ensures .0)
+    (b′ .ensures .0)
+    (pre′ .1) n _ _ (heads′ .result) (body′ .result) (prefix-of′ .ensures) ((c .before .before .prefix-of2) .ensures)
+    (heads′ .ensures text) (body′ .ensures text)
+    (omega (arith, if1′ .left)) ((c .if2) .left)
 
 pub rule-fault-spec : {M : Type 1} → statement M
 rule-fault-spec =
