@@ -12,8 +12,7 @@ use Rattle.text.specs.Places.{fieldsFrom}
 use Rattle.syntax.specs.Forms.{constantsAfter}
 use Rattle.syntax.specs.Tables.{constantsOf, symbolsOf}
 use Rattle.lines.specs.Read.{HeadAt, roomy, addedOf}
-use Rattle.syntax.proofs.Tabled.{constants-length}
-use Rattle.lines.proofs.Constants.{roomy-is}
+use Rattle.lines.proofs.Constants.{added-fits}
 use Rattle.goals.proofs.GoalSteps.{refuses-head, refuses-many, refuses-full, next-is, next-fits}
 use Rattle.goals.proofs.goal.goal_constraint.Statement.{statement}
 use Rattle.goals.proofs.goal.goal_constraint.Tie as tie
@@ -125,18 +124,10 @@ store-constraint-requires c κs =
     ≡ roomy (constantsAfter (fieldsFrom (take (args′ .end) goal′) (s′ .given .0 .1 .0))
     (constantsOf program′ goal′ (args′ .constants .now) (args′ .n) (args′ .counts .constants))) =
     sym (ap (addedOf program′ goal′ (add-constants′ .last .1 .1 .1 .1 .1 .0) (args′ .n)) (more′ .given .1)) ∙ add-constants′
-    .ensures in
-    let known : length (constantsOf program′ goal′ (add-constants′ .last .1 .1 .1 .1 .1 .0) (args′ .n) (more′ .given .0 .0)) ≤ 64
-    =
-    omega (arith, roomy-is _ _ r .1, ap (λ (l : List (List ℕ)). length l) (roomy-is _ _ r .0)) in (
+    .ensures in (
       pre′ .0,
       add-constants′ .kept .1 .1 .1 .1 .1 .0 ∙ pre′ .4 .constant-cells,
-      omega (
-        arith,
-        known,
-        constants-length program′ goal′ (add-constants′ .last .1 .1 .1 .1 .1 .0) (args′ .n)
-            (more′ .given .0 .0),
-      ),
+      added-fits program′ goal′ (add-constants′ .last .1 .1 .1 .1 .1 .0) (args′ .n) (more′ .given .0 .0) _ r,
       add-letters′ .ensures .1 .few,
       omega (arith, add-letters′ .ensures .1 .few, add-letters′ .kept .1 .1 .1 .0, pre′ .4 .letter-cells),
       omega (arith, h .within, length-take-le (args′ .end) goal′ (pre′ .2)),

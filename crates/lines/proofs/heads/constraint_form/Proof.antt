@@ -72,9 +72,6 @@ returns-3 c =
     let field-end2′ = c .before .before .before .field-end2 in
     let is-name′ = c .before .is-name in
     let start : ℕ = field-end′ .result + 1 in
-    let within : suc (field-end′ .result) ≤ length line′ =
-    second-within line′ (args′ .at) (field-end′ .result) (pre′ .1) (field-end′ .ensures .0)
-    (omega (arith, count-fields′ .ensures, if1′ .left)) in
     faulty-name (drop (args′ .at) (take (field-end′ .result) line′)) (drop start (take (field-end2′ .result) line′))
     (fieldsFrom line′ (args′ .at)) (fieldsFrom line′ (suc (field-end2′ .result)))
     (two-fields line′ (args′ .at) (field-end′ .result) (pre′ .1) (field-end′ .ensures .0) start (field-end2′ .result)
@@ -102,9 +99,6 @@ returns-4 c =
     let is-name′ = c .before .before .before .is-name in
     let are-terms′ = c .before .are-terms in
     let start : ℕ = field-end′ .result + 1 in
-    let within : suc (field-end′ .result) ≤ length line′ =
-    second-within line′ (args′ .at) (field-end′ .result) (pre′ .1) (field-end′ .ensures .0)
-    (omega (arith, count-fields′ .ensures, if1′ .left)) in
     faulty-terms (drop (args′ .at) (take (field-end′ .result) line′)) (drop start (take (field-end2′ .result) line′))
     (fieldsFrom line′ (args′ .at)) (fieldsFrom line′ (suc (field-end2′ .result)))
     (two-fields line′ (args′ .at) (field-end′ .result) (pre′ .1) (field-end′ .ensures .0) start (field-end2′ .result)
@@ -128,9 +122,6 @@ returns-5 c =
     let is-name′ = c .before .before .before .is-name in
     let are-terms′ = c .before .are-terms in
     let start : ℕ = field-end′ .result + 1 in
-    let within : suc (field-end′ .result) ≤ length line′ =
-    second-within line′ (args′ .at) (field-end′ .result) (pre′ .1) (field-end′ .ensures .0)
-    (omega (arith, count-fields′ .ensures, if1′ .left)) in
     let f : List ℕ = drop (args′ .at) (take (field-end′ .result) line′) in
     let g : List ℕ = drop start (take (field-end2′ .result) line′) in
     let all : List (List ℕ) = fieldsFrom line′ (args′ .at) in

@@ -37,11 +37,12 @@ enum-known-start c = search needs
 add-from : tie.Need-add-from
 add-from c =
     let args′ = c .before .before .before .before .before .before .before .before .before .args in
+    let second′ = args′ .second .now in
     let pre′ = c .before .before .before .before .before .before .before .before .before .pre in
     let start′ = c .before .start in
-    let named : NamedAt (take (args′ .end) (args′ .second .now)) (args′ .at) (start′ .given .0 .0) (start′ .given .0 .1 .0) =
+    let named : NamedAt (take (args′ .end) second′) (args′ .at) (start′ .given .0 .0) (start′ .given .0 .1 .0) =
     rw (start′ .given .1) at ((c .before .before .before .constraint-form) .ensures) in
-    record { fits = omega (arith, named .stops, length-take-le (args′ .end) (args′ .second .now) (pre′ .2), pre′ .2, pre′ .3) }
+    record { fits = omega (arith, named .stops, length-take-le (args′ .end) second′ (pre′ .2), pre′ .2, pre′ .3) }
 
 sub-declared : tie.Need-sub-declared
 sub-declared c =

@@ -45,12 +45,13 @@ loop-less c = search needs
 loop-again : tie.Need-loop-again Inv-loop μ-loop
 loop-again c =
     let args′ = c .before .before .before .args in
+    let cells′ = args′ .cells .now in
     let values′ = args′ .values .now in
     let loop′ = c .before .before .loop in
-    let e : set (loop′ .cells) (args′ .at + loop′ .i) (getD values′ (loop′ .i) 0) ≡ paste (args′ .cells .now) (args′ .at) values′
+    let e : set (loop′ .cells) (args′ .at + loop′ .i) (getD values′ (loop′ .i) 0) ≡ paste cells′ (args′ .at) values′
     (suc (loop′ .i)) =
     ap (λ (l : List ℕ). set l (args′ .at + loop′ .i) (getD values′ (loop′ .i) 0)) (loop′ .inv .2)
-    ∙ paste-suc (args′ .cells .now) (args′ .at) values′ (loop′ .i) 0 (omega arith) (omega arith) in
+    ∙ paste-suc cells′ (args′ .at) values′ (loop′ .i) 0 (omega arith) (omega arith) in
     rw (add-one (loop′ .i))
     (length-set (loop′ .cells) (args′ .at + loop′ .i) (getD values′ (loop′ .i) 0) ∙ loop′ .inv .0, omega arith, e)
 

@@ -34,11 +34,12 @@ returns : tie.Need-returns
 unfolding addedOf
 returns c =
     let args′ = c .before .before .before .before .before .before .before .args in
+    let second′ = args′ .second .now in
     let pre′ = c .before .before .before .before .before .before .before .pre in
     let is-name′ = c .before .is-name in
-    after-none (args′ .first .now) (args′ .second .now) (args′ .cells .now) (args′ .n) (args′ .m)
-    (drop (args′ .start) (take (args′ .end) (args′ .second .now))) (pre′ .5)
-    (ap isName (drop-take (args′ .start) (args′ .end) (args′ .second .now) (pre′ .1))
+    after-none (args′ .first .now) second′ (args′ .cells .now) (args′ .n) (args′ .m)
+    (drop (args′ .start) (take (args′ .end) second′)) (pre′ .5)
+    (ap isName (drop-take (args′ .start) (args′ .end) second′ (pre′ .1))
     ∙ sym (is-name′ .ensures) ∙ not-true (is-name′ .result) ((c .if1) .taken))
 
 find-constant-requires : tie.Need-find-constant-requires

@@ -15,7 +15,7 @@ use Rattle.syntax.specs.Forms.{constantsAfter}
 use Rattle.syntax.specs.Tables.{constantsOf}
 use Rattle.lines.specs.Read.{addedOf, roomy}
 use Rattle.syntax.proofs.Tabled.{constants-length}
-use Rattle.lines.proofs.Constants.{added-step, added-full, added-end, roomy-is}
+use Rattle.lines.proofs.Constants.{added-step, added-full, added-end, added-fits}
 use Rattle.lines.proofs.Cells.{line-field}
 use Rattle.lines.proofs.terms.add_constants.Statement.{statement}
 use Rattle.lines.proofs.terms.add_constants.Tie as tie
@@ -47,11 +47,12 @@ field-end-requires c κs =
 add-constant-requires : tie.Need-add-constant-requires Inv-loop μ-loop
 add-constant-requires c κs =
     let args′ = c .before .before .before .before .before .before .before .before .before .args in
+    let second′ = args′ .second .now in
     let pre′ = c .before .before .before .before .before .before .before .before .before .pre in
     let loop′ = c .before .before .before .loop in
     let field-end′ = c .before .field-end in
-    let sized : length (take (args′ .end) (args′ .second .now)) ≡ args′ .end =
-    length-take-le (args′ .end) (args′ .second .now) (pre′ .2) in
+    let sized : length (take (args′ .end) second′) ≡ args′ .end =
+    length-take-le (args′ .end) second′ (pre′ .2) in
     (pre′ .0, field-end′ .ensures .1, omega (arith, field-end′ .ensures .2), pre′ .3, loop′ .inv .0, loop′ .inv .1)
 
 enum-told : tie.Need-enum-told Inv-loop μ-loop
@@ -77,7 +78,6 @@ returns c =
     let loop-test′ = c .before .before .before .before .before .before .before .loop-test in
     let field-end′ = c .before .before .before .before .before .before .field-end in
     let add-constant′ = c .before .before .before .before .add-constant in
-    let sized : length (take (args′ .end) second′) ≡ args′ .end = length-take-le (args′ .end) second′ (pre′ .2) in
     added-full (drop (loop′ .start) (take (field-end′ .result) second′)) (fieldsFrom (take (args′ .end) second′) (loop′ .start))
     (fieldsFrom (take (args′ .end) second′) (suc (field-end′ .result)))
     (constantsOf first′ second′ (loop′ .cells) (args′ .n) (loop′ .count))
@@ -94,23 +94,18 @@ add-start : tie.Need-add-start Inv-loop μ-loop
 add-start c =
     let args′ = c .before .before .before .before .before .before .before .before .before .before .before .before .before .before
     .before .args in
+    let second′ = args′ .second .now in
     let pre′ = c .before .before .before .before .before .before .before .before .before .before .before .before .before .before
     .before .pre in
     let field-end′ = c .before .before .before .before .before .before .before .field-end in
-    let sized : length (take (args′ .end) (args′ .second .now)) ≡ args′ .end =
-    length-take-le (args′ .end) (args′ .second .now) (pre′ .2) in
+    let sized : length (take (args′ .end) second′) ≡ args′ .end =
+    length-take-le (args′ .end) second′ (pre′ .2) in
     record { fits = omega (arith, field-end′ .ensures .2, pre′ .2, pre′ .3) }
 
 loop-less : tie.Need-loop-less Inv-loop μ-loop
 loop-less c =
-    let args′ = c .before .before .before .before .before .before .before .before .before .before .before .before .before .before
-    .before .args in
-    let pre′ = c .before .before .before .before .before .before .before .before .before .before .before .before .before .before
-    .before .pre in
     let loop-test′ = c .before .before .before .before .before .before .before .before .loop-test in
     let field-end′ = c .before .before .before .before .before .before .before .field-end in
-    let sized : length (take (args′ .end) (args′ .second .now)) ≡ args′ .end =
-    length-take-le (args′ .end) (args′ .second .now) (pre′ .2) in
     omega (arith, field-end′ .ensures .1, field-end′ .ensures .2, loop-test′ .taken)
 
 loop-again : tie.Need-loop-again Inv-loop μ-loop
@@ -134,9 +129,7 @@ loop-again c =
       add-constant′ .kept .1 .1 .1 .1 .1 .0 ∙ loop′ .inv .0,
       omega (
         arith,
-        roomy-is _ _ known .1,
-        ap (λ (l : List (List ℕ)). length l) (roomy-is _ _ known .0),
-        constants-length first′ second′ cells (args′ .n) (k′ .given .0 .0),
+        added-fits first′ second′ cells (args′ .n) (k′ .given .0 .0) _ known,
       ),
       omega (arith, field-end′ .ensures .2),
       rw (add-one (field-end′ .result))
@@ -155,14 +148,15 @@ returns-2 : tie.Need-returns-2 Inv-loop μ-loop
 unfolding addedOf
 returns-2 c =
     let args′ = c .before .before .before .before .before .before .before .args in
+    let first′ = args′ .first .now in
     let second′ = args′ .second .now in
     let pre′ = c .before .before .before .before .before .before .before .pre in
     let loop′ = c .before .loop in
     let sized : length (take (args′ .end) second′) ≡ args′ .end = length-take-le (args′ .end) second′ (pre′ .2) in
     added-end (fieldsFrom (take (args′ .end) second′) (loop′ .start))
-    (constantsOf (args′ .first .now) second′ (loop′ .cells) (args′ .n) (loop′ .count))
+    (constantsOf first′ second′ (loop′ .cells) (args′ .n) (loop′ .count))
     (fields-out (take (args′ .end) second′) (loop′ .start) (omega (arith, (c .loop-test) .left)))
-    (omega (arith, constants-length (args′ .first .now) second′ (loop′ .cells) (args′ .n) (loop′ .count)))
+    (omega (arith, constants-length first′ second′ (loop′ .cells) (args′ .n) (loop′ .count)))
     ∙ loop′ .inv .3
 
 pub add-constants-spec : {M : Type 1} → statement M

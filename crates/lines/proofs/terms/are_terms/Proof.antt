@@ -42,11 +42,12 @@ is-term-requires c κs = search needs
 returns : tie.Need-returns Inv-loop μ-loop
 returns c =
     let args′ = c .before .before .before .before .before .before .before .before .args in
+    let line′ = args′ .line .now in
     let loop′ = c .before .before .before .before .before .loop in
     let field-end′ = c .before .before .before .field-end in
     let is-term′ = c .before .is-term in
-    sym (terms-fail _ (fieldsFrom (args′ .line .now) (loop′ .start)) _
-    (field-cut (args′ .line .now) (loop′ .start) (field-end′ .result) ((c .before .before .before .before .loop-test) .taken)
+    sym (terms-fail _ (fieldsFrom line′ (loop′ .start)) _
+    (field-cut line′ (loop′ .start) (field-end′ .result) ((c .before .before .before .before .loop-test) .taken)
     (field-end′ .ensures .0))
     (sym (is-term′ .ensures) ∙ not-true (is-term′ .result) ((c .if1) .taken))) ∙ loop′ .inv .1
 
@@ -59,12 +60,13 @@ loop-less c = search needs
 loop-again : tie.Need-loop-again Inv-loop μ-loop
 loop-again c =
     let args′ = c .before .before .before .before .before .before .before .before .args in
+    let line′ = args′ .line .now in
     let loop′ = c .before .before .before .before .before .loop in
     let field-end′ = c .before .before .before .field-end in
     let is-term′ = c .before .is-term in (
       omega arith,
-      rw add-one (sym (terms-step _ (fieldsFrom (args′ .line .now) (loop′ .start)) _
-          (field-cut (args′ .line .now) (loop′ .start) (field-end′ .result)
+      rw add-one (sym (terms-step _ (fieldsFrom line′ (loop′ .start)) _
+          (field-cut line′ (loop′ .start) (field-end′ .result)
           ((c .before .before .before .before .loop-test) .taken) (field-end′ .ensures .0))
           (sym (is-term′ .ensures) ∙ not-false (is-term′ .result) ((c .if1) .left))) ∙ loop′ .inv .1),
     )

@@ -70,8 +70,7 @@ term-cell-requires c κs =
     let second′ = args′ .second .now in
     let pre′ = c .before .before .before .before .before .before .before .before .before .before .pre in
     let loop′ = c .before .before .before .loop in
-    let field-end′ = c .before .field-end in
-    let sized : length (take (args′ .end) second′) ≡ args′ .end = length-take-le (args′ .end) second′ (pre′ .6) in (
+    let field-end′ = c .before .field-end in (
       pre′ .0,
       pre′ .1,
       pre′ .2,
@@ -85,16 +84,7 @@ term-cell-requires c κs =
 
 mul-r : tie.Need-mul-r Inv-loop μ-loop
 mul-r c =
-    let args′ = c .before .before .before .before .before .before .before .before .before .before .before .args in
-    let second′ = args′ .second .now in
-    let pre′ = c .before .before .before .before .before .before .before .before .before .before .before .pre in
     let loop′ = c .before .before .before .before .loop in
-    let field-end′ = c .before .before .field-end in
-    let sized : length (take (args′ .end) second′) ≡ args′ .end = length-take-le (args′ .end) second′ (pre′ .6) in
-    let more : length (fieldsFrom (take (args′ .end) second′) (loop′ .start))
-    ≡ suc (length (fieldsFrom (take (args′ .end) second′) (suc (field-end′ .result)))) =
-    ap (λ (fs : List (List ℕ)). length fs) (field-cut (take (args′ .end) second′) (loop′ .start) (field-end′ .result)
-    (omega (arith, (c .before .before .before .loop-test) .taken)) (field-end′ .ensures .0)) in
     record { fits = omega (arith, loop′ .inv .2 .fits) }
 
 array-write-r : tie.Need-array-write-r Inv-loop μ-loop
@@ -113,35 +103,23 @@ array-write-r c =
 
 add-j : tie.Need-add-j Inv-loop μ-loop
 add-j c =
-    let args′ = c .before .before .before .before .before .before .before .before .before .before .before .args in
-    let second′ = args′ .second .now in
-    let pre′ = c .before .before .before .before .before .before .before .before .before .before .before .pre in
     let loop′ = c .before .before .before .before .loop in
-    let field-end′ = c .before .before .field-end in
-    let sized : length (take (args′ .end) second′) ≡ args′ .end = length-take-le (args′ .end) second′ (pre′ .6) in
-    let more : length (fieldsFrom (take (args′ .end) second′) (loop′ .start))
-    ≡ suc (length (fieldsFrom (take (args′ .end) second′) (suc (field-end′ .result)))) =
-    ap (λ (fs : List (List ℕ)). length fs) (field-cut (take (args′ .end) second′) (loop′ .start) (field-end′ .result)
-    (omega (arith, (c .before .before .before .loop-test) .taken)) (field-end′ .ensures .0)) in
     record { fits = omega (arith, loop′ .inv .2 .fits) }
 
 add-start : tie.Need-add-start Inv-loop μ-loop
 add-start c =
     let args′ = c .before .before .before .before .before .before .before .before .before .before .before .args in
+    let second′ = args′ .second .now in
     let pre′ = c .before .before .before .before .before .before .before .before .before .before .before .pre in
     let fits′ = c .before .before .before .before .before .before .before .before .before .before .before .fits in
     let field-end′ = c .before .before .field-end in
-    let sized : length (take (args′ .end) (args′ .second .now)) ≡ args′ .end =
-    length-take-le (args′ .end) (args′ .second .now) (pre′ .6) in
+    let sized : length (take (args′ .end) second′) ≡ args′ .end =
+    length-take-le (args′ .end) second′ (pre′ .6) in
     record { fits = omega (arith, field-end′ .ensures .2, fits′ .end, field-end′ .ok) }
 
 loop-less : tie.Need-loop-less Inv-loop μ-loop
 loop-less c =
-    let args′ = c .before .before .before .before .before .before .before .before .before .before .before .args in
-    let pre′ = c .before .before .before .before .before .before .before .before .before .before .before .pre in
     let field-end′ = c .before .before .field-end in
-    let sized : length (take (args′ .end) (args′ .second .now)) ≡ args′ .end =
-    length-take-le (args′ .end) (args′ .second .now) (pre′ .6) in
     omega (arith, field-end′ .ensures .1, field-end′ .ensures .2, (c .before .before .before .loop-test) .taken)
 
 loop-again : tie.Need-loop-again Inv-loop μ-loop

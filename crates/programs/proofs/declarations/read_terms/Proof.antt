@@ -19,8 +19,7 @@ use Rattle.syntax.specs.Forms.{letterNumber, termOf, constantsAfter}
 use Rattle.syntax.specs.Tables.{cellTerms, symbolsOf, constantsOf, lettersOf}
 use Rattle.lines.specs.Read.{alphabetLetters, HeadAt, HeadIn, addedOf, roomy, constraintLine}
 use Rattle.programs.specs.Read.{termsAnswer, cellsMeant}
-use Rattle.lines.proofs.Constants.{roomy-is}
-use Rattle.syntax.proofs.Tabled.{constants-length}
+use Rattle.lines.proofs.Constants.{added-fits}
 use Rattle.lines.proofs.Steps.{letters-are, line-refused, line-full, line-many, line-read, four-list}
 use borrow.Author.Needs.{needs}
 use Rattle.programs.proofs.declarations.read_terms.Statement.{statement}
@@ -56,15 +55,16 @@ returns c =
 add-constants-requires : tie.Need-add-constants-requires
 add-constants-requires c κs =
     let args′ = c .before .before .before .before .before .before .before .before .before .before .before .args in
+    let text′ = args′ .text .now in
     let pre′ = c .before .before .before .before .before .before .before .before .before .before .before .pre in
     let constraint-head′ = c .before .before .before .before .before .constraint-head in
     let s′ = c .before .before .before .s in
-    let head : HeadAt (symbolsOf (args′ .text .now) (args′ .symbols .now) (args′ .k)) (take (args′ .end) (args′ .text .now))
+    let head : HeadAt (symbolsOf text′ (args′ .symbols .now) (args′ .k)) (take (args′ .end) text′)
     (args′ .at) (args′ .k)
     (s′ .given .0 .0) (s′ .given .0 .1 .0) =
     rw (s′ .given .1) at (constraint-head′ .ensures) in (
       pre′ .0,
-      omega (arith, head .within, length-take-le (args′ .end) (args′ .text .now) (pre′ .3)),
+      omega (arith, head .within, length-take-le (args′ .end) text′ (pre′ .3)),
       pre′ .3,
       pre′ .4,
       pre′ .7,
@@ -98,9 +98,7 @@ terms-of-requires c κs =
     let few : count′ .given .0 .0 ≤ 64 =
     omega (
       arith,
-      roomy-is _ _ known .1,
-      ap (λ (l : List (List ℕ)). length l) (roomy-is _ _ known .0),
-      constants-length text′ text′ (add-constants′ .last .1 .1 .1 .1 .1 .0) 0 (count′ .given .0 .0),
+      added-fits text′ text′ (add-constants′ .last .1 .1 .1 .1 .1 .0) 0 (count′ .given .0 .0) _ known,
     ) in
     let sized : length (take (args′ .end) text′) ≡ args′ .end = length-take-le (args′ .end) text′ (pre′ .3) in (
       pre′ .0,
@@ -118,12 +116,13 @@ cast-t26 : tie.Need-cast-t26
 cast-t26 c =
     let args′ = c .before .before .before .before .before .before .before .before .before .before .before .before .before .before
     .before .before .before .before .before .args in
+    let text′ = args′ .text .now in
     let pre′ = c .before .before .before .before .before .before .before .before .before .before .before .before .before .before
     .before .before .before .before .before .pre in
     let constraint-head′ = c .before .before .before .before .before .before .before .before .before .before .before .before
     .before .constraint-head in
     let s′ = c .before .before .before .before .before .before .before .before .before .before .before .s in
-    let head : HeadAt (symbolsOf (args′ .text .now) (args′ .symbols .now) (args′ .k)) (take (args′ .end) (args′ .text .now))
+    let head : HeadAt (symbolsOf text′ (args′ .symbols .now) (args′ .k)) (take (args′ .end) text′)
     (args′ .at) (args′ .k)
     (s′ .given .0 .0) (s′ .given .0 .1 .0) =
     rw (s′ .given .1) at (constraint-head′ .ensures) in
@@ -145,10 +144,11 @@ returns-2 : tie.Need-returns-2
 unfolding termsAnswer
 returns-2 c =
     let args′ = c .before .before .before .before .before .before .before .before .before .args in
+    let text′ = args′ .text .now in
     let x′ = c .before .x in (
-      λ n. line-refused (args′ .full) (symbolsOf (args′ .text .now) (args′ .symbols .now) (args′ .k)) letterNumber
-          (constantsOf (args′ .text .now) (args′ .text .now) (args′ .constants .now) 0 (args′ .m))
-          (fieldsFrom (take (args′ .end) (args′ .text .now)) (args′ .at)) n (x′ .given .0 .0)
+      λ n. line-refused (args′ .full) (symbolsOf text′ (args′ .symbols .now) (args′ .k)) letterNumber
+          (constantsOf text′ text′ (args′ .constants .now) 0 (args′ .m))
+          (fieldsFrom (take (args′ .end) text′) (args′ .at)) n (x′ .given .0 .0)
           (rw (x′ .given .1) at ((c .before .before .before .constraint-head) .ensures)),
       omega arith,
     )
@@ -205,9 +205,7 @@ returns-4 c =
     let few : count′ .given .0 .0 ≤ 64 =
     omega (
       arith,
-      roomy-is _ _ known .1,
-      ap (λ (l : List (List ℕ)). length l) (roomy-is _ _ known .0),
-      constants-length text′ text′ (add-constants′ .last .1 .1 .1 .1 .1 .0) 0 (count′ .given .0 .0),
+      added-fits text′ text′ (add-constants′ .last .1 .1 .1 .1 .1 .0) 0 (count′ .given .0 .0) _ known,
     ) in
     let ds : List (List ℕ) = constantsOf text′ text′ (add-constants′ .last .1 .1 .1 .1 .1 .0) 0 (count′ .given .0 .0) in
     let fs : List (List ℕ) = fieldsFrom (take (args′ .end) text′) (s′ .given .0 .1 .0) in

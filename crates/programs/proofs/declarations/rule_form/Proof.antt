@@ -64,9 +64,6 @@ returns-2 c =
     let field-end2′ = c .before .before .before .field-end2 in
     let is-name′ = c .before .is-name in
     let start : ℕ = field-end′ .result + 1 in
-    let within : suc (field-end′ .result) ≤ length line′ =
-    second-within line′ (args′ .at) (field-end′ .result) (pre′ .1) (field-end′ .ensures .0)
-    (omega (arith, count-fields′ .ensures, if1′ .left)) in
     rule-shape (drop (args′ .at) (take (field-end′ .result) line′)) (drop start (take (field-end2′ .result) line′))
     (fieldsFrom line′ (args′ .at)) (fieldsFrom line′ (suc (field-end2′ .result)))
     (two-fields line′ (args′ .at) (field-end′ .result) (pre′ .1) (field-end′ .ensures .0) start (field-end2′ .result)
@@ -86,9 +83,6 @@ returns-3 c =
     let field-end2′ = c .before .before .before .field-end2 in
     let is-name′ = c .before .is-name in
     let start : ℕ = field-end′ .result + 1 in
-    let within : suc (field-end′ .result) ≤ length line′ =
-    second-within line′ (args′ .at) (field-end′ .result) (pre′ .1) (field-end′ .ensures .0)
-    (omega (arith, count-fields′ .ensures, if1′ .left)) in
     let f : List ℕ = drop (args′ .at) (take (field-end′ .result) line′) in
     let g : List ℕ = drop start (take (field-end2′ .result) line′) in
     let shape : fieldsFrom line′ (args′ .at) ≡ f ∷ g ∷ fieldsFrom line′ (suc (field-end2′ .result)) =

@@ -37,34 +37,25 @@ enum-known-start c = search needs
 sub-find-name : tie.Need-sub-find-name
 sub-find-name c =
     let args′ = c .before .before .before .before .before .before .before .before .before .args in
-    let pre′ = c .before .before .before .before .before .before .before .before .before .pre in
     let start′ = c .before .before .start in
     let f : RuleAt (take (args′ .end) (args′ .text .now)) (args′ .at) (start′ .given .0 .0) (start′ .given .0 .1 .0) =
     rw (start′ .given .1) at ((c .before .before .before .before .rule-form) .ensures) in
-    let sized : length (take (args′ .end) (args′ .text .now)) ≡ args′ .end =
-    length-take-le (args′ .end) (args′ .text .now) (pre′ .2) in
     f .starts
 
 part-find-name-start : tie.Need-part-find-name-start
 part-find-name-start c =
     let args′ = c .before .before .before .before .before .before .before .before .before .args in
-    let pre′ = c .before .before .before .before .before .before .before .before .before .pre in
     let start′ = c .before .before .start in
     let f : RuleAt (take (args′ .end) (args′ .text .now)) (args′ .at) (start′ .given .0 .0) (start′ .given .0 .1 .0) =
     rw (start′ .given .1) at ((c .before .before .before .before .rule-form) .ensures) in
-    let sized : length (take (args′ .end) (args′ .text .now)) ≡ args′ .end =
-    length-take-le (args′ .end) (args′ .text .now) (pre′ .2) in
     f .starts
 
 part-find-name-end : tie.Need-part-find-name-end
 part-find-name-end c =
     let args′ = c .before .before .before .before .before .before .before .before .before .args in
-    let pre′ = c .before .before .before .before .before .before .before .before .before .pre in
     let start′ = c .before .before .start in
     let f : RuleAt (take (args′ .end) (args′ .text .now)) (args′ .at) (start′ .given .0 .0) (start′ .given .0 .1 .0) =
     rw (start′ .given .1) at ((c .before .before .before .before .rule-form) .ensures) in
-    let sized : length (take (args′ .end) (args′ .text .now)) ≡ args′ .end =
-    length-take-le (args′ .end) (args′ .text .now) (pre′ .2) in
     f .stops
 
 find-name-requires : tie.Need-find-name-requires
@@ -78,14 +69,13 @@ unfolding lineAnswer
 returns c =
     let args′ = c .before .before .before .before .before .before .before .before .before .before .before .before .args in
     let text′ = args′ .text .now in
-    let pre′ = c .before .before .before .before .before .before .before .before .before .before .before .before .pre in
     let rule-form′ = c .before .before .before .before .before .before .before .rule-form in
     let start′ = c .before .before .before .before .before .start in
     let find-name′ = c .before .find-name in
     let f : RuleAt (take (args′ .end) text′) (args′ .at) (start′ .given .0 .0) (start′ .given .0 .1 .0) =
-    rw (start′ .given .1) at (rule-form′ .ensures) in
-    let sized : length (take (args′ .end) text′) ≡ args′ .end = length-take-le (args′ .end) text′ (pre′ .2) in (
-      (λ symbols constants. rule-repeated text′ symbols (args′ .rules .now) constants (args′ .stage) (args′ .place) (args′ .number)
+    rw (start′ .given .1) at (rule-form′ .ensures) in (
+      (λ symbols constants. rule-repeated text′ symbols (args′ .rules .now) constants (args′ .stage) (args′ .place)
+          (args′ .number)
           (fieldsFrom (take (args′ .end) text′) (args′ .at)) (find-name′ .result) _ (f .fine)
           (f .name ∙ drop-take (start′ .given .0 .0) (start′ .given .0 .1 .0) (take (args′ .end) text′) (f .starts))
           (find-name′ .ensures .0) ((c .if1) .taken)),
@@ -100,13 +90,11 @@ unfolding lineAnswer
 returns-2 c =
     let args′ = c .before .before .before .before .before .before .before .before .before .before .before .before .before .args in
     let text′ = args′ .text .now in
-    let pre′ = c .before .before .before .before .before .before .before .before .before .before .before .before .before .pre in
     let rule-form′ = c .before .before .before .before .before .before .before .before .rule-form in
     let start′ = c .before .before .before .before .before .before .start in
     let find-name′ = c .before .before .find-name in
     let f : RuleAt (take (args′ .end) text′) (args′ .at) (start′ .given .0 .0) (start′ .given .0 .1 .0) =
-    rw (start′ .given .1) at (rule-form′ .ensures) in
-    let sized : length (take (args′ .end) text′) ≡ args′ .end = length-take-le (args′ .end) text′ (pre′ .2) in (
+    rw (start′ .given .1) at (rule-form′ .ensures) in (
       (λ symbols constants. rule-full text′ symbols (args′ .rules .now) constants (args′ .stage) (args′ .place) (args′ .number)
           (fieldsFrom (take (args′ .end) text′) (args′ .at)) (find-name′ .result) _ (f .fine)
           (f .name ∙ drop-take (start′ .given .0 .0) (start′ .given .0 .1 .0) (take (args′ .end) text′) (f .starts))
@@ -117,37 +105,36 @@ returns-2 c =
 cast-t25 : tie.Need-cast-t25
 cast-t25 c =
     let args′ = c .before .before .before .before .before .before .before .before .before .before .before .before .before .args in
+    let text′ = args′ .text .now in
     let pre′ = c .before .before .before .before .before .before .before .before .before .before .before .before .before .pre in
     let rule-form′ = c .before .before .before .before .before .before .before .before .rule-form in
     let start′ = c .before .before .before .before .before .before .start in
-    let f : RuleAt (take (args′ .end) (args′ .text .now)) (args′ .at) (start′ .given .0 .0) (start′ .given .0 .1 .0) =
+    let f : RuleAt (take (args′ .end) text′) (args′ .at) (start′ .given .0 .0) (start′ .given .0 .1 .0) =
     rw (start′ .given .1) at (rule-form′ .ensures) in
-    let sized : length (take (args′ .end) (args′ .text .now)) ≡ args′ .end =
-    length-take-le (args′ .end) (args′ .text .now) (pre′ .2) in
+    let sized : length (take (args′ .end) text′) ≡ args′ .end =
+    length-take-le (args′ .end) text′ (pre′ .2) in
     record { fits = omega (arith, f .starts, f .stops, pre′ .2, pre′ .3) }
 
 sub-t21 : tie.Need-sub-t21
 sub-t21 c =
     let args′ = c .before .before .before .before .before .before .before .before .before .before .before .before .before .args in
-    let pre′ = c .before .before .before .before .before .before .before .before .before .before .before .before .before .pre in
     let rule-form′ = c .before .before .before .before .before .before .before .before .rule-form in
     let start′ = c .before .before .before .before .before .before .start in
     let f : RuleAt (take (args′ .end) (args′ .text .now)) (args′ .at) (start′ .given .0 .0) (start′ .given .0 .1 .0) =
     rw (start′ .given .1) at (rule-form′ .ensures) in
-    let sized : length (take (args′ .end) (args′ .text .now)) ≡ args′ .end =
-    length-take-le (args′ .end) (args′ .text .now) (pre′ .2) in
     f .starts
 
 cast-t26 : tie.Need-cast-t26
 cast-t26 c =
     let args′ = c .before .before .before .before .before .before .before .before .before .before .before .before .before .args in
+    let text′ = args′ .text .now in
     let pre′ = c .before .before .before .before .before .before .before .before .before .before .before .before .before .pre in
     let rule-form′ = c .before .before .before .before .before .before .before .before .rule-form in
     let start′ = c .before .before .before .before .before .before .start in
-    let f : RuleAt (take (args′ .end) (args′ .text .now)) (args′ .at) (start′ .given .0 .0) (start′ .given .0 .1 .0) =
+    let f : RuleAt (take (args′ .end) text′) (args′ .at) (start′ .given .0 .0) (start′ .given .0 .1 .0) =
     rw (start′ .given .1) at (rule-form′ .ensures) in
-    let sized : length (take (args′ .end) (args′ .text .now)) ≡ args′ .end =
-    length-take-le (args′ .end) (args′ .text .now) (pre′ .2) in
+    let sized : length (take (args′ .end) text′) ≡ args′ .end =
+    length-take-le (args′ .end) text′ (pre′ .2) in
     record { fits = omega (arith, f .starts, f .stops, pre′ .2, pre′ .3) }
 
 mul-write-cells : tie.Need-mul-write-cells

@@ -38,37 +38,28 @@ enum-known-start c = search needs
 sub-find-name : tie.Need-sub-find-name
 sub-find-name c =
     let args′ = c .before .before .before .before .before .before .before .before .before .args in
-    let pre′ = c .before .before .before .before .before .before .before .before .before .pre in
     let start′ = c .before .before .start in
     let f : SymbolAt (take (args′ .end) (args′ .text .now)) (args′ .at) (start′ .given .0 .0) (start′ .given .0 .1 .0)
     (start′ .given .0 .1 .1 .0) (start′ .given .0 .1 .1 .1 .0) = rw (start′ .given .1) at
     ((c .before .before .before .before .symbol-form) .ensures) in
-    let sized : length (take (args′ .end) (args′ .text .now)) ≡ args′ .end =
-    length-take-le (args′ .end) (args′ .text .now) (pre′ .2) in
     f .starts
 
 part-find-name-start : tie.Need-part-find-name-start
 part-find-name-start c =
     let args′ = c .before .before .before .before .before .before .before .before .before .args in
-    let pre′ = c .before .before .before .before .before .before .before .before .before .pre in
     let start′ = c .before .before .start in
     let f : SymbolAt (take (args′ .end) (args′ .text .now)) (args′ .at) (start′ .given .0 .0) (start′ .given .0 .1 .0)
     (start′ .given .0 .1 .1 .0) (start′ .given .0 .1 .1 .1 .0) = rw (start′ .given .1) at
     ((c .before .before .before .before .symbol-form) .ensures) in
-    let sized : length (take (args′ .end) (args′ .text .now)) ≡ args′ .end =
-    length-take-le (args′ .end) (args′ .text .now) (pre′ .2) in
     f .starts
 
 part-find-name-end : tie.Need-part-find-name-end
 part-find-name-end c =
     let args′ = c .before .before .before .before .before .before .before .before .before .args in
-    let pre′ = c .before .before .before .before .before .before .before .before .before .pre in
     let start′ = c .before .before .start in
     let f : SymbolAt (take (args′ .end) (args′ .text .now)) (args′ .at) (start′ .given .0 .0) (start′ .given .0 .1 .0)
     (start′ .given .0 .1 .1 .0) (start′ .given .0 .1 .1 .1 .0) = rw (start′ .given .1) at
     ((c .before .before .before .before .symbol-form) .ensures) in
-    let sized : length (take (args′ .end) (args′ .text .now)) ≡ args′ .end =
-    length-take-le (args′ .end) (args′ .text .now) (pre′ .2) in
     omega (arith, f .nexts, f .lasts, f .stops)
 
 find-name-requires : tie.Need-find-name-requires
@@ -82,13 +73,11 @@ unfolding lineAnswer
 returns c =
     let args′ = c .before .before .before .before .before .before .before .before .before .before .before .before .args in
     let text′ = args′ .text .now in
-    let pre′ = c .before .before .before .before .before .before .before .before .before .before .before .before .pre in
     let symbol-form′ = c .before .before .before .before .before .before .before .symbol-form in
     let start′ = c .before .before .before .before .before .start in
     let find-name′ = c .before .find-name in
     let f : SymbolAt (take (args′ .end) text′) (args′ .at) (start′ .given .0 .0) (start′ .given .0 .1 .0)
-    (start′ .given .0 .1 .1 .0) (start′ .given .0 .1 .1 .1 .0) = rw (start′ .given .1) at (symbol-form′ .ensures) in
-    let sized : length (take (args′ .end) text′) ≡ args′ .end = length-take-le (args′ .end) text′ (pre′ .2) in (
+    (start′ .given .0 .1 .1 .0) (start′ .given .0 .1 .1 .1 .0) = rw (start′ .given .1) at (symbol-form′ .ensures) in (
       (λ n rules constants. symbol-repeated text′ (args′ .symbols .now) rules constants (args′ .stage) (args′ .place) n
           (fieldsFrom (take (args′ .end) text′) (args′ .at)) (find-name′ .result) _ (f .fine)
           (f .name ∙ drop-take (start′ .given .0 .0) (start′ .given .0 .1 .0) (take (args′ .end) text′) (f .starts))
@@ -104,13 +93,11 @@ unfolding lineAnswer
 returns-2 c =
     let args′ = c .before .before .before .before .before .before .before .before .before .before .before .before .before .args in
     let text′ = args′ .text .now in
-    let pre′ = c .before .before .before .before .before .before .before .before .before .before .before .before .before .pre in
     let symbol-form′ = c .before .before .before .before .before .before .before .before .symbol-form in
     let start′ = c .before .before .before .before .before .before .start in
     let find-name′ = c .before .before .find-name in
     let f : SymbolAt (take (args′ .end) text′) (args′ .at) (start′ .given .0 .0) (start′ .given .0 .1 .0)
-    (start′ .given .0 .1 .1 .0) (start′ .given .0 .1 .1 .1 .0) = rw (start′ .given .1) at (symbol-form′ .ensures) in
-    let sized : length (take (args′ .end) text′) ≡ args′ .end = length-take-le (args′ .end) text′ (pre′ .2) in (
+    (start′ .given .0 .1 .1 .0) (start′ .given .0 .1 .1 .1 .0) = rw (start′ .given .1) at (symbol-form′ .ensures) in (
       (λ n rules constants. symbol-full text′ (args′ .symbols .now) rules constants (args′ .stage) (args′ .place) n
           (fieldsFrom (take (args′ .end) text′) (args′ .at)) (find-name′ .result) _ (f .fine)
           (f .name ∙ drop-take (start′ .given .0 .0) (start′ .given .0 .1 .0) (take (args′ .end) text′) (f .starts))
@@ -126,8 +113,6 @@ add-second c =
     let start′ = c .before .before .before .before .before .before .start in
     let f : SymbolAt (take (args′ .end) (args′ .text .now)) (args′ .at) (start′ .given .0 .0) (start′ .given .0 .1 .0)
     (start′ .given .0 .1 .1 .0) (start′ .given .0 .1 .1 .1 .0) = rw (start′ .given .1) at (symbol-form′ .ensures) in
-    let sized : length (take (args′ .end) (args′ .text .now)) ≡ args′ .end =
-    length-take-le (args′ .end) (args′ .text .now) (pre′ .2) in
     record { fits = omega (arith, f .nexts, f .lasts, f .stops, pre′ .2, pre′ .3) }
 
 add-third : tie.Need-add-third
@@ -138,44 +123,33 @@ add-third c =
     let start′ = c .before .before .before .before .before .before .start in
     let f : SymbolAt (take (args′ .end) (args′ .text .now)) (args′ .at) (start′ .given .0 .0) (start′ .given .0 .1 .0)
     (start′ .given .0 .1 .1 .0) (start′ .given .0 .1 .1 .1 .0) = rw (start′ .given .1) at (symbol-form′ .ensures) in
-    let sized : length (take (args′ .end) (args′ .text .now)) ≡ args′ .end =
-    length-take-le (args′ .end) (args′ .text .now) (pre′ .2) in
     record { fits = omega (arith, f .lasts, f .stops, pre′ .2, pre′ .3) }
 
 sub-value-of : tie.Need-sub-value-of
 sub-value-of c =
     let args′ = c .before .before .before .before .before .before .before .before .before .before .before .before .before .args in
-    let pre′ = c .before .before .before .before .before .before .before .before .before .before .before .before .before .pre in
     let symbol-form′ = c .before .before .before .before .before .before .before .before .symbol-form in
     let start′ = c .before .before .before .before .before .before .start in
     let f : SymbolAt (take (args′ .end) (args′ .text .now)) (args′ .at) (start′ .given .0 .0) (start′ .given .0 .1 .0)
     (start′ .given .0 .1 .1 .0) (start′ .given .0 .1 .1 .1 .0) = rw (start′ .given .1) at (symbol-form′ .ensures) in
-    let sized : length (take (args′ .end) (args′ .text .now)) ≡ args′ .end =
-    length-take-le (args′ .end) (args′ .text .now) (pre′ .2) in
     omega (arith, f .nexts)
 
 part-value-of-start : tie.Need-part-value-of-start
 part-value-of-start c =
     let args′ = c .before .before .before .before .before .before .before .before .before .before .before .before .before .args in
-    let pre′ = c .before .before .before .before .before .before .before .before .before .before .before .before .before .pre in
     let symbol-form′ = c .before .before .before .before .before .before .before .before .symbol-form in
     let start′ = c .before .before .before .before .before .before .start in
     let f : SymbolAt (take (args′ .end) (args′ .text .now)) (args′ .at) (start′ .given .0 .0) (start′ .given .0 .1 .0)
     (start′ .given .0 .1 .1 .0) (start′ .given .0 .1 .1 .1 .0) = rw (start′ .given .1) at (symbol-form′ .ensures) in
-    let sized : length (take (args′ .end) (args′ .text .now)) ≡ args′ .end =
-    length-take-le (args′ .end) (args′ .text .now) (pre′ .2) in
     omega (arith, f .nexts)
 
 part-value-of-end : tie.Need-part-value-of-end
 part-value-of-end c =
     let args′ = c .before .before .before .before .before .before .before .before .before .before .before .before .before .args in
-    let pre′ = c .before .before .before .before .before .before .before .before .before .before .before .before .before .pre in
     let symbol-form′ = c .before .before .before .before .before .before .before .before .symbol-form in
     let start′ = c .before .before .before .before .before .before .start in
     let f : SymbolAt (take (args′ .end) (args′ .text .now)) (args′ .at) (start′ .given .0 .0) (start′ .given .0 .1 .0)
     (start′ .given .0 .1 .1 .0) (start′ .given .0 .1 .1 .1 .0) = rw (start′ .given .1) at (symbol-form′ .ensures) in
-    let sized : length (take (args′ .end) (args′ .text .now)) ≡ args′ .end =
-    length-take-le (args′ .end) (args′ .text .now) (pre′ .2) in
     omega (arith, f .lasts, f .stops)
 
 value-of-requires : tie.Need-value-of-requires
@@ -183,13 +157,10 @@ value-of-requires c κs =
     let args′ = c .before .before .before .before .before .before .before .before .before .before .before .before .before .before
     .args in
     let text′ = args′ .text .now in
-    let pre′ = c .before .before .before .before .before .before .before .before .before .before .before .before .before .before
-    .pre in
     let symbol-form′ = c .before .before .before .before .before .before .before .before .before .symbol-form in
     let start′ = c .before .before .before .before .before .before .before .start in
     let f : SymbolAt (take (args′ .end) text′) (args′ .at) (start′ .given .0 .0) (start′ .given .0 .1 .0)
     (start′ .given .0 .1 .1 .0) (start′ .given .0 .1 .1 .1 .0) = rw (start′ .given .1) at (symbol-form′ .ensures) in
-    let sized : length (take (args′ .end) text′) ≡ args′ .end = length-take-le (args′ .end) text′ (pre′ .2) in
     part-short (take (args′ .end) text′) ((start′ .given .0 .1 .0) + 1) (start′ .given .0 .1 .1 .0)
     (omega (arith, f .short-arity))
 
@@ -197,42 +168,30 @@ sub-value-of-2 : tie.Need-sub-value-of-2
 sub-value-of-2 c =
     let args′ = c .before .before .before .before .before .before .before .before .before .before .before .before .before .before
     .before .args in
-    let pre′ = c .before .before .before .before .before .before .before .before .before .before .before .before .before .before
-    .before .pre in
     let symbol-form′ = c .before .before .before .before .before .before .before .before .before .before .symbol-form in
     let start′ = c .before .before .before .before .before .before .before .before .start in
     let f : SymbolAt (take (args′ .end) (args′ .text .now)) (args′ .at) (start′ .given .0 .0) (start′ .given .0 .1 .0)
     (start′ .given .0 .1 .1 .0) (start′ .given .0 .1 .1 .1 .0) = rw (start′ .given .1) at (symbol-form′ .ensures) in
-    let sized : length (take (args′ .end) (args′ .text .now)) ≡ args′ .end =
-    length-take-le (args′ .end) (args′ .text .now) (pre′ .2) in
     omega (arith, f .lasts)
 
 part-value-of-start-2 : tie.Need-part-value-of-start-2
 part-value-of-start-2 c =
     let args′ = c .before .before .before .before .before .before .before .before .before .before .before .before .before .before
     .before .args in
-    let pre′ = c .before .before .before .before .before .before .before .before .before .before .before .before .before .before
-    .before .pre in
     let symbol-form′ = c .before .before .before .before .before .before .before .before .before .before .symbol-form in
     let start′ = c .before .before .before .before .before .before .before .before .start in
     let f : SymbolAt (take (args′ .end) (args′ .text .now)) (args′ .at) (start′ .given .0 .0) (start′ .given .0 .1 .0)
     (start′ .given .0 .1 .1 .0) (start′ .given .0 .1 .1 .1 .0) = rw (start′ .given .1) at (symbol-form′ .ensures) in
-    let sized : length (take (args′ .end) (args′ .text .now)) ≡ args′ .end =
-    length-take-le (args′ .end) (args′ .text .now) (pre′ .2) in
     omega (arith, f .lasts)
 
 part-value-of-end-2 : tie.Need-part-value-of-end-2
 part-value-of-end-2 c =
     let args′ = c .before .before .before .before .before .before .before .before .before .before .before .before .before .before
     .before .args in
-    let pre′ = c .before .before .before .before .before .before .before .before .before .before .before .before .before .before
-    .before .pre in
     let symbol-form′ = c .before .before .before .before .before .before .before .before .before .before .symbol-form in
     let start′ = c .before .before .before .before .before .before .before .before .start in
     let f : SymbolAt (take (args′ .end) (args′ .text .now)) (args′ .at) (start′ .given .0 .0) (start′ .given .0 .1 .0)
     (start′ .given .0 .1 .1 .0) (start′ .given .0 .1 .1 .1 .0) = rw (start′ .given .1) at (symbol-form′ .ensures) in
-    let sized : length (take (args′ .end) (args′ .text .now)) ≡ args′ .end =
-    length-take-le (args′ .end) (args′ .text .now) (pre′ .2) in
     f .stops
 
 value-of-requires-2 : tie.Need-value-of-requires-2
@@ -240,13 +199,10 @@ value-of-requires-2 c κs =
     let args′ = c .before .before .before .before .before .before .before .before .before .before .before .before .before .before
     .before .before .args in
     let text′ = args′ .text .now in
-    let pre′ = c .before .before .before .before .before .before .before .before .before .before .before .before .before .before
-    .before .before .pre in
     let symbol-form′ = c .before .before .before .before .before .before .before .before .before .before .before .symbol-form in
     let start′ = c .before .before .before .before .before .before .before .before .before .start in
     let f : SymbolAt (take (args′ .end) text′) (args′ .at) (start′ .given .0 .0) (start′ .given .0 .1 .0)
     (start′ .given .0 .1 .1 .0) (start′ .given .0 .1 .1 .1 .0) = rw (start′ .given .1) at (symbol-form′ .ensures) in
-    let sized : length (take (args′ .end) text′) ≡ args′ .end = length-take-le (args′ .end) text′ (pre′ .2) in
     part-short (take (args′ .end) text′) ((start′ .given .0 .1 .1 .0) + 1) (start′ .given .0 .1 .1 .1 .0)
     (omega (arith, f .short-weight))
 
@@ -254,45 +210,43 @@ cast-t36 : tie.Need-cast-t36
 cast-t36 c =
     let args′ = c .before .before .before .before .before .before .before .before .before .before .before .before .before .before
     .before .before .before .args in
+    let text′ = args′ .text .now in
     let pre′ = c .before .before .before .before .before .before .before .before .before .before .before .before .before .before
     .before .before .before .pre in
     let symbol-form′ = c .before .before .before .before .before .before .before .before .before .before .before .before
     .symbol-form in
     let start′ = c .before .before .before .before .before .before .before .before .before .before .start in
-    let f : SymbolAt (take (args′ .end) (args′ .text .now)) (args′ .at) (start′ .given .0 .0) (start′ .given .0 .1 .0)
+    let f : SymbolAt (take (args′ .end) text′) (args′ .at) (start′ .given .0 .0) (start′ .given .0 .1 .0)
     (start′ .given .0 .1 .1 .0) (start′ .given .0 .1 .1 .1 .0) = rw (start′ .given .1) at (symbol-form′ .ensures) in
-    let sized : length (take (args′ .end) (args′ .text .now)) ≡ args′ .end =
-    length-take-le (args′ .end) (args′ .text .now) (pre′ .2) in
+    let sized : length (take (args′ .end) text′) ≡ args′ .end =
+    length-take-le (args′ .end) text′ (pre′ .2) in
     record { fits = omega (arith, f .starts, f .nexts, f .lasts, f .stops, pre′ .2, pre′ .3) }
 
 sub-t26 : tie.Need-sub-t26
 sub-t26 c =
     let args′ = c .before .before .before .before .before .before .before .before .before .before .before .before .before .before
     .before .before .before .args in
-    let pre′ = c .before .before .before .before .before .before .before .before .before .before .before .before .before .before
-    .before .before .before .pre in
     let symbol-form′ = c .before .before .before .before .before .before .before .before .before .before .before .before
     .symbol-form in
     let start′ = c .before .before .before .before .before .before .before .before .before .before .start in
     let f : SymbolAt (take (args′ .end) (args′ .text .now)) (args′ .at) (start′ .given .0 .0) (start′ .given .0 .1 .0)
     (start′ .given .0 .1 .1 .0) (start′ .given .0 .1 .1 .1 .0) = rw (start′ .given .1) at (symbol-form′ .ensures) in
-    let sized : length (take (args′ .end) (args′ .text .now)) ≡ args′ .end =
-    length-take-le (args′ .end) (args′ .text .now) (pre′ .2) in
     f .starts
 
 cast-t37 : tie.Need-cast-t37
 cast-t37 c =
     let args′ = c .before .before .before .before .before .before .before .before .before .before .before .before .before .before
     .before .before .before .args in
+    let text′ = args′ .text .now in
     let pre′ = c .before .before .before .before .before .before .before .before .before .before .before .before .before .before
     .before .before .before .pre in
     let symbol-form′ = c .before .before .before .before .before .before .before .before .before .before .before .before
     .symbol-form in
     let start′ = c .before .before .before .before .before .before .before .before .before .before .start in
-    let f : SymbolAt (take (args′ .end) (args′ .text .now)) (args′ .at) (start′ .given .0 .0) (start′ .given .0 .1 .0)
+    let f : SymbolAt (take (args′ .end) text′) (args′ .at) (start′ .given .0 .0) (start′ .given .0 .1 .0)
     (start′ .given .0 .1 .1 .0) (start′ .given .0 .1 .1 .1 .0) = rw (start′ .given .1) at (symbol-form′ .ensures) in
-    let sized : length (take (args′ .end) (args′ .text .now)) ≡ args′ .end =
-    length-take-le (args′ .end) (args′ .text .now) (pre′ .2) in
+    let sized : length (take (args′ .end) text′) ≡ args′ .end =
+    length-take-le (args′ .end) text′ (pre′ .2) in
     record { fits = omega (arith, f .starts, f .nexts, f .lasts, f .stops, pre′ .2, pre′ .3) }
 
 mul-write-cells : tie.Need-mul-write-cells

@@ -111,12 +111,13 @@ returns : tie.Need-returns
 unfolding formMeant readForm
 returns c =
     let args′ = c .before .before .before .before .before .before .before .before .before .before .before .before .args in
+    let rules′ = args′ .rules .now in
     let pre′ = c .before .before .before .before .before .before .before .before .before .before .before .before .pre in
     let symbol-line′ = c .before .before .symbol-line in
     rw ((c .before .before .before .before .enum-told) .given .1) (
-      symbol-line′ .ensures .0 (args′ .number) (args′ .rules .now) (args′ .constants .now),
+      symbol-line′ .ensures .0 (args′ .number) rules′ (args′ .constants .now),
       symbol-line′ .ensures .1
-          (args′ .rules .now) (pre′ .8),
+          rules′ (pre′ .8),
     )
 
 same-length-2 : tie.Need-same-length-2

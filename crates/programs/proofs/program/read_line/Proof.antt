@@ -48,12 +48,13 @@ returns-2 : tie.Need-returns-2
 unfolding lineAnswer draftOf
 returns-2 c =
     let args′ = c .before .before .before .before .before .before .before .before .before .before .before .before .args in
+    let text′ = args′ .text .now in
     let pre′ = c .before .before .before .before .before .before .before .before .before .before .before .before .pre in
     let is-faulty-line′ = c .before .before .before .before .before .is-faulty-line in
     let form-at′ = c .before .before .form-at in
     let place-after′ = c .before .place-after in (
-      line-placeless (args′ .text .now) (args′ .at) (args′ .end) (args′ .number)
-          (draftOf (args′ .text .now) (args′ .symbols .now) (args′ .rules .now) (args′ .constants .now) (args′ .stage)) (pre′ .2)
+      line-placeless text′ (args′ .at) (args′ .end) (args′ .number)
+          (draftOf text′ (args′ .symbols .now) (args′ .rules .now) (args′ .constants .now) (args′ .stage)) (pre′ .2)
           (pre′ .3)
           (sym (is-faulty-line′ .ensures) ∙ (c .before .before .before .before .if1) .left) (formMeant (form-at′ .result))
           (form-at′ .ensures) (place-after′ .result) (place-after′ .ensures)
@@ -93,6 +94,7 @@ unfolding draftOf
 returns-3 c =
     let args′ = c .before .before .before .before .before .before .before .before .before .before .before .before .before .before
     .before .before .before .before .before .before .before .before .args in
+    let text′ = args′ .text .now in
     let pre′ = c .before .before .before .before .before .before .before .before .before .before .before .before .before .before
     .before .before .before .before .before .before .before .before .pre in
     let is-faulty-line′ = c .before .before .before .before .before .before .before .before .before .before .before .before
@@ -103,8 +105,8 @@ returns-3 c =
     let place-after′ = c .before .before .before .before .before .before .before .before .before .before .before .place-after in
     let if2′ = c .before .before .before .before .before .before .before .before .before .before .if2 in
     let read-form′ = c .before .before .before .before .before .before .read-form in (
-      read-form′ .ensures .0 ∙ line-formed (args′ .text .now) (args′ .at) (args′ .end) (args′ .number)
-          (draftOf (args′ .text .now) (args′ .symbols .now) (args′ .rules .now) (args′ .constants .now) (args′ .stage)) (pre′ .2)
+      read-form′ .ensures .0 ∙ line-formed text′ (args′ .at) (args′ .end) (args′ .number)
+          (draftOf text′ (args′ .symbols .now) (args′ .rules .now) (args′ .constants .now) (args′ .stage)) (pre′ .2)
           (pre′ .3)
           (sym (is-faulty-line′ .ensures) ∙ if1′ .left) (formMeant (form-at′ .result)) (form-at′ .ensures) (place-after′ .result)
           (place-after′ .ensures)

@@ -190,7 +190,8 @@ returns-2 c =
     let args′ = c .before .before .before .before .before .before .before .before .args in
     let loop′ = c .before .loop in (
       lines-end (args′ .text .now) (loop′ .at) (loop′ .number)
-          (draftOf (args′ .text .now) (loop′ .symbols) (loop′ .rules) (loop′ .constants) (loop′ .stage)) ((c .loop-test) .left) ∙ loop′
+          (draftOf (args′ .text .now) (loop′ .symbols) (loop′ .rules) (loop′ .constants) (loop′ .stage)) ((c .loop-test) .left)
+          ∙ loop′
           .inv .6,
       loop′ .inv .5,
     )

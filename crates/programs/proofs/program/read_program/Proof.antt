@@ -76,12 +76,13 @@ unfolding programAnswer linesAnswer
 returns-2 c =
     let args′ = c .before .before .before .before .before .before .before .before .before .before .before .before .before .before
     .before .before .before .before .before .before .before .before .args in
+    let text′ = args′ .text .now in
     let if1′ = c .before .before .before .before .before .before .before .before .before .before .before .before .before .before
     .before .before .before .if1 in
     let read-lines′ = c .before .before .before .before .before .before .before .before .before .read-lines in
     let x′ = c .before .x in
-    program-lines (args′ .text .now) (if1′ .left) (x′ .given .0 .0) (x′ .given .0 .1 .0)
-    (ap (linesAnswer (args′ .text .now) (read-lines′ .last .1 .1 .1 .0) (read-lines′ .last .1 .1 .1 .1 .0)
+    program-lines text′ (if1′ .left) (x′ .given .0 .0) (x′ .given .0 .1 .0)
+    (ap (linesAnswer text′ (read-lines′ .last .1 .1 .1 .0) (read-lines′ .last .1 .1 .1 .1 .0)
     (read-lines′ .last .1 .1 .1 .1 .1 .0)) (sym (x′ .given .1)) ∙ read-lines′ .ensures .0)
 
 same-length-4 : tie.Need-same-length-4
