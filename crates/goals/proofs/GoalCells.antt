@@ -89,7 +89,8 @@ trim-length zero (x ∷ xs) = ap suc (trim-length zero xs)
 trim-length (suc n) (x ∷ xs) = ap suc (trim-length n xs)
 
 -- a constraint stored behind the first m
-module _ (term : List ℕ → Term) (fs : List (List ℕ)) (s m a b c d count : ℕ) (old new : List ℕ) (n : count ≡ length fs) (few : length fs ≤ 4)
+module _ (term : List ℕ → Term) (fs : List (List ℕ)) (s m a b c d count : ℕ) (old new : List ℕ) (n : count ≡ length fs)
+    (few : length fs ≤ 4)
     (e : cellTerms (a ∷ b ∷ c ∷ d ∷ []) ≡ map term fs) (fits : 5 * m + 5 ≤ length old)
     (q : new ≡ paste old (5 * m) (rowOf count s a b c d) 5) where
   abbrev cut : List ℕ
@@ -152,7 +153,8 @@ module _ (term : List ℕ → Term) (fs : List (List ℕ)) (s m a b c d count : 
       }
 
 -- the cells of a constraint as the code puts them together
-pub row-built : (count s a b c d x y z w : ℕ) → x ≡ cond (ltb 0 count) a 0 → y ≡ cond (ltb 1 count) b 0 → z ≡ cond (ltb 2 count) c 0
+pub row-built : (count s a b c d x y z w : ℕ) → x ≡ cond (ltb 0 count) a 0 → y ≡ cond (ltb 1 count) b 0
+    → z ≡ cond (ltb 2 count) c 0
     → w ≡ cond (ltb 3 count) d 0 → s ∷ x ∷ y ∷ z ∷ w ∷ [] ≡ rowOf count s a b c d
 unfolding rowOf
 row-built count s a b c d x y z w p q r t = rw (p, q, r, t)

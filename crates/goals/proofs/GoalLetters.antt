@@ -24,7 +24,8 @@ use Rattle.lines.proofs.Cells.{letter-one, one-list, and-both}
 use Rattle.goals.specs.ReadGoal.{LettersFit}
 
 -- numbers below k of which no two are the same: there are at most k
-module _ (n k : ℕ) (f : ℕ → ℕ) (low : (i : ℕ) → i < suc n → f i < suc k) (apart : (i j : ℕ) → i < j → j < suc n → f i ≡ f j → ⊥) where
+module _ (n k : ℕ) (f : ℕ → ℕ) (low : (i : ℕ) → i < suc n → f i < suc k)
+    (apart : (i j : ℕ) → i < j → j < suc n → f i ≡ f j → ⊥) where
   -- the number k exchanged for the last
   abbrev moved : ℕ → ℕ
   moved i = cond (eqb (f i) k) (f n) (f i)
@@ -63,7 +64,8 @@ pigeon (suc n) (suc k) f low apart =
     omega arith
 
 -- the place of the first that passes a test is not behind one that does
-pub place-le {ℓ} : {A : Type ℓ} (test : A → Bool) (d : A) (j : ℕ) (xs : List A) (i : ℕ) → i < length xs → test (getD xs i d) ≡ true
+pub place-le {ℓ} : {A : Type ℓ} (test : A → Bool) (d : A) (j : ℕ) (xs : List A) (i : ℕ) → i < length xs
+    → test (getD xs i d) ≡ true
     → placeFrom test j xs ≤ j + i
 place-le test d j [] i h e = absurd (omega arith)
 place-le test d j (x ∷ xs) zero h e = rw e (omega arith)

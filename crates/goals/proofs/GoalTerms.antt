@@ -125,7 +125,8 @@ row-more symbols k old new v w j m h l same r =
       arity = omega (arith, ways, r .arity);
       terms = λ i p.
           let small : i < 4 = omega (arith, p, ways, r .arity) in
-          rw (same (5 * j + suc i) (omega arith)) (more-fits v w (getD old (5 * j + suc i) 0) h (r .terms i (omega (arith, p, ways))));
+          rw (same (5 * j + suc i) (omega arith)) (more-fits v w (getD old (5 * j + suc i) 0) h
+          (r .terms i (omega (arith, p, ways))));
       zeros = λ i p q. same (5 * j + suc i) (omega (arith, q)) ∙ r .zeros i (omega (arith, p, ways)) q;
     }
 
@@ -136,9 +137,11 @@ unfolding isUndeclared symbolOf
 arity-is text cells k s fs e p h =
     let number : ℕ = symbolNumber (symbolsOf text cells k) (fieldAt 1 fs) in
     let two : eqb (length (drop 2 fs)) (symbolAt (symbolsOf text cells k) number .arity) ≡ true =
-    second (ltb number (length (symbolsOf text cells k))) (eqb (length (drop 2 fs)) (symbolAt (symbolsOf text cells k) number .arity)) e in
+    second (ltb number (length (symbolsOf text cells k)))
+    (eqb (length (drop 2 fs)) (symbolAt (symbolsOf text cells k) number .arity)) e in
     let here : symbolAt (symbolsOf text cells k) number .arity ≡ getD cells (4 * s + 2) 0 =
-    ap (λ (n : ℕ). symbolAt (symbolsOf text cells k) n .arity) (sym p) ∙ ap (λ (t : Symbol). t .arity) (symbol-at text cells k s h) in
+    ap (λ (n : ℕ). symbolAt (symbolsOf text cells k) n .arity) (sym p)
+    ∙ ap (λ (t : Symbol). t .arity) (symbol-at text cells k s h) in
     sym (eqb-true (length (drop 2 fs)) (symbolAt (symbolsOf text cells k) number .arity) two ∙ here)
   where
     second : (a b : Bool) → (not a || not b) ≡ false → b ≡ true
@@ -151,7 +154,8 @@ pub row-new : (symbols : List ℕ) (k v m s : ℕ) (fs ls cs ls₀ cs₀ : List 
     → Stored (termOf (λ g. placeOf g ls) cs) fs s m old new → ls ≡ lettersAfter fs ls₀ → cs ≡ constantsAfter fs cs₀
     → length cs ≤ 64 → length ls ≡ v → s < k → getD symbols (4 * s + 2) 0 ≡ length fs → length fs ≤ 4 → RowFits symbols k new v m
 row-new symbols k v m s fs ls cs ls₀ cs₀ old new d p q h l below ways few =
-    let same : getD symbols (4 * getD new (5 * m) 0 + 2) 0 ≡ length fs = ap (λ (x : ℕ). getD symbols (4 * x + 2) 0) (d .symbol) ∙ ways in
+    let same : getD symbols (4 * getD new (5 * m) 0 + 2) 0 ≡ length fs = ap (λ (x : ℕ). getD symbols (4 * x + 2) 0) (d .symbol)
+    ∙ ways in
     record {
       symbol = omega (arith, d .symbol);
       arity = omega arith;

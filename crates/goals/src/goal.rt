@@ -25,7 +25,8 @@ ghost use Rattle.syntax.specs.Forms.{formOf, fieldAt, termOf};
 ghost use Rattle.syntax.specs.Programs.{Reading};
 ghost use Rattle.syntax.specs.Goals.{lettersAfter, isGoalForm, readConstraintOfGoal, readGoalLine, readGoalLines, readGoal};
 ghost use Rattle.syntax.specs.Tables.{cellTerms, cellConstraints, symbolsOf, constantsOf, lettersOf};
-ghost use Rattle.goals.specs.ReadGoal.{ReadFrom, GoalRoom, Stored, rowOf, LettersFit, IsTermCell, RowFits, GoalFits, goalDraftOf, goalLineAnswer, goalLineFits};
+ghost use Rattle.goals.specs.ReadGoal.{ReadFrom, GoalRoom, Stored, rowOf, LettersFit, IsTermCell, RowFits, GoalFits};
+ghost use Rattle.goals.specs.ReadGoal.{goalDraftOf, goalLineAnswer, goalLineFits};
 ghost use Rattle.goals.specs.ReadGoal.{goalLinesAnswer, goalLinesFit, goalAnswer, goalKeeps};
 
 // How many constraints, variables and constants of its own a goal has, as far as it is read.
@@ -49,9 +50,11 @@ pub enum GoalRead {
 
 // The letters with one more behind them, if a term field is a letter that is new.
 fn add_letter(classes: &[u8], f: &[u8], letters: &mut [u8], v: usize) -> usize
-    requires { ⌜ (now classes ≡ classTable) × (isTerm (now f) ≡ true) × (length (now letters) ≡ 26) × LettersFit (now letters) v ⌝ }
+    requires { ⌜ (now classes ≡ classTable) × (isTerm (now f) ≡ true) × (length (now letters) ≡ 26)
+        × LettersFit (now letters) v ⌝ }
     ensures { λ r. ⌜ (lettersOf (now (letters .exit)) r
-        ≡ cond (isName (now (f .entry))) (lettersOf (now (letters .entry)) v) (withName (now (f .entry)) (lettersOf (now (letters .entry)) v)))
+        ≡ cond (isName (now (f .entry))) (lettersOf (now (letters .entry)) v)
+        (withName (now (f .entry)) (lettersOf (now (letters .entry)) v)))
         × LettersFit (now (letters .exit)) r × (v ≤ r) ⌝ }
 {
     if text::is_name(classes, f) {
@@ -70,7 +73,8 @@ fn add_letter(classes: &[u8], f: &[u8], letters: &mut [u8], v: usize) -> usize
 fn add_letters(classes: &[u8], line: &[u8], at: usize, letters: &mut [u8], v: usize) -> usize
     requires { ⌜ (now classes ≡ classTable) × (every isTerm (fieldsFrom (now line) at) ≡ true) × (length (now letters) ≡ 26)
         × LettersFit (now letters) v × (length (now line) ≤ 16384) ⌝ }
-    ensures { λ r. ⌜ (lettersOf (now (letters .exit)) r ≡ lettersAfter (fieldsFrom (now (line .entry)) at) (lettersOf (now (letters .entry)) v))
+    ensures { λ r. ⌜ (lettersOf (now (letters .exit)) r
+        ≡ lettersAfter (fieldsFrom (now (line .entry)) at) (lettersOf (now (letters .entry)) v))
         × LettersFit (now (letters .exit)) r × (v ≤ r) ⌝ }
 {
     let mut count = v;
@@ -121,7 +125,8 @@ fn store_constraint(
     m: usize,
     s: usize,
 )
-    requires { ⌜ (now classes ≡ classTable) × (length (now constants) ≡ 128) × (n + more ≤ 64) × (v ≤ 26) × (v ≤ length (now letters))
+    requires { ⌜ (now classes ≡ classTable) × (length (now constants) ≡ 128) × (n + more ≤ 64) × (v ≤ 26)
+        × (v ≤ length (now letters))
         × (at ≤ end + 1) × (end ≤ length (now goal)) × (length (fieldsFrom (take end (now goal)) at) ≤ 4)
         × (every isTerm (fieldsFrom (take end (now goal)) at) ≡ true) × (5 * m + 5 ≤ length (now cells)) × (s < 32) ⌝ }
     ensures { λ _. ⌜ Stored (termOf (λ f. placeOf f (lettersOf (now (letters .entry)) v))
@@ -162,10 +167,12 @@ fn goal_constraint(
     requires { ⌜ (now classes ≡ classTable) × (at ≤ end) × (end ≤ length (now goal)) × (length (now goal) ≤ 16384)
         × GoalRoom (now symbols) k (now constants) n (now cells) (now letters)
         × GoalFits (now symbols) k n (now cells) (now letters) counts ⌝ }
-    ensures { λ r. ⌜ ((i : ℕ) → goalLineAnswer (now (program .entry)) (now (goal .entry)) (now (constants .exit)) n (now (cells .exit))
-        (now (letters .exit)) i r
-        ≡ readConstraintOfGoal (symbolsOf (now (program .entry)) (now (symbols .entry)) k) i (fieldsFrom (take end (now (goal .entry))) at)
-        (goalDraftOf (now (program .entry)) (now (goal .entry)) (now (constants .entry)) n (now (cells .entry)) (now (letters .entry)) counts))
+    ensures { λ r. ⌜ ((i : ℕ) → goalLineAnswer (now (program .entry)) (now (goal .entry)) (now (constants .exit)) n
+        (now (cells .exit)) (now (letters .exit)) i r
+        ≡ readConstraintOfGoal (symbolsOf (now (program .entry)) (now (symbols .entry)) k) i
+        (fieldsFrom (take end (now (goal .entry))) at)
+        (goalDraftOf (now (program .entry)) (now (goal .entry)) (now (constants .entry)) n (now (cells .entry))
+        (now (letters .entry)) counts))
         × goalLineFits (now (symbols .entry)) k n (now (cells .exit)) (now (letters .exit)) r ⌝ }
 {
     let m = counts.constraints;
@@ -248,10 +255,11 @@ fn goal_line(
     requires { ⌜ (now classes ≡ classTable) × (at ≤ end) × (end ≤ length (now goal)) × (length (now goal) ≤ 16384)
         × GoalRoom (now symbols) k (now constants) n (now cells) (now letters)
         × GoalFits (now symbols) k n (now cells) (now letters) counts ⌝ }
-    ensures { λ r. ⌜ ((i : ℕ) → goalLineAnswer (now (program .entry)) (now (goal .entry)) (now (constants .exit)) n (now (cells .exit))
-        (now (letters .exit)) i r
+    ensures { λ r. ⌜ ((i : ℕ) → goalLineAnswer (now (program .entry)) (now (goal .entry)) (now (constants .exit)) n
+        (now (cells .exit)) (now (letters .exit)) i r
         ≡ readGoalLine (symbolsOf (now (program .entry)) (now (symbols .entry)) k) i (lineAt (now (goal .entry)) at end)
-        (goalDraftOf (now (program .entry)) (now (goal .entry)) (now (constants .entry)) n (now (cells .entry)) (now (letters .entry)) counts))
+        (goalDraftOf (now (program .entry)) (now (goal .entry)) (now (constants .entry)) n (now (cells .entry))
+        (now (letters .entry)) counts))
         × goalLineFits (now (symbols .entry)) k n (now (cells .exit)) (now (letters .exit)) r ⌝ }
 {
     if text::is_faulty_line(classes, goal, at, end) {
@@ -293,7 +301,11 @@ fn goal_lines(
     ensures { λ r. ⌜ (goalLinesAnswer (now (program .entry)) (now (goal .entry)) (now (constants .exit)) n (now (cells .exit))
         (now (letters .exit)) r
         ≡ readGoalLines (symbolsOf (now (program .entry)) (now (symbols .entry)) k) 1
-        (record { constraints = []; letters = []; constants = constantsOf (now (program .entry)) (now (goal .entry)) (now (constants .entry)) n 0 })
+        (record {
+          constraints = [];
+          letters = [];
+          constants = constantsOf (now (program .entry)) (now (goal .entry)) (now (constants .entry)) n 0;
+        })
         (lines (now (goal .entry))))
         × goalLinesFit (now (symbols .entry)) k n (now (cells .exit)) (now (letters .exit)) r ⌝ }
 {
@@ -346,7 +358,8 @@ pub fn read_goal(
 ) -> GoalRead
     requires { ⌜ GoalRoom (now symbols) k (now constants) n (now cells) (now letters) ⌝ }
     ensures { λ r. ⌜ ((p : Reading) → ReadFrom (now (program .entry)) (now (symbols .entry)) k (now (constants .entry)) n p
-        → goalAnswer (now (program .entry)) (now (goal .entry)) (now (constants .exit)) n (now (cells .exit)) (now (letters .exit)) r
+        → goalAnswer (now (program .entry)) (now (goal .entry)) (now (constants .exit)) n (now (cells .exit))
+        (now (letters .exit)) r
         ≡ readGoal p (now (goal .entry)))
         × goalKeeps (now (program .entry)) (now (symbols .entry)) k n (now (cells .exit)) (now (letters .exit)) r ⌝ }
 {

@@ -51,7 +51,8 @@ one-list [] h = absurd (omega arith)
 one-list (b ∷ []) h = refl
 one-list (b ∷ c ∷ s) h = absurd (omega arith)
 
-pub cell-constant : (variable : List ℕ → ℕ) (cs : List (List ℕ)) (f : List ℕ) (k : ℕ) → isName f ≡ true → k ≡ placeOf f cs → k ≤ 64
+pub cell-constant : (variable : List ℕ → ℕ) (cs : List (List ℕ)) (f : List ℕ) (k : ℕ) → isName f ≡ true → k ≡ placeOf f cs
+    → k ≤ 64
     → cellTerm (32 + k) ≡ termOf variable cs f
 unfolding cellTerm termOf firstConstant
 cell-constant variable cs f k n e h = rw (n, ← e, lt-ltb (32 + k) 256 (omega arith))
@@ -133,7 +134,8 @@ module _ (term : List ℕ → Term) (all : List Term) where
       ∙ ap (λ (l : List (List ℕ)). map cellTerm (take j r) ++ map term l) (sym q)
       ∙ d .passed
 
-pub filled-start : (term : List ℕ → Term) (fs : List (List ℕ)) → length fs ≤ 4 → Filled term (map term fs) (0 ∷ 0 ∷ 0 ∷ 0 ∷ []) 0 fs
+pub filled-start : (term : List ℕ → Term) (fs : List (List ℕ)) → length fs ≤ 4
+    → Filled term (map term fs) (0 ∷ 0 ∷ 0 ∷ 0 ∷ []) 0 fs
 filled-start term fs h =
     record { sized = refl; fits = omega arith; nonzero = refl; zero-behind = λ i k. zeros i; passed = refl }
   where

@@ -14,7 +14,8 @@ use Rattle.semantics.specs.Terms.{Symbol, Constraint, noSymbol, symbolAt, weigh
 use Rattle.syntax.specs.Tables.{cellTerms, cellConstraints, symbolOf, symbolsOf}
 use Rattle.lines.proofs.Shapes.{symbols-length, symbol-at}
 
-pub constraints-append : (h : ℕ) (xs ys : List ℕ) → length xs ≡ 5 * h → cellConstraints (xs ++ ys) ≡ cellConstraints xs ++ cellConstraints ys
+pub constraints-append : (h : ℕ) (xs ys : List ℕ) → length xs ≡ 5 * h
+    → cellConstraints (xs ++ ys) ≡ cellConstraints xs ++ cellConstraints ys
 unfolding cellConstraints
 constraints-append zero [] ys e = refl
 constraints-append zero (x ∷ xs) ys e = absurd (omega arith)
@@ -24,7 +25,8 @@ constraints-append (suc h) (a ∷ b ∷ []) ys e = absurd (omega arith)
 constraints-append (suc h) (a ∷ b ∷ c ∷ []) ys e = absurd (omega arith)
 constraints-append (suc h) (a ∷ b ∷ c ∷ d ∷ []) ys e = absurd (omega arith)
 constraints-append (suc h) (a ∷ b ∷ c ∷ d ∷ f ∷ xs) ys e =
-    ap (λ (l : List Constraint). record { symbol = a; terms = cellTerms (b ∷ c ∷ d ∷ f ∷ []) } ∷ l) (constraints-append h xs ys (omega arith))
+    ap (λ (l : List Constraint). record { symbol = a; terms = cellTerms (b ∷ c ∷ d ∷ f ∷ []) } ∷ l)
+    (constraints-append h xs ys (omega arith))
 
 pub constraints-length : (h : ℕ) (xs : List ℕ) → length xs ≡ 5 * h → length (cellConstraints xs) ≡ h
 unfolding cellConstraints
@@ -37,14 +39,16 @@ constraints-length (suc h) (a ∷ b ∷ c ∷ []) e = absurd (omega arith)
 constraints-length (suc h) (a ∷ b ∷ c ∷ d ∷ []) e = absurd (omega arith)
 constraints-length (suc h) (a ∷ b ∷ c ∷ d ∷ f ∷ xs) e = ap suc (constraints-length h xs (omega arith))
 
-pub weight-known : (text cells : List ℕ) (k s : ℕ) → s < k → symbolAt (symbolsOf text cells k) s .weight ≡ getD cells (4 * s + 3) 0
+pub weight-known : (text cells : List ℕ) (k s : ℕ) → s < k
+    → symbolAt (symbolsOf text cells k) s .weight ≡ getD cells (4 * s + 3) 0
 unfolding symbolOf
 weight-known text cells k s h = ap (λ (t : Symbol). t .weight) (symbol-at text cells k s h)
 
 pub weight-none : (text cells : List ℕ) (k s : ℕ) → k ≤ s → symbolAt (symbolsOf text cells k) s .weight ≡ 0
 unfolding symbolAt noSymbol
 weight-none text cells k s h =
-    ap (λ (t : Symbol). t .weight) (List·getD-eq-default (symbolsOf text cells k) noSymbol (omega (arith, h, symbols-length text cells k)))
+    ap (λ (t : Symbol). t .weight) (List·getD-eq-default (symbolsOf text cells k) noSymbol
+    (omega (arith, h, symbols-length text cells k)))
 
 weight-first : (symbols : List Symbol) (l : List ℕ) → 5 ≤ length l
     → weight symbols (cellConstraints l) ≡ symbolAt symbols (getD l 0 0) .weight + weight symbols (cellConstraints (drop 5 l))
@@ -57,7 +61,8 @@ weight-first symbols (a ∷ b ∷ c ∷ d ∷ []) h = absurd (omega arith)
 weight-first symbols (a ∷ b ∷ c ∷ d ∷ e ∷ l) h = refl
 
 pub weight-step : (symbols : List Symbol) (l : List ℕ) (i : ℕ) → i + 5 ≤ length l
-    → weight symbols (cellConstraints (drop i l)) ≡ symbolAt symbols (getD l i 0) .weight + weight symbols (cellConstraints (drop (i + 5) l))
+    → weight symbols (cellConstraints (drop i l))
+    ≡ symbolAt symbols (getD l i 0) .weight + weight symbols (cellConstraints (drop (i + 5) l))
 weight-step symbols l i h =
     weight-first symbols (drop i l) (omega (arith, length-drop i l))
     ∙ ap₂ (λ (k : ℕ) (t : List ℕ). symbolAt symbols k .weight + weight symbols (cellConstraints t))

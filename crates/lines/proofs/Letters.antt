@@ -52,7 +52,8 @@ module _ (line : List ℕ) (start end : ℕ) (h : start < length line) (e : end 
   form-one q =
       let z : end ≡ suc start = omega arith in
       first ∙ ap formOf (slice-cons start end line 0 (omega arith) k
-      ∙ ap (λ (l : List ℕ). getD line start 0 ∷ l) (ap (λ (n : ℕ). drop (suc start) (take n line)) z ∙ slice-empty (suc start) line))
+      ∙ ap (λ (l : List ℕ). getD line start 0 ∷ l)
+      (ap (λ (n : ℕ). drop (suc start) (take n line)) z ∙ slice-empty (suc start) line))
       ∙ form-byte (getD line start 0)
 
 pub place-symbol : (p : ℕ) → (p ≡ 0 → ⊥) → placeAfter symbolForm (placeMeant p) ≡ none

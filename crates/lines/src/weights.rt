@@ -21,7 +21,8 @@ fn weight_at(symbols: &[u16], k: usize, s: usize) -> usize
 // The weight of the constraints that cells hold, five to each.
 pub fn weight_of(symbols: &[u16], k: usize, cells: &[u16]) -> usize
     requires { ⌜ (4 * k ≤ length (now symbols)) × (length (now cells) ≤ 4096) ⌝ }
-    ensures { λ r. ⌜ ((text : List ℕ) → r ≡ weight (symbolsOf text (now (symbols .entry)) k) (cellConstraints (now (cells .entry)))) ⌝ }
+    ensures { λ r. ⌜ ((text : List ℕ)
+        → r ≡ weight (symbolsOf text (now (symbols .entry)) k) (cellConstraints (now (cells .entry)))) ⌝ }
 {
     let mut sum = 0;
     let mut at = 0;

@@ -1,7 +1,7 @@
 -- Laws of the last rule of a table as a line adds to it.
 --   rules-grown, starts-grown, sound-grown  the table, where one more is stored in its last row
 --   last-constraints, last-sides            the counts of the last rule
---   constraint-grown, sides-grown           the last rule with one constraint more, in its heads or its body, or one equation more
+--   constraint-grown, sides-grown           the last rule with one constraint more in a part, or one equation more
 -- Assumes nothing.
 use mathlib.Core.Path.{_≡_, refl, sym, ap, ap₂, _∙_}
 use mathlib.Core.List.{List, [], _∷_, _++_, map}
@@ -61,7 +61,8 @@ row-drop cells i b h =
 
 row-cut : (cells : List ℕ) (i b m : ℕ) → b + m ≤ 64 → take m (drop b (rowAt cells i)) ≡ take m (drop (64 * i + b) cells)
 row-cut cells i b m h =
-    ap (λ (l : List ℕ). take m l) (row-drop cells i b (omega arith)) ∙ take-take m (64 - b) (drop (64 * i + b) cells) (omega arith)
+    ap (λ (l : List ℕ). take m l) (row-drop cells i b (omega arith))
+    ∙ take-take m (64 - b) (drop (64 * i + b) cells) (omega arith)
 
 -- the cells of a row from b on, w to each of the count in cell t
 abbrev partOf : List ℕ → ℕ → ℕ → ℕ → List ℕ
@@ -97,12 +98,14 @@ module _ (cells : List ℕ) (i s at h : ℕ) (vs : List ℕ) (room : 64 * i + 64
     | no e ↦ omega (arith, other-count t p e, q)
   ]
 
-  pub sound-grown : (st : Stage) (place count : ℕ) → st .rules ≡ suc i → Sound cells st → count ≤ 64 → (3 ≡ s → h < 4) → (4 ≡ s → h < 6)
+  pub sound-grown : (st : Stage) (place count : ℕ) → st .rules ≡ suc i → Sound cells st → count ≤ 64 → (3 ≡ s → h < 4)
+      → (4 ≡ s → h < 6)
       → (5 ≡ s → h < 4) → Sound grown (record { place = place; symbols = st .symbols; rules = st .rules; constants = count })
   sound-grown st place count q g fit x y z =
       let row : st .rules - 1 ≡ i = omega arith in
       let begun : 0 < st .rules = omega arith in
-      let few : (t m : ℕ) → t < 6 → getD cells (64 * (st .rules - 1) + t) 0 ≤ m → (t ≡ s → suc h ≤ m) → getD grown (64 * (st .rules - 1) + t) 0 ≤ m =
+      let few : (t m : ℕ) → t < 6 → getD cells (64 * (st .rules - 1) + t) 0 ≤ m → (t ≡ s → suc h ≤ m)
+      → getD grown (64 * (st .rules - 1) + t) 0 ≤ m =
       rw row count-grown in
       record {
         few-symbols = g .few-symbols;
@@ -131,10 +134,12 @@ module _ (cells : List ℕ) (i s at h : ℕ) (vs : List ℕ) (room : 64 * i + 64
   drop-kept b p q =
       row-drop grown i b p
       ∙ ap (λ (l : List ℕ). take (64 - b) l)
-      (drop-set-lt (64 * i + b) stored (64 * i + s) (suc h) (omega arith) ∙ drop-behind cells (64 * i + at) vs inner (64 * i + b) (omega arith))
+      (drop-set-lt (64 * i + b) stored (64 * i + s) (suc h) (omega arith)
+      ∙ drop-behind cells (64 * i + at) vs inner (64 * i + b) (omega arith))
       ∙ sym (row-drop cells i b p)
 
-  cut-grown : (b m : ℕ) → 6 ≤ b → b + m ≡ at → take (m + length vs) (drop b (rowAt grown i)) ≡ take m (drop b (rowAt cells i)) ++ vs
+  cut-grown : (b m : ℕ) → 6 ≤ b → b + m ≡ at → take (m + length vs) (drop b (rowAt grown i))
+      ≡ take m (drop b (rowAt cells i)) ++ vs
   cut-grown b m p q =
       row-cut grown i b (m + length vs) (omega arith)
       ∙ ap (λ (l : List ℕ). take (m + length vs) l) (drop-set-lt (64 * i + b) stored (64 * i + s) (suc h) (omega arith))
@@ -189,7 +194,8 @@ rule-path : {n n′ : List ℕ} {h h′ b b′ : List Constraint} {e e′ : List
     → ruleWith n h b e ≡ ruleWith n′ h′ b′ e′
 rule-path p q r s = cc
 
-five-is : (k a b c d : ℕ) → cellConstraints (k ∷ a ∷ b ∷ c ∷ d ∷ []) ≡ record { symbol = k; terms = cellTerms (a ∷ b ∷ c ∷ d ∷ []) } ∷ []
+five-is : (k a b c d : ℕ) → cellConstraints (k ∷ a ∷ b ∷ c ∷ d ∷ [])
+    ≡ record { symbol = k; terms = cellTerms (a ∷ b ∷ c ∷ d ∷ []) } ∷ []
 unfolding cellConstraints
 five-is k a b c d = refl
 
@@ -218,7 +224,8 @@ module _ (text cells : List ℕ) (i : ℕ) (room : 64 * i + 64 ≤ length cells)
   unfolding rulesOf
   last-is = last-snoc (tabled (ruleOf text cells) i) (ruleOf text cells i)
 
-  part-length : (t b w m : ℕ) → t < 6 → m ≡ getD cells (64 * i + t) 0 → b + w * m ≤ 64 → length (partOf (rowAt cells i) t b w) ≡ w * m
+  part-length : (t b w m : ℕ) → t < 6 → m ≡ getD cells (64 * i + t) 0 → b + w * m ≤ 64
+      → length (partOf (rowAt cells i) t b w) ≡ w * m
   part-length t b w m p e q =
       let n : getD (rowAt cells i) t 0 ≡ m = row-cell cells i t (omega arith) ∙ sym e in
       ap (λ (k : ℕ). length (take (w * k) (drop b (rowAt cells i)))) n
@@ -232,7 +239,8 @@ module _ (text cells : List ℕ) (i : ℕ) (room : 64 * i + 64 ≤ length cells)
   last-constraints w h p e few =
       ap (λ (r : Rule). length (constraintsIn w r)) last-is
       ∙ ap (λ (l : List Constraint). length l) (row-constraints text (rowAt cells i) w p)
-      ∙ constraints-length h (partOf (rowAt cells i) (3 + w) (6 + 20 * w) 5) (part-length (3 + w) (6 + 20 * w) 5 h (omega arith) e (omega arith))
+      ∙ constraints-length h (partOf (rowAt cells i) (3 + w) (6 + 20 * w) 5)
+      (part-length (3 + w) (6 + 20 * w) 5 h (omega arith) e (omega arith))
 
   pub last-sides : (h : ℕ) → h ≡ getD cells (64 * i + 5) 0 → h ≤ 4 → length (lastRule (rulesOf text cells (suc i)) .equations) ≡ h
   unfolding ruleOf ruleOfRow
@@ -245,7 +253,8 @@ module _ (text cells : List ℕ) (i : ℕ) (room : 64 * i + 64 ≤ length cells)
     abbrev new : List ℕ
     new = rowAt (grown cells i s at h vs room fits low high) i
 
-    name-kept : (0 ≡ s → ⊥) → (1 ≡ s → ⊥) → part text (getD new 0 0) (getD new 1 0) ≡ part text (getD (rowAt cells i) 0 0) (getD (rowAt cells i) 1 0)
+    name-kept : (0 ≡ s → ⊥) → (1 ≡ s → ⊥) → part text (getD new 0 0) (getD new 1 0)
+        ≡ part text (getD (rowAt cells i) 0 0) (getD (rowAt cells i) 1 0)
     name-kept x y =
         ap₂ (part text) (row-cell-kept cells i s at h vs room fits low high 0 (omega arith) x)
         (row-cell-kept cells i s at h vs room fits low high 1 (omega arith) y)
@@ -265,12 +274,14 @@ module _ (text cells : List ℕ) (i : ℕ) (room : 64 * i + 64 ≤ length cells)
     constraint = record { symbol = k; terms = cellTerms (a ∷ b ∷ c ∷ d ∷ []) }
 
     constraints-more : (w : ℕ) (p : w ≤ 1) (e : h ≡ getD cells (64 * i + (3 + w)) 0) (few : h < 4 + 2 * w)
-        → cellConstraints (partOf (new (3 + w) (6 + 20 * w + 5 * h) h five (omega arith) (omega arith) (omega arith)) (3 + w) (6 + 20 * w) 5)
+        → cellConstraints (partOf (new (3 + w) (6 + 20 * w + 5 * h) h five (omega arith) (omega arith) (omega arith)) (3 + w)
+        (6 + 20 * w) 5)
         ≡ cellConstraints (partOf (rowAt cells i) (3 + w) (6 + 20 * w) 5) ++ (constraint ∷ [])
     constraints-more w p e few =
         ap cellConstraints (part-more cells i (3 + w) (6 + 20 * w + 5 * h) h five room (omega arith) (omega arith) (omega arith)
         (6 + 20 * w) 5 (omega arith) refl refl e)
-        ∙ constraints-append h (partOf (rowAt cells i) (3 + w) (6 + 20 * w) 5) five (part-length (3 + w) (6 + 20 * w) 5 h (omega arith) e (omega arith))
+        ∙ constraints-append h (partOf (rowAt cells i) (3 + w) (6 + 20 * w) 5) five
+        (part-length (3 + w) (6 + 20 * w) 5 h (omega arith) e (omega arith))
         ∙ ap (λ (l : List Constraint). cellConstraints (partOf (rowAt cells i) (3 + w) (6 + 20 * w) 5) ++ l) (five-is k a b c d)
 
     pub constraint-grown : (w : ℕ) (p : w ≤ 1) (e : h ≡ getD cells (64 * i + (3 + w)) 0) (few : h < 4 + 2 * w)
@@ -278,22 +289,26 @@ module _ (text cells : List ℕ) (i : ℕ) (room : 64 * i + 64 ≤ length cells)
         ≡ withConstraint w constraint (ruleOf text cells i)
     unfolding ruleOf ruleOfRow withHead withBody
     constraint-grown zero p e few =
-        rule-path (name-kept 3 (6 + 5 * h) h five (omega arith) (omega arith) (omega arith) (λ z. omega (arith, z)) (λ z. omega (arith, z)))
+        rule-path (name-kept 3 (6 + 5 * h) h five (omega arith) (omega arith) (omega arith) (λ z. omega (arith, z))
+        (λ z. omega (arith, z)))
         (constraints-more 0 p e few)
         (ap cellConstraints (part-behind cells i 3 (6 + 5 * h) h five room (omega arith) (omega arith) (omega arith)
         4 26 5 (omega arith) (λ z. omega (arith, z)) (omega arith) (omega arith)))
         (ap cellEquations (part-behind cells i 3 (6 + 5 * h) h five room (omega arith) (omega arith) (omega arith)
         5 56 2 (omega arith) (λ z. omega (arith, z)) (omega arith) (omega arith)))
     constraint-grown (suc zero) p e few =
-        rule-path (name-kept 4 (26 + 5 * h) h five (omega arith) (omega arith) (omega arith) (λ z. omega (arith, z)) (λ z. omega (arith, z)))
-        (heads-kept 4 (26 + 5 * h) h five (omega arith) (omega arith) (omega arith) (λ z. omega (arith, z)) few-heads (omega arith))
+        rule-path (name-kept 4 (26 + 5 * h) h five (omega arith) (omega arith) (omega arith) (λ z. omega (arith, z))
+        (λ z. omega (arith, z)))
+        (heads-kept 4 (26 + 5 * h) h five (omega arith) (omega arith) (omega arith) (λ z. omega (arith, z)) few-heads
+        (omega arith))
         (constraints-more 1 p e few)
         (ap cellEquations (part-behind cells i 4 (26 + 5 * h) h five room (omega arith) (omega arith) (omega arith)
         5 56 2 (omega arith) (λ z. omega (arith, z)) (omega arith) (omega arith)))
     constraint-grown (suc (suc w)) p e few = absurd (omega arith)
 
   -- one equation more
-  module _ (h a b : ℕ) (e : h ≡ getD cells (64 * i + 5) 0) (few : h < 4) (heads : getD cells (64 * i + 3) 0 ≤ 4) (body : getD cells (64 * i + 4) 0 ≤ 6) where
+  module _ (h a b : ℕ) (e : h ≡ getD cells (64 * i + 5) 0) (few : h < 4) (heads : getD cells (64 * i + 3) 0 ≤ 4)
+      (body : getD cells (64 * i + 4) 0 ≤ 6) where
     abbrev two-more : List ℕ
     two-more = a ∷ b ∷ []
 
@@ -302,10 +317,13 @@ module _ (text cells : List ℕ) (i : ℕ) (room : 64 * i + 64 ≤ length cells)
     unfolding ruleOf ruleOfRow withEquation
     sides-grown =
         let n : getD (rowAt cells i) 4 0 ≡ getD cells (64 * i + 4) 0 = row-cell cells i 4 (omega arith) in
-        rule-path (name-kept 5 (56 + 2 * h) h two-more (omega arith) (omega arith) (omega arith) (λ z. omega (arith, z)) (λ z. omega (arith, z)))
-        (heads-kept 5 (56 + 2 * h) h two-more (omega arith) (omega arith) (omega arith) (λ z. omega (arith, z)) heads (omega arith))
+        rule-path (name-kept 5 (56 + 2 * h) h two-more (omega arith) (omega arith) (omega arith) (λ z. omega (arith, z))
+        (λ z. omega (arith, z)))
+        (heads-kept 5 (56 + 2 * h) h two-more (omega arith) (omega arith) (omega arith) (λ z. omega (arith, z)) heads
+        (omega arith))
         (ap cellConstraints (part-before cells i 5 (56 + 2 * h) h two-more room (omega arith) (omega arith) (omega arith)
         4 26 5 (omega arith) (λ z. omega (arith, z)) (omega arith) (omega arith)))
-        (ap cellEquations (part-more cells i 5 (56 + 2 * h) h two-more room (omega arith) (omega arith) (omega arith) 56 2 (omega arith) refl refl e)
+        (ap cellEquations (part-more cells i 5 (56 + 2 * h) h two-more room (omega arith) (omega arith) (omega arith) 56 2
+        (omega arith) refl refl e)
         ∙ equations-append h (partOf (rowAt cells i) 5 56 2) two-more (part-length 5 56 2 h (omega arith) e (omega arith))
         ∙ ap (λ (l : List Equation). cellEquations (partOf (rowAt cells i) 5 56 2) ++ l) (two-are a b))

@@ -26,11 +26,13 @@ use Rattle.lines.specs.Read.{placeMeant, alphabetLetters, Found, constraintLine
 use Rattle.programs.specs.Read.{draftOf, Sound, SidesAt, partForm}
 use Rattle.lines.proofs.Constants.{roomy-is, roomy-not, added-fits}
 use Rattle.lines.proofs.Steps.{letters-are, four-list}
-use Rattle.programs.proofs.Grown.{grown, rules-grown, starts-grown, sound-grown, sides-grown, constraintsIn, withConstraint, constraint-grown, last-constraints, last-sides}
+use Rattle.programs.proofs.Grown.{grown, rules-grown, starts-grown, sound-grown, sides-grown, constraintsIn}
+use Rattle.programs.proofs.Grown.{withConstraint, constraint-grown, last-constraints, last-sides}
 
 -- three tests before an answer
 and-then : {A B : Type 0} (s t u : Bool) (n : ℕ) (y : A) (f : A → Answer B)
-    → refuseIf s 4 n (refuseIf t 6 n (refuseIf u 7 n (f y))) ≡ andThen (refuseIf s 4 n (refuseIf t 6 n (refuseIf u 7 n (accepted y)))) f
+    → refuseIf s 4 n (refuseIf t 6 n (refuseIf u 7 n (f y)))
+    ≡ andThen (refuseIf s 4 n (refuseIf t 6 n (refuseIf u 7 n (accepted y)))) f
 and-then true t u n y f = refl
 and-then false true u n y f = refl
 and-then false false true n y f = refl
@@ -45,7 +47,10 @@ unfolding readConstraint constraintLine
 via-constraint n place count most add fs d =
     and-then {A = Found} {B = Draft} (isConstraintFaulty fs) (isUndeclared (d .symbols) fs)
     (leb most count || ltb maxConstants (length (constantsAfter (drop 2 fs) (d .constants)))) n
-    (record { constraint = constraintOf (d .symbols) letterNumber (constantsAfter (drop 2 fs) (d .constants)) fs; constants = constantsAfter (drop 2 fs) (d .constants) })
+    (record {
+      constraint = constraintOf (d .symbols) letterNumber (constantsAfter (drop 2 fs) (d .constants)) fs;
+      constants = constantsAfter (drop 2 fs) (d .constants);
+    })
     (λ x. accepted (withRule place (add (x .constraint)) (x .constants) d))
 
 read-part : (w : ℕ) → w ≤ 1 → (n : ℕ) (place : Place) (fs : List (List ℕ)) (d : Draft)
@@ -63,8 +68,12 @@ unfolding constraintLine
 not-full full symbols variable cs fs n x e = go full (isConstraintFaulty fs) (isUndeclared symbols fs) e
   where
     go : (u s t : Bool)
-        → accepted x ≡ refuseIf s 4 n (refuseIf t 6 n (refuseIf (u || ltb maxConstants (length (constantsAfter (drop 2 fs) cs))) 7 n
-        (accepted (record { constraint = constraintOf symbols variable (constantsAfter (drop 2 fs) cs) fs; constants = constantsAfter (drop 2 fs) cs }))))
+        → accepted x ≡ refuseIf s 4 n (refuseIf t 6 n
+        (refuseIf (u || ltb maxConstants (length (constantsAfter (drop 2 fs) cs))) 7 n
+        (accepted (record {
+          constraint = constraintOf symbols variable (constantsAfter (drop 2 fs) cs) fs;
+          constants = constantsAfter (drop 2 fs) cs;
+        }))))
         → u ≡ false
     go false s t q = refl
     go true true t q = absurd (let z : _≡_ {A = ℕ} 0 1 = cc in omega arith)
@@ -86,12 +95,14 @@ cells-two : (a b c d : ℕ) (x y : Term) → cellTerms (a ∷ b ∷ c ∷ d ∷ 
 unfolding cellTerms
 cells-two a b c d x y e = go (eqb a 0) (eqb b 0) (cond (eqb c 0) [] (cellTerm c ∷ cond (eqb d 0) [] (cellTerm d ∷ []))) e
   where
-    go : (s t : Bool) (l : List Term) → cond s [] (cellTerm a ∷ cond t [] (cellTerm b ∷ l)) ≡ x ∷ y ∷ [] → cellTerm a ∷ cellTerm b ∷ [] ≡ x ∷ y ∷ []
+    go : (s t : Bool) (l : List Term) → cond s [] (cellTerm a ∷ cond t [] (cellTerm b ∷ l)) ≡ x ∷ y ∷ []
+        → cellTerm a ∷ cellTerm b ∷ [] ≡ x ∷ y ∷ []
     go true t l q = absurd (let z : _≡_ {A = ℕ} 0 1 = cc in omega arith)
     go false true l q = absurd (let z : _≡_ {A = ℕ} 0 1 = cc in omega arith)
     go false false l q = cc
 
-sides-pair : (ts : List ℕ) (term : List ℕ → Term) (rest : List (List ℕ)) → length ts ≡ 4 → length rest ≡ 2 → cellTerms ts ≡ map term rest
+sides-pair : (ts : List ℕ) (term : List ℕ → Term) (rest : List (List ℕ)) → length ts ≡ 4 → length rest ≡ 2
+    → cellTerms ts ≡ map term rest
     → cellTerm (getD ts 0 0) ∷ cellTerm (getD ts 1 0) ∷ [] ≡ map term rest
 sides-pair ts term rest h k e =
     let two : map term rest ≡ term (getD rest 0 []) ∷ term (getD rest 1 []) ∷ [] = ap (map term) (two-list rest k) in
@@ -125,14 +136,17 @@ module _ (text symbols rules constants : List ℕ) (s : Stage) (place : ℕ) (fs
   room = omega (arith, sized, sound .few-rules, begun)
 
   -- the draft where the table's last rule is changed
-  draft-grown : (rules′ constants′ : List ℕ) (count : ℕ) (f : Rule → Rule) → rulesOf text rules′ (suc i) ≡ onLast f (rulesOf text rules (suc i))
+  draft-grown : (rules′ constants′ : List ℕ) (count : ℕ) (f : Rule → Rule)
+      → rulesOf text rules′ (suc i) ≡ onLast f (rulesOf text rules (suc i))
       → startsOf rules′ (suc i) ≡ startsOf rules (suc i)
-      → draftOf text symbols rules′ constants′ (next count) ≡ withRule (placeMeant place) f (constantsOf text text constants′ 0 count) d
+      → draftOf text symbols rules′ constants′ (next count)
+      ≡ withRule (placeMeant place) f (constantsOf text text constants′ 0 count) d
   unfolding draftOf withRule
   draft-grown rules′ constants′ count f p r =
       let many : (m : ℕ) → s .rules ≡ suc m → rulesOf text rules′ (suc m) ≡ onLast f (rulesOf text rules (suc m))
       → startsOf rules′ (suc m) ≡ startsOf rules (suc m)
-      → draftOf text symbols rules′ constants′ (next count) ≡ withRule (placeMeant place) f (constantsOf text text constants′ 0 count) d =
+      → draftOf text symbols rules′ constants′ (next count)
+      ≡ withRule (placeMeant place) f (constantsOf text text constants′ 0 count) d =
       λ m z p r. rw (z, p, r) in
       many i q p r
 
@@ -152,10 +166,13 @@ module _ (text symbols rules constants : List ℕ) (s : Stage) (place : ℕ) (fs
     constraint-via n =
         read-part w p n (placeMeant place) fs d
         ∙ via-constraint n (placeMeant place) (length (constraintsIn w (lastRule (d .rules)))) (4 + 2 * w) (withConstraint w) fs d
-        ∙ ap (λ (m : ℕ). andThen (constraintLine (leb (4 + 2 * w) m) (symbolsOf text symbols (s .symbols)) letterNumber cs fs n) added)
-        (ap (λ (m : ℕ). length (constraintsIn w (lastRule (rulesOf text rules m)))) q ∙ last-constraints text rules i room w h p e few)
+        ∙ ap (λ (m : ℕ). andThen (constraintLine (leb (4 + 2 * w) m) (symbolsOf text symbols (s .symbols)) letterNumber cs fs n)
+        added)
+        (ap (λ (m : ℕ). length (constraintsIn w (lastRule (rulesOf text rules m)))) q
+        ∙ last-constraints text rules i room w h p e few)
 
-    pub constraint-refused : (n x : ℕ) → refused x n ≡ line-found n → refused x n ≡ readForm (partForm w) n (placeMeant place) fs d
+    pub constraint-refused : (n x : ℕ) → refused x n ≡ line-found n
+        → refused x n ≡ readForm (partForm w) n (placeMeant place) fs d
     constraint-refused n x f = ap (λ (a : Answer Found). andThen a added) f ∙ sym (constraint-via n)
 
     pub constraint-fits : (x : Found) → accepted x ≡ line-found 0
@@ -166,12 +183,14 @@ module _ (text symbols rules constants : List ℕ) (s : Stage) (place : ℕ) (fs
         (omega (arith, room), omega arith, omega (arith, e))
 
     pub constraint-next : (k x₀ x₁ x₂ x₃ : ℕ) (rules′ constants′ : List ℕ) (count : ℕ) → count ≤ 64
-        → rules′ ≡ set (paste rules (64 * i + (6 + 20 * w + 5 * h)) (k ∷ x₀ ∷ x₁ ∷ x₂ ∷ x₃ ∷ []) 5) (64 * i + (3 + w)) (suc (getD rules (64 * i + (3 + w)) 0))
+        → rules′ ≡ set (paste rules (64 * i + (6 + 20 * w + 5 * h)) (k ∷ x₀ ∷ x₁ ∷ x₂ ∷ x₃ ∷ []) 5) (64 * i + (3 + w))
+        (suc (getD rules (64 * i + (3 + w)) 0))
         → ((n : ℕ) → accepted (record {
           constraint = record { symbol = k; terms = cellTerms (x₀ ∷ x₁ ∷ x₂ ∷ x₃ ∷ []) };
           constants = constantsOf text text constants′ 0 count;
         }) ≡ line-found n)
-        → ((n : ℕ) → accepted (draftOf text symbols rules′ constants′ (next count)) ≡ readForm (partForm w) n (placeMeant place) fs d)
+        → ((n : ℕ) → accepted (draftOf text symbols rules′ constants′ (next count))
+        ≡ readForm (partForm w) n (placeMeant place) fs d)
         × Sound rules′ (next count)
     constraint-next k x₀ x₁ x₂ x₃ rules′ constants′ count fit r f =
         let vs : List ℕ = k ∷ x₀ ∷ x₁ ∷ x₂ ∷ x₃ ∷ [] in
@@ -182,7 +201,8 @@ module _ (text symbols rules constants : List ℕ) (s : Stage) (place : ℕ) (fs
         r ∙ ap (λ (v : ℕ). set (paste rules (64 * i + at) vs 5) (64 * i + (3 + w)) (suc v)) (sym e) in
         rw grow (
           λ n.
-              ap accepted (draft-grown (grown rules i (3 + w) at h vs room (omega arith) (omega arith) (omega arith)) constants′ count add
+              ap accepted (draft-grown (grown rules i (3 + w) at h vs room (omega arith) (omega arith) (omega arith)) constants′
+              count add
               (rules-grown rules i (3 + w) at h vs room (omega arith) (omega arith) (omega arith) text add
               (constraint-grown text rules i room h k x₀ x₁ x₂ x₃ (sound .few-heads begun) w p e less))
               (starts-grown rules i (3 + w) at h vs room (omega arith) (omega arith) (omega arith) (λ z. omega (arith, z))))
@@ -200,7 +220,9 @@ module _ (text symbols rules constants : List ℕ) (s : Stage) (place : ℕ) (fs
   module _ (h : ℕ) (e : h ≡ getD rules (64 * i + 5) 0) (line : List ℕ) (at start : ℕ) (r : fs ≡ fieldsFrom line at)
       (g : SidesAt line at start) where
     sides-count : length (lastRule (rulesOf text rules (s .rules)) .equations) ≡ h
-    sides-count = ap (λ (m : ℕ). length (lastRule (rulesOf text rules m) .equations)) q ∙ last-sides text rules i room h e (omega (arith, e, sound .few-sides begun))
+    sides-count =
+        ap (λ (m : ℕ). length (lastRule (rulesOf text rules m) .equations)) q
+        ∙ last-sides text rules i room h e (omega (arith, e, sound .few-sides begun))
 
     fine : isEquationFaulty fs ≡ false
     fine = ap isEquationFaulty r ∙ g .fine
@@ -208,17 +230,26 @@ module _ (text symbols rules constants : List ℕ) (s : Stage) (place : ℕ) (fs
     others : drop 1 fs ≡ fieldsFrom line start
     others = ap (λ (l : List (List ℕ)). drop 1 l) r ∙ g .others
 
-    pub sides-fit : h < 4 → (64 * i + (56 + 2 * h) + 2 ≤ length rules) × (64 * i + 5 < 64 * i + (56 + 2 * h)) × (getD rules (64 * i + 5) 0 < 65535)
+    pub sides-fit : h < 4 → (64 * i + (56 + 2 * h) + 2 ≤ length rules) × (64 * i + 5 < 64 * i + (56 + 2 * h))
+        × (getD rules (64 * i + 5) 0 < 65535)
     sides-fit k = (omega (arith, room), omega arith, omega (arith, e))
 
     pub sides-full : (n : ℕ) → 4 ≤ h → refused 7 n ≡ readForm equationForm n (placeMeant place) fs d
     unfolding readForm readEquation isEquationFaulty draftOf maxEquations
     sides-full n k = rw (fine, sides-count, le-leb 4 h k)
 
-    pub sides-many : (n : ℕ) → h < 4 → none ≡ roomy (constantsAfter (fieldsFrom line start) cs) → refused 7 n ≡ readForm equationForm n (placeMeant place) fs d
+    pub sides-many : (n : ℕ) → h < 4 → none ≡ roomy (constantsAfter (fieldsFrom line start) cs)
+        → refused 7 n ≡ readForm equationForm n (placeMeant place) fs d
     unfolding readForm readEquation isEquationFaulty draftOf maxEquations maxConstants
     sides-many n k p =
-        rw (fine, sides-count, lt-leb 4 h k, others, lt-ltb 64 (length (constantsAfter (fieldsFrom line start) cs)) (roomy-not (constantsAfter (fieldsFrom line start) cs) p))
+        rw (
+          fine,
+          sides-count,
+          lt-leb 4 h k,
+          others,
+          lt-ltb 64 (length (constantsAfter (fieldsFrom line start) cs))
+              (roomy-not (constantsAfter (fieldsFrom line start) cs) p),
+        )
 
     field-of : (k : ℕ) → fieldAt (suc k) fs ≡ getD (fieldsFrom line start) k []
     unfolding fieldAt
@@ -226,7 +257,8 @@ module _ (text symbols rules constants : List ℕ) (s : Stage) (place : ℕ) (fs
         ap (λ (m : ℕ). getD fs m []) (let z : suc k ≡ 1 + k = omega arith in z) ∙ sym (getD-drop 1 fs k [])
         ∙ ap (λ (l : List (List ℕ)). getD l k []) others
 
-    sides-read : (n : ℕ) (ds : List (List ℕ)) (a b : Term) (e′ : Draft) → h < 4 → some ds ≡ roomy (constantsAfter (fieldsFrom line start) cs)
+    sides-read : (n : ℕ) (ds : List (List ℕ)) (a b : Term) (e′ : Draft) → h < 4
+        → some ds ≡ roomy (constantsAfter (fieldsFrom line start) cs)
         → a ∷ b ∷ [] ≡ map (termOf letterNumber ds) (fieldsFrom line start)
         → e′ ≡ withRule (placeMeant place) (withEquation (record { left = a; right = b })) ds d
         → accepted e′ ≡ readForm equationForm n (placeMeant place) fs d
@@ -234,19 +266,32 @@ module _ (text symbols rules constants : List ℕ) (s : Stage) (place : ℕ) (fs
     sides-read n ds a b e′ k p t u =
         let both : (constantsAfter (fieldsFrom line start) cs ≡ ds) × (length (constantsAfter (fieldsFrom line start) cs) ≤ 64) =
         roomy-is (constantsAfter (fieldsFrom line start) cs) ds p in
-        let pair : fieldsFrom line start ≡ getD (fieldsFrom line start) 0 [] ∷ getD (fieldsFrom line start) 1 [] ∷ [] = two-list (fieldsFrom line start) (g .two) in
+        let pair : fieldsFrom line start ≡ getD (fieldsFrom line start) 0 [] ∷ getD (fieldsFrom line start) 1 [] ∷ [] =
+        two-list (fieldsFrom line start) (g .two) in
         let terms : a ∷ b ∷ [] ≡ termOf letterNumber ds (fieldAt 1 fs) ∷ termOf letterNumber ds (fieldAt 2 fs) ∷ [] =
         t ∙ ap (map (termOf letterNumber ds)) pair
-        ∙ ap₂ (λ (x y : List ℕ). termOf letterNumber ds x ∷ termOf letterNumber ds y ∷ []) (sym (field-of 0)) (sym (field-of 1)) in
-        rw (fine, sides-count, lt-leb 4 h k, others, le-ltb 64 (length (constantsAfter (fieldsFrom line start) cs)) (both .1), both .0)
+        ∙ ap₂ (λ (x y : List ℕ). termOf letterNumber ds x ∷ termOf letterNumber ds y ∷ []) (sym (field-of 0))
+        (sym (field-of 1)) in
+        rw (
+          fine,
+          sides-count,
+          lt-leb 4 h k,
+          others,
+          le-ltb 64 (length (constantsAfter (fieldsFrom line start) cs)) (both .1),
+          both .0,
+        )
         (ap accepted (u ∙ ap₂ (λ (x y : Term). withRule (placeMeant place) (withEquation (record { left = x; right = y })) ds d)
-        (let z : a ≡ termOf letterNumber ds (fieldAt 1 fs) = cc in z) (let z : b ≡ termOf letterNumber ds (fieldAt 2 fs) = cc in z)))
+        (let z : a ≡ termOf letterNumber ds (fieldAt 1 fs) = cc in z)
+        (let z : b ≡ termOf letterNumber ds (fieldAt 2 fs) = cc in z)))
 
     pub sides-next : (letters ts rules′ constants′ : List ℕ) (count : ℕ) → h < 4 → letters ≡ alphabetLetters → length ts ≡ 4
         → some (constantsOf text text constants′ 0 count) ≡ roomy (constantsAfter (fieldsFrom line start) cs)
-        → cellTerms ts ≡ map (termOf (λ f. placeOf f (lettersOf letters 26)) (constantsOf text text constants′ 0 count)) (fieldsFrom line start)
-        → rules′ ≡ set (paste rules (64 * i + (56 + 2 * h)) (getD ts 0 0 ∷ getD ts 1 0 ∷ []) 2) (64 * i + 5) (suc (getD rules (64 * i + 5) 0))
-        → ((n : ℕ) → accepted (draftOf text symbols rules′ constants′ (next count)) ≡ readForm equationForm n (placeMeant place) fs d)
+        → cellTerms ts ≡ map (termOf (λ f. placeOf f (lettersOf letters 26)) (constantsOf text text constants′ 0 count))
+        (fieldsFrom line start)
+        → rules′ ≡ set (paste rules (64 * i + (56 + 2 * h)) (getD ts 0 0 ∷ getD ts 1 0 ∷ []) 2) (64 * i + 5)
+        (suc (getD rules (64 * i + 5) 0))
+        → ((n : ℕ) → accepted (draftOf text symbols rules′ constants′ (next count))
+        ≡ readForm equationForm n (placeMeant place) fs d)
         × Sound rules′ (next count)
     sides-next letters ts rules′ constants′ count k alphabet four known terms r =
         let ds : List (List ℕ) = constantsOf text text constants′ 0 count in

@@ -26,7 +26,8 @@ part-is row l h b t f e =
     f ∙ ap (take (5 * h)) (take-all (length row - b) (drop b row) (omega (arith, length-drop b row)))
     ∙ ap (λ (n : ℕ). take (5 * n) (drop b row)) e
 
-pub part-short : (row l : List ℕ) (h b : ℕ) → l ≡ take (5 * h) (take (length row - b) (drop b row)) → length row ≡ 64 → length l ≤ 4096
+pub part-short : (row l : List ℕ) (h b : ℕ) → l ≡ take (5 * h) (take (length row - b) (drop b row)) → length row ≡ 64
+    → length l ≤ 4096
 part-short row l h b f sized =
     omega (
       arith,
@@ -37,7 +38,8 @@ part-short row l h b f sized =
     )
 
 -- numbers 8 and 9 of a row
-module _ (text cells row : List ℕ) (k h b : ℕ) (p : h ≡ getD row 3 0) (q : b ≡ getD row 4 0) (sized : length row ≡ 64) (n : ℕ) where
+module _ (text cells row : List ℕ) (k h b : ℕ) (p : h ≡ getD row 3 0) (q : b ≡ getD row 4 0) (sized : length row ≡ 64)
+    (n : ℕ) where
   abbrev rule : Rule
   rule = ruleOfRow text row
 
@@ -47,7 +49,8 @@ module _ (text cells row : List ℕ) (k h b : ℕ) (p : h ≡ getD row 3 0) (q :
 
   some-heads : 0 < h → 0 < length (rule .heads)
   unfolding ruleOfRow cellConstraints
-  some-heads e = more (take (5 * getD row 3 0) (drop 6 row)) (omega (arith, length-take (5 * getD row 3 0) (drop 6 row), length-drop 6 row))
+  some-heads e =
+      more (take (5 * getD row 3 0) (drop 6 row)) (omega (arith, length-take (5 * getD row 3 0) (drop 6 row), length-drop 6 row))
     where
       more : (l : List ℕ) → 5 ≤ length l → 0 < length (cellConstraints l)
       more [] z = absurd (omega arith)
@@ -58,13 +61,15 @@ module _ (text cells row : List ℕ) (k h b : ℕ) (p : h ≡ getD row 3 0) (q :
       more (a ∷ b ∷ c ∷ d ∷ e ∷ l) z = omega arith
 
   module _ (heads body : List ℕ) (w v : ℕ) (f : heads ≡ take (5 * h) (take (length row - 6) (drop 6 row)))
-      (g : body ≡ take (5 * b) (take (length row - 26) (drop 26 row))) (x : w ≡ weight (symbolsOf text cells k) (cellConstraints heads))
+      (g : body ≡ take (5 * b) (take (length row - 26) (drop 26 row)))
+      (x : w ≡ weight (symbolsOf text cells k) (cellConstraints heads))
       (y : v ≡ weight (symbolsOf text cells k) (cellConstraints body)) (e : 0 < h) where
     tests : ruleTests (symbolsOf text cells k) rule n ≡ refuseIf (leb w v) 9 n (accepted 0)
     unfolding ruleTests ruleOfRow
     tests =
         ap (λ (t : Bool). refuseIf t 8 n
-        (refuseIf (leb (weight (symbolsOf text cells k) (rule .heads)) (weight (symbolsOf text cells k) (rule .body))) 9 n (accepted 0)))
+        (refuseIf (leb (weight (symbolsOf text cells k) (rule .heads)) (weight (symbolsOf text cells k) (rule .body))) 9 n
+        (accepted 0)))
         (ne-eqb (length (rule .heads)) 0 (λ z. omega (arith, z, some-heads e)))
         ∙ ap₂ (λ (i j : ℕ). refuseIf (leb i j) 9 n (accepted 0))
         (sym (x ∙ ap (λ (l : List ℕ). weight (symbolsOf text cells k) (cellConstraints l)) (part-is row heads h 6 3 f p)))
@@ -93,7 +98,8 @@ check-one : (symbols : List Symbol) (r : Rule) (rs : List Rule) (n : ℕ) (ns : 
 unfolding checkRules ruleTests
 check-one symbols r rs n ns = go (eqb (length (r .heads)) 0) (leb (weight symbols (r .heads)) (weight symbols (r .body)))
   where
-    go : (s t : Bool) → refuseIf s 8 n (refuseIf t 9 n (checkRules symbols rs ns)) ≡ andThen {A = ℕ} (refuseIf s 8 n (refuseIf t 9 n (accepted 0))) (λ _. checkRules symbols rs ns)
+    go : (s t : Bool) → refuseIf s 8 n (refuseIf t 9 n (checkRules symbols rs ns))
+        ≡ andThen {A = ℕ} (refuseIf s 8 n (refuseIf t 9 n (accepted 0))) (λ _. checkRules symbols rs ns)
     go true t = refl
     go false true = refl
     go false false = refl
@@ -106,28 +112,37 @@ module _ (text symbols cells : List ℕ) (k n i : ℕ) (h : i < n) where
   noRule = record { name = []; heads = []; body = []; equations = [] }
 
   check-unrolled : checkRules S (drop i (rulesOf text cells n)) (drop i (startsOf cells n))
-      ≡ andThen (ruleTests S (ruleOf text cells i) (getD cells (64 * i + 2) 0)) (λ _. checkRules S (drop (suc i) (rulesOf text cells n)) (drop (suc i) (startsOf cells n)))
+      ≡ andThen (ruleTests S (ruleOf text cells i) (getD cells (64 * i + 2) 0))
+      (λ _. checkRules S (drop (suc i) (rulesOf text cells n)) (drop (suc i) (startsOf cells n)))
   unfolding rulesOf startsOf
   check-unrolled =
       ap₂ (λ (a : List Rule) (b : List ℕ). checkRules S a b)
       (drop-cons (tabled (ruleOf text cells) n) i noRule (omega (arith, tabled-length (ruleOf text cells) n))
       ∙ ap (λ (r : Rule). r ∷ drop (suc i) (tabled (ruleOf text cells) n)) (tabled-at (ruleOf text cells) n i noRule h))
-      (drop-cons (tabled (λ j. getD cells (64 * j + 2) 0) n) i 0 (omega (arith, tabled-length (λ (j : ℕ). getD cells (64 * j + 2) 0) n))
-      ∙ ap (λ (r : ℕ). r ∷ drop (suc i) (tabled (λ j. getD cells (64 * j + 2) 0) n)) (tabled-at (λ j. getD cells (64 * j + 2) 0) n i 0 h))
-      ∙ check-one S (ruleOf text cells i) (drop (suc i) (tabled (ruleOf text cells) n)) (getD cells (64 * i + 2) 0) (drop (suc i) (tabled (λ j. getD cells (64 * j + 2) 0) n))
+      (drop-cons (tabled (λ j. getD cells (64 * j + 2) 0) n) i 0
+      (omega (arith, tabled-length (λ (j : ℕ). getD cells (64 * j + 2) 0) n))
+      ∙ ap (λ (r : ℕ). r ∷ drop (suc i) (tabled (λ j. getD cells (64 * j + 2) 0) n))
+      (tabled-at (λ j. getD cells (64 * j + 2) 0) n i 0 h))
+      ∙ check-one S (ruleOf text cells i) (drop (suc i) (tabled (ruleOf text cells) n)) (getD cells (64 * i + 2) 0)
+      (drop (suc i) (tabled (λ j. getD cells (64 * j + 2) 0) n))
 
   module _ (x : ℕ) (e : met x (getD cells (64 * i + 2) 0) ≡ ruleTests S (ruleOf text cells i) (getD cells (64 * i + 2) 0)) where
-    pub check-refused : (x ≡ 0 → ⊥) → refused x (getD cells (64 * i + 2) 0) ≡ checkRules S (drop i (rulesOf text cells n)) (drop i (startsOf cells n))
+    pub check-refused : (x ≡ 0 → ⊥) → refused x (getD cells (64 * i + 2) 0)
+        ≡ checkRules S (drop i (rulesOf text cells n)) (drop i (startsOf cells n))
     check-refused z =
-        ap (λ (a : Answer ℕ). andThen a (λ _. checkRules S (drop (suc i) (rulesOf text cells n)) (drop (suc i) (startsOf cells n))))
+        ap (λ (a : Answer ℕ). andThen a (λ _. checkRules S (drop (suc i) (rulesOf text cells n))
+        (drop (suc i) (startsOf cells n))))
         (met-some x (getD cells (64 * i + 2) 0) z ∙ e) ∙ sym check-unrolled
 
     pub check-next : x ≡ 0 → checkRules S (drop (suc i) (rulesOf text cells n)) (drop (suc i) (startsOf cells n))
         ≡ checkRules S (drop i (rulesOf text cells n)) (drop i (startsOf cells n))
     check-next z =
-        ap (λ (a : Answer ℕ). andThen a (λ _. checkRules S (drop (suc i) (rulesOf text cells n)) (drop (suc i) (startsOf cells n))))
-        (met-none (getD cells (64 * i + 2) 0) ∙ ap (λ (y : ℕ). met y (getD cells (64 * i + 2) 0)) (sym z) ∙ e) ∙ sym check-unrolled
+        ap (λ (a : Answer ℕ). andThen a (λ _. checkRules S (drop (suc i) (rulesOf text cells n))
+        (drop (suc i) (startsOf cells n))))
+        (met-none (getD cells (64 * i + 2) 0) ∙ ap (λ (y : ℕ). met y (getD cells (64 * i + 2) 0)) (sym z) ∙ e)
+        ∙ sym check-unrolled
 
-pub check-end : (symbols : List Symbol) (rs : List Rule) (ns : List ℕ) (i : ℕ) → length rs ≤ i → accepted 0 ≡ checkRules symbols (drop i rs) (drop i ns)
+pub check-end : (symbols : List Symbol) (rs : List Rule) (ns : List ℕ) (i : ℕ) → length rs ≤ i
+    → accepted 0 ≡ checkRules symbols (drop i rs) (drop i ns)
 unfolding checkRules
 check-end symbols rs ns i h = rw (drop-of-length-le rs h)

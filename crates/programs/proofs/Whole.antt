@@ -31,7 +31,8 @@ use Rattle.lines.specs.declared.LineForm.{LineForm}
 use Rattle.lines.specs.Read.{formMeant, placeMeant, placeAnswer}
 use Rattle.syntax.proofs.Tabled.{tabled-same}
 
-pub some-bytes : (s : List ℕ) (start end : ℕ) → start ≤ end → end ≤ length s → lineIsFaulty (lineAt s start end) ≡ false → start < end
+pub some-bytes : (s : List ℕ) (start end : ℕ) → start ≤ end → end ≤ length s → lineIsFaulty (lineAt s start end) ≡ false
+    → start < end
 unfolding lineAt
 some-bytes s start end h k e = elim (decLt start end) [
   | yes p ↦ p
@@ -51,21 +52,27 @@ module _ (s : List ℕ) (start end n : ℕ) (d : Draft) where
     fields-are : fields (drop start (take end s)) ≡ fieldsFrom (take end s) start
     fields-are = sym (fields-in (take end s) start (omega (arith, length-take-le end s k)))
 
-    opened : readLine n (lineAt s start end) d ≡ onward (placeAfter form (d .place)) (refused 3 n) (λ place. readForm form n place (fieldsFrom (take end s) start) d)
+    opened : readLine n (lineAt s start end) d
+        ≡ onward (placeAfter form (d .place)) (refused 3 n) (λ place. readForm form n place (fieldsFrom (take end s) start) d)
     unfolding readLine lineAt
     opened =
         let same : formOf (fieldAt 0 (fields (drop start (take end s)))) ≡ form =
         ap (λ (fs : List (List ℕ)). formOf (fieldAt 0 fs)) fields-are ∙ sym f in
-        ap (λ (b : Bool). refuseIf b 2 n (onward (placeAfter (formOf (fieldAt 0 (fields (drop start (take end s))))) (d .place)) (refused 3 n)
-        (λ place. readForm (formOf (fieldAt 0 (fields (drop start (take end s))))) n place (fields (drop start (take end s))) d))) e
-        ∙ ap₂ (λ (g : Form) (fs : List (List ℕ)). onward (placeAfter g (d .place)) (refused 3 n) (λ place. readForm g n place fs d)) same fields-are
+        ap (λ (b : Bool). refuseIf b 2 n (onward (placeAfter (formOf (fieldAt 0 (fields (drop start (take end s))))) (d .place))
+        (refused 3 n)
+        (λ place. readForm (formOf (fieldAt 0 (fields (drop start (take end s))))) n place (fields (drop start (take end s))) d)))
+        e
+        ∙ ap₂ (λ (g : Form) (fs : List (List ℕ)). onward (placeAfter g (d .place)) (refused 3 n)
+        (λ place. readForm g n place fs d)) same fields-are
 
-    pub line-placeless : (p : ℕ) → placeAnswer p ≡ placeAfter form (d .place) → 3 < p → refused 3 n ≡ readLine n (lineAt s start end) d
+    pub line-placeless : (p : ℕ) → placeAnswer p ≡ placeAfter form (d .place) → 3 < p
+        → refused 3 n ≡ readLine n (lineAt s start end) d
     unfolding placeAnswer
     line-placeless p q r =
         let none-is : placeAfter form (d .place) ≡ none =
         sym q ∙ ap (λ (b : Bool). cond b (some (placeMeant p)) none) (le-ltb p 4 (omega arith)) in
-        sym (opened ∙ ap (λ (o : Option Place). onward o (refused 3 n) (λ place. readForm form n place (fieldsFrom (take end s) start) d)) none-is)
+        sym (opened ∙ ap (λ (o : Option Place). onward o (refused 3 n)
+        (λ place. readForm form n place (fieldsFrom (take end s) start) d)) none-is)
 
     pub line-formed : (p : ℕ) → placeAnswer p ≡ placeAfter form (d .place) → p ≤ 3
         → readForm form n (placeMeant p) (fieldsFrom (take end s) start) d ≡ readLine n (lineAt s start end) d
@@ -73,7 +80,8 @@ module _ (s : List ℕ) (start end n : ℕ) (d : Draft) where
     line-formed p q r =
         let some-is : placeAfter form (d .place) ≡ some (placeMeant p) =
         sym q ∙ ap (λ (b : Bool). cond b (some (placeMeant p)) none) (lt-ltb p 4 (omega arith)) in
-        sym (opened ∙ ap (λ (o : Option Place). onward o (refused 3 n) (λ place. readForm form n place (fieldsFrom (take end s) start) d)) some-is)
+        sym (opened ∙ ap (λ (o : Option Place). onward o (refused 3 n)
+        (λ place. readForm form n place (fieldsFrom (take end s) start) d)) some-is)
 
 -- a place that a line leads to
 place-some : (p : ℕ) (o : Option Place) → placeAnswer p ≡ o → p < 4 → o ≡ some (placeMeant p)
@@ -97,7 +105,8 @@ first-place (suc (suc zero)) q e h = absurd (inside (placeMeant q) (place-some 2
     inside inHeads z = let y : _≡_ {A = ℕ} 0 1 = cc in omega arith
     inside inBody z = let y : _≡_ {A = ℕ} 0 1 = cc in omega arith
     inside inEquations z = let y : _≡_ {A = ℕ} 0 1 = cc in omega arith
-first-place (suc (suc (suc p))) q e h = absurd (inside (placeMeant q) (place-some (suc (suc (suc p))) (placeAfter symbolForm (placeMeant q)) e h))
+first-place (suc (suc (suc p))) q e h =
+    absurd (inside (placeMeant q) (place-some (suc (suc (suc p))) (placeAfter symbolForm (placeMeant q)) e h))
   where
     inside : (w : Place) → placeAfter symbolForm w ≡ some inEquations → ⊥
     inside inSymbols z = let y : _≡_ {A = ℕ} 0 1 = cc in omega arith
@@ -105,22 +114,26 @@ first-place (suc (suc (suc p))) q e h = absurd (inside (placeMeant q) (place-som
     inside inBody z = let y : _≡_ {A = ℕ} 0 1 = cc in omega arith
     inside inEquations z = let y : _≡_ {A = ℕ} 0 1 = cc in omega arith
 
-pub begun : (form f : LineForm) (p q : ℕ) → placeAfter (formMeant f) inSymbols ≡ none → placeAnswer p ≡ placeAfter (formMeant form) (placeMeant q)
+pub begun : (form f : LineForm) (p q : ℕ) → placeAfter (formMeant f) inSymbols ≡ none
+    → placeAnswer p ≡ placeAfter (formMeant form) (placeMeant q)
     → form ≡ f → p < 4 → 0 < q
 unfolding placeMeant
 begun form f p zero x e g h =
     let z : none ≡ some (placeMeant p) =
-    sym (ap (λ (o : LineForm). placeAfter (formMeant o) inSymbols) g ∙ x) ∙ place-some p (placeAfter (formMeant form) inSymbols) e h in
+    sym (ap (λ (o : LineForm). placeAfter (formMeant o) inSymbols) g ∙ x)
+    ∙ place-some p (placeAfter (formMeant form) inSymbols) e h in
     absurd (let y : _≡_ {A = ℕ} 0 1 = cc in omega arith)
 begun form f p (suc q) x e g h = omega arith
 
 -- the lines from a place on
 module _ (s : List ℕ) (start end n : ℕ) (d : Draft) (h : start < length s) (e : end ≡ start + before 10 (drop start s)) where
-  unrolled : readLines n d (lines (drop start s)) ≡ andThen (readLine n (lineAt s start end) d) (λ x. readLines (suc n) x (lines (drop (suc end) s)))
+  unrolled : readLines n d (lines (drop start s))
+      ≡ andThen (readLine n (lineAt s start end) d) (λ x. readLines (suc n) x (lines (drop (suc end) s)))
   unfolding readLines
   unrolled = rw (line-at s start end h e)
 
-  pub lines-refused : (x m : ℕ) → refused x m ≡ readLine n (lineAt s start end) d → refused x m ≡ readLines n d (lines (drop start s))
+  pub lines-refused : (x m : ℕ) → refused x m ≡ readLine n (lineAt s start end) d
+      → refused x m ≡ readLines n d (lines (drop start s))
   lines-refused x m q =
       ap (λ (a : Answer Draft). andThen a (λ y. readLines (suc n) y (lines (drop (suc end) s)))) q ∙ sym unrolled
 
@@ -139,7 +152,8 @@ readingFrom d = record { program = record { symbols = d .symbols; rules = d .rul
 
 -- a program's text, by what decides it
 program-short : (s : List ℕ) → length s ≤ 16384
-    → readProgram s ≡ andThen (readLines 1 blank (lines s)) (λ d. andThen (checkRules (d .symbols) (d .rules) (d .starts)) (λ _. accepted (readingFrom d)))
+    → readProgram s ≡ andThen (readLines 1 blank (lines s))
+    (λ d. andThen (checkRules (d .symbols) (d .rules) (d .starts)) (λ _. accepted (readingFrom d)))
 unfolding readProgram maxText readingFrom
 program-short s h = rw (le-ltb 16384 (length s) h)
 
@@ -161,7 +175,8 @@ module _ (s : List ℕ) (h : length s ≤ 16384) where
     pub program-rules : (x n : ℕ) → refused x n ≡ checkRules (d .symbols) (d .rules) (d .starts) → refused x n ≡ readProgram s
     program-rules x n q = ap (λ (a : Answer ℕ). andThen a (λ _. accepted (readingFrom d))) q ∙ checks
 
-    pub program-read : (y : ℕ) → accepted y ≡ checkRules (d .symbols) (d .rules) (d .starts) → accepted (readingFrom d) ≡ readProgram s
+    pub program-read : (y : ℕ) → accepted y ≡ checkRules (d .symbols) (d .rules) (d .starts)
+        → accepted (readingFrom d) ≡ readProgram s
     program-read y q = ap (λ (a : Answer ℕ). andThen a (λ _. accepted (readingFrom d))) q ∙ checks
 
 -- the constants of a program, as one table

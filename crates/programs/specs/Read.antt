@@ -155,7 +155,8 @@ met (suc x) n = refused (suc x) n
 -- a rule with its R line: number 8, then 9
 unfoldable pub ruleTests : List terms.Symbol → terms.Rule → ℕ → Answer ℕ
 ruleTests symbols r n =
-    refuseIf (eqb (length (r .heads)) 0) 8 n (refuseIf (leb (terms.weight symbols (r .heads)) (terms.weight symbols (r .body))) 9 n (accepted 0))
+    refuseIf (eqb (length (r .heads)) 0) 8 n
+    (refuseIf (leb (terms.weight symbols (r .heads)) (terms.weight symbols (r .body))) 9 n (accepted 0))
 
 -- the code's answer to the rules
 unfoldable pub rulesAnswer : RulesRead → Answer ℕ

@@ -19,8 +19,8 @@ ghost use Rattle.syntax.specs.Programs.{readForm};
 ghost use Rattle.lines.specs.Read.{alphabetLetters, placeMeant};
 ghost use Rattle.programs.specs.Read.{partForm, draftOf, lineAnswer, Sound, soundAfter};
 
-// An H or B line: one constraint more of the last rule, in its heads (part 0) or in its body (part 1). Its row counts them in cells 3
-// and 4, and holds them from cells 6 and 26 on, at most 4 and 6.
+// An H or B line: one constraint more of the last rule, in its heads (part 0) or in its body (part 1). Its row counts them in
+// cells 3 and 4, and holds them from cells 6 and 26 on, at most 4 and 6.
 pub fn constraint_line(
     classes: &[u8],
     letters: &[u8],
@@ -35,9 +35,10 @@ pub fn constraint_line(
     part: usize,
 ) -> LineRead
     requires { ⌜ (now classes ≡ classTable) × (now letters ≡ alphabetLetters) × (at ≤ end) × (end ≤ length (now text))
-        × (length (now text) ≤ 16384) × (length (now symbols) ≡ 128) × (length (now rules) ≡ 2048) × (length (now constants) ≡ 128)
-        × Sound (now rules) stage × (0 < stage .rules) × (part ≤ 1) ⌝ }
-    ensures { λ r. ⌜ ((n : ℕ) → lineAnswer (now (text .entry)) (now (symbols .entry)) (now (rules .exit)) (now (constants .exit)) n r
+        × (length (now text) ≤ 16384) × (length (now symbols) ≡ 128) × (length (now rules) ≡ 2048)
+        × (length (now constants) ≡ 128) × Sound (now rules) stage × (0 < stage .rules) × (part ≤ 1) ⌝ }
+    ensures { λ r. ⌜ ((n : ℕ) → lineAnswer (now (text .entry)) (now (symbols .entry)) (now (rules .exit))
+        (now (constants .exit)) n r
         ≡ readForm (partForm part) n (placeMeant place) (fieldsFrom (take end (now (text .entry))) at)
         (draftOf (now (text .entry)) (now (symbols .entry)) (now (rules .entry)) (now (constants .entry)) stage))
         × soundAfter (now (rules .exit)) r ⌝ }
@@ -88,9 +89,10 @@ pub fn equation_line(
     place: u8,
 ) -> LineRead
     requires { ⌜ (now classes ≡ classTable) × (now letters ≡ alphabetLetters) × (at ≤ end) × (end ≤ length (now text))
-        × (length (now text) ≤ 16384) × (length (now symbols) ≡ 128) × (length (now rules) ≡ 2048) × (length (now constants) ≡ 128)
-        × Sound (now rules) stage × (0 < stage .rules) ⌝ }
-    ensures { λ r. ⌜ ((n : ℕ) → lineAnswer (now (text .entry)) (now (symbols .entry)) (now (rules .exit)) (now (constants .exit)) n r
+        × (length (now text) ≤ 16384) × (length (now symbols) ≡ 128) × (length (now rules) ≡ 2048)
+        × (length (now constants) ≡ 128) × Sound (now rules) stage × (0 < stage .rules) ⌝ }
+    ensures { λ r. ⌜ ((n : ℕ) → lineAnswer (now (text .entry)) (now (symbols .entry)) (now (rules .exit))
+        (now (constants .exit)) n r
         ≡ readForm equationForm n (placeMeant place) (fieldsFrom (take end (now (text .entry))) at)
         (draftOf (now (text .entry)) (now (symbols .entry)) (now (rules .entry)) (now (constants .entry)) stage))
         × soundAfter (now (rules .exit)) r ⌝ }

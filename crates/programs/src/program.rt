@@ -43,8 +43,9 @@ fn read_form(
     place: u8,
 ) -> LineRead
     requires { ⌜ (now classes ≡ classTable) × (now letters ≡ alphabetLetters) × (at ≤ end) × (end ≤ length (now text))
-        × (length (now text) ≤ 16384) × (length (now symbols) ≡ 128) × (length (now rules) ≡ 2048) × (length (now constants) ≡ 128)
-        × Sound (now rules) stage × (place < 4) × (placeAnswer place ≡ placeAfter (formMeant form) (placeMeant (stage .place))) ⌝ }
+        × (length (now text) ≤ 16384) × (length (now symbols) ≡ 128) × (length (now rules) ≡ 2048)
+        × (length (now constants) ≡ 128) × Sound (now rules) stage × (place < 4)
+        × (placeAnswer place ≡ placeAfter (formMeant form) (placeMeant (stage .place))) ⌝ }
     ensures { λ r. ⌜ (lineAnswer (now (text .entry)) (now (symbols .exit)) (now (rules .exit)) (now (constants .exit)) number r
         ≡ readForm (formMeant form) number (placeMeant place) (fieldsFrom (take end (now (text .entry))) at)
         (draftOf (now (text .entry)) (now (symbols .entry)) (now (rules .entry)) (now (constants .entry)) stage))
@@ -110,8 +111,8 @@ fn read_line(
     stage: Stage,
 ) -> LineRead
     requires { ⌜ (now classes ≡ classTable) × (now letters ≡ alphabetLetters) × (at ≤ end) × (end ≤ length (now text))
-        × (length (now text) ≤ 16384) × (length (now symbols) ≡ 128) × (length (now rules) ≡ 2048) × (length (now constants) ≡ 128)
-        × Sound (now rules) stage ⌝ }
+        × (length (now text) ≤ 16384) × (length (now symbols) ≡ 128) × (length (now rules) ≡ 2048)
+        × (length (now constants) ≡ 128) × Sound (now rules) stage ⌝ }
     ensures { λ r. ⌜ (lineAnswer (now (text .entry)) (now (symbols .exit)) (now (rules .exit)) (now (constants .exit)) number r
         ≡ readLine number (lineAt (now (text .entry)) at end)
         (draftOf (now (text .entry)) (now (symbols .entry)) (now (rules .entry)) (now (constants .entry)) stage))
@@ -205,7 +206,8 @@ fn prefix_of(cells: &[u16], n: usize) -> &[u16]
 // Numbers 8 and 9 of a rule's row: it has a head, and its heads weigh more than its body; 0 where it meets neither.
 fn rule_fault(symbols: &[u16], k: usize, row: &[u16]) -> u8
     requires { ⌜ (4 * k ≤ length (now symbols)) × (length (now row) ≡ 64) ⌝ }
-    ensures { λ r. ⌜ ((text : List ℕ) (n : ℕ) → met r n ≡ ruleTests (symbolsOf text (now (symbols .entry)) k) (ruleOfRow text (now (row .entry))) n) ⌝ }
+    ensures { λ r. ⌜ ((text : List ℕ) (n : ℕ)
+        → met r n ≡ ruleTests (symbolsOf text (now (symbols .entry)) k) (ruleOfRow text (now (row .entry))) n) ⌝ }
 {
     let h = wide(row[3]);
     let b = wide(row[4]);

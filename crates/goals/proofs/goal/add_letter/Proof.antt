@@ -11,7 +11,8 @@ use Rattle.text.specs.Lists.{placeOf}
 use Rattle.text.specs.Fields.{isName}
 use Rattle.syntax.specs.Tables.{lettersOf}
 use Rattle.lines.proofs.Cells.{letter-one}
-use Rattle.goals.proofs.GoalLetters.{letter-none, letter-known, letter-more, letter-room, letter-is, letter-capital, fit-more}
+use Rattle.goals.proofs.GoalLetters.{letter-none, letter-known, letter-more, letter-room, letter-is, letter-capital}
+use Rattle.goals.proofs.GoalLetters.{fit-more}
 use Rattle.goals.proofs.goal.add_letter.Statement.{statement}
 use Rattle.goals.proofs.goal.add_letter.Tie as tie
 
@@ -23,8 +24,7 @@ returns c =
     let args′ = c .before .before .before .before .before .args in
     let pre′ = c .before .before .before .before .before .pre in (
       letter-none (args′ .f .now) (args′ .letters .now) (args′ .v) (sym ((c .before .is-name) .ensures) ∙ (c .if1) .taken),
-      pre′
-          .3,
+      pre′ .3,
       omega arith,
     )
 

@@ -18,11 +18,14 @@ use Rattle.goals.proofs.goal.goal_lines.Statement.{statement}
 use Rattle.goals.proofs.goal.goal_lines.Tie as tie
 
 abbrev Inv-loop : tie.InvT-loop
-Inv-loop classes program goal symbols k constants₀ n cells₀ letters₀ counts₀ number₀ at₀ constants cells letters counts number at =
+Inv-loop classes program goal symbols k constants₀ n cells₀ letters₀ counts₀ number₀ at₀ constants cells letters counts number
+    at =
     GoalRoom symbols k constants n cells letters × (length constants ≡ length constants₀) × (length cells ≡ length cells₀)
     × (length letters ≡ length letters₀) × GoalFits symbols k n cells letters counts × (number ≤ at + 1)
-    × (readGoalLines (symbolsOf program symbols k) number (goalDraftOf program goal constants n cells letters counts) (lines (drop at goal))
-    ≡ readGoalLines (symbolsOf program symbols k) 1 (record { constraints = []; letters = []; constants = constantsOf program goal constants₀ n 0 })
+    × (readGoalLines (symbolsOf program symbols k) number (goalDraftOf program goal constants n cells letters counts)
+    (lines (drop at goal))
+    ≡ readGoalLines (symbolsOf program symbols k) 1
+    (record { constraints = []; letters = []; constants = constantsOf program goal constants₀ n 0 })
     (lines goal))
 
 abbrev μ-loop : tie.MeasureT-loop

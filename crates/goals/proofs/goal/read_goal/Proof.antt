@@ -15,7 +15,8 @@ returns : tie.Need-returns
 unfolding goalAnswer
 returns c =
     let args′ = c .before .before .before .before .before .before .before .args in (
-      λ p t. goal-long (args′ .program .now) (args′ .goal .now) (args′ .constants .now) (args′ .n) (args′ .symbols .now) (args′ .k)
+      λ p t. goal-long (args′ .program .now) (args′ .goal .now) (args′ .constants .now) (args′ .n) (args′ .symbols .now)
+          (args′ .k)
           p t ((c .if1) .taken),
       omega arith,
     )
@@ -79,7 +80,8 @@ weight-of-requires c κs =
     let goal-lines′ = c .before .before .before .before .before .before .before .before .before .before .before .goal-lines in
     let counts′ = c .before .before .before .counts in
     let f : GoalFits (args′ .symbols .now) (args′ .k) (args′ .n) (goal-lines′ .last .1 .1 .1 .1 .1 .1 .1 .0)
-    (goal-lines′ .last .1 .1 .1 .1 .1 .1 .1 .1 .0) (counts′ .given .0 .0) = rw (counts′ .given .1) at (goal-lines′ .ensures .1) in (
+    (goal-lines′ .last .1 .1 .1 .1 .1 .1 .1 .1 .0) (counts′ .given .0 .0) =
+    rw (counts′ .given .1) at (goal-lines′ .ensures .1) in (
       omega (arith, pre′ .symbol-cells, pre′ .few-symbols),
       omega (
         arith,
@@ -171,7 +173,8 @@ returns-4 c =
     let weight-of′ = c .before .weight-of in
     let if2′ = c .if2 in
     let f : GoalFits symbols′ (args′ .k) (args′ .n) (goal-lines′ .last .1 .1 .1 .1 .1 .1 .1 .0)
-    (goal-lines′ .last .1 .1 .1 .1 .1 .1 .1 .1 .0) (counts′ .given .0 .0) = rw (counts′ .given .1) at (goal-lines′ .ensures .1) in (
+    (goal-lines′ .last .1 .1 .1 .1 .1 .1 .1 .1 .0) (counts′ .given .0 .0) =
+    rw (counts′ .given .1) at (goal-lines′ .ensures .1) in (
       λ p t. goal-accepted program′ goal′ (args′ .constants .now) (args′ .n) symbols′ (args′ .k) p t (omega (arith, if1′ .left))
           (goal-lines′ .last .1 .1 .1 .1 .1 .0) (goal-lines′ .last .1 .1 .1 .1 .1 .1 .1 .0)
           (goal-lines′ .last .1 .1 .1 .1 .1 .1 .1 .1 .0) (counts′ .given .0 .0)

@@ -16,7 +16,8 @@ use Rattle.lines.proofs.terms.are_terms.Statement.{statement}
 use Rattle.lines.proofs.terms.are_terms.Tie as tie
 
 abbrev Inv-loop : tie.InvT-loop
-Inv-loop classes line at start₀ start = (start ≤ length line + 1) × (every isTerm (fieldsFrom line start) ≡ every isTerm (fieldsFrom line at))
+Inv-loop classes line at start₀ start =
+    (start ≤ length line + 1) × (every isTerm (fieldsFrom line start) ≡ every isTerm (fieldsFrom line at))
 
 abbrev μ-loop : tie.MeasureT-loop
 μ-loop classes line at start₀ start = suc (length line) - start

@@ -1,4 +1,5 @@
--- `lines::weights::weight_of` meets its contract: the sum so far and the weight of the cells left make the whole. Assumes nothing.
+-- `lines::weights::weight_of` meets its contract: the sum so far and the weight of the cells left make the whole.
+-- Assumes nothing.
 use borrow.Author.Needs.{needs}
 use mathlib.Core.Path.{_≡_, ap, _∙_}
 use mathlib.Core.List.{List}

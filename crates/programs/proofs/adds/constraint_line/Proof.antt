@@ -1,4 +1,5 @@
--- `programs::adds::constraint_line` meets its contract: what is found of the line is added to the last rule's row. Assumes nothing.
+-- `programs::adds::constraint_line` meets its contract: what is found of the line is added to the last rule's row.
+-- Assumes nothing.
 use borrow.Author.Needs.{needs}
 use mathlib.Core.Path.{_≡_, sym, ap, _∙_}
 use Prim.Native.Nat.{_≤_}

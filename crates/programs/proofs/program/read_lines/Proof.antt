@@ -16,11 +16,13 @@ use Rattle.programs.proofs.program.read_lines.Tie as tie
 
 abbrev Inv-loop : tie.InvT-loop
 Inv-loop classes letters text symbols₀ rules₀ constants₀ at₀ number₀ stage₀ symbols rules constants at number stage =
-    (length symbols ≡ 128) × (length rules ≡ 2048) × (length constants ≡ 128) × (at ≤ length text + 1) × (number ≤ at + 1) × Sound rules stage
+    (length symbols ≡ 128) × (length rules ≡ 2048) × (length constants ≡ 128) × (at ≤ length text + 1) × (number ≤ at + 1)
+    × Sound rules stage
     × (readLines number (draftOf text symbols rules constants stage) (lines (drop at text)) ≡ readLines 1 blank (lines text))
 
 abbrev μ-loop : tie.MeasureT-loop
-μ-loop classes letters text symbols₀ rules₀ constants₀ at₀ number₀ stage₀ symbols rules constants at number stage = length text + 1 - at
+μ-loop classes letters text symbols₀ rules₀ constants₀ at₀ number₀ stage₀ symbols rules constants at number stage =
+    length text + 1 - at
 
 loop-holds : tie.Need-loop-holds Inv-loop μ-loop
 unfolding draftOf blank symbolsOf rulesOf startsOf constantsOf placeMeant
@@ -59,8 +61,7 @@ read-line-requires c κs =
       loop′ .inv .0,
       loop′ .inv .1,
       loop′ .inv .2,
-      loop′
-          .inv .5,
+      loop′ .inv .5,
     )
 
 enum-known-x : tie.Need-enum-known-x Inv-loop μ-loop
