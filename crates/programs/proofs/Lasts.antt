@@ -109,6 +109,15 @@ sides-pair ts term rest h k e =
     cells-two (getD ts 0 0) (getD ts 1 0) (getD ts 2 0) (getD ts 3 0) (term (getD rest 0 [])) (term (getD rest 1 []))
     (ap cellTerms (sym (four-list ts h)) ∙ e ∙ two) ∙ sym two
 
+-- the draft where the table's last rule is changed
+draft-grown : (text symbols rules constants rules′ constants′ : List ℕ) (s : Stage) (i place count : ℕ) (f : Rule → Rule)
+    → s .rules ≡ suc i
+    → rulesOf text rules′ (suc i) ≡ onLast f (rulesOf text rules (suc i)) → startsOf rules′ (suc i) ≡ startsOf rules (suc i)
+    → draftOf text symbols rules′ constants′ (record { place = place; symbols = s .symbols; rules = s .rules; constants = count })
+    ≡ withRule (placeMeant place) f (constantsOf text text constants′ 0 count) (draftOf text symbols rules constants s)
+unfolding draftOf withRule
+draft-grown text symbols rules constants rules′ constants′ s i place count f q p r = rw (q, p, r)
+
 few-constraints : (rules : List ℕ) (s : Stage) (w : ℕ) → w ≤ 1 → Sound rules s → 0 < s .rules
     → getD rules (64 * (s .rules - 1) + (3 + w)) 0 ≤ 4 + 2 * w
 few-constraints rules s zero p sound begun = sound .few-heads begun
@@ -134,21 +143,6 @@ module _ (text symbols rules constants : List ℕ) (s : Stage) (place : ℕ) (fs
 
   room : 64 * i + 64 ≤ length rules
   room = omega (arith, sized, sound .few-rules, begun)
-
-  -- the draft where the table's last rule is changed
-  draft-grown : (rules′ constants′ : List ℕ) (count : ℕ) (f : Rule → Rule)
-      → rulesOf text rules′ (suc i) ≡ onLast f (rulesOf text rules (suc i))
-      → startsOf rules′ (suc i) ≡ startsOf rules (suc i)
-      → draftOf text symbols rules′ constants′ (next count)
-      ≡ withRule (placeMeant place) f (constantsOf text text constants′ 0 count) d
-  unfolding draftOf withRule
-  draft-grown rules′ constants′ count f p r =
-      let many : (m : ℕ) → s .rules ≡ suc m → rulesOf text rules′ (suc m) ≡ onLast f (rulesOf text rules (suc m))
-      → startsOf rules′ (suc m) ≡ startsOf rules (suc m)
-      → draftOf text symbols rules′ constants′ (next count)
-      ≡ withRule (placeMeant place) f (constantsOf text text constants′ 0 count) d =
-      λ m z p r. rw (z, p, r) in
-      many i q p r
 
   -- an H or B line, by what is found of it
   module _ (w h : ℕ) (p : w ≤ 1) (e : h ≡ getD rules (64 * i + (3 + w)) 0) where
@@ -201,8 +195,7 @@ module _ (text symbols rules constants : List ℕ) (s : Stage) (place : ℕ) (fs
         r ∙ ap (λ (v : ℕ). set (paste rules (64 * i + at) vs 5) (64 * i + (3 + w)) (suc v)) (sym e) in
         rw grow (
           λ n.
-              ap accepted (draft-grown (grown rules i (3 + w) at h vs room (omega arith) (omega arith) (omega arith)) constants′
-              count add
+              ap accepted (draft-grown text symbols rules constants _ constants′ s i place count add q
               (rules-grown rules i (3 + w) at h vs room (omega arith) (omega arith) (omega arith) text add
               (constraint-grown text rules i room h k x₀ x₁ x₂ x₃ (sound .few-heads begun) w p e less))
               (starts-grown rules i (3 + w) at h vs room (omega arith) (omega arith) (omega arith) (λ z. omega (arith, z))))
@@ -308,7 +301,7 @@ module _ (text symbols rules constants : List ℕ) (s : Stage) (place : ℕ) (fs
         rw grow (
           λ n. sides-read n ds (cellTerm a) (cellTerm b) _ k known
               (sides-pair ts (termOf letterNumber ds) (fieldsFrom line start) four (g .two) named)
-              (draft-grown (grown rules i 5 at h vs room (omega arith) (omega arith) (omega arith)) constants′ count add
+              (draft-grown text symbols rules constants _ constants′ s i place count add q
               (rules-grown rules i 5 at h vs room (omega arith) (omega arith) (omega arith) text add
               (sides-grown text rules i room h a b e k (sound .few-heads begun) (sound .few-body begun)))
               (starts-grown rules i 5 at h vs room (omega arith) (omega arith) (omega arith) (λ z. omega (arith, z)))),

@@ -88,31 +88,24 @@ place-some : (p : ℕ) (o : Option Place) → placeAnswer p ≡ o → p < 4 → 
 unfolding placeAnswer
 place-some p o q r = sym q ∙ ap (λ (b : Bool). cond b (some (placeMeant p)) none) (lt-ltb p 4 r)
 
+-- a K line leads to the place of symbols
+symbols-only : (w v : Place) → placeAfter symbolForm w ≡ some v → v ≡ inSymbols
+unfolding placeAfter
+symbols-only inSymbols v z = cc
+symbols-only inHeads v z = absurd (let y : _≡_ {A = ℕ} 0 1 = cc in omega arith)
+symbols-only inBody v z = absurd (let y : _≡_ {A = ℕ} 0 1 = cc in omega arith)
+symbols-only inEquations v z = absurd (let y : _≡_ {A = ℕ} 0 1 = cc in omega arith)
+
+place-zero : (p : ℕ) → placeMeant p ≡ inSymbols → p ≡ 0
+unfolding placeMeant
+place-zero zero e = refl
+place-zero (suc zero) e = absurd (let y : _≡_ {A = ℕ} 0 1 = cc in omega arith)
+place-zero (suc (suc zero)) e = absurd (let y : _≡_ {A = ℕ} 0 1 = cc in omega arith)
+place-zero (suc (suc (suc p))) e = absurd (let y : _≡_ {A = ℕ} 0 1 = cc in omega arith)
+
 pub first-place : (p q : ℕ) → placeAnswer p ≡ placeAfter symbolForm (placeMeant q) → p < 4 → p ≡ 0
-unfolding placeAfter placeMeant
-first-place zero q e h = refl
-first-place (suc zero) q e h = absurd (inside (placeMeant q) (place-some 1 (placeAfter symbolForm (placeMeant q)) e h))
-  where
-    inside : (w : Place) → placeAfter symbolForm w ≡ some inHeads → ⊥
-    inside inSymbols z = let y : _≡_ {A = ℕ} 0 1 = cc in omega arith
-    inside inHeads z = let y : _≡_ {A = ℕ} 0 1 = cc in omega arith
-    inside inBody z = let y : _≡_ {A = ℕ} 0 1 = cc in omega arith
-    inside inEquations z = let y : _≡_ {A = ℕ} 0 1 = cc in omega arith
-first-place (suc (suc zero)) q e h = absurd (inside (placeMeant q) (place-some 2 (placeAfter symbolForm (placeMeant q)) e h))
-  where
-    inside : (w : Place) → placeAfter symbolForm w ≡ some inBody → ⊥
-    inside inSymbols z = let y : _≡_ {A = ℕ} 0 1 = cc in omega arith
-    inside inHeads z = let y : _≡_ {A = ℕ} 0 1 = cc in omega arith
-    inside inBody z = let y : _≡_ {A = ℕ} 0 1 = cc in omega arith
-    inside inEquations z = let y : _≡_ {A = ℕ} 0 1 = cc in omega arith
-first-place (suc (suc (suc p))) q e h =
-    absurd (inside (placeMeant q) (place-some (suc (suc (suc p))) (placeAfter symbolForm (placeMeant q)) e h))
-  where
-    inside : (w : Place) → placeAfter symbolForm w ≡ some inEquations → ⊥
-    inside inSymbols z = let y : _≡_ {A = ℕ} 0 1 = cc in omega arith
-    inside inHeads z = let y : _≡_ {A = ℕ} 0 1 = cc in omega arith
-    inside inBody z = let y : _≡_ {A = ℕ} 0 1 = cc in omega arith
-    inside inEquations z = let y : _≡_ {A = ℕ} 0 1 = cc in omega arith
+first-place p q e h =
+    place-zero p (symbols-only (placeMeant q) (placeMeant p) (place-some p (placeAfter symbolForm (placeMeant q)) e h))
 
 pub begun : (form f : LineForm) (p q : ℕ) → placeAfter (formMeant f) inSymbols ≡ none
     → placeAnswer p ≡ placeAfter (formMeant form) (placeMeant q)
