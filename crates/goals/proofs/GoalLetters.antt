@@ -3,18 +3,18 @@
 --   letter-..               the letters after one term field, as the code goes by cases
 --   letters-step, letters-end    the letters after a line, one field on
 -- Assumes nothing.
-use mathlib.Core.Path.{_≡_, refl, sym, ap, ap₂, _∙_}
+use mathlib.Core.Path.{_≡_, sym, ap, ap₂, _∙_}
 use mathlib.Core.Bool.{Bool, true, false, cond, not, _&&_, _||_}
 use mathlib.Core.List.{List, [], _∷_, _++_}
-use Prim.Native.Nat.{ℕ, zero, suc, _+_, _-_, _*_, _≤_, _<_}
-use native.Mathlib.Decide.{ℕ-discrete, decLt}
+use Prim.Native.Nat.{ℕ, zero, suc, _+_, _-_, _≤_, _<_}
+use native.Mathlib.Decide.{ℕ-discrete}
 use native.Mathlib.Omega.{arith}
 use borrow.Author.Tests.{lt-ltb, le-ltb, eq-eqb, ne-eqb, leb-true}
-use lib.Dec.{leb, ltb, eqb}
-use lib.ListN.{length, getD, set, length-set}
+use lib.Dec.{leb, eqb}
+use lib.ListN.{length, getD, set}
 use lib.Seq.{getD-set-same, getD-set-other}
 use Rattle.text.specs.Bytes.{between}
-use Rattle.text.specs.Lists.{placeFrom, placeOf, isKnown, withName, sameBytes, tabled}
+use Rattle.text.specs.Lists.{placeFrom, placeOf, isKnown, withName, sameBytes}
 use Rattle.text.specs.Fields.{isName, isVariable, isTerm}
 use Rattle.text.proofs.Laws.{tabled-length, tabled-at}
 use Rattle.syntax.specs.Goals.{lettersAfter}

@@ -7,15 +7,15 @@
 -- Assumes nothing.
 use mathlib.Core.Path.{_≡_, refl, sym, ap, ap₂, _∙_}
 use mathlib.Core.Logic.{_⊎_, ⊎-elim}
-use mathlib.Core.Bool.{Bool, true, false, cond, not, _&&_, _||_}
+use mathlib.Core.Bool.{true, false}
 use mathlib.Core.List.{List, [], _∷_, _++_, map, append-nil}
-use mathlib.Core.Option.{Option, none, some}
-use Prim.Native.Nat.{ℕ, zero, suc, _+_, _-_, _*_, _≤_, _<_}
-use native.Mathlib.Decide.{ℕ-discrete, decLt}
+use mathlib.Core.Option.{none, some}
+use Prim.Native.Nat.{ℕ, suc, _+_, _-_, _*_, _≤_, _<_}
+use native.Mathlib.Decide.{decLt}
 use native.Mathlib.Omega.{arith}
 use borrow.Author.Tests.{lt-ltb, le-ltb, le-leb, lt-leb}
-use lib.Dec.{leb, ltb, eqb}
-use lib.ListN.{length, getD, take, drop, length-drop, drop-of-length-le}
+use lib.Dec.{ltb}
+use lib.ListN.{length, take, drop, length-drop, drop-of-length-le}
 use lib.Seq.{length-take-le}
 use Rattle.text.specs.Lists.{placeOf, tabled}
 use Rattle.text.specs.Lines.{Line, lines, lineIsFaulty}
@@ -23,12 +23,12 @@ use Rattle.text.specs.Fields.{fields}
 use Rattle.text.specs.Places.{fieldsFrom, lineAt}
 use Rattle.text.proofs.Forms.{faulty-empty}
 use Rattle.text.proofs.Cursors.{fields-in}
-use Rattle.semantics.specs.Terms.{Term, Constraint, Symbol, weight}
-use Rattle.syntax.specs.Answers.{Answer, refused, accepted, refuseIf, andThen}
+use Rattle.semantics.specs.Terms.{Constraint, Symbol, weight}
+use Rattle.syntax.specs.Answers.{refused, accepted}
 use Rattle.syntax.specs.Forms.{formOf, fieldAt, constantsAfter, termOf, isConstraintFaulty, isUndeclared, symbolNumber}
 use Rattle.syntax.specs.Forms.{constraintOf}
 use Rattle.syntax.specs.Programs.{maxText, maxConstants, Reading}
-use Rattle.syntax.specs.Goals.{maxGoal, maxWeight, GoalDraft, GoalReading, lettersAfter, readConstraintOfGoal, isGoalForm}
+use Rattle.syntax.specs.Goals.{maxGoal, maxWeight, GoalDraft, lettersAfter, readConstraintOfGoal, isGoalForm}
 use Rattle.syntax.specs.Goals.{readGoalLine, readGoalLines, readGoal}
 use Rattle.syntax.specs.Tables.{cellConstraints, constantOf, constantsOf, lettersOf, symbolsOf}
 use Rattle.lines.specs.declared.HeadRead.the-variants.{Refused as HeadRefused}
@@ -36,12 +36,10 @@ use Rattle.lines.specs.Read.{roomy, HeadAt, HeadIn}
 use Rattle.syntax.proofs.Tabled.{constants-length}
 use Rattle.lines.proofs.Constants.{roomy-is, roomy-not}
 use Rattle.goals.specs.declared.goal.GoalCounts.{GoalCounts}
-use Rattle.goals.specs.declared.goal.GoalLineRead.{GoalLineRead}
 use Rattle.goals.specs.declared.goal.GoalLineRead.the-variants.{Refused as lineRefused, Next}
-use Rattle.goals.specs.declared.goal.GoalRead.{GoalRead}
 use Rattle.goals.specs.declared.goal.GoalRead.the-variants.{Refused as goalRefused, Accepted}
 use Rattle.goals.specs.ReadGoal.{goalAnswer}
-use Rattle.goals.specs.ReadGoal.{GoalRoom, LettersFit, RowFits, GoalFits, Stored, ReadFrom, goalDraftOf, goalLineAnswer}
+use Rattle.goals.specs.ReadGoal.{GoalRoom, LettersFit, GoalFits, Stored, ReadFrom, goalDraftOf, goalLineAnswer}
 use Rattle.goals.specs.ReadGoal.{goalReadingOf}
 use Rattle.goals.proofs.GoalLetters.{letters-length}
 use Rattle.lines.proofs.Constraints.{constraints-length}

@@ -3,27 +3,26 @@
 --   term-fits                       so its cell is a constant's or a variable's
 --   rows-more                       what all constraints' cells keep to, with one more
 -- Assumes nothing.
-use mathlib.Core.Path.{_≡_, refl, sym, ap, ap₂, _∙_}
+use mathlib.Core.Path.{_≡_, refl, sym, ap, _∙_}
 use mathlib.Core.Logic.{_⊎_, inl, inr, ⊎-elim}
-use mathlib.Core.Bool.{Bool, true, false, cond, not, _&&_, _||_}
-use mathlib.Core.List.{List, [], _∷_, _++_, map}
+use mathlib.Core.Bool.{Bool, true, false, cond, not, _||_}
+use mathlib.Core.List.{List, [], _∷_, _++_}
 use Prim.Native.Nat.{ℕ, zero, suc, _+_, _-_, _*_, _≤_, _<_}
-use native.Mathlib.Decide.{ℕ-discrete, decLt}
 use native.Mathlib.Omega.{arith}
-use borrow.Author.Tests.{lt-ltb, le-ltb, eq-eqb, ne-eqb, ltb-true, ltb-false, eqb-true}
-use lib.Dec.{leb, ltb, eqb}
-use lib.ListN.{length, getD, take, drop, length-append}
+use borrow.Author.Tests.{eq-eqb, ltb-true, ltb-false, eqb-true}
+use lib.Dec.{ltb, eqb}
+use lib.ListN.{length, getD, drop, length-append}
 use lib.Seq.{getD-append-seam}
 use Rattle.text.specs.Lists.{placeOf, isKnown, withName, sameBytes}
 use Rattle.text.specs.Fields.{isName}
-use Rattle.semantics.specs.Terms.{Term, con, var, Symbol, symbolAt}
+use Rattle.semantics.specs.Terms.{con, var, Symbol, symbolAt}
 use Rattle.syntax.specs.Forms.{constantsAfter, termOf, firstConstant, symbolNumber, isUndeclared, fieldAt}
 use Rattle.syntax.specs.Goals.{lettersAfter}
-use Rattle.syntax.specs.Tables.{cellTerm, symbolOf, symbolsOf, lettersOf}
+use Rattle.syntax.specs.Tables.{cellTerm, symbolOf, symbolsOf}
 use Rattle.syntax.proofs.Tabled.{name-first}
 use Rattle.lines.proofs.Shapes.{symbol-at}
 use Rattle.goals.specs.ReadGoal.{IsTermCell, RowFits, Stored}
-use Rattle.goals.proofs.GoalLetters.{place-le, letters-length}
+use Rattle.goals.proofs.GoalLetters.{place-le}
 
 same-self : (s : List ℕ) → sameBytes s s ≡ true
 same-self [] = refl

@@ -12,7 +12,7 @@ use mathlib.Core.List.{List, [], _∷_, _++_, map}
 use lib.Dec.{ltb}
 use lib.ListN.{length, getD, take}
 use Rattle.text.specs.Lists.{tabled}
-use Rattle.semantics.specs.Terms.{Term, Constraint, weight}
+use Rattle.semantics.specs.Terms.{Term, weight}
 use Rattle.syntax.specs.Answers.{Answer, refused, accepted}
 use Rattle.syntax.specs.Programs.{Reading}
 use Rattle.syntax.specs.Goals.{GoalDraft, GoalReading}

@@ -4,20 +4,19 @@
 --   cells-..             the cells of the terms passed, and 0 behind them
 -- Assumes nothing.
 use mathlib.Core.Path.{_≡_, refl, sym, ap, ap₂, _∙_}
-use mathlib.Core.Bool.{Bool, true, false, cond, not, _&&_, _||_}
-use mathlib.Core.List.{List, [], _∷_, _++_, append-assoc, append-nil, map}
-use Prim.Native.Nat.{ℕ, zero, suc, _+_, _-_, _*_, _≤_, _<_}
+use mathlib.Core.Bool.{Bool, true, false, not, _&&_, _||_}
+use mathlib.Core.List.{List, [], _∷_, _++_, append-assoc, map}
+use Prim.Native.Nat.{ℕ, zero, suc, _+_, _-_, _≤_, _<_}
 use native.Mathlib.Omega.{arith}
 use borrow.Author.Tests.{lt-ltb, le-ltb, ne-eqb, eq-eqb}
-use lib.Dec.{ltb, eqb}
-use lib.ListN.{length, take, drop, getD, set, length-set, length-append, length-take, take-append-drop}
+use lib.Dec.{eqb}
+use lib.ListN.{length, take, drop, getD, set, length-set, length-take, take-append-drop}
 use lib.Seq.{take-take, length-take-le, take-suc-set, getD-set-other, getD-drop}
 use Rattle.text.specs.Lists.{every, placeOf}
 use Rattle.text.specs.Fields.{isName, isVariable, isTerm}
 use Rattle.text.specs.Places.{before, fieldsFrom}
-use Rattle.text.proofs.Laws.{variable-none}
 use Rattle.text.proofs.Cursors.{field-at, drop-take}
-use Rattle.semantics.specs.Terms.{Term, con, var}
+use Rattle.semantics.specs.Terms.{Term, var}
 use Rattle.syntax.specs.Forms.{termOf, firstConstant}
 use Rattle.syntax.specs.Tables.{cellTerm, cellTerms, part}
 use Rattle.syntax.proofs.Tabled.{map-append}

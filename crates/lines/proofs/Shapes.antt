@@ -5,25 +5,24 @@
 --   symbol-at, names-of-symbols    the symbols of a table
 -- Assumes nothing.
 use mathlib.Core.Path.{_≡_, refl, sym, ap, ap₂, _∙_}
-use mathlib.Core.Bool.{Bool, true, false, cond, not, _&&_, _||_}
-use mathlib.Core.List.{List, [], _∷_, _++_, map}
-use Prim.Native.Nat.{ℕ, zero, suc, _+_, _-_, _*_, _≤_, _<_}
-use native.Mathlib.Nat.{not-suc-le-zero}
+use mathlib.Core.Bool.{Bool, true, false, not, _&&_, _||_}
+use mathlib.Core.List.{List, _∷_}
+use Prim.Native.Nat.{ℕ, suc, _+_, _-_, _*_, _≤_, _<_}
 use native.Mathlib.Decide.{decLe}
 use native.Mathlib.Omega.{arith}
 use borrow.Author.Tests.{lt-ltb, le-ltb, le-leb, lt-leb, ne-eqb, eq-eqb}
-use lib.Dec.{leb, ltb, eqb}
+use lib.Dec.{ltb, eqb}
 use lib.ListN.{length, take, drop, getD, length-drop}
 use lib.Seq.{length-take-le}
 use Rattle.text.specs.Bytes.{between}
-use Rattle.text.specs.Lists.{every, placeOf, tabled}
+use Rattle.text.specs.Lists.{every, placeOf}
 use Rattle.text.specs.Fields.{isName, isTerm, isNumberIn}
 use Rattle.text.specs.Places.{before, fieldsFrom}
 use Rattle.text.proofs.Laws.{tabled-length, tabled-at}
 use Rattle.text.proofs.Cursors.{field-at, fields-out}
 use Rattle.semantics.specs.Terms.{Symbol, noSymbol, symbolAt}
 use Rattle.syntax.specs.Forms.{fieldAt, isConstraintFaulty, symbolNumber, isUndeclared}
-use Rattle.syntax.specs.Tables.{part, symbolOf, symbolsOf}
+use Rattle.syntax.specs.Tables.{symbolOf, symbolsOf}
 use Rattle.syntax.specs.Tables.{namesOf}
 use Rattle.lines.specs.Read.{NamedAt, DeclaredAs, HeadAt, isRuleFaulty, isEquationFaulty, isSymbolFaulty}
 use Rattle.syntax.proofs.Tabled.{map-tabled}

@@ -4,29 +4,29 @@
 -- Assumes nothing.
 use mathlib.Core.Path.{_≡_, refl, sym, ap, ap₂, _∙_}
 use mathlib.Core.Logic.{_⊎_, inl, inr}
-use mathlib.Core.Bool.{Bool, true, false, cond, not, _&&_, _||_}
-use mathlib.Core.List.{List, [], _∷_, _++_, map}
-use mathlib.Core.Option.{Option, none, some}
-use Prim.Native.Nat.{ℕ, zero, suc, _+_, _-_, _*_, _≤_, _<_}
+use mathlib.Core.Bool.{Bool, true, false, _||_}
+use mathlib.Core.List.{List, [], _∷_, map}
+use mathlib.Core.Option.{none, some}
+use Prim.Native.Nat.{ℕ, zero, suc, _+_, _-_, _≤_, _<_}
 use native.Mathlib.Nat.{not-suc-le-zero, le-of-suc-le-suc}
 use native.Mathlib.Omega.{arith}
-use borrow.Author.Tests.{lt-ltb, le-ltb, ltb-true, ltb-false, leb-true, eqb-true}
-use lib.Dec.{leb, ltb, eqb}
-use lib.ListN.{length, take, drop, getD}
+use borrow.Author.Tests.{lt-ltb, le-ltb, leb-true, eqb-true}
+use lib.Dec.{leb, eqb}
+use lib.ListN.{length, drop, getD}
 use Rattle.text.specs.Bytes.{between}
-use Rattle.text.specs.Lists.{every, placeOf, sameBytes, tabled, upTo}
+use Rattle.text.specs.Lists.{every, placeOf, upTo}
 use Rattle.text.specs.Fields.{isName, isVariable, isTerm}
 use Rattle.text.specs.Places.{fieldsFrom}
 use Rattle.text.proofs.Laws.{tabled-at, tabled-length}
-use Rattle.semantics.specs.Terms.{Term, con, var, Constraint, Symbol}
-use Rattle.syntax.specs.Answers.{Answer, refused, accepted, refuseIf}
+use Rattle.semantics.specs.Terms.{Term, con, var, Symbol}
+use Rattle.syntax.specs.Answers.{refused, accepted}
 use Rattle.syntax.specs.Forms.{constantsAfter, firstConstant, termOf, letterNumber, fieldAt, isConstraintFaulty, isUndeclared}
 use Rattle.syntax.specs.Forms.{symbolNumber, constraintOf}
 use Rattle.syntax.specs.Programs.{maxConstants}
-use Rattle.syntax.specs.Tables.{cellTerms, lettersOf}
-use Rattle.lines.specs.Read.{alphabetLetters, Found, constraintLine, HeadAt, roomy}
+use Rattle.syntax.specs.Tables.{lettersOf}
+use Rattle.lines.specs.Read.{alphabetLetters, constraintLine, HeadAt, roomy}
 use Rattle.lines.proofs.Constants.{roomy-is, roomy-not}
-use Rattle.lines.proofs.Cells.{and-both, letter-one, one-list}
+use Rattle.lines.proofs.Cells.{and-both}
 
 every-at : (test : ℕ → Bool) (xs : List ℕ) (i : ℕ) → every test xs ≡ true → i < length xs → test (getD xs i 0) ≡ true
 every-at test [] i e h = absurd (not-suc-le-zero h)

@@ -2,25 +2,25 @@
 --   symbols-more, symbol-..     a K line
 --   rules-more, rule-..         an R line
 -- Assumes nothing.
-use mathlib.Core.Path.{_≡_, refl, sym, ap, ap₂, _∙_}
-use mathlib.Core.Bool.{Bool, true, false, cond, not, _&&_, _||_}
+use mathlib.Core.Path.{_≡_, sym, ap, ap₂, _∙_}
+use mathlib.Core.Bool.{true, false}
 use mathlib.Core.List.{List, [], _∷_, _++_, map}
-use Prim.Native.Nat.{ℕ, zero, suc, _+_, _-_, _*_, _≤_, _<_}
+use Prim.Native.Nat.{ℕ, suc, _+_, _-_, _*_, _≤_, _<_}
 use native.Mathlib.Nat.{add-zero}
 use native.Mathlib.Omega.{arith}
 use borrow.Author.Tests.{lt-ltb, le-ltb, le-leb, lt-leb}
-use lib.Dec.{leb, ltb, eqb}
+use lib.Dec.{ltb}
 use lib.ListN.{length, take, drop, getD, length-map}
 use lib.Seq.{paste, getD-take, getD-drop}
 use Rattle.text.specs.Lists.{placeOf, isKnown, tabled}
-use Rattle.text.specs.Fields.{isName, valueOf}
-use Rattle.text.proofs.Laws.{tabled-length, tabled-at}
+use Rattle.text.specs.Fields.{valueOf}
+use Rattle.text.proofs.Laws.{tabled-length}
 use Rattle.semantics.specs.Terms.{Symbol, Rule}
 use Rattle.programs.specs.declared.Stage.{Stage}
-use Rattle.syntax.specs.Answers.{Answer, refused, accepted, refuseIf}
-use Rattle.syntax.specs.Forms.{Place, fieldAt}
+use Rattle.syntax.specs.Answers.{refused, accepted}
+use Rattle.syntax.specs.Forms.{fieldAt}
 use Rattle.syntax.specs.Programs.{Draft, maxSymbols, maxRules, readSymbol, readRule}
-use Rattle.syntax.specs.Tables.{part, symbolOf, symbolsOf, ruleOfRow, ruleOf, rulesOf, startsOf, constantsOf, cellConstraints}
+use Rattle.syntax.specs.Tables.{part, symbolOf, symbolsOf, ruleOfRow, ruleOf, rulesOf, startsOf, cellConstraints}
 use Rattle.syntax.specs.Tables.{cellEquations}
 use Rattle.syntax.specs.Tables.{namesOf}
 use Rattle.lines.specs.Read.{placeMeant, isSymbolFaulty, isRuleFaulty}

@@ -3,18 +3,18 @@
 --   sides-..           an E line
 -- Assumes nothing.
 use mathlib.Core.Path.{_≡_, refl, sym, ap, ap₂, _∙_}
-use mathlib.Core.Bool.{Bool, true, false, cond, not, _&&_, _||_}
-use mathlib.Core.List.{List, [], _∷_, _++_, map}
-use mathlib.Core.Option.{Option, none, some}
+use mathlib.Core.Bool.{Bool, true, false, cond, _||_}
+use mathlib.Core.List.{List, [], _∷_, map}
+use mathlib.Core.Option.{none, some}
 use Prim.Native.Nat.{ℕ, zero, suc, _+_, _-_, _*_, _≤_, _<_}
 use native.Mathlib.Omega.{arith}
 use borrow.Author.Tests.{leb-false, le-leb, lt-leb, lt-ltb, le-ltb}
 use lib.Dec.{leb, ltb, eqb}
-use lib.ListN.{length, take, drop, getD, set}
+use lib.ListN.{length, drop, getD, set}
 use lib.Seq.{paste, getD-drop}
 use Rattle.text.specs.Lists.{placeOf}
 use Rattle.text.specs.Places.{fieldsFrom}
-use Rattle.semantics.specs.Terms.{Term, Constraint, Equation, Symbol, Rule}
+use Rattle.semantics.specs.Terms.{Term, Constraint, Symbol, Rule}
 use Rattle.programs.specs.declared.Stage.{Stage}
 use Rattle.syntax.specs.Answers.{Answer, refused, accepted, refuseIf, andThen}
 use Rattle.syntax.specs.Forms.{Place, equationForm, fieldAt, constantsAfter, termOf, letterNumber}

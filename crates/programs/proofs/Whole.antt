@@ -6,7 +6,7 @@
 -- Assumes nothing.
 use mathlib.Core.Path.{_≡_, refl, sym, ap, ap₂, _∙_}
 use mathlib.Core.Bool.{Bool, true, false, cond}
-use mathlib.Core.List.{List, [], _∷_}
+use mathlib.Core.List.{List}
 use mathlib.Core.Option.{Option, none, some}
 use Prim.Native.Nat.{ℕ, zero, suc, _+_, _-_, _≤_, _<_}
 use native.Mathlib.Nat.{zero-add}
@@ -17,7 +17,7 @@ use lib.Dec.{ltb}
 use lib.ListN.{length, take, drop, drop-of-length-le}
 use lib.Seq.{length-take-le, length-slice}
 use Rattle.text.specs.Lists.{onward, tabled}
-use Rattle.text.specs.Lines.{Line, lines, lineIsFaulty}
+use Rattle.text.specs.Lines.{lines, lineIsFaulty}
 use Rattle.text.specs.Fields.{fields}
 use Rattle.text.specs.Places.{before, lineAt, fieldsFrom}
 use Rattle.text.proofs.Cursors.{line-at, fields-in}

@@ -1,12 +1,12 @@
 -- `goals::goal::add_letter` meets its contract: a letter that no variable has, and no other field, is one more. Assumes nothing.
 use borrow.Author.Needs.{needs}
 use mathlib.Core.Path.{_≡_, sym, ap, _∙_}
-use mathlib.Core.Bool.{true, false}
+use mathlib.Core.Bool.{false}
 use mathlib.Core.List.{List, [], _∷_}
-use Prim.Native.Nat.{ℕ, _≤_, _<_}
+use Prim.Native.Nat.{ℕ, _≤_}
 use native.Mathlib.Numerals.{add-one}
 use native.Mathlib.Omega.{arith}
-use lib.ListN.{length, getD}
+use lib.ListN.{getD}
 use Rattle.text.specs.Lists.{placeOf}
 use Rattle.text.specs.Fields.{isName}
 use Rattle.syntax.specs.Tables.{lettersOf}

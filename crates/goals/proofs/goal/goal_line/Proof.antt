@@ -1,13 +1,12 @@
 -- `goals::goal::goal_line` meets its contract: refused by 2 or 3, or read as a G line. Assumes nothing.
 use borrow.Author.Needs.{needs}
-use mathlib.Core.Path.{_≡_, refl, sym, ap, ap₂, _∙_}
-use mathlib.Core.List.{List, [], _∷_}
-use Prim.Native.Nat.{ℕ, suc, _+_, _*_, _≤_, _<_}
+use mathlib.Core.Path.{sym, ap, _∙_}
+use mathlib.Core.List.{List}
+use Prim.Native.Nat.{ℕ}
 use native.Mathlib.Omega.{arith}
 use borrow.Author.Tests.{not-true, not-false}
-use lib.ListN.{length, take, getD}
 use lib.Seq.{length-take-le}
-use Rattle.text.specs.Places.{fieldsFrom, lineAt}
+use Rattle.text.specs.Places.{lineAt}
 use Rattle.syntax.specs.Forms.{formOf, fieldAt}
 use Rattle.syntax.specs.Goals.{isGoalForm, readConstraintOfGoal}
 use Rattle.syntax.specs.Tables.{symbolsOf}

@@ -1,18 +1,18 @@
 -- `goals::goal::goal_lines` meets its contract: what is left, read from here, is the answer. Assumes nothing.
 use borrow.Author.Needs.{needs}
-use mathlib.Core.Path.{_≡_, refl, sym, ap, ap₂, _∙_}
-use mathlib.Core.List.{List, [], _∷_}
-use Prim.Native.Nat.{ℕ, suc, _+_, _-_, _*_, _≤_, _<_}
+use mathlib.Core.Path.{_≡_, refl, sym, ap, _∙_}
+use mathlib.Core.List.{[]}
+use Prim.Native.Nat.{_+_, _-_, _≤_}
 use native.Mathlib.Numerals.{add-one}
 use native.Mathlib.Omega.{arith}
-use lib.ListN.{length, take, drop, getD}
+use lib.ListN.{length, drop}
 use Rattle.text.specs.Lines.{lines}
 use Rattle.text.specs.Places.{lineAt}
 use Rattle.text.proofs.Cursors.{line-at}
-use Rattle.syntax.specs.Answers.{refused, accepted}
+use Rattle.syntax.specs.Answers.{accepted}
 use Rattle.syntax.specs.Goals.{readGoalLine, readGoalLines}
-use Rattle.syntax.specs.Tables.{symbolsOf, constantsOf, cellConstraints, lettersOf}
-use Rattle.goals.specs.ReadGoal.{GoalRoom, GoalFits, goalDraftOf, goalLineAnswer, goalLineFits, goalLinesAnswer}
+use Rattle.syntax.specs.Tables.{symbolsOf, constantsOf}
+use Rattle.goals.specs.ReadGoal.{GoalRoom, GoalFits, goalDraftOf, goalLineAnswer, goalLinesAnswer}
 use Rattle.goals.proofs.GoalSteps.{lines-refused, lines-next, lines-end, start-fits, start-draft, room-kept}
 use Rattle.goals.proofs.goal.goal_lines.Statement.{statement}
 use Rattle.goals.proofs.goal.goal_lines.Tie as tie

@@ -1,10 +1,8 @@
 -- `goals::goal::read_goal` meets its contract: what its lines say, and the weight. Assumes nothing.
 use borrow.Author.Needs.{needs}
-use mathlib.Core.Path.{_≡_, refl, sym, ap, ap₂, _∙_}
-use mathlib.Core.List.{List, [], _∷_}
-use Prim.Native.Nat.{ℕ, suc, _+_, _*_, _≤_, _<_}
+use mathlib.Core.Path.{sym, ap, _∙_}
+use Prim.Native.Nat.{_*_}
 use native.Mathlib.Omega.{arith}
-use lib.ListN.{length, take, getD}
 use lib.Seq.{length-take-le}
 use Rattle.goals.specs.ReadGoal.{GoalFits, goalLinesAnswer, goalAnswer}
 use Rattle.goals.proofs.GoalSteps.{goal-long, goal-refused, goal-overweight, goal-accepted}

@@ -1,10 +1,7 @@
 -- `goals::goal::store_constraint` meets its contract: its terms are those of the fields. Assumes nothing.
 use borrow.Author.Needs.{needs}
-use mathlib.Core.Path.{_≡_, refl, sym, ap, ap₂, _∙_}
-use mathlib.Core.List.{List, [], _∷_}
-use Prim.Native.Nat.{ℕ, _*_}
-use native.Mathlib.Omega.{arith}
-use lib.ListN.{length, take, getD}
+use mathlib.Core.Path.{sym, ap, _∙_}
+use lib.ListN.{take, getD}
 use lib.Seq.{length-take-le}
 use Rattle.text.specs.Lists.{placeOf}
 use Rattle.text.specs.Places.{fieldsFrom}

@@ -1,9 +1,8 @@
 -- `goals::goal::store_row` meets its contract: the cells are pasted. Assumes nothing.
 use borrow.Author.Needs.{needs}
-use mathlib.Core.Path.{_≡_, refl, sym, ap, ap₂, _∙_}
-use mathlib.Core.List.{List, [], _∷_}
+use mathlib.Core.Path.{ap, _∙_}
+use mathlib.Core.List.{List}
 use Prim.Native.Nat.{ℕ, _*_}
-use native.Mathlib.Omega.{arith}
 use lib.Seq.{paste}
 use Rattle.goals.proofs.GoalCells.{row-built}
 use Rattle.goals.proofs.goal.store_row.Statement.{statement}

@@ -1,9 +1,8 @@
 -- `lines::forms::form_at` meets its contract, by where the first field ends. Assumes nothing.
 use borrow.Author.Needs.{needs}
-use mathlib.Core.Path.{_≡_, sym, _∙_}
+use mathlib.Core.Path.{sym, _∙_}
 use Rattle.lines.specs.Read.{formMeant}
 use Rattle.lines.proofs.Letters.{form-other, form-one}
-use borrow.Author.Needs.{needs}
 use Rattle.lines.proofs.forms.form_at.Statement.{statement}
 use Rattle.lines.proofs.forms.form_at.Tie as tie
 

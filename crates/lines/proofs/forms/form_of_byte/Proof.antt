@@ -1,6 +1,5 @@
 -- `lines::forms::form_of_byte` meets its contract, at each letter and at all other bytes. Assumes nothing.
-use borrow.Author.Needs.{needs}
-use mathlib.Core.Path.{_≡_, sym}
+use mathlib.Core.Path.{sym}
 use mathlib.Core.Logic.{⊎-elim}
 use Rattle.syntax.specs.Forms.{formOfByte}
 use Rattle.lines.specs.Read.{formMeant}

@@ -1,10 +1,9 @@
 -- `lines::forms::place_after` meets its contract, at each form and place. Assumes nothing.
 use borrow.Author.Needs.{needs}
-use mathlib.Core.Path.{_≡_, sym}
+use mathlib.Core.Path.{sym}
 use Rattle.syntax.specs.Forms.{placeAfter}
 use Rattle.lines.specs.Read.{formMeant, placeMeant, placeAnswer}
 use Rattle.lines.proofs.Letters.{place-symbol, place-head, place-body, place-equation}
-use borrow.Author.Needs.{needs}
 use Rattle.lines.proofs.forms.place_after.Statement.{statement}
 use Rattle.lines.proofs.forms.place_after.Tie as tie
 

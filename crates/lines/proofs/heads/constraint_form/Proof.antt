@@ -1,8 +1,8 @@
 -- `lines::heads::constraint_form` meets its contract: each test decides, or leaves the next to decide. Assumes nothing.
 use borrow.Author.Needs.{needs}
 use mathlib.Core.Path.{_≡_, sym, ap, _∙_}
-use mathlib.Core.List.{List, [], _∷_}
-use Prim.Native.Nat.{ℕ, suc, _≤_, _<_, _+_, _-_}
+use mathlib.Core.List.{List, _∷_}
+use Prim.Native.Nat.{ℕ, suc, _≤_, _+_, _-_}
 use native.Mathlib.Numerals.{add-one}
 use native.Mathlib.Omega.{arith}
 use borrow.Author.Tests.{not-true, not-false}
@@ -13,7 +13,6 @@ use Rattle.text.specs.Places.{fieldsFrom}
 use Rattle.text.proofs.Cursors.{drop-take}
 use Rattle.lines.proofs.Shapes.{second-within, two-fields, faulty-few, faulty-many, faulty-name, faulty-terms, faulty-not}
 use Rattle.lines.proofs.Shapes.{second-is, others-are, others-few}
-use borrow.Author.Needs.{needs}
 use Rattle.lines.proofs.heads.constraint_form.Statement.{statement}
 use Rattle.lines.proofs.heads.constraint_form.Tie as tie
 

@@ -1,18 +1,17 @@
 -- `lines::heads::constraint_head` meets its contract: number 4, then 6. Assumes nothing.
 use borrow.Author.Needs.{needs}
-use mathlib.Core.Path.{_≡_, refl, sym, ap, _∙_}
+use mathlib.Core.Path.{refl, sym, ap, _∙_}
 use mathlib.Core.Logic.{inl, inr}
 use Prim.Native.Nat.{ℕ}
 use native.Mathlib.Numerals.{add-one}
 use native.Mathlib.Omega.{arith}
-use lib.ListN.{length, take, drop}
+use lib.ListN.{length, take}
 use lib.Seq.{length-take-le}
 use Rattle.text.specs.Places.{fieldsFrom}
 use Rattle.text.proofs.Cursors.{drop-take}
 use Rattle.syntax.specs.Tables.{symbolsOf}
 use Rattle.lines.specs.Read.{NamedAt}
 use Rattle.lines.proofs.Shapes.{head-none, head-found}
-use borrow.Author.Needs.{needs}
 use Rattle.lines.proofs.heads.constraint_head.Statement.{statement}
 use Rattle.lines.proofs.heads.constraint_head.Tie as tie
 

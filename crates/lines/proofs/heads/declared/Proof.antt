@@ -1,9 +1,8 @@
 -- `lines::heads::declared` meets its contract, by where the name is found and by the arity there. Assumes nothing.
 use borrow.Author.Needs.{needs}
-use mathlib.Core.Path.{_≡_, sym, _∙_}
+use mathlib.Core.Path.{sym, _∙_}
 use native.Mathlib.Omega.{arith}
 use Rattle.lines.proofs.Shapes.{declared-none, declared-other, declared-as}
-use borrow.Author.Needs.{needs}
 use Rattle.lines.proofs.heads.declared.Statement.{statement}
 use Rattle.lines.proofs.heads.declared.Tie as tie
 

@@ -1,11 +1,10 @@
 -- `lines::heads::fields_left` meets its contract: behind the line's end there are none. Assumes nothing.
 use borrow.Author.Needs.{needs}
-use mathlib.Core.Path.{_≡_, sym, ap}
+use mathlib.Core.Path.{sym, ap}
 use mathlib.Core.List.{List}
 use Prim.Native.Nat.{ℕ}
 use lib.ListN.{length}
 use Rattle.text.proofs.Cursors.{fields-out}
-use borrow.Author.Needs.{needs}
 use Rattle.lines.proofs.heads.fields_left.Statement.{statement}
 use Rattle.lines.proofs.heads.fields_left.Tie as tie
 

@@ -1,12 +1,10 @@
 -- `lines::rows::add_cells` meets its contract: the count is read first, and stored last. Assumes nothing.
 use borrow.Author.Needs.{needs}
-use mathlib.Core.Path.{_≡_, sym, ap, ap₂, _∙_}
+use mathlib.Core.Path.{ap₂}
 use mathlib.Core.List.{List}
-use Prim.Native.Nat.{ℕ, suc, _+_}
+use Prim.Native.Nat.{ℕ}
 use native.Mathlib.Numerals.{add-one}
-use lib.ListN.{length, getD, set}
-use lib.Seq.{paste}
-use borrow.Author.Needs.{needs}
+use lib.ListN.{getD, set}
 use Rattle.lines.proofs.rows.add_cells.Statement.{statement}
 use Rattle.lines.proofs.rows.add_cells.Tie as tie
 

@@ -1,20 +1,19 @@
 -- `lines::terms::add_constant` meets its contract: a name that no constant has, and no other field, is one more. Assumes nothing.
 use borrow.Author.Needs.{needs}
 use mathlib.Core.Path.{_≡_, sym, ap, _∙_}
-use mathlib.Core.Bool.{true, false}
+use mathlib.Core.Bool.{true}
 use mathlib.Core.List.{List}
-use Prim.Native.Nat.{ℕ, _≤_, _<_, _+_, _-_, _*_}
+use Prim.Native.Nat.{ℕ, _-_}
 use native.Mathlib.Numerals.{add-one}
 use native.Mathlib.Omega.{arith}
 use borrow.Author.Tests.{not-true, not-false}
-use lib.ListN.{length, take, drop, length-set}
+use lib.ListN.{take, drop, length-set}
 use Rattle.text.specs.Lists.{placeOf}
 use Rattle.text.specs.Fields.{isName}
 use Rattle.text.proofs.Cursors.{drop-take}
 use Rattle.syntax.specs.Tables.{part, constantsOf}
 use Rattle.lines.specs.Read.{addedOf}
 use Rattle.lines.proofs.Constants.{after-none, after-known, after-full, after-new}
-use borrow.Author.Needs.{needs}
 use Rattle.lines.proofs.terms.add_constant.Statement.{statement}
 use Rattle.lines.proofs.terms.add_constant.Tie as tie
 

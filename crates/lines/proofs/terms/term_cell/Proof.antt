@@ -1,14 +1,13 @@
 -- `lines::terms::term_cell` meets its contract: a name is a constant's, and a letter a variable's. Assumes nothing.
 use borrow.Author.Needs.{needs}
-use mathlib.Core.Path.{_≡_, refl, sym, ap, _∙_}
-use mathlib.Core.List.{List, [], _∷_}
-use Prim.Native.Nat.{ℕ, _≤_, _<_, _+_}
+use mathlib.Core.Path.{_≡_, sym, ap, _∙_}
+use mathlib.Core.List.{List}
+use Prim.Native.Nat.{ℕ}
 use native.Mathlib.Omega.{arith}
-use lib.ListN.{length, getD}
+use lib.ListN.{length}
 use Rattle.text.specs.Lists.{placeOf}
 use Rattle.syntax.specs.Tables.{lettersOf, constantsOf}
 use Rattle.lines.proofs.Cells.{cell-constant, cell-variable, letter-one, one-list}
-use borrow.Author.Needs.{needs}
 use Rattle.lines.proofs.terms.term_cell.Statement.{statement}
 use Rattle.lines.proofs.terms.term_cell.Tie as tie
 

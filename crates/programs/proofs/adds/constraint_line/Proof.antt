@@ -1,7 +1,7 @@
 -- `programs::adds::constraint_line` meets its contract: what is found of the line is added to the last rule's row.
 -- Assumes nothing.
 use borrow.Author.Needs.{needs}
-use mathlib.Core.Path.{_≡_, sym, ap, _∙_}
+use mathlib.Core.Path.{sym, ap, _∙_}
 use Prim.Native.Nat.{_≤_}
 use native.Mathlib.Omega.{arith}
 use Rattle.programs.specs.Read.{termsAnswer, cellsMeant, lineAnswer}

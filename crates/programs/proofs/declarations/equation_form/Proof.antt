@@ -2,16 +2,15 @@
 use borrow.Author.Needs.{needs}
 use mathlib.Core.Path.{_≡_, sym, ap, _∙_}
 use mathlib.Core.Bool.{not}
-use mathlib.Core.List.{List, [], _∷_}
-use Prim.Native.Nat.{ℕ, suc, _≤_, _<_, _+_}
+use mathlib.Core.List.{List, _∷_}
+use Prim.Native.Nat.{ℕ, suc, _+_}
 use native.Mathlib.Numerals.{add-one}
 use native.Mathlib.Omega.{arith}
 use borrow.Author.Tests.{not-true, not-false}
 use lib.ListN.{length, take, drop}
 use Rattle.text.specs.Places.{fieldsFrom}
 use Rattle.text.proofs.Cursors.{field-at}
-use Rattle.lines.proofs.Shapes.{second-within, count-behind, sides-count, sides-shape}
-use borrow.Author.Needs.{needs}
+use Rattle.lines.proofs.Shapes.{second-within, sides-count, sides-shape}
 use Rattle.programs.proofs.declarations.equation_form.Statement.{statement}
 use Rattle.programs.proofs.declarations.equation_form.Tie as tie
 

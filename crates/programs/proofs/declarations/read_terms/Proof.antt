@@ -1,27 +1,22 @@
 -- `programs::declarations::read_terms` meets its contract: numbers 4 and 6 are the symbol's, then 7, else the constraint's cells.
 -- Assumes nothing.
 use borrow.Author.Needs.{needs}
-use mathlib.Core.Path.{_≡_, refl, sym, ap, ap₂, _∙_}
-use mathlib.Core.Logic.{⊎-elim}
-use mathlib.Core.Bool.{true, false}
+use mathlib.Core.Path.{_≡_, refl, sym, ap, _∙_}
 use mathlib.Core.List.{List, [], _∷_, map}
-use mathlib.Core.Option.{none, some}
-use Prim.Native.Nat.{ℕ, _≤_, _<_, _+_}
+use mathlib.Core.Option.{some}
+use Prim.Native.Nat.{ℕ, _≤_, _+_}
 use native.Mathlib.Omega.{arith}
-use lib.ListN.{length, take, drop, getD}
+use lib.ListN.{length, take, getD}
 use lib.Seq.{length-take-le}
 use Rattle.text.specs.Lists.{placeOf}
 use Rattle.text.specs.Places.{fieldsFrom}
 use Rattle.text.proofs.Laws.{tabled-length}
-use Rattle.semantics.specs.Terms.{Term}
-use Rattle.syntax.specs.Answers.{refused}
-use Rattle.syntax.specs.Forms.{letterNumber, termOf, constantsAfter}
+use Rattle.syntax.specs.Forms.{letterNumber, termOf}
 use Rattle.syntax.specs.Tables.{cellTerms, symbolsOf, constantsOf, lettersOf}
-use Rattle.lines.specs.Read.{alphabetLetters, HeadAt, HeadIn, addedOf, roomy, constraintLine}
+use Rattle.lines.specs.Read.{alphabetLetters, HeadAt, addedOf}
 use Rattle.programs.specs.Read.{termsAnswer, cellsMeant}
 use Rattle.lines.proofs.Constants.{added-fits}
 use Rattle.lines.proofs.Steps.{letters-are, line-refused, line-full, line-many, line-read, four-list}
-use borrow.Author.Needs.{needs}
 use Rattle.programs.proofs.declarations.read_terms.Statement.{statement}
 use Rattle.programs.proofs.declarations.read_terms.Tie as tie
 

@@ -1,19 +1,17 @@
 -- `programs::declarations::rule_line` meets its contract: numbers 4, 5 and 7, else the rule is stored behind the others.
 -- Assumes nothing.
 use borrow.Author.Needs.{needs}
-use mathlib.Core.Path.{_≡_, refl, sym, ap, _∙_}
-use mathlib.Core.List.{List, [], _∷_}
-use Prim.Native.Nat.{ℕ, suc, _≤_, _<_, _+_, _-_, _*_}
+use mathlib.Core.Path.{_≡_, sym, _∙_}
+use Prim.Native.Nat.{suc, _-_}
 use native.Mathlib.Numerals.{add-one}
 use native.Mathlib.Omega.{arith}
-use lib.ListN.{length, take, drop, getD}
+use lib.ListN.{length, take}
 use lib.Seq.{length-take-le}
 use Rattle.text.specs.Places.{fieldsFrom}
 use Rattle.text.proofs.Cursors.{drop-take}
-use Rattle.programs.specs.Read.{RuleAt, lineAnswer, Sound}
+use Rattle.programs.specs.Read.{RuleAt, lineAnswer}
 use Rattle.lines.proofs.Cells.{part-in-line}
 use Rattle.programs.proofs.Drafts.{rule-faulty, rule-repeated, rule-full, rule-new, fresh-heads, fresh-body, fresh-sides}
-use borrow.Author.Needs.{needs}
 use Rattle.programs.proofs.declarations.rule_line.Statement.{statement}
 use Rattle.programs.proofs.declarations.rule_line.Tie as tie
 

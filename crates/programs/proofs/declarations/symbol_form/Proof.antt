@@ -3,12 +3,12 @@
 use borrow.Author.Needs.{needs}
 use mathlib.Core.Path.{_≡_, refl, sym, ap, ap₂, _∙_}
 use mathlib.Core.Bool.{Bool, true, false, not, _||_}
-use mathlib.Core.List.{List, [], _∷_}
-use Prim.Native.Nat.{ℕ, suc, _≤_, _<_, _+_}
+use mathlib.Core.List.{List, _∷_}
+use Prim.Native.Nat.{ℕ, suc, _+_}
 use native.Mathlib.Numerals.{add-one}
 use native.Mathlib.Omega.{arith}
 use borrow.Author.Tests.{not-true, not-false}
-use lib.ListN.{length, take, drop}
+use lib.ListN.{take, drop}
 use Rattle.text.specs.Fields.{isName, isNumberIn}
 use Rattle.text.specs.Places.{before, fieldsFrom}
 use Rattle.text.proofs.Cursors.{drop-take}
@@ -16,7 +16,6 @@ use Rattle.text.proofs.Forms.{in-short}
 use Rattle.lines.specs.Read.{isSymbolFaulty}
 use Rattle.lines.proofs.Shapes.{start-within, second-starts, third-starts, four-fields, symbol-count, symbol-shape}
 use Rattle.lines.proofs.Shapes.{field-one, field-two, field-three, short-part}
-use borrow.Author.Needs.{needs}
 use Rattle.programs.proofs.declarations.symbol_form.Statement.{statement}
 use Rattle.programs.proofs.declarations.symbol_form.Tie as tie
 

@@ -1,20 +1,18 @@
 -- `programs::declarations::symbol_line` meets its contract: numbers 4, 5 and 7, else the symbol is stored behind the others.
 -- Assumes nothing.
 use borrow.Author.Needs.{needs}
-use mathlib.Core.Path.{_≡_, refl, sym, ap, _∙_}
-use mathlib.Core.List.{List, [], _∷_}
-use Prim.Native.Nat.{ℕ, suc, _≤_, _<_, _+_, _-_}
+use mathlib.Core.Path.{_≡_, sym, ap, _∙_}
+use Prim.Native.Nat.{_+_, _-_}
 use native.Mathlib.Numerals.{add-one}
 use native.Mathlib.Omega.{arith}
-use lib.ListN.{length, take, drop}
+use lib.ListN.{length, take}
 use lib.Seq.{length-take-le}
 use Rattle.text.specs.Fields.{valueOf}
 use Rattle.text.specs.Places.{fieldsFrom}
 use Rattle.text.proofs.Cursors.{drop-take}
-use Rattle.programs.specs.Read.{SymbolAt, lineAnswer, Sound}
+use Rattle.programs.specs.Read.{SymbolAt, lineAnswer}
 use Rattle.lines.proofs.Cells.{part-in-line, field-part, part-short}
 use Rattle.programs.proofs.Drafts.{symbol-faulty, symbol-repeated, symbol-full, symbol-new}
-use borrow.Author.Needs.{needs}
 use Rattle.programs.proofs.declarations.symbol_line.Statement.{statement}
 use Rattle.programs.proofs.declarations.symbol_line.Tie as tie
 

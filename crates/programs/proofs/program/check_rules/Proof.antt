@@ -1,15 +1,15 @@
 -- `programs::program::check_rules` meets its contract: the rules left, checked from here, are the answer. Assumes nothing.
 use borrow.Author.Needs.{needs}
-use mathlib.Core.Path.{_≡_, refl, sym, ap, _∙_}
+use mathlib.Core.Path.{_≡_, refl, ap, _∙_}
 use mathlib.Core.List.{List}
-use Prim.Native.Nat.{ℕ, suc, _≤_, _<_, _+_, _-_, _*_}
+use Prim.Native.Nat.{ℕ, _≤_, _+_, _-_, _*_}
 use native.Mathlib.Numerals.{add-one}
 use native.Mathlib.Omega.{arith}
-use lib.ListN.{length, take, drop, getD, length-drop}
+use lib.ListN.{take, drop, getD, length-drop}
 use lib.Seq.{length-take-le}
 use Rattle.syntax.specs.Programs.{checkRules}
 use Rattle.syntax.specs.Tables.{symbolsOf, rulesOf, startsOf, ruleOf, ruleOfRow}
-use Rattle.programs.specs.Read.{rulesAnswer, met, ruleTests}
+use Rattle.programs.specs.Read.{rulesAnswer, ruleTests}
 use Rattle.programs.proofs.Drafts.{rules-count}
 use Rattle.programs.proofs.Weights.{check-refused, check-next, check-end}
 use Rattle.programs.proofs.program.check_rules.Statement.{statement}

@@ -1,9 +1,8 @@
 -- `programs::program::prefix_of` meets its contract: beyond its end a part has no more cells. Assumes nothing.
 use borrow.Author.Needs.{needs}
-use mathlib.Core.Path.{_≡_, sym}
+use mathlib.Core.Path.{sym}
 use native.Mathlib.Omega.{arith}
 use lib.Seq.{take-all, length-take-le}
-use borrow.Author.Needs.{needs}
 use Rattle.programs.proofs.program.prefix_of.Statement.{statement}
 use Rattle.programs.proofs.program.prefix_of.Tie as tie
 

@@ -1,6 +1,6 @@
 -- `programs::program::read_form` meets its contract, form by form. Assumes nothing.
 use borrow.Author.Needs.{needs}
-use mathlib.Core.Path.{_≡_, refl, sym, ap, _∙_}
+use mathlib.Core.Path.{refl, ap, _∙_}
 use native.Mathlib.Omega.{arith}
 use Rattle.lines.specs.declared.LineForm.{LineForm}
 use Rattle.lines.specs.declared.LineForm.the-variants.{Head, Body, Equation}

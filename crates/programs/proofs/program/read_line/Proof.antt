@@ -1,13 +1,11 @@
 -- `programs::program::read_line` meets its contract: number 2, then 3, then the form. Assumes nothing.
 use borrow.Author.Needs.{needs}
-use mathlib.Core.Path.{_≡_, refl, sym, ap, _∙_}
+use mathlib.Core.Path.{sym, _∙_}
 use native.Mathlib.Omega.{arith}
-use lib.ListN.{length, take}
 use lib.Seq.{length-take-le}
 use Rattle.lines.specs.Read.{formMeant}
 use Rattle.programs.specs.Read.{draftOf, lineAnswer}
 use Rattle.programs.proofs.Whole.{some-bytes, line-faulty, line-placeless, line-formed}
-use borrow.Author.Needs.{needs}
 use Rattle.programs.proofs.program.read_line.Statement.{statement}
 use Rattle.programs.proofs.program.read_line.Tie as tie
 

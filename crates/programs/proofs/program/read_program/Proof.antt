@@ -1,17 +1,14 @@
 -- `programs::program::read_program` meets its contract: number 1, then the lines, then the rules. Assumes nothing.
 use borrow.Author.Needs.{needs}
-use mathlib.Core.Path.{_≡_, refl, sym, ap, _∙_}
+use mathlib.Core.Path.{refl, sym, ap, _∙_}
 use mathlib.Core.List.{List}
-use Prim.Native.Nat.{ℕ, _≤_, _<_}
+use Prim.Native.Nat.{ℕ}
 use native.Mathlib.Omega.{arith}
-use lib.ListN.{length}
 use Rattle.syntax.specs.Answers.{Answer, accepted}
 use Rattle.syntax.specs.Programs.{Reading}
-use Rattle.syntax.specs.Tables.{symbolsOf, rulesOf}
 use Rattle.lines.specs.Read.{alphabetLetters}
 use Rattle.programs.specs.Read.{draftOf, linesAnswer, rulesAnswer, readingOf, programAnswer, Sound}
 use Rattle.programs.proofs.Whole.{readingFrom, program-long, program-lines, program-rules, program-read, constants-alone}
-use borrow.Author.Needs.{needs}
 use Rattle.programs.proofs.program.read_program.Statement.{statement}
 use Rattle.programs.proofs.program.read_program.Tie as tie
 
