@@ -1,53 +1,21 @@
--- Laws of the cells of a goal's constraints: one constraint stored behind the others, and their weight.
---   cells-append, cells-length    the constraints of cells, five to each
---   trim-..                       the cells of a constraint's terms, with zeros behind them
---   stored                        what storing a constraint changes
---   weight-..                     the weight of the constraints left, one constraint on
+-- Laws of the cells of a goal's constraints: one constraint stored behind the others.
+--   trim-..     the cells of a constraint's terms, with zeros behind them
+--   stored      what storing a constraint changes
 -- Assumes nothing.
 use mathlib.Core.Path.{_≡_, refl, sym, ap, ap₂, _∙_}
-use mathlib.Core.Bool.{Bool, true, false, cond, not, _&&_, _||_}
+use mathlib.Core.Bool.{Bool, true, false, cond}
 use mathlib.Core.List.{List, [], _∷_, _++_, map}
-use Prim.Native.Nat.{ℕ, zero, suc, _+_, _-_, _*_, _≤_, _<_}
-use native.Mathlib.Nat.{add-zero, add-assoc}
-use native.Mathlib.Decide.{ℕ-discrete, decLt}
+use Prim.Native.Nat.{ℕ, zero, suc, _+_, _*_, _≤_, _<_}
+use native.Mathlib.Nat.{add-zero}
 use native.Mathlib.Omega.{arith}
-use borrow.Author.Tests.{lt-ltb, le-ltb, eq-eqb, ne-eqb}
-use lib.Dec.{leb, ltb, eqb}
-use lib.ListN.{length, getD, take, drop, length-append, length-map, length-drop, List·getD-append, List·getD-map, List·getD-eq-default}
-use lib.ListN.{drop-of-length-le}
-use lib.Seq.{paste, take-paste, length-take-le, getD-take, getD-append-add, drop-cons}
-use Rattle.text.specs.Lists.{total}
-use Rattle.semantics.specs.Terms.{Term, Constraint, Symbol, noSymbol, symbolAt, weight}
-use Rattle.syntax.specs.Tables.{cellTerm, cellTerms, cellConstraints, symbolOf, symbolsOf}
-use Rattle.lines.proofs.Shapes.{symbols-length, symbol-at}
+use borrow.Author.Tests.{lt-ltb}
+use lib.Dec.{ltb, eqb}
+use lib.ListN.{length, getD, take, length-map, List·getD-append, List·getD-map}
+use lib.Seq.{paste, take-paste, length-take-le, getD-take, getD-append-add}
+use Rattle.semantics.specs.Terms.{Term, Constraint}
+use Rattle.syntax.specs.Tables.{cellTerm, cellTerms, cellConstraints}
+use Rattle.lines.proofs.Constraints.{constraints-append}
 use Rattle.goals.specs.ReadGoal.{rowOf, Stored}
-
--- a constraint by its cells
-abbrev row : ℕ → ℕ → ℕ → ℕ → ℕ → Constraint
-row k a b c d = record { symbol = k; terms = cellTerms (a ∷ b ∷ c ∷ d ∷ []) }
-
-pub cells-append : (m : ℕ) (xs ys : List ℕ) → length xs ≡ 5 * m → cellConstraints (xs ++ ys) ≡ cellConstraints xs ++ cellConstraints ys
-unfolding cellConstraints
-cells-append zero [] ys h = refl
-cells-append zero (x ∷ xs) ys h = absurd (omega arith)
-cells-append (suc m) [] ys h = absurd (omega arith)
-cells-append (suc m) (k ∷ []) ys h = absurd (omega arith)
-cells-append (suc m) (k ∷ a ∷ []) ys h = absurd (omega arith)
-cells-append (suc m) (k ∷ a ∷ b ∷ []) ys h = absurd (omega arith)
-cells-append (suc m) (k ∷ a ∷ b ∷ c ∷ []) ys h = absurd (omega arith)
-cells-append (suc m) (k ∷ a ∷ b ∷ c ∷ d ∷ xs) ys h =
-    ap (λ (l : List Constraint). row k a b c d ∷ l) (cells-append m xs ys (omega arith))
-
-pub cells-length : (m : ℕ) (xs : List ℕ) → length xs ≡ 5 * m → length (cellConstraints xs) ≡ m
-unfolding cellConstraints
-cells-length zero [] h = refl
-cells-length zero (x ∷ xs) h = absurd (omega arith)
-cells-length (suc m) [] h = absurd (omega arith)
-cells-length (suc m) (k ∷ []) h = absurd (omega arith)
-cells-length (suc m) (k ∷ a ∷ []) h = absurd (omega arith)
-cells-length (suc m) (k ∷ a ∷ b ∷ []) h = absurd (omega arith)
-cells-length (suc m) (k ∷ a ∷ b ∷ c ∷ []) h = absurd (omega arith)
-cells-length (suc m) (k ∷ a ∷ b ∷ c ∷ d ∷ xs) h = ap suc (cells-length m xs (omega arith))
 
 -- the first n cells, and zeros behind them
 abbrev trim : ℕ → List ℕ → List ℕ
@@ -121,7 +89,8 @@ trim-length zero (x ∷ xs) = ap suc (trim-length zero xs)
 trim-length (suc n) (x ∷ xs) = ap suc (trim-length n xs)
 
 -- a constraint stored behind the first m
-module _ (term : List ℕ → Term) (fs : List (List ℕ)) (s m a b c d count : ℕ) (old new : List ℕ) (n : count ≡ length fs) (few : length fs ≤ 4)
+module _ (term : List ℕ → Term) (fs : List (List ℕ)) (s m a b c d count : ℕ) (old new : List ℕ) (n : count ≡ length fs)
+    (few : length fs ≤ 4)
     (e : cellTerms (a ∷ b ∷ c ∷ d ∷ []) ≡ map term fs) (fits : 5 * m + 5 ≤ length old)
     (q : new ≡ paste old (5 * m) (rowOf count s a b c d) 5) where
   abbrev cut : List ℕ
@@ -165,7 +134,7 @@ module _ (term : List ℕ → Term) (fs : List (List ℕ)) (s m a b c d count : 
         held =
             ap (λ (k : ℕ). cellConstraints (take k new)) (let z : 5 * suc m ≡ 5 * m + 5 = omega arith in z)
             ∙ ap cellConstraints front
-            ∙ cells-append m (take (5 * m) old) (s ∷ cut) sized
+            ∙ constraints-append m (take (5 * m) old) (s ∷ cut) sized
             ∙ ap (λ (l : List Constraint). cellConstraints (take (5 * m) old) ++ l)
             (row-cells s cut (trim-length (length fs) (a ∷ b ∷ c ∷ d ∷ []))
             ∙ ap (λ (ts : List Term). record { symbol = s; terms = ts } ∷ []) cut-terms);
@@ -183,57 +152,9 @@ module _ (term : List ℕ → Term) (fs : List (List ℕ)) (s m a b c d count : 
         zeros = λ i h l. behind (suc i) (omega (arith, l)) ∙ trim-zero (length fs) (a ∷ b ∷ c ∷ d ∷ []) i h;
       }
 
--- the weight of a symbol of a table
-pub weight-of : (text cells : List ℕ) (k s w : ℕ) → w ≡ cond (ltb s k) (getD cells (4 * s + 3) 0) 0
-    → symbolAt (symbolsOf text cells k) s .weight ≡ w
-unfolding symbolOf symbolAt noSymbol
-weight-of text cells k s w e = elim (decLt s k) [
-  | yes h ↦
-      ap (λ (t : Symbol). t .weight) (symbol-at text cells k s h)
-      ∙ sym (e ∙ ap (λ (t : Bool). cond t (getD cells (4 * s + 3) 0) 0) (lt-ltb s k h))
-  | no h ↦
-      ap (λ (t : Symbol). t .weight)
-      (List·getD-eq-default (symbolsOf text cells k) noSymbol (omega (arith, h, symbols-length text cells k)))
-      ∙ sym (e ∙ ap (λ (t : Bool). cond t (getD cells (4 * s + 3) 0) 0) (le-ltb s k (omega (arith, h))))
-]
-
--- five cells from a place on
-five : (l : List ℕ) (j : ℕ) → j + 5 ≤ length l
-    → drop j l ≡ getD l j 0 ∷ getD l (suc j) 0 ∷ getD l (suc (suc j)) 0 ∷ getD l (suc (suc (suc j))) 0 ∷ getD l (suc (suc (suc (suc j)))) 0 ∷ drop (suc (suc (suc (suc (suc j))))) l
-five l j h =
-    drop-cons l j 0 (omega arith)
-    ∙ ap (λ (x : List ℕ). getD l j 0 ∷ x) (drop-cons l (suc j) 0 (omega arith)
-    ∙ ap (λ (x : List ℕ). getD l (suc j) 0 ∷ x) (drop-cons l (suc (suc j)) 0 (omega arith)
-    ∙ ap (λ (x : List ℕ). getD l (suc (suc j)) 0 ∷ x) (drop-cons l (suc (suc (suc j))) 0 (omega arith)
-    ∙ ap (λ (x : List ℕ). getD l (suc (suc (suc j))) 0 ∷ x) (drop-cons l (suc (suc (suc (suc j)))) 0 (omega arith)))))
-
-weight-cons : (symbols : List Symbol) (k a b c d : ℕ) (l : List ℕ)
-    → weight symbols (cellConstraints (k ∷ a ∷ b ∷ c ∷ d ∷ l)) ≡ symbolAt symbols k .weight + weight symbols (cellConstraints l)
-unfolding weight cellConstraints
-weight-cons symbols k a b c d l = refl
-
--- the weight of the constraints from the i-th on, and from the next on
-pub weight-step : (symbols : List Symbol) (rows : List ℕ) (i m s w sum : ℕ) → length rows ≡ 5 * m → i < m → s ≡ getD rows (5 * i) 0
-    → symbolAt symbols s .weight ≡ w
-    → (sum + w) + weight symbols (cellConstraints (drop (5 * suc i) rows)) ≡ sum + weight symbols (cellConstraints (drop (5 * i) rows))
-weight-step symbols rows i m s w sum h k p q =
-    let j : ℕ = 5 * i in
-    let here : weight symbols (cellConstraints (drop j rows)) ≡ symbolAt symbols (getD rows j 0) .weight + weight symbols (cellConstraints (drop (suc (suc (suc (suc (suc j))))) rows)) =
-    ap (λ (l : List ℕ). weight symbols (cellConstraints l)) (five rows j (omega arith))
-    ∙ weight-cons symbols (getD rows j 0) (getD rows (suc j) 0) (getD rows (suc (suc j)) 0) (getD rows (suc (suc (suc j))) 0)
-    (getD rows (suc (suc (suc (suc j)))) 0) (drop (suc (suc (suc (suc (suc j))))) rows) in
-    let same : symbolAt symbols (getD rows j 0) .weight ≡ w = ap (λ (n : ℕ). symbolAt symbols n .weight) (sym p) ∙ q in
-    let next : weight symbols (cellConstraints (drop (5 * suc i) rows)) ≡ weight symbols (cellConstraints (drop (suc (suc (suc (suc (suc j))))) rows)) =
-    ap (λ (n : ℕ). weight symbols (cellConstraints (drop n rows))) (let z : 5 * suc i ≡ suc (suc (suc (suc (suc j)))) = omega arith in z) in
-    omega (arith, here, same, next)
-
-pub weight-end : (symbols : List Symbol) (rows : List ℕ) (i m : ℕ) → length rows ≡ 5 * m → m ≤ i
-    → weight symbols (cellConstraints (drop (5 * i) rows)) ≡ 0
-unfolding weight cellConstraints
-weight-end symbols rows i m h k = rw (drop-of-length-le rows {i = 5 * i} (omega arith))
-
 -- the cells of a constraint as the code puts them together
-pub row-built : (count s a b c d x y z w : ℕ) → x ≡ cond (ltb 0 count) a 0 → y ≡ cond (ltb 1 count) b 0 → z ≡ cond (ltb 2 count) c 0
+pub row-built : (count s a b c d x y z w : ℕ) → x ≡ cond (ltb 0 count) a 0 → y ≡ cond (ltb 1 count) b 0
+    → z ≡ cond (ltb 2 count) c 0
     → w ≡ cond (ltb 3 count) d 0 → s ∷ x ∷ y ∷ z ∷ w ∷ [] ≡ rowOf count s a b c d
 unfolding rowOf
 row-built count s a b c d x y z w p q r t = rw (p, q, r, t)

@@ -3,18 +3,18 @@
 --   letter-..               the letters after one term field, as the code goes by cases
 --   letters-step, letters-end    the letters after a line, one field on
 -- Assumes nothing.
-use mathlib.Core.Path.{_≡_, refl, sym, ap, ap₂, _∙_}
+use mathlib.Core.Path.{_≡_, sym, ap, ap₂, _∙_}
 use mathlib.Core.Bool.{Bool, true, false, cond, not, _&&_, _||_}
 use mathlib.Core.List.{List, [], _∷_, _++_}
-use Prim.Native.Nat.{ℕ, zero, suc, _+_, _-_, _*_, _≤_, _<_}
-use native.Mathlib.Decide.{ℕ-discrete, decLt}
+use Prim.Native.Nat.{ℕ, zero, suc, _+_, _-_, _≤_, _<_}
+use native.Mathlib.Decide.{ℕ-discrete}
 use native.Mathlib.Omega.{arith}
 use borrow.Author.Tests.{lt-ltb, le-ltb, eq-eqb, ne-eqb, leb-true}
-use lib.Dec.{leb, ltb, eqb}
-use lib.ListN.{length, getD, set, length-set}
+use lib.Dec.{leb, eqb}
+use lib.ListN.{length, getD, set}
 use lib.Seq.{getD-set-same, getD-set-other}
 use Rattle.text.specs.Bytes.{between}
-use Rattle.text.specs.Lists.{placeFrom, placeOf, isKnown, withName, sameBytes, tabled}
+use Rattle.text.specs.Lists.{placeFrom, placeOf, isKnown, withName, sameBytes}
 use Rattle.text.specs.Fields.{isName, isVariable, isTerm}
 use Rattle.text.proofs.Laws.{tabled-length, tabled-at}
 use Rattle.syntax.specs.Goals.{lettersAfter}
@@ -24,7 +24,8 @@ use Rattle.lines.proofs.Cells.{letter-one, one-list, and-both}
 use Rattle.goals.specs.ReadGoal.{LettersFit}
 
 -- numbers below k of which no two are the same: there are at most k
-module _ (n k : ℕ) (f : ℕ → ℕ) (low : (i : ℕ) → i < suc n → f i < suc k) (apart : (i j : ℕ) → i < j → j < suc n → f i ≡ f j → ⊥) where
+module _ (n k : ℕ) (f : ℕ → ℕ) (low : (i : ℕ) → i < suc n → f i < suc k)
+    (apart : (i j : ℕ) → i < j → j < suc n → f i ≡ f j → ⊥) where
   -- the number k exchanged for the last
   abbrev moved : ℕ → ℕ
   moved i = cond (eqb (f i) k) (f n) (f i)
@@ -63,7 +64,8 @@ pigeon (suc n) (suc k) f low apart =
     omega arith
 
 -- the place of the first that passes a test is not behind one that does
-pub place-le {ℓ} : {A : Type ℓ} (test : A → Bool) (d : A) (j : ℕ) (xs : List A) (i : ℕ) → i < length xs → test (getD xs i d) ≡ true
+pub place-le {ℓ} : {A : Type ℓ} (test : A → Bool) (d : A) (j : ℕ) (xs : List A) (i : ℕ) → i < length xs
+    → test (getD xs i d) ≡ true
     → placeFrom test j xs ≤ j + i
 place-le test d j [] i h e = absurd (omega arith)
 place-le test d j (x ∷ xs) zero h e = rw e (omega arith)

@@ -7,15 +7,15 @@
 -- Assumes nothing.
 use mathlib.Core.Path.{_≡_, refl, sym, ap, ap₂, _∙_}
 use mathlib.Core.Logic.{_⊎_, ⊎-elim}
-use mathlib.Core.Bool.{Bool, true, false, cond, not, _&&_, _||_}
+use mathlib.Core.Bool.{true, false}
 use mathlib.Core.List.{List, [], _∷_, _++_, map, append-nil}
-use mathlib.Core.Option.{Option, none, some}
-use Prim.Native.Nat.{ℕ, zero, suc, _+_, _-_, _*_, _≤_, _<_}
-use native.Mathlib.Decide.{ℕ-discrete, decLt}
+use mathlib.Core.Option.{none, some}
+use Prim.Native.Nat.{ℕ, suc, _+_, _-_, _*_, _≤_, _<_}
+use native.Mathlib.Decide.{decLt}
 use native.Mathlib.Omega.{arith}
 use borrow.Author.Tests.{lt-ltb, le-ltb, le-leb, lt-leb}
-use lib.Dec.{leb, ltb, eqb}
-use lib.ListN.{length, getD, take, drop, length-drop, drop-of-length-le}
+use lib.Dec.{ltb}
+use lib.ListN.{length, take, drop, length-drop, drop-of-length-le}
 use lib.Seq.{length-take-le}
 use Rattle.text.specs.Lists.{placeOf, tabled}
 use Rattle.text.specs.Lines.{Line, lines, lineIsFaulty}
@@ -23,11 +23,12 @@ use Rattle.text.specs.Fields.{fields}
 use Rattle.text.specs.Places.{fieldsFrom, lineAt}
 use Rattle.text.proofs.Forms.{faulty-empty}
 use Rattle.text.proofs.Cursors.{fields-in}
-use Rattle.semantics.specs.Terms.{Term, Constraint, Symbol, weight}
-use Rattle.syntax.specs.Answers.{Answer, refused, accepted, refuseIf, andThen}
-use Rattle.syntax.specs.Forms.{formOf, fieldAt, constantsAfter, termOf, isConstraintFaulty, isUndeclared, symbolNumber, constraintOf}
+use Rattle.semantics.specs.Terms.{Constraint, Symbol, weight}
+use Rattle.syntax.specs.Answers.{refused, accepted}
+use Rattle.syntax.specs.Forms.{formOf, fieldAt, constantsAfter, termOf, isConstraintFaulty, isUndeclared, symbolNumber}
+use Rattle.syntax.specs.Forms.{constraintOf}
 use Rattle.syntax.specs.Programs.{maxText, maxConstants, Reading}
-use Rattle.syntax.specs.Goals.{maxGoal, maxWeight, GoalDraft, GoalReading, lettersAfter, readConstraintOfGoal, isGoalForm}
+use Rattle.syntax.specs.Goals.{maxGoal, maxWeight, GoalDraft, lettersAfter, readConstraintOfGoal, isGoalForm}
 use Rattle.syntax.specs.Goals.{readGoalLine, readGoalLines, readGoal}
 use Rattle.syntax.specs.Tables.{cellConstraints, constantOf, constantsOf, lettersOf, symbolsOf}
 use Rattle.lines.specs.declared.HeadRead.the-variants.{Refused as HeadRefused}
@@ -35,14 +36,13 @@ use Rattle.lines.specs.Read.{roomy, HeadAt, HeadIn}
 use Rattle.syntax.proofs.Tabled.{constants-length}
 use Rattle.lines.proofs.Constants.{roomy-is, roomy-not}
 use Rattle.goals.specs.declared.goal.GoalCounts.{GoalCounts}
-use Rattle.goals.specs.declared.goal.GoalLineRead.{GoalLineRead}
 use Rattle.goals.specs.declared.goal.GoalLineRead.the-variants.{Refused as lineRefused, Next}
-use Rattle.goals.specs.declared.goal.GoalRead.{GoalRead}
 use Rattle.goals.specs.declared.goal.GoalRead.the-variants.{Refused as goalRefused, Accepted}
 use Rattle.goals.specs.ReadGoal.{goalAnswer}
-use Rattle.goals.specs.ReadGoal.{GoalRoom, LettersFit, RowFits, GoalFits, Stored, ReadFrom, goalDraftOf, goalLineAnswer, goalReadingOf}
+use Rattle.goals.specs.ReadGoal.{GoalRoom, LettersFit, GoalFits, Stored, ReadFrom, goalDraftOf, goalLineAnswer}
+use Rattle.goals.specs.ReadGoal.{goalReadingOf}
 use Rattle.goals.proofs.GoalLetters.{letters-length}
-use Rattle.goals.proofs.GoalCells.{cells-length}
+use Rattle.lines.proofs.Constraints.{constraints-length}
 use Rattle.goals.proofs.GoalTerms.{row-more, row-new, arity-is}
 
 -- a G line
@@ -61,7 +61,8 @@ module _ (symbols : List Symbol) (i : ℕ) (fs : List (List ℕ)) (d : GoalDraft
   unfolding readConstraintOfGoal maxGoal
   constraint-many e p h = rw (e, p, le-leb 64 (length (d .constraints)) h)
 
-  module _ (rest : List (List ℕ)) (e : isConstraintFaulty fs ≡ false) (p : isUndeclared symbols fs ≡ false) (few : length (d .constraints) < 64)
+  module _ (rest : List (List ℕ)) (e : isConstraintFaulty fs ≡ false) (p : isUndeclared symbols fs ≡ false)
+      (few : length (d .constraints) < 64)
       (others : drop 2 fs ≡ rest) where
     pub constraint-full : none ≡ roomy (constantsAfter rest (d .constants)) → refused 7 i ≡ readConstraintOfGoal symbols i fs d
     unfolding readConstraintOfGoal maxGoal maxConstants
@@ -74,7 +75,8 @@ module _ (symbols : List Symbol) (i : ℕ) (fs : List (List ℕ)) (d : GoalDraft
           lt-ltb 64 (length (constantsAfter rest (d .constants))) (roomy-not (constantsAfter rest (d .constants)) q),
         )
 
-    module _ (ls cs : List (List ℕ)) (l : ls ≡ lettersAfter rest (d .letters)) (r : some cs ≡ roomy (constantsAfter rest (d .constants)))
+    module _ (ls cs : List (List ℕ)) (l : ls ≡ lettersAfter rest (d .letters))
+        (r : some cs ≡ roomy (constantsAfter rest (d .constants)))
         (s : ℕ) (number : s ≡ symbolNumber symbols (fieldAt 1 fs)) where
       spelled : constantsAfter rest (d .constants) ≡ cs
       spelled = roomy-is (constantsAfter rest (d .constants)) cs r .0
@@ -115,7 +117,7 @@ module _ (program goal constants : List ℕ) (n : ℕ) (cells letters symbols : 
     filled : length (goalDraftOf program goal constants n cells letters counts .constraints) ≡ counts .constraints
     unfolding goalDraftOf
     filled =
-        cells-length (counts .constraints) (take (5 * counts .constraints) cells)
+        constraints-length (counts .constraints) (take (5 * counts .constraints) cells)
         (length-take-le (5 * counts .constraints) cells (omega arith))
 
     pub refuses-many : 64 ≤ counts .constraints → Refuses 7
@@ -125,7 +127,8 @@ module _ (program goal constants : List ℕ) (n : ℕ) (cells letters symbols : 
         (goalDraftOf program goal constants n cells letters counts) (h .fine) (h .known) (omega (arith, filled))
 
     pub refuses-full : counts .constraints < 64
-        → none ≡ roomy (constantsAfter (fieldsFrom (take end goal) from) (constantsOf program goal constants n (counts .constants))) → Refuses 7
+        → none ≡ roomy (constantsAfter (fieldsFrom (take end goal) from)
+        (constantsOf program goal constants n (counts .constants))) → Refuses 7
     unfolding goalLineAnswer goalDraftOf
     refuses-full m q =
         constraint-full (symbolsOf program symbols k) i (fieldsFrom (take end goal) at)
@@ -139,7 +142,8 @@ module _ (program goal constants : List ℕ) (n : ℕ) (cells letters symbols : 
     (r : some (constantsOf program goal constants′ n more)
     ≡ roomy (constantsAfter (fieldsFrom (take end goal) from) (constantsOf program goal constants n (counts .constants))))
     (l : lettersOf letters′ v ≡ lettersAfter (fieldsFrom (take end goal) from) (lettersOf letters (counts .letters)))
-    (d : Stored (termOf (λ f. placeOf f (lettersOf letters′ v)) (constantsOf program goal constants′ n more)) (fieldsFrom (take end goal) from) s m
+    (d : Stored (termOf (λ f. placeOf f (lettersOf letters′ v)) (constantsOf program goal constants′ n more))
+    (fieldsFrom (take end goal) from) s m
     cells cells′)
     (e : m ≡ counts .constraints) (few : m < 64) (room : 320 ≤ length cells) where
   abbrev next : GoalCounts
@@ -148,7 +152,7 @@ module _ (program goal constants : List ℕ) (n : ℕ) (cells letters symbols : 
   held : length (cellConstraints (take (5 * counts .constraints) cells)) ≡ m
   held =
       ap (λ (j : ℕ). length (cellConstraints (take (5 * j) cells))) (sym e)
-      ∙ cells-length m (take (5 * m) cells) (length-take-le (5 * m) cells (omega arith))
+      ∙ constraints-length m (take (5 * m) cells) (length-take-le (5 * m) cells (omega arith))
 
   pub next-is : (i : ℕ) → goalLineAnswer program goal constants′ n cells′ letters′ i (Next next)
       ≡ readConstraintOfGoal (symbolsOf program symbols k) i (fieldsFrom (take end goal) at)
@@ -160,7 +164,13 @@ module _ (program goal constants : List ℕ) (n : ℕ) (cells letters symbols : 
         letters = lettersOf letters′ v;
         constants = constantsOf program goal constants′ n more;
       }))
-      (d .held ∙ ap (λ (j : ℕ). cellConstraints (take (5 * j) cells) ++ (record { symbol = s; terms = map (termOf (λ f. placeOf f (lettersOf letters′ v)) (constantsOf program goal constants′ n more)) (fieldsFrom (take end goal) from) } ∷ [])) e)
+      (d .held ∙ ap (λ (j : ℕ). cellConstraints
+      (take (5 * j) cells) ++ (record {
+        symbol = s;
+        terms =
+            map (termOf (λ f. placeOf f (lettersOf letters′ v)) (constantsOf program goal constants′ n more))
+            (fieldsFrom (take end goal) from);
+      } ∷ [])) e)
       ∙ constraint-next (symbolsOf program symbols k) i (fieldsFrom (take end goal) at)
       (goalDraftOf program goal constants n cells letters counts) (fieldsFrom (take end goal) from) (h .fine) (h .known)
       (omega (arith, held)) (h .others) (lettersOf letters′ v) (constantsOf program goal constants′ n more) l r s (h .number)
@@ -168,7 +178,8 @@ module _ (program goal constants : List ℕ) (n : ℕ) (cells letters symbols : 
   pub next-fits : GoalFits symbols k n cells letters counts → LettersFit letters′ v → counts .letters ≤ v
       → GoalFits symbols k n cells′ letters′ next
   next-fits f g w =
-      let after : List (List ℕ) = constantsAfter (fieldsFrom (take end goal) from) (constantsOf program goal constants n (counts .constants)) in
+      let after : List (List ℕ) = constantsAfter (fieldsFrom (take end goal) from)
+      (constantsOf program goal constants n (counts .constants)) in
       let cs : List (List ℕ) = constantsOf program goal constants′ n more in
       let known : (after ≡ cs) × (length after ≤ 64) = roomy-is after cs r in
       let short : length cs ≤ 64 = omega (arith, known .1, ap (λ (x : List (List ℕ)). length x) (known .0)) in
@@ -180,8 +191,10 @@ module _ (program goal constants : List ℕ) (n : ℕ) (cells letters symbols : 
           | yes y ↦ row-more symbols k cells cells′ (counts .letters) v j m w y (d .before) (f .rows j (omega (arith, y)))
           | no y ↦
               let here : j ≡ m = omega (arith, z, y) in
-              rw here (row-new symbols k v m s (fieldsFrom (take end goal) from) (lettersOf letters′ v) cs (lettersOf letters (counts .letters))
-              (constantsOf program goal constants n (counts .constants)) cells cells′ d l (sym (known .0)) short (letters-length letters′ v)
+              rw here (row-new symbols k v m s (fieldsFrom (take end goal) from) (lettersOf letters′ v) cs
+              (lettersOf letters (counts .letters))
+              (constantsOf program goal constants n (counts .constants)) cells cells′ d l (sym (known .0)) short
+              (letters-length letters′ v)
               (h .bounded)
               (arity-is program symbols k s (fieldsFrom (take end goal) at) (h .known) (h .number) (h .bounded)
               ∙ ap (λ (x : List (List ℕ)). length x) (h .others)) (h .few))
@@ -205,7 +218,8 @@ module _ (symbols : List Symbol) (i : ℕ) (l : Line) (d : GoalDraft) where
   line-goal e p = rw (e, p)
 
 -- the fields of a line as it stands in the text
-pub fields-of : (s : List ℕ) (at end : ℕ) → at ≤ end → end ≤ length s → fieldsFrom (take end s) at ≡ fields (lineAt s at end .bytes)
+pub fields-of : (s : List ℕ) (at end : ℕ) → at ≤ end → end ≤ length s
+    → fieldsFrom (take end s) at ≡ fields (lineAt s at end .bytes)
 unfolding lineAt
 fields-of s at end h k = fields-in (take end s) at (omega (arith, length-take-le end s k))
 
@@ -225,7 +239,8 @@ module _ (symbols : List Symbol) (i : ℕ) (d : GoalDraft) (l : Line) (all ls : 
   unfolding readGoalLines
   lines-refused x e = rw (q, ← e)
 
-  pub lines-next : (f : GoalDraft) → accepted f ≡ readGoalLine symbols i l d → readGoalLines symbols i d all ≡ readGoalLines symbols (suc i) f ls
+  pub lines-next : (f : GoalDraft) → accepted f ≡ readGoalLine symbols i l d
+      → readGoalLines symbols i d all ≡ readGoalLines symbols (suc i) f ls
   unfolding readGoalLines
   lines-next f e = rw (q, ← e)
 
@@ -271,7 +286,8 @@ room-kept symbols k constants n cells letters constants′ cells′ letters′ r
     }
 
 -- a goal's text over a program's tables
-module _ (program goal constants : List ℕ) (n : ℕ) (symbols : List ℕ) (k : ℕ) (p : Reading) (t : ReadFrom program symbols k constants n p) where
+module _ (program goal constants : List ℕ) (n : ℕ) (symbols : List ℕ) (k : ℕ) (p : Reading)
+    (t : ReadFrom program symbols k constants n p) where
   abbrev start : GoalDraft
   start = record { constraints = []; letters = []; constants = constantsOf program goal constants n 0 }
 
@@ -279,10 +295,12 @@ module _ (program goal constants : List ℕ) (n : ℕ) (symbols : List ℕ) (k :
   unfolding constantsOf
   start-is = t .spelled ∙ sym (append-nil (tabled (constantOf program constants) n))
 
-  lines-are : readGoalLines (p .program .symbols) 1 (record { constraints = []; letters = []; constants = p .constants }) (lines goal)
+  lines-are : readGoalLines (p .program .symbols) 1 (record { constraints = []; letters = []; constants = p .constants })
+      (lines goal)
       ≡ readGoalLines (symbolsOf program symbols k) 1 start (lines goal)
   lines-are =
-      ap₂ (λ (x : List Symbol) (y : List (List ℕ)). readGoalLines x 1 (record { constraints = []; letters = []; constants = y }) (lines goal))
+      ap₂ (λ (x : List Symbol) (y : List (List ℕ)). readGoalLines x 1 (record { constraints = []; letters = []; constants = y })
+      (lines goal))
       (t .declared) start-is
 
   pub goal-long : 16384 < length goal → refused 1 0 ≡ readGoal p goal
@@ -290,7 +308,8 @@ module _ (program goal constants : List ℕ) (n : ℕ) (symbols : List ℕ) (k :
   goal-long h = rw (lt-ltb 16384 (length goal) h)
 
   module _ (h : length goal ≤ 16384) where
-    pub goal-refused : (x i : ℕ) → refused x i ≡ readGoalLines (symbolsOf program symbols k) 1 start (lines goal) → refused x i ≡ readGoal p goal
+    pub goal-refused : (x i : ℕ) → refused x i ≡ readGoalLines (symbolsOf program symbols k) 1 start (lines goal)
+        → refused x i ≡ readGoal p goal
     unfolding readGoal maxText
     goal-refused x i e = rw (le-ltb 16384 (length goal) h, lines-are, ← e)
 
@@ -298,7 +317,13 @@ module _ (program goal constants : List ℕ) (n : ℕ) (symbols : List ℕ) (k :
       pub goal-heavy : 512 < weight (symbolsOf program symbols k) (d .constraints) → refused 10 0 ≡ readGoal p goal
       unfolding readGoal maxText maxWeight
       goal-heavy w =
-          rw (le-ltb 16384 (length goal) h, lines-are, ← e, t .declared, lt-ltb 512 (weight (symbolsOf program symbols k) (d .constraints)) w)
+          rw (
+            le-ltb 16384 (length goal) h,
+            lines-are,
+            ← e,
+            t .declared,
+            lt-ltb 512 (weight (symbolsOf program symbols k) (d .constraints)) w,
+          )
 
       pub goal-light : weight (symbolsOf program symbols k) (d .constraints) ≤ 512
           → accepted (record {
@@ -308,11 +333,18 @@ module _ (program goal constants : List ℕ) (n : ℕ) (symbols : List ℕ) (k :
           }) ≡ readGoal p goal
       unfolding readGoal maxText maxWeight
       goal-light w =
-          rw (le-ltb 16384 (length goal) h, lines-are, ← e, t .declared, le-ltb 512 (weight (symbolsOf program symbols k) (d .constraints)) w)
+          rw (
+            le-ltb 16384 (length goal) h,
+            lines-are,
+            ← e,
+            t .declared,
+            le-ltb 512 (weight (symbolsOf program symbols k) (d .constraints)) w,
+          )
 
     -- the answer by the tables behind the lines
     module _ (constants′ cells′ letters′ : List ℕ) (s : GoalCounts)
-        (e : accepted (goalDraftOf program goal constants′ n cells′ letters′ s) ≡ readGoalLines (symbolsOf program symbols k) 1 start (lines goal)) where
+        (e : accepted (goalDraftOf program goal constants′ n cells′ letters′ s)
+        ≡ readGoalLines (symbolsOf program symbols k) 1 start (lines goal)) where
       abbrev goalHeld : List Constraint
       goalHeld = cellConstraints (take (5 * s .constraints) cells′)
 

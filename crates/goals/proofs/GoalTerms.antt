@@ -3,27 +3,26 @@
 --   term-fits                       so its cell is a constant's or a variable's
 --   rows-more                       what all constraints' cells keep to, with one more
 -- Assumes nothing.
-use mathlib.Core.Path.{_≡_, refl, sym, ap, ap₂, _∙_}
+use mathlib.Core.Path.{_≡_, refl, sym, ap, _∙_}
 use mathlib.Core.Logic.{_⊎_, inl, inr, ⊎-elim}
-use mathlib.Core.Bool.{Bool, true, false, cond, not, _&&_, _||_}
-use mathlib.Core.List.{List, [], _∷_, _++_, map}
+use mathlib.Core.Bool.{Bool, true, false, cond, not, _||_}
+use mathlib.Core.List.{List, [], _∷_, _++_}
 use Prim.Native.Nat.{ℕ, zero, suc, _+_, _-_, _*_, _≤_, _<_}
-use native.Mathlib.Decide.{ℕ-discrete, decLt}
 use native.Mathlib.Omega.{arith}
-use borrow.Author.Tests.{lt-ltb, le-ltb, eq-eqb, ne-eqb, ltb-true, ltb-false, eqb-true}
-use lib.Dec.{leb, ltb, eqb}
-use lib.ListN.{length, getD, take, drop, length-append}
+use borrow.Author.Tests.{eq-eqb, ltb-true, ltb-false, eqb-true}
+use lib.Dec.{ltb, eqb}
+use lib.ListN.{length, getD, drop, length-append}
 use lib.Seq.{getD-append-seam}
 use Rattle.text.specs.Lists.{placeOf, isKnown, withName, sameBytes}
 use Rattle.text.specs.Fields.{isName}
-use Rattle.semantics.specs.Terms.{Term, con, var, Symbol, symbolAt}
+use Rattle.semantics.specs.Terms.{con, var, Symbol, symbolAt}
 use Rattle.syntax.specs.Forms.{constantsAfter, termOf, firstConstant, symbolNumber, isUndeclared, fieldAt}
 use Rattle.syntax.specs.Goals.{lettersAfter}
-use Rattle.syntax.specs.Tables.{cellTerm, symbolOf, symbolsOf, lettersOf}
+use Rattle.syntax.specs.Tables.{cellTerm, symbolOf, symbolsOf}
 use Rattle.syntax.proofs.Tabled.{name-first}
 use Rattle.lines.proofs.Shapes.{symbol-at}
 use Rattle.goals.specs.ReadGoal.{IsTermCell, RowFits, Stored}
-use Rattle.goals.proofs.GoalLetters.{place-le, letters-length}
+use Rattle.goals.proofs.GoalLetters.{place-le}
 
 same-self : (s : List ℕ) → sameBytes s s ≡ true
 same-self [] = refl
@@ -125,7 +124,8 @@ row-more symbols k old new v w j m h l same r =
       arity = omega (arith, ways, r .arity);
       terms = λ i p.
           let small : i < 4 = omega (arith, p, ways, r .arity) in
-          rw (same (5 * j + suc i) (omega arith)) (more-fits v w (getD old (5 * j + suc i) 0) h (r .terms i (omega (arith, p, ways))));
+          rw (same (5 * j + suc i) (omega arith)) (more-fits v w (getD old (5 * j + suc i) 0) h
+          (r .terms i (omega (arith, p, ways))));
       zeros = λ i p q. same (5 * j + suc i) (omega (arith, q)) ∙ r .zeros i (omega (arith, p, ways)) q;
     }
 
@@ -136,9 +136,11 @@ unfolding isUndeclared symbolOf
 arity-is text cells k s fs e p h =
     let number : ℕ = symbolNumber (symbolsOf text cells k) (fieldAt 1 fs) in
     let two : eqb (length (drop 2 fs)) (symbolAt (symbolsOf text cells k) number .arity) ≡ true =
-    second (ltb number (length (symbolsOf text cells k))) (eqb (length (drop 2 fs)) (symbolAt (symbolsOf text cells k) number .arity)) e in
+    second (ltb number (length (symbolsOf text cells k)))
+    (eqb (length (drop 2 fs)) (symbolAt (symbolsOf text cells k) number .arity)) e in
     let here : symbolAt (symbolsOf text cells k) number .arity ≡ getD cells (4 * s + 2) 0 =
-    ap (λ (n : ℕ). symbolAt (symbolsOf text cells k) n .arity) (sym p) ∙ ap (λ (t : Symbol). t .arity) (symbol-at text cells k s h) in
+    ap (λ (n : ℕ). symbolAt (symbolsOf text cells k) n .arity) (sym p)
+    ∙ ap (λ (t : Symbol). t .arity) (symbol-at text cells k s h) in
     sym (eqb-true (length (drop 2 fs)) (symbolAt (symbolsOf text cells k) number .arity) two ∙ here)
   where
     second : (a b : Bool) → (not a || not b) ≡ false → b ≡ true
@@ -151,7 +153,8 @@ pub row-new : (symbols : List ℕ) (k v m s : ℕ) (fs ls cs ls₀ cs₀ : List 
     → Stored (termOf (λ g. placeOf g ls) cs) fs s m old new → ls ≡ lettersAfter fs ls₀ → cs ≡ constantsAfter fs cs₀
     → length cs ≤ 64 → length ls ≡ v → s < k → getD symbols (4 * s + 2) 0 ≡ length fs → length fs ≤ 4 → RowFits symbols k new v m
 row-new symbols k v m s fs ls cs ls₀ cs₀ old new d p q h l below ways few =
-    let same : getD symbols (4 * getD new (5 * m) 0 + 2) 0 ≡ length fs = ap (λ (x : ℕ). getD symbols (4 * x + 2) 0) (d .symbol) ∙ ways in
+    let same : getD symbols (4 * getD new (5 * m) 0 + 2) 0 ≡ length fs = ap (λ (x : ℕ). getD symbols (4 * x + 2) 0) (d .symbol)
+    ∙ ways in
     record {
       symbol = omega (arith, d .symbol);
       arity = omega arith;

@@ -12,7 +12,7 @@ use mathlib.Core.List.{List, [], _∷_, _++_, map}
 use lib.Dec.{ltb}
 use lib.ListN.{length, getD, take}
 use Rattle.text.specs.Lists.{tabled}
-use Rattle.semantics.specs.Terms.{Term, Constraint, weight}
+use Rattle.semantics.specs.Terms.{Term, weight}
 use Rattle.syntax.specs.Answers.{Answer, refused, accepted}
 use Rattle.syntax.specs.Programs.{Reading}
 use Rattle.syntax.specs.Goals.{GoalDraft, GoalReading}
@@ -55,7 +55,8 @@ rowOf count s a b c d =
 -- what storing a constraint behind the first m changes: the term fields fs are its terms
 pub record Stored (term : List ℕ → Term) (fs : List (List ℕ)) (s m : ℕ) (old new : List ℕ) : Type 0 where
   pub held :
-      cellConstraints (take (5 * suc m) new) ≡ cellConstraints (take (5 * m) old) ++ (record { symbol = s; terms = map term fs } ∷ [])
+      cellConstraints (take (5 * suc m) new)
+      ≡ cellConstraints (take (5 * m) old) ++ (record { symbol = s; terms = map term fs } ∷ [])
   pub before : (i : ℕ) → i < 5 * m → getD new i 0 ≡ getD old i 0
   pub symbol : getD new (5 * m) 0 ≡ s
   pub terms : (i : ℕ) → i < length fs → cellTerm (getD new (5 * m + suc i) 0) ≡ term (getD fs i [])
@@ -97,7 +98,8 @@ goalLineFits symbols k n cells letters (Next s) = GoalFits symbols k n cells let
 -- the code's answer to the lines
 unfoldable pub goalLinesAnswer : List ℕ → List ℕ → List ℕ → ℕ → List ℕ → List ℕ → GoalRead → Answer GoalDraft
 goalLinesAnswer program goal constants n cells letters (goalRefused x i) = refused x i
-goalLinesAnswer program goal constants n cells letters (Accepted s) = accepted (goalDraftOf program goal constants n cells letters s)
+goalLinesAnswer program goal constants n cells letters (Accepted s) =
+    accepted (goalDraftOf program goal constants n cells letters s)
 
 -- what the tables keep to behind lines that are not refused
 abbrev pub goalLinesFit : List ℕ → ℕ → ℕ → List ℕ → List ℕ → GoalRead → Type 0

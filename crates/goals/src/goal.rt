@@ -8,25 +8,25 @@ use lines::heads::fields_left;
 use lines::rows::write_cells;
 use lines::terms::add_constants;
 use lines::terms::terms_of;
+use lines::weights::weight_of;
 use syntax::names::find_letter;
-use syntax::names::wide;
 ghost use mathlib.Core.Path.{_≡_};
 ghost use mathlib.Core.Bool.{true, cond};
-ghost use mathlib.Core.List.{List, [], map};
+ghost use mathlib.Core.List.{[]};
 ghost use Prim.Native.Nat.{ℕ, _+_, _*_, _≤_, _<_};
 ghost use lib.Dec.{ltb};
-ghost use lib.ListN.{length, take, getD};
+ghost use lib.ListN.{length, take};
 ghost use lib.Seq.{paste};
 ghost use Rattle.text.specs.Lists.{every, withName, placeOf};
 ghost use Rattle.text.specs.Lines.{lines};
 ghost use Rattle.text.specs.Fields.{isName, isTerm};
 ghost use Rattle.text.specs.Places.{classTable, fieldsFrom, lineAt};
-ghost use Rattle.semantics.specs.Terms.{weight};
 ghost use Rattle.syntax.specs.Forms.{formOf, fieldAt, termOf};
 ghost use Rattle.syntax.specs.Programs.{Reading};
 ghost use Rattle.syntax.specs.Goals.{lettersAfter, isGoalForm, readConstraintOfGoal, readGoalLine, readGoalLines, readGoal};
-ghost use Rattle.syntax.specs.Tables.{cellTerms, cellConstraints, symbolsOf, constantsOf, lettersOf};
-ghost use Rattle.goals.specs.ReadGoal.{ReadFrom, GoalRoom, Stored, rowOf, LettersFit, IsTermCell, RowFits, GoalFits, goalDraftOf, goalLineAnswer, goalLineFits};
+ghost use Rattle.syntax.specs.Tables.{symbolsOf, constantsOf, lettersOf};
+ghost use Rattle.goals.specs.ReadGoal.{ReadFrom, GoalRoom, Stored, rowOf, LettersFit, GoalFits};
+ghost use Rattle.goals.specs.ReadGoal.{goalDraftOf, goalLineAnswer, goalLineFits};
 ghost use Rattle.goals.specs.ReadGoal.{goalLinesAnswer, goalLinesFit, goalAnswer, goalKeeps};
 
 // How many constraints, variables and constants of its own a goal has, as far as it is read.
@@ -50,9 +50,11 @@ pub enum GoalRead {
 
 // The letters with one more behind them, if a term field is a letter that is new.
 fn add_letter(classes: &[u8], f: &[u8], letters: &mut [u8], v: usize) -> usize
-    requires { ⌜ (now classes ≡ classTable) × (isTerm (now f) ≡ true) × (length (now letters) ≡ 26) × LettersFit (now letters) v ⌝ }
+    requires { ⌜ (now classes ≡ classTable) × (isTerm (now f) ≡ true) × (length (now letters) ≡ 26)
+        × LettersFit (now letters) v ⌝ }
     ensures { λ r. ⌜ (lettersOf (now (letters .exit)) r
-        ≡ cond (isName (now (f .entry))) (lettersOf (now (letters .entry)) v) (withName (now (f .entry)) (lettersOf (now (letters .entry)) v)))
+        ≡ cond (isName (now (f .entry))) (lettersOf (now (letters .entry)) v)
+        (withName (now (f .entry)) (lettersOf (now (letters .entry)) v)))
         × LettersFit (now (letters .exit)) r × (v ≤ r) ⌝ }
 {
     if text::is_name(classes, f) {
@@ -71,7 +73,8 @@ fn add_letter(classes: &[u8], f: &[u8], letters: &mut [u8], v: usize) -> usize
 fn add_letters(classes: &[u8], line: &[u8], at: usize, letters: &mut [u8], v: usize) -> usize
     requires { ⌜ (now classes ≡ classTable) × (every isTerm (fieldsFrom (now line) at) ≡ true) × (length (now letters) ≡ 26)
         × LettersFit (now letters) v × (length (now line) ≤ 16384) ⌝ }
-    ensures { λ r. ⌜ (lettersOf (now (letters .exit)) r ≡ lettersAfter (fieldsFrom (now (line .entry)) at) (lettersOf (now (letters .entry)) v))
+    ensures { λ r. ⌜ (lettersOf (now (letters .exit)) r
+        ≡ lettersAfter (fieldsFrom (now (line .entry)) at) (lettersOf (now (letters .entry)) v))
         × LettersFit (now (letters .exit)) r × (v ≤ r) ⌝ }
 {
     let mut count = v;
@@ -122,7 +125,8 @@ fn store_constraint(
     m: usize,
     s: usize,
 )
-    requires { ⌜ (now classes ≡ classTable) × (length (now constants) ≡ 128) × (n + more ≤ 64) × (v ≤ 26) × (v ≤ length (now letters))
+    requires { ⌜ (now classes ≡ classTable) × (length (now constants) ≡ 128) × (n + more ≤ 64) × (v ≤ 26)
+        × (v ≤ length (now letters))
         × (at ≤ end + 1) × (end ≤ length (now goal)) × (length (fieldsFrom (take end (now goal)) at) ≤ 4)
         × (every isTerm (fieldsFrom (take end (now goal)) at) ≡ true) × (5 * m + 5 ≤ length (now cells)) × (s < 32) ⌝ }
     ensures { λ _. ⌜ Stored (termOf (λ f. placeOf f (lettersOf (now (letters .entry)) v))
@@ -163,10 +167,12 @@ fn goal_constraint(
     requires { ⌜ (now classes ≡ classTable) × (at ≤ end) × (end ≤ length (now goal)) × (length (now goal) ≤ 16384)
         × GoalRoom (now symbols) k (now constants) n (now cells) (now letters)
         × GoalFits (now symbols) k n (now cells) (now letters) counts ⌝ }
-    ensures { λ r. ⌜ ((i : ℕ) → goalLineAnswer (now (program .entry)) (now (goal .entry)) (now (constants .exit)) n (now (cells .exit))
-        (now (letters .exit)) i r
-        ≡ readConstraintOfGoal (symbolsOf (now (program .entry)) (now (symbols .entry)) k) i (fieldsFrom (take end (now (goal .entry))) at)
-        (goalDraftOf (now (program .entry)) (now (goal .entry)) (now (constants .entry)) n (now (cells .entry)) (now (letters .entry)) counts))
+    ensures { λ r. ⌜ ((i : ℕ) → goalLineAnswer (now (program .entry)) (now (goal .entry)) (now (constants .exit)) n
+        (now (cells .exit)) (now (letters .exit)) i r
+        ≡ readConstraintOfGoal (symbolsOf (now (program .entry)) (now (symbols .entry)) k) i
+        (fieldsFrom (take end (now (goal .entry))) at)
+        (goalDraftOf (now (program .entry)) (now (goal .entry)) (now (constants .entry)) n (now (cells .entry))
+        (now (letters .entry)) counts))
         × goalLineFits (now (symbols .entry)) k n (now (cells .exit)) (now (letters .exit)) r ⌝ }
 {
     let m = counts.constraints;
@@ -249,10 +255,11 @@ fn goal_line(
     requires { ⌜ (now classes ≡ classTable) × (at ≤ end) × (end ≤ length (now goal)) × (length (now goal) ≤ 16384)
         × GoalRoom (now symbols) k (now constants) n (now cells) (now letters)
         × GoalFits (now symbols) k n (now cells) (now letters) counts ⌝ }
-    ensures { λ r. ⌜ ((i : ℕ) → goalLineAnswer (now (program .entry)) (now (goal .entry)) (now (constants .exit)) n (now (cells .exit))
-        (now (letters .exit)) i r
+    ensures { λ r. ⌜ ((i : ℕ) → goalLineAnswer (now (program .entry)) (now (goal .entry)) (now (constants .exit)) n
+        (now (cells .exit)) (now (letters .exit)) i r
         ≡ readGoalLine (symbolsOf (now (program .entry)) (now (symbols .entry)) k) i (lineAt (now (goal .entry)) at end)
-        (goalDraftOf (now (program .entry)) (now (goal .entry)) (now (constants .entry)) n (now (cells .entry)) (now (letters .entry)) counts))
+        (goalDraftOf (now (program .entry)) (now (goal .entry)) (now (constants .entry)) n (now (cells .entry))
+        (now (letters .entry)) counts))
         × goalLineFits (now (symbols .entry)) k n (now (cells .exit)) (now (letters .exit)) r ⌝ }
 {
     if text::is_faulty_line(classes, goal, at, end) {
@@ -294,7 +301,11 @@ fn goal_lines(
     ensures { λ r. ⌜ (goalLinesAnswer (now (program .entry)) (now (goal .entry)) (now (constants .exit)) n (now (cells .exit))
         (now (letters .exit)) r
         ≡ readGoalLines (symbolsOf (now (program .entry)) (now (symbols .entry)) k) 1
-        (record { constraints = []; letters = []; constants = constantsOf (now (program .entry)) (now (goal .entry)) (now (constants .entry)) n 0 })
+        (record {
+          constraints = [];
+          letters = [];
+          constants = constantsOf (now (program .entry)) (now (goal .entry)) (now (constants .entry)) n 0;
+        })
         (lines (now (goal .entry))))
         × goalLinesFit (now (symbols .entry)) k n (now (cells .exit)) (now (letters .exit)) r ⌝ }
 {
@@ -334,32 +345,6 @@ fn goal_lines(
     GoalRead::Accepted(counts)
 }
 
-// The weight of symbol s, and 0 behind the first k.
-fn symbol_weight(symbols: &[u16], k: usize, s: usize) -> usize
-    requires { ⌜ 4 * k ≤ length (now symbols) ⌝ }
-    ensures { λ r. ⌜ (r ≡ cond (ltb s k) (getD (now (symbols .entry)) (4 * s + 3) 0) 0) × (r < 65536) ⌝ }
-{
-    if s < k {
-        return wide(symbols[4 * s + 3]);
-    }
-    0
-}
-
-// The weight of the constraints that cells hold, five to each.
-fn goal_weight(symbols: &[u16], k: usize, rows: &[u16], m: usize) -> usize
-    requires { ⌜ (4 * k ≤ length (now symbols)) × (length (now rows) ≡ 5 * m) × (m ≤ 64) ⌝ }
-    ensures { λ r. ⌜ ((text : List ℕ) → r ≡ weight (symbolsOf text (now (symbols .entry)) k) (cellConstraints (now (rows .entry)))) ⌝ }
-{
-    let mut sum = 0;
-    let mut i = 0;
-    while i < m {
-        let s = wide(rows[5 * i]);
-        sum += symbol_weight(symbols, k, s);
-        i += 1;
-    }
-    sum
-}
-
 // A goal's text over a program: numbers 1 to 7, and 10.
 pub fn read_goal(
     program: &[u8],
@@ -373,7 +358,8 @@ pub fn read_goal(
 ) -> GoalRead
     requires { ⌜ GoalRoom (now symbols) k (now constants) n (now cells) (now letters) ⌝ }
     ensures { λ r. ⌜ ((p : Reading) → ReadFrom (now (program .entry)) (now (symbols .entry)) k (now (constants .entry)) n p
-        → goalAnswer (now (program .entry)) (now (goal .entry)) (now (constants .exit)) n (now (cells .exit)) (now (letters .exit)) r
+        → goalAnswer (now (program .entry)) (now (goal .entry)) (now (constants .exit)) n (now (cells .exit))
+        (now (letters .exit)) r
         ≡ readGoal p (now (goal .entry)))
         × goalKeeps (now (program .entry)) (now (symbols .entry)) k n (now (cells .exit)) (now (letters .exit)) r ⌝ }
 {
@@ -394,9 +380,8 @@ pub fn read_goal(
     ) {
         GoalRead::Refused(x, i) => GoalRead::Refused(x, i),
         GoalRead::Accepted(counts) => {
-            let m = counts.constraints;
-            let end = 5 * m;
-            if 512 < goal_weight(symbols, k, &cells[..end], m) {
+            let end = 5 * counts.constraints;
+            if 512 < weight_of(symbols, k, &cells[..end]) {
                 return GoalRead::Refused(10, 0);
             }
             GoalRead::Accepted(counts)

@@ -4,20 +4,19 @@
 --   cells-..             the cells of the terms passed, and 0 behind them
 -- Assumes nothing.
 use mathlib.Core.Path.{_≡_, refl, sym, ap, ap₂, _∙_}
-use mathlib.Core.Bool.{Bool, true, false, cond, not, _&&_, _||_}
-use mathlib.Core.List.{List, [], _∷_, _++_, append-assoc, append-nil, map}
-use Prim.Native.Nat.{ℕ, zero, suc, _+_, _-_, _*_, _≤_, _<_}
+use mathlib.Core.Bool.{Bool, true, false, not, _&&_, _||_}
+use mathlib.Core.List.{List, [], _∷_, _++_, append-assoc, map}
+use Prim.Native.Nat.{ℕ, zero, suc, _+_, _-_, _≤_, _<_}
 use native.Mathlib.Omega.{arith}
 use borrow.Author.Tests.{lt-ltb, le-ltb, ne-eqb, eq-eqb}
-use lib.Dec.{ltb, eqb}
-use lib.ListN.{length, take, drop, getD, set, length-set, length-append, length-take, take-append-drop}
+use lib.Dec.{eqb}
+use lib.ListN.{length, take, drop, getD, set, length-set, length-take, take-append-drop}
 use lib.Seq.{take-take, length-take-le, take-suc-set, getD-set-other, getD-drop}
 use Rattle.text.specs.Lists.{every, placeOf}
 use Rattle.text.specs.Fields.{isName, isVariable, isTerm}
 use Rattle.text.specs.Places.{before, fieldsFrom}
-use Rattle.text.proofs.Laws.{variable-none}
 use Rattle.text.proofs.Cursors.{field-at, drop-take}
-use Rattle.semantics.specs.Terms.{Term, con, var}
+use Rattle.semantics.specs.Terms.{Term, var}
 use Rattle.syntax.specs.Forms.{termOf, firstConstant}
 use Rattle.syntax.specs.Tables.{cellTerm, cellTerms, part}
 use Rattle.syntax.proofs.Tabled.{map-append}
@@ -51,7 +50,8 @@ one-list [] h = absurd (omega arith)
 one-list (b ∷ []) h = refl
 one-list (b ∷ c ∷ s) h = absurd (omega arith)
 
-pub cell-constant : (variable : List ℕ → ℕ) (cs : List (List ℕ)) (f : List ℕ) (k : ℕ) → isName f ≡ true → k ≡ placeOf f cs → k ≤ 64
+pub cell-constant : (variable : List ℕ → ℕ) (cs : List (List ℕ)) (f : List ℕ) (k : ℕ) → isName f ≡ true → k ≡ placeOf f cs
+    → k ≤ 64
     → cellTerm (32 + k) ≡ termOf variable cs f
 unfolding cellTerm termOf firstConstant
 cell-constant variable cs f k n e h = rw (n, ← e, lt-ltb (32 + k) 256 (omega arith))
@@ -133,7 +133,8 @@ module _ (term : List ℕ → Term) (all : List Term) where
       ∙ ap (λ (l : List (List ℕ)). map cellTerm (take j r) ++ map term l) (sym q)
       ∙ d .passed
 
-pub filled-start : (term : List ℕ → Term) (fs : List (List ℕ)) → length fs ≤ 4 → Filled term (map term fs) (0 ∷ 0 ∷ 0 ∷ 0 ∷ []) 0 fs
+pub filled-start : (term : List ℕ → Term) (fs : List (List ℕ)) → length fs ≤ 4
+    → Filled term (map term fs) (0 ∷ 0 ∷ 0 ∷ 0 ∷ []) 0 fs
 filled-start term fs h =
     record { sized = refl; fits = omega arith; nonzero = refl; zero-behind = λ i k. zeros i; passed = refl }
   where

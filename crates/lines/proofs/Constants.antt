@@ -1,16 +1,17 @@
 -- Laws of the constants of a line: one field, and all of them.
 --   after-none, after-known, after-full, after-new    the constants after one field, as the code goes by cases
+--   added-fits                                         constants in a table that do not pass the limit are at most 64
 --   added-grows                                        the constants after more fields are not fewer
 -- Assumes nothing.
 use mathlib.Core.Path.{_≡_, refl, sym, ap, ap₂, _∙_}
-use mathlib.Core.Bool.{Bool, true, false, cond, not, _&&_, _||_}
+use mathlib.Core.Bool.{Bool, true, false, cond}
 use mathlib.Core.List.{List, [], _∷_, _++_, append-assoc}
-use mathlib.Core.Option.{Option, none, some}
-use Prim.Native.Nat.{ℕ, zero, suc, _+_, _-_, _*_, _≤_, _<_}
+use mathlib.Core.Option.{none, some}
+use Prim.Native.Nat.{ℕ, suc, _+_, _-_, _*_, _≤_, _<_}
 use native.Mathlib.Omega.{arith}
 use borrow.Author.Tests.{lt-ltb, le-ltb, ltb-true, ltb-false}
 use lib.Dec.{ltb}
-use lib.ListN.{length, take, drop, getD, set, length-append, length-set}
+use lib.ListN.{length, getD, set, length-append, length-set}
 use lib.Seq.{getD-set-same, getD-set-other}
 use Rattle.text.specs.Lists.{placeOf, isKnown, withName, tabled}
 use Rattle.text.specs.Fields.{isName}
@@ -53,9 +54,11 @@ module _ (first second cells : List ℕ) (n m : ℕ) where
 
     newest : (text : List ℕ) → constantOf text stored k ≡ part text start len
     unfolding constantOf
-    newest text = ap₂ (part text) (set-two cells (2 * k) start len (omega arith)) (set-two-next cells (2 * k) start len (omega arith))
+    newest text =
+        ap₂ (part text) (set-two cells (2 * k) start len (omega arith)) (set-two-next cells (2 * k) start len (omega arith))
 
-    pub constants-more : constantsOf first second stored n (suc m) ≡ constantsOf first second cells n m ++ (part second start len ∷ [])
+    pub constants-more : constantsOf first second stored n (suc m)
+        ≡ constantsOf first second cells n m ++ (part second start len ∷ [])
     unfolding constantsOf
     constants-more =
         let a : List (List ℕ) = tabled (constantOf first cells) n in
@@ -63,7 +66,8 @@ module _ (first second cells : List ℕ) (n m : ℕ) where
         ap₂ (λ (x y : List (List ℕ)). x ++ y)
         (tabled-same (constantOf first stored) (constantOf first cells) n (λ i h. kept first i (omega (arith, h, e))))
         (ap₂ (λ (x : List (List ℕ)) (y : List ℕ). x ++ (y ∷ []))
-        (tabled-same (λ i. constantOf second stored (n + i)) (λ i. constantOf second cells (n + i)) m (λ i h. kept second (n + i) (omega (arith, h, e))))
+        (tabled-same (λ i. constantOf second stored (n + i)) (λ i. constantOf second cells (n + i)) m
+        (λ i h. kept second (n + i) (omega (arith, h, e))))
         (ap (constantOf second stored) (sym e) ∙ newest second))
         ∙ sym (append-assoc a b (part second start len ∷ []))
 
@@ -108,6 +112,12 @@ roomy-is cs ds e = go (ltb 64 (length cs)) refl e
     go : (t : Bool) → ltb 64 (length cs) ≡ t → some ds ≡ cond t none (some cs) → (cs ≡ ds) × (length cs ≤ 64)
     go true p q = absurd (let z : _≡_ {A = ℕ} 0 1 = cc in omega arith)
     go false p q = (let z : cs ≡ ds = cc in z, ltb-false 64 (length cs) p)
+
+pub added-fits : (first second cells : List ℕ) (n m : ℕ) (cs : List (List ℕ))
+    → some (constantsOf first second cells n m) ≡ roomy cs → n + m ≤ 64
+added-fits first second cells n m cs e =
+    let r : (cs ≡ constantsOf first second cells n m) × (length cs ≤ 64) = roomy-is cs (constantsOf first second cells n m) e in
+    omega (arith, r .1, ap (λ (l : List (List ℕ)). length l) (r .0), constants-length first second cells n m)
 
 pub roomy-not : (cs : List (List ℕ)) → none ≡ roomy cs → 64 < length cs
 unfolding roomy maxConstants

@@ -3,18 +3,17 @@
 --   form-one, form-other    a first field of one byte, and any other
 --   place-..        where a line may not stand
 -- Assumes nothing.
-use mathlib.Core.Path.{_≡_, refl, sym, ap, _∙_}
+use mathlib.Core.Path.{_≡_, refl, ap, _∙_}
 use mathlib.Core.List.{List, [], _∷_}
-use mathlib.Core.Option.{Option, none, some}
+use mathlib.Core.Option.{none, some}
 use Prim.Native.Nat.{ℕ, zero, suc, _+_, _-_, _≤_, _<_}
-use native.Mathlib.Numerals.{add-one}
 use native.Mathlib.Omega.{arith}
 use borrow.Author.Tests.{ne-eqb}
 use lib.ListN.{length, take, drop, getD}
 use lib.Seq.{slice-cons, slice-empty, length-slice}
 use Rattle.text.specs.Places.{before, fieldsFrom}
 use Rattle.text.proofs.Cursors.{field-at}
-use Rattle.syntax.specs.Forms.{Form, symbolForm, headForm, bodyForm, equationForm, noForm, formOfByte, formOf, fieldAt}
+use Rattle.syntax.specs.Forms.{symbolForm, headForm, bodyForm, equationForm, noForm, formOfByte, formOf, fieldAt}
 use Rattle.syntax.specs.Forms.{placeAfter}
 use Rattle.lines.specs.Read.{placeMeant}
 
@@ -52,7 +51,8 @@ module _ (line : List ℕ) (start end : ℕ) (h : start < length line) (e : end 
   form-one q =
       let z : end ≡ suc start = omega arith in
       first ∙ ap formOf (slice-cons start end line 0 (omega arith) k
-      ∙ ap (λ (l : List ℕ). getD line start 0 ∷ l) (ap (λ (n : ℕ). drop (suc start) (take n line)) z ∙ slice-empty (suc start) line))
+      ∙ ap (λ (l : List ℕ). getD line start 0 ∷ l)
+      (ap (λ (n : ℕ). drop (suc start) (take n line)) z ∙ slice-empty (suc start) line))
       ∙ form-byte (getD line start 0)
 
 pub place-symbol : (p : ℕ) → (p ≡ 0 → ⊥) → placeAfter symbolForm (placeMeant p) ≡ none

@@ -4,3 +4,4 @@ pub mod Constants
 pub mod Cells
 pub mod Shapes
 pub mod Steps
+pub mod Constraints

@@ -5,25 +5,24 @@
 --   symbol-at, names-of-symbols    the symbols of a table
 -- Assumes nothing.
 use mathlib.Core.Path.{_≡_, refl, sym, ap, ap₂, _∙_}
-use mathlib.Core.Bool.{Bool, true, false, cond, not, _&&_, _||_}
-use mathlib.Core.List.{List, [], _∷_, _++_, map}
-use Prim.Native.Nat.{ℕ, zero, suc, _+_, _-_, _*_, _≤_, _<_}
-use native.Mathlib.Nat.{not-suc-le-zero}
+use mathlib.Core.Bool.{Bool, true, false, not, _&&_, _||_}
+use mathlib.Core.List.{List, _∷_}
+use Prim.Native.Nat.{ℕ, suc, _+_, _-_, _*_, _≤_, _<_}
 use native.Mathlib.Decide.{decLe}
 use native.Mathlib.Omega.{arith}
 use borrow.Author.Tests.{lt-ltb, le-ltb, le-leb, lt-leb, ne-eqb, eq-eqb}
-use lib.Dec.{leb, ltb, eqb}
+use lib.Dec.{ltb, eqb}
 use lib.ListN.{length, take, drop, getD, length-drop}
 use lib.Seq.{length-take-le}
 use Rattle.text.specs.Bytes.{between}
-use Rattle.text.specs.Lists.{every, placeOf, tabled}
+use Rattle.text.specs.Lists.{every, placeOf}
 use Rattle.text.specs.Fields.{isName, isTerm, isNumberIn}
 use Rattle.text.specs.Places.{before, fieldsFrom}
 use Rattle.text.proofs.Laws.{tabled-length, tabled-at}
 use Rattle.text.proofs.Cursors.{field-at, fields-out}
 use Rattle.semantics.specs.Terms.{Symbol, noSymbol, symbolAt}
 use Rattle.syntax.specs.Forms.{fieldAt, isConstraintFaulty, symbolNumber, isUndeclared}
-use Rattle.syntax.specs.Tables.{part, symbolOf, symbolsOf}
+use Rattle.syntax.specs.Tables.{symbolOf, symbolsOf}
 use Rattle.syntax.specs.Tables.{namesOf}
 use Rattle.lines.specs.Read.{NamedAt, DeclaredAs, HeadAt, isRuleFaulty, isEquationFaulty, isSymbolFaulty}
 use Rattle.syntax.proofs.Tabled.{map-tabled}
@@ -121,7 +120,8 @@ module _ (text cells : List ℕ) (k : ℕ) where
     declared-none q =
         record {
           unknown =
-              test-is ∙ ap (λ (b : Bool). not b || not (eqb count (symbolAt (symbolsOf text cells k) s .arity))) (le-ltb s k (omega arith))
+              test-is ∙ ap (λ (b : Bool). not b || not (eqb count (symbolAt (symbolsOf text cells k) s .arity)))
+              (le-ltb s k (omega arith))
               ∙ sym (ap not (le-ltb k k (omega arith)));
           number = λ h. absurd (omega (arith, h));
           bounded = omega arith;
@@ -132,7 +132,8 @@ module _ (text cells : List ℕ) (k : ℕ) where
     declared-other h q =
         record {
           unknown =
-              test-is ∙ ap₂ (λ (b : Bool) (n : ℕ). not b || not (eqb count n)) (lt-ltb s k h) (ap (λ (t : Symbol). t .arity) (symbol-at s h))
+              test-is ∙ ap₂ (λ (b : Bool) (n : ℕ). not b || not (eqb count n)) (lt-ltb s k h)
+              (ap (λ (t : Symbol). t .arity) (symbol-at s h))
               ∙ ap not (ne-eqb count (getD cells (4 * s + 2) 0) (λ z. q (sym z)))
               ∙ sym (ap not (le-ltb k k (omega arith)));
           number = λ z. absurd (omega (arith, z));
@@ -144,7 +145,8 @@ module _ (text cells : List ℕ) (k : ℕ) where
     declared-as h q =
         record {
           unknown =
-              test-is ∙ ap₂ (λ (b : Bool) (n : ℕ). not b || not (eqb count n)) (lt-ltb s k h) (ap (λ (t : Symbol). t .arity) (symbol-at s h))
+              test-is ∙ ap₂ (λ (b : Bool) (n : ℕ). not b || not (eqb count n)) (lt-ltb s k h)
+              (ap (λ (t : Symbol). t .arity) (symbol-at s h))
               ∙ ap not (eq-eqb count (getD cells (4 * s + 2) 0) (sym q))
               ∙ sym (ap not (lt-ltb s k h));
           number = λ z. sym number;
@@ -153,7 +155,8 @@ module _ (text cells : List ℕ) (k : ℕ) where
 
 -- number 6, from what is found of the symbol
 module _ (symbols : List Symbol) (line name : List ℕ) (at start stop count k s : ℕ) (n : NamedAt line at start stop)
-    (e : name ≡ drop start (take stop line)) (q : count ≡ length (fieldsFrom line (suc stop))) (d : DeclaredAs symbols name count k s) where
+    (e : name ≡ drop start (take stop line)) (q : count ≡ length (fieldsFrom line (suc stop)))
+    (d : DeclaredAs symbols name count k s) where
   undeclared-is : isUndeclared symbols (fieldsFrom line at) ≡ not (ltb s k)
   unfolding isUndeclared
   undeclared-is =
@@ -184,7 +187,8 @@ pub rule-count : (fs : List (List ℕ)) → (length fs ≡ 2 → ⊥) → isRule
 unfolding isRuleFaulty
 rule-count fs h = rw (ne-eqb (length fs) 2 h)
 
-pub rule-shape : (f g : List ℕ) (all rest : List (List ℕ)) → all ≡ f ∷ g ∷ rest → length all ≡ 2 → isRuleFaulty all ≡ not (isName g)
+pub rule-shape : (f g : List ℕ) (all rest : List (List ℕ)) → all ≡ f ∷ g ∷ rest → length all ≡ 2
+    → isRuleFaulty all ≡ not (isName g)
 unfolding isRuleFaulty fieldAt
 rule-shape f g all rest q h = rw (eq-eqb (length all) 2 h) (ap (λ (fs : List (List ℕ)). not (isName (fieldAt 1 fs))) q)
 
@@ -193,7 +197,8 @@ pub sides-count : (fs : List (List ℕ)) → (length fs ≡ 3 → ⊥) → isEqu
 unfolding isEquationFaulty
 sides-count fs h = rw (ne-eqb (length fs) 3 h)
 
-pub sides-shape : (f : List ℕ) (all rest : List (List ℕ)) → all ≡ f ∷ rest → length all ≡ 3 → isEquationFaulty all ≡ not (every isTerm rest)
+pub sides-shape : (f : List ℕ) (all rest : List (List ℕ)) → all ≡ f ∷ rest → length all ≡ 3
+    → isEquationFaulty all ≡ not (every isTerm rest)
 unfolding isEquationFaulty
 sides-shape f all rest q h = rw (eq-eqb (length all) 3 h) (ap (λ (fs : List (List ℕ)). not (every isTerm (drop 1 fs))) q)
 
@@ -207,7 +212,8 @@ pub symbol-shape : (f g h i : List ℕ) (all rest : List (List ℕ)) → all ≡
 unfolding isSymbolFaulty fieldAt
 symbol-shape f g h i all rest q e =
     rw (eq-eqb (length all) 4 e)
-    (ap (λ (fs : List (List ℕ)). not (isName (fieldAt 1 fs)) || not (isNumberIn 0 4 (fieldAt 2 fs)) || not (isNumberIn 1 31 (fieldAt 3 fs))) q)
+    (ap (λ (fs : List (List ℕ)). not (isName (fieldAt 1 fs)) || not (isNumberIn 0 4 (fieldAt 2 fs)) || not
+    (isNumberIn 1 31 (fieldAt 3 fs))) q)
 
 pub first-is : (f : List ℕ) (fs : List (List ℕ)) → fieldAt 0 (f ∷ fs) ≡ f
 unfolding fieldAt
@@ -226,39 +232,53 @@ unfolding fieldAt
 field-one f g all rest q = ap (fieldAt 1) q
 
 -- the four fields of a K line, as the code finds them
-module _ (line : List ℕ) (at end start stop second next third last : ℕ) (h : at ≤ length line) (e : end ≡ at + before 44 (drop at line))
+module _ (line : List ℕ) (at end start stop second next third last : ℕ) (h : at ≤ length line)
+    (e : end ≡ at + before 44 (drop at line))
     (s : start ≡ end + 1) (p : stop ≡ start + before 44 (drop start line)) (s2 : second ≡ stop + 1)
     (p2 : next ≡ second + before 44 (drop second line)) (s3 : third ≡ next + 1) (p3 : last ≡ third + before 44 (drop third line))
     (four : length (fieldsFrom line at) ≡ 4) where
   from-start : fieldsFrom line at ≡ drop at (take end line) ∷ fieldsFrom line start
-  from-start = field-at line at end h e ∙ ap (λ (n : ℕ). drop at (take end line) ∷ fieldsFrom line n) (let z : suc end ≡ start = omega arith in z)
+  from-start =
+      field-at line at end h e ∙ ap (λ (n : ℕ). drop at (take end line) ∷ fieldsFrom line n)
+      (let z : suc end ≡ start = omega arith in z)
 
   left-three : length (fieldsFrom line start) ≡ 3
-  left-three = let z : length (fieldsFrom line at) ≡ suc (length (fieldsFrom line start)) = ap (λ (fs : List (List ℕ)). length fs) from-start in omega arith
+  left-three =
+      let z : length (fieldsFrom line at) ≡ suc (length (fieldsFrom line start)) =
+      ap (λ (fs : List (List ℕ)). length fs) from-start in omega arith
 
   pub start-within : start ≤ length line
   start-within = within line start (omega (arith, left-three))
 
   from-second : fieldsFrom line start ≡ drop start (take stop line) ∷ fieldsFrom line second
-  from-second = field-at line start stop start-within p ∙ ap (λ (n : ℕ). drop start (take stop line) ∷ fieldsFrom line n) (let z : suc stop ≡ second = omega arith in z)
+  from-second =
+      field-at line start stop start-within p ∙ ap (λ (n : ℕ). drop start (take stop line) ∷ fieldsFrom line n)
+      (let z : suc stop ≡ second = omega arith in z)
 
   left-two : length (fieldsFrom line second) ≡ 2
-  left-two = let z : length (fieldsFrom line start) ≡ suc (length (fieldsFrom line second)) = ap (λ (fs : List (List ℕ)). length fs) from-second in omega (arith, left-three)
+  left-two =
+      let z : length (fieldsFrom line start) ≡ suc (length (fieldsFrom line second)) =
+      ap (λ (fs : List (List ℕ)). length fs) from-second in omega (arith, left-three)
 
   pub second-starts : second ≤ length line
   second-starts = within line second (omega (arith, left-two))
 
   from-third : fieldsFrom line second ≡ drop second (take next line) ∷ fieldsFrom line third
-  from-third = field-at line second next second-starts p2 ∙ ap (λ (n : ℕ). drop second (take next line) ∷ fieldsFrom line n) (let z : suc next ≡ third = omega arith in z)
+  from-third =
+      field-at line second next second-starts p2
+      ∙ ap (λ (n : ℕ). drop second (take next line) ∷ fieldsFrom line n) (let z : suc next ≡ third = omega arith in z)
 
   left-one : length (fieldsFrom line third) ≡ 1
-  left-one = let z : length (fieldsFrom line second) ≡ suc (length (fieldsFrom line third)) = ap (λ (fs : List (List ℕ)). length fs) from-third in omega (arith, left-two)
+  left-one =
+      let z : length (fieldsFrom line second) ≡ suc (length (fieldsFrom line third)) =
+      ap (λ (fs : List (List ℕ)). length fs) from-third in omega (arith, left-two)
 
   pub third-starts : third ≤ length line
   third-starts = within line third (omega (arith, left-one))
 
   pub four-fields : fieldsFrom line at
-      ≡ drop at (take end line) ∷ drop start (take stop line) ∷ drop second (take next line) ∷ drop third (take last line) ∷ fieldsFrom line (suc last)
+      ≡ drop at (take end line) ∷ drop start (take stop line) ∷ drop second (take next line) ∷ drop third
+      (take last line) ∷ fieldsFrom line (suc last)
   four-fields =
       from-start
       ∙ ap (λ (fs : List (List ℕ)). drop at (take end line) ∷ fs)
@@ -268,5 +288,6 @@ module _ (line : List ℕ) (at end start stop second next third last : ℕ) (h :
 -- a part of at most two bytes
 pub short-part : (line : List ℕ) (a e : ℕ) → a ≤ e → e ≤ length line → length (take (e - a) (drop a line)) ≤ 2 → e ≤ a + 2
 short-part line a e h k s =
-    let sized : length (take (e - a) (drop a line)) ≡ e - a = length-take-le (e - a) (drop a line) (omega (arith, length-drop a line)) in
+    let sized : length (take (e - a) (drop a line)) ≡ e - a =
+    length-take-le (e - a) (drop a line) (omega (arith, length-drop a line)) in
     omega arith

@@ -4,28 +4,29 @@
 -- Assumes nothing.
 use mathlib.Core.Path.{_≡_, refl, sym, ap, ap₂, _∙_}
 use mathlib.Core.Logic.{_⊎_, inl, inr}
-use mathlib.Core.Bool.{Bool, true, false, cond, not, _&&_, _||_}
-use mathlib.Core.List.{List, [], _∷_, _++_, map}
-use mathlib.Core.Option.{Option, none, some}
-use Prim.Native.Nat.{ℕ, zero, suc, _+_, _-_, _*_, _≤_, _<_}
+use mathlib.Core.Bool.{Bool, true, false, _||_}
+use mathlib.Core.List.{List, [], _∷_, map}
+use mathlib.Core.Option.{none, some}
+use Prim.Native.Nat.{ℕ, zero, suc, _+_, _-_, _≤_, _<_}
 use native.Mathlib.Nat.{not-suc-le-zero, le-of-suc-le-suc}
 use native.Mathlib.Omega.{arith}
-use borrow.Author.Tests.{lt-ltb, le-ltb, ltb-true, ltb-false, leb-true, eqb-true}
-use lib.Dec.{leb, ltb, eqb}
-use lib.ListN.{length, take, drop, getD}
+use borrow.Author.Tests.{lt-ltb, le-ltb, leb-true, eqb-true}
+use lib.Dec.{leb, eqb}
+use lib.ListN.{length, drop, getD}
 use Rattle.text.specs.Bytes.{between}
-use Rattle.text.specs.Lists.{every, placeOf, sameBytes, tabled, upTo}
+use Rattle.text.specs.Lists.{every, placeOf, upTo}
 use Rattle.text.specs.Fields.{isName, isVariable, isTerm}
 use Rattle.text.specs.Places.{fieldsFrom}
 use Rattle.text.proofs.Laws.{tabled-at, tabled-length}
-use Rattle.semantics.specs.Terms.{Term, con, var, Constraint, Symbol}
-use Rattle.syntax.specs.Answers.{Answer, refused, accepted, refuseIf}
-use Rattle.syntax.specs.Forms.{constantsAfter, firstConstant, termOf, letterNumber, fieldAt, isConstraintFaulty, isUndeclared, symbolNumber, constraintOf}
+use Rattle.semantics.specs.Terms.{Term, con, var, Symbol}
+use Rattle.syntax.specs.Answers.{refused, accepted}
+use Rattle.syntax.specs.Forms.{constantsAfter, firstConstant, termOf, letterNumber, fieldAt, isConstraintFaulty, isUndeclared}
+use Rattle.syntax.specs.Forms.{symbolNumber, constraintOf}
 use Rattle.syntax.specs.Programs.{maxConstants}
-use Rattle.syntax.specs.Tables.{cellTerms, lettersOf}
-use Rattle.lines.specs.Read.{alphabetLetters, Found, constraintLine, HeadAt, roomy}
+use Rattle.syntax.specs.Tables.{lettersOf}
+use Rattle.lines.specs.Read.{alphabetLetters, constraintLine, HeadAt, roomy}
 use Rattle.lines.proofs.Constants.{roomy-is, roomy-not}
-use Rattle.lines.proofs.Cells.{and-both, letter-one, one-list}
+use Rattle.lines.proofs.Cells.{and-both}
 
 every-at : (test : ℕ → Bool) (xs : List ℕ) (i : ℕ) → every test xs ≡ true → i < length xs → test (getD xs i 0) ≡ true
 every-at test [] i e h = absurd (not-suc-le-zero h)
@@ -58,11 +59,13 @@ letter-number [] e = absurd (let z : _≡_ {A = ℕ} 0 1 = cc in omega arith)
 letter-number (b ∷ []) e = letter-place b e
 letter-number (b ∷ c ∷ s) e = absurd (let z : _≡_ {A = ℕ} 0 1 = cc in omega arith)
 
-term-name : (variable : List ℕ → ℕ) (cs : List (List ℕ)) (f : List ℕ) → isName f ≡ true → termOf variable cs f ≡ con (firstConstant + placeOf f cs)
+term-name : (variable : List ℕ → ℕ) (cs : List (List ℕ)) (f : List ℕ) → isName f ≡ true
+    → termOf variable cs f ≡ con (firstConstant + placeOf f cs)
 unfolding termOf
 term-name variable cs f e = rw e
 
-term-letter : (variable : List ℕ → ℕ) (cs : List (List ℕ)) (f : List ℕ) → isName f ≡ false → termOf variable cs f ≡ var (variable f)
+term-letter : (variable : List ℕ → ℕ) (cs : List (List ℕ)) (f : List ℕ) → isName f ≡ false
+    → termOf variable cs f ≡ var (variable f)
 unfolding termOf
 term-letter variable cs f e = rw e
 
@@ -71,10 +74,12 @@ term-same : (cs : List (List ℕ)) (f : List ℕ) → isTerm f ≡ true
 unfolding isTerm
 term-same cs f e = go (isName f) refl e
   where
-    go : (t : Bool) → isName f ≡ t → (t || isVariable f) ≡ true → termOf (λ g. placeOf g (lettersOf alphabetLetters 26)) cs f ≡ termOf letterNumber cs f
+    go : (t : Bool) → isName f ≡ t → (t || isVariable f) ≡ true
+        → termOf (λ g. placeOf g (lettersOf alphabetLetters 26)) cs f ≡ termOf letterNumber cs f
     go true p q = term-name (λ g. placeOf g (lettersOf alphabetLetters 26)) cs f p ∙ sym (term-name letterNumber cs f p)
     go false p q =
-        term-letter (λ g. placeOf g (lettersOf alphabetLetters 26)) cs f p ∙ ap var (letter-number f q) ∙ sym (term-letter letterNumber cs f p)
+        term-letter (λ g. placeOf g (lettersOf alphabetLetters 26)) cs f p ∙ ap var (letter-number f q)
+        ∙ sym (term-letter letterNumber cs f p)
 
 pub letters-are : (cs : List (List ℕ)) (fs : List (List ℕ)) → every isTerm fs ≡ true
     → map (termOf (λ g. placeOf g (lettersOf alphabetLetters 26)) cs) fs ≡ map (termOf letterNumber cs) fs
@@ -89,12 +94,14 @@ module _ (full : Bool) (symbols : List Symbol) (variable : List ℕ → ℕ) (cs
   unfolding constraintLine
   line-faulty e = rw e
 
-  pub line-unknown : isConstraintFaulty fs ≡ false → isUndeclared symbols fs ≡ true → refused 6 n ≡ constraintLine full symbols variable cs fs n
+  pub line-unknown : isConstraintFaulty fs ≡ false → isUndeclared symbols fs ≡ true
+      → refused 6 n ≡ constraintLine full symbols variable cs fs n
   unfolding constraintLine
   line-unknown e p = rw (e, p)
 
   pub line-refused : (x : ℕ)
-      → ((isConstraintFaulty fs ≡ true) × (x ≡ 4)) ⊎ ((isConstraintFaulty fs ≡ false) × (isUndeclared symbols fs ≡ true) × (x ≡ 6))
+      → ((isConstraintFaulty fs ≡ true) × (x ≡ 4))
+      ⊎ ((isConstraintFaulty fs ≡ false) × (isUndeclared symbols fs ≡ true) × (x ≡ 6))
       → refused x n ≡ constraintLine full symbols variable cs fs n
   line-refused x (inl w) = ap (λ (y : ℕ). refused y n) (w .1) ∙ line-faulty (w .0)
   line-refused x (inr w) = ap (λ (y : ℕ). refused y n) (w .2) ∙ line-unknown (w .0) (w .1)
@@ -117,11 +124,20 @@ module _ (full : Bool) (symbols : List Symbol) (variable : List ℕ → ℕ) (cs
         → refused 7 n ≡ constraintLine full symbols variable cs fs n
     unfolding constraintLine maxConstants
     line-many e p =
-        rw (fine, known, e, others, lt-ltb 64 (length (constantsAfter (fieldsFrom line start) cs)) (roomy-not (constantsAfter (fieldsFrom line start) cs) p))
+        rw (
+          fine,
+          known,
+          e,
+          others,
+          lt-ltb 64 (length (constantsAfter (fieldsFrom line start) cs))
+              (roomy-not (constantsAfter (fieldsFrom line start) cs) p),
+        )
 
-    pub line-read : (ds : List (List ℕ)) (ts : List Term) → full ≡ false → some ds ≡ roomy (constantsAfter (fieldsFrom line start) cs)
+    pub line-read : (ds : List (List ℕ)) (ts : List Term) → full ≡ false
+        → some ds ≡ roomy (constantsAfter (fieldsFrom line start) cs)
         → ts ≡ map (termOf variable ds) (fieldsFrom line start)
-        → accepted (record { constraint = record { symbol = s; terms = ts }; constants = ds }) ≡ constraintLine full symbols variable cs fs n
+        → accepted (record { constraint = record { symbol = s; terms = ts }; constants = ds })
+        ≡ constraintLine full symbols variable cs fs n
     unfolding constraintLine maxConstants constraintOf
     line-read ds ts e p t =
         let both : (constantsAfter (fieldsFrom line start) cs ≡ ds) × (length (constantsAfter (fieldsFrom line start) cs) ≤ 64) =

@@ -7,7 +7,7 @@
 -- Assumes nothing.
 use mathlib.Core.Path.{_≡_}
 use mathlib.Core.Logic.{_⊎_}
-use Prim.Native.Nat.{ℕ, zero, suc, _+_, _-_, _≤_, _<_}
+use Prim.Native.Nat.{ℕ, zero, suc, _+_, _≤_, _<_}
 use mathlib.Core.Bool.{Bool, true, false, cond, not, _||_}
 use mathlib.Core.List.{List}
 use mathlib.Core.Option.{Option, none, some}
@@ -82,7 +82,8 @@ NamedIn line at (At start stop) = NamedAt line at start stop
 -- r is the number of the symbol with a name and a number of terms among k symbols; k where none has both
 pub record DeclaredAs (symbols : List terms.Symbol) (name : List ℕ) (count k r : ℕ) : Type 0 where
   pub unknown :
-      (not (ltb (symbolNumber symbols name) (length symbols)) || not (eqb count (symbolAt symbols (symbolNumber symbols name) .arity)))
+      (not (ltb (symbolNumber symbols name) (length symbols))
+      || not (eqb count (symbolAt symbols (symbolNumber symbols name) .arity)))
       ≡ not (ltb r k)
   pub number : r < k → r ≡ symbolNumber symbols name
   pub bounded : r ≤ k
@@ -126,7 +127,8 @@ constraintLine full symbols variable constants fs n =
 -- number 4 of a K line
 unfoldable pub isSymbolFaulty : List (List ℕ) → Bool
 isSymbolFaulty fs =
-    not (eqb (length fs) 4) || not (isName (fieldAt 1 fs)) || not (isNumberIn 0 4 (fieldAt 2 fs)) || not (isNumberIn 1 31 (fieldAt 3 fs))
+    not (eqb (length fs) 4) || not (isName (fieldAt 1 fs)) || not (isNumberIn 0 4 (fieldAt 2 fs))
+    || not (isNumberIn 1 31 (fieldAt 3 fs))
 
 -- number 4 of an R line
 unfoldable pub isRuleFaulty : List (List ℕ) → Bool

@@ -1,7 +1,7 @@
 // What a line means, by its first letter, and where it may stand.
 use crate::LineForm;
 ghost use mathlib.Core.Path.{_≡_};
-ghost use Prim.Native.Nat.{_≤_, _<_};
+ghost use Prim.Native.Nat.{_<_};
 ghost use lib.ListN.{length};
 ghost use Rattle.text.specs.Places.{fieldsFrom};
 ghost use Rattle.syntax.specs.Forms.{formOfByte, formOf, placeAfter, fieldAt};

@@ -1,8 +1,9 @@
-// A line of a program or a goal: its form, the symbol of its constraint, and its terms as cells.
+// A line of a program or a goal: its form, the symbol of its constraint, and its terms as cells; and the weight of constraints.
 pub mod forms;
 pub mod heads;
 pub mod rows;
 pub mod terms;
+pub mod weights;
 
 // The forms of a line, by its first letter.
 pub enum LineForm {

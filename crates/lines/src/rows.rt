@@ -20,7 +20,8 @@ pub fn write_cells(cells: &mut [u16], at: usize, values: &[u16])
 pub fn add_cells(row: &mut [u16], slot: usize, at: usize, values: &[u16])
     requires { ⌜ (at + length (now values) ≤ length (now row)) × (slot < at) × (getD (now row) slot 0 < 65535) ⌝ }
     ensures { λ _. ⌜ now (row .exit)
-        ≡ set (paste (now (row .entry)) at (now (values .entry)) (length (now (values .entry)))) slot (suc (getD (now (row .entry)) slot 0)) ⌝ }
+        ≡ set (paste (now (row .entry)) at (now (values .entry)) (length (now (values .entry)))) slot
+        (suc (getD (now (row .entry)) slot 0)) ⌝ }
 {
     let n = row[slot];
     write_cells(row, at, values);

@@ -2,25 +2,25 @@
 --   symbols-more, symbol-..     a K line
 --   rules-more, rule-..         an R line
 -- Assumes nothing.
-use mathlib.Core.Path.{_≡_, refl, sym, ap, ap₂, _∙_}
-use mathlib.Core.Bool.{Bool, true, false, cond, not, _&&_, _||_}
+use mathlib.Core.Path.{_≡_, sym, ap, ap₂, _∙_}
+use mathlib.Core.Bool.{true, false}
 use mathlib.Core.List.{List, [], _∷_, _++_, map}
-use Prim.Native.Nat.{ℕ, zero, suc, _+_, _-_, _*_, _≤_, _<_}
+use Prim.Native.Nat.{ℕ, suc, _+_, _-_, _*_, _≤_, _<_}
 use native.Mathlib.Nat.{add-zero}
 use native.Mathlib.Omega.{arith}
 use borrow.Author.Tests.{lt-ltb, le-ltb, le-leb, lt-leb}
-use lib.Dec.{leb, ltb, eqb}
+use lib.Dec.{ltb}
 use lib.ListN.{length, take, drop, getD, length-map}
 use lib.Seq.{paste, getD-take, getD-drop}
 use Rattle.text.specs.Lists.{placeOf, isKnown, tabled}
-use Rattle.text.specs.Fields.{isName, valueOf}
-use Rattle.text.proofs.Laws.{tabled-length, tabled-at}
+use Rattle.text.specs.Fields.{valueOf}
+use Rattle.text.proofs.Laws.{tabled-length}
 use Rattle.semantics.specs.Terms.{Symbol, Rule}
 use Rattle.programs.specs.declared.Stage.{Stage}
-use Rattle.syntax.specs.Answers.{Answer, refused, accepted, refuseIf}
-use Rattle.syntax.specs.Forms.{Place, fieldAt}
+use Rattle.syntax.specs.Answers.{refused, accepted}
+use Rattle.syntax.specs.Forms.{fieldAt}
 use Rattle.syntax.specs.Programs.{Draft, maxSymbols, maxRules, readSymbol, readRule}
-use Rattle.syntax.specs.Tables.{part, symbolOf, symbolsOf, ruleOfRow, ruleOf, rulesOf, startsOf, constantsOf, cellConstraints}
+use Rattle.syntax.specs.Tables.{part, symbolOf, symbolsOf, ruleOfRow, ruleOf, rulesOf, startsOf, cellConstraints}
 use Rattle.syntax.specs.Tables.{cellEquations}
 use Rattle.syntax.specs.Tables.{namesOf}
 use Rattle.lines.specs.Read.{placeMeant, isSymbolFaulty, isRuleFaulty}
@@ -40,16 +40,29 @@ module _ (text cells : List ℕ) (n a l r w : ℕ) (room : 4 * n + 4 ≤ length 
   unfolding symbolOf
   kept i h =
       let same : (j : ℕ) → j < 4 * n → getD more j 0 ≡ getD cells j 0 = at-before cells (4 * n) (a ∷ l ∷ r ∷ w ∷ []) room in
-      rw (same (4 * i) (omega (arith, h)), same (4 * i + 1) (omega (arith, h)), same (4 * i + 2) (omega (arith, h)), same (4 * i + 3) (omega (arith, h)))
+      rw (
+        same (4 * i) (omega (arith, h)),
+        same (4 * i + 1) (omega (arith, h)),
+        same (4 * i + 2) (omega (arith, h)),
+        same (4 * i + 3) (omega (arith, h)),
+      )
 
   newest : symbolOf text more n ≡ record { name = part text a l; arity = r; weight = w }
   unfolding symbolOf
   newest =
-      rw (ap (λ (j : ℕ). getD more j 0) (sym (add-zero (4 * n))) ∙ inside 0 (omega arith), inside 1 (omega arith), inside 2 (omega arith), inside 3 (omega arith))
+      rw (
+        ap (λ (j : ℕ). getD more j 0) (sym (add-zero (4 * n))) ∙ inside 0 (omega arith),
+        inside 1 (omega arith),
+        inside 2 (omega arith),
+        inside 3 (omega arith),
+      )
 
-  pub symbols-more : symbolsOf text more (suc n) ≡ symbolsOf text cells n ++ (record { name = part text a l; arity = r; weight = w } ∷ [])
+  pub symbols-more : symbolsOf text more (suc n)
+      ≡ symbolsOf text cells n ++ (record { name = part text a l; arity = r; weight = w } ∷ [])
   unfolding symbolsOf
-  symbols-more = ap₂ (λ (xs : List Symbol) (x : Symbol). xs ++ (x ∷ [])) (tabled-same (symbolOf text more) (symbolOf text cells) n kept) newest
+  symbols-more =
+      ap₂ (λ (xs : List Symbol) (x : Symbol). xs ++ (x ∷ []))
+      (tabled-same (symbolOf text more) (symbolOf text cells) n kept) newest
 
 pub symbols-known : (text cells name : List ℕ) (n k : ℕ) → k ≡ placeOf name (namesOf text cells 4 n)
     → isKnown name (map (λ s. s .name) (symbolsOf text cells n)) ≡ ltb k n
@@ -71,9 +84,12 @@ module _ (text symbols rules constants : List ℕ) (s : Stage) (place n : ℕ) (
   unfolding readSymbol isSymbolFaulty
   symbol-faulty e = rw e
 
-  module _ (k : ℕ) (name : List ℕ) (e : isSymbolFaulty fs ≡ false) (p : fieldAt 1 fs ≡ name) (q : k ≡ placeOf name (namesOf text symbols 4 (s .symbols))) where
+  module _ (k : ℕ) (name : List ℕ) (e : isSymbolFaulty fs ≡ false) (p : fieldAt 1 fs ≡ name)
+      (q : k ≡ placeOf name (namesOf text symbols 4 (s .symbols))) where
     known : isKnown (fieldAt 1 fs) (map (λ t. t .name) (symbolsOf text symbols (s .symbols))) ≡ ltb k (s .symbols)
-    known = ap (λ (f : List ℕ). isKnown f (map (λ t. t .name) (symbolsOf text symbols (s .symbols)))) p ∙ symbols-known text symbols name (s .symbols) k q
+    known =
+        ap (λ (f : List ℕ). isKnown f (map (λ t. t .name) (symbolsOf text symbols (s .symbols)))) p
+        ∙ symbols-known text symbols name (s .symbols) k q
 
     pub symbol-repeated : k < s .symbols → refused 5 n ≡ readSymbol n (placeMeant place) fs d
     unfolding readSymbol isSymbolFaulty draftOf
@@ -111,10 +127,12 @@ rowAt cells i = take 64 (drop (64 * i) cells)
 pub row-cell : (cells : List ℕ) (i j : ℕ) → j < 64 → getD (rowAt cells i) j 0 ≡ getD cells (64 * i + j) 0
 row-cell cells i j h = getD-take 64 (drop (64 * i) cells) j 0 h ∙ getD-drop (64 * i) cells j 0
 
-pub rule-names : (text cells : List ℕ) (i : ℕ) → ruleOf text cells i .name ≡ part text (getD cells (64 * i) 0) (getD cells (64 * i + 1) 0)
+pub rule-names : (text cells : List ℕ) (i : ℕ)
+    → ruleOf text cells i .name ≡ part text (getD cells (64 * i) 0) (getD cells (64 * i + 1) 0)
 unfolding ruleOf ruleOfRow
 rule-names text cells i =
-    ap₂ (part text) (row-cell cells i 0 (omega arith) ∙ ap (λ (j : ℕ). getD cells j 0) (add-zero (64 * i))) (row-cell cells i 1 (omega arith))
+    ap₂ (part text) (row-cell cells i 0 (omega arith) ∙ ap (λ (j : ℕ). getD cells j 0) (add-zero (64 * i)))
+    (row-cell cells i 1 (omega arith))
 
 pub rules-known : (text cells name : List ℕ) (n k : ℕ) → k ≡ placeOf name (namesOf text cells 64 n)
     → isKnown name (map (λ r. r .name) (rulesOf text cells n)) ≡ ltb k n
@@ -122,7 +140,8 @@ unfolding isKnown rulesOf namesOf
 rules-known text cells name n k e =
     ap₂ ltb
     (ap (placeOf name) (map-tabled (λ (r : Rule). r .name) (ruleOf text cells) n
-    ∙ tabled-same (λ i. ruleOf text cells i .name) (λ i. part text (getD cells (64 * i) 0) (getD cells (64 * i + 1) 0)) n (λ i h. rule-names text cells i))
+    ∙ tabled-same (λ i. ruleOf text cells i .name) (λ i. part text (getD cells (64 * i) 0) (getD cells (64 * i + 1) 0)) n
+    (λ i h. rule-names text cells i))
     ∙ sym e)
     (length-map (tabled (ruleOf text cells) n) (λ (r : Rule). r .name) ∙ tabled-length (ruleOf text cells) n)
 
@@ -151,11 +170,20 @@ module _ (text cells : List ℕ) (n a l b : ℕ) (room : 64 * n + 64 ≤ length 
   rule-newest : ruleOf text with-rule n ≡ record { name = part text a l; heads = []; body = []; equations = [] }
   unfolding ruleOf ruleOfRow cellConstraints cellEquations
   rule-newest =
-      rw (rule-cell 0 (omega arith), rule-cell 1 (omega arith), rule-cell 3 (omega arith), rule-cell 4 (omega arith), rule-cell 5 (omega arith))
+      rw (
+        rule-cell 0 (omega arith),
+        rule-cell 1 (omega arith),
+        rule-cell 3 (omega arith),
+        rule-cell 4 (omega arith),
+        rule-cell 5 (omega arith),
+      )
 
-  pub rules-more : rulesOf text with-rule (suc n) ≡ rulesOf text cells n ++ (record { name = part text a l; heads = []; body = []; equations = [] } ∷ [])
+  pub rules-more : rulesOf text with-rule (suc n)
+      ≡ rulesOf text cells n ++ (record { name = part text a l; heads = []; body = []; equations = [] } ∷ [])
   unfolding rulesOf
-  rules-more = ap₂ (λ (xs : List Rule) (x : Rule). xs ++ (x ∷ [])) (tabled-same (ruleOf text with-rule) (ruleOf text cells) n rule-kept) rule-newest
+  rules-more =
+      ap₂ (λ (xs : List Rule) (x : Rule). xs ++ (x ∷ []))
+      (tabled-same (ruleOf text with-rule) (ruleOf text cells) n rule-kept) rule-newest
 
   pub starts-more : startsOf with-rule (suc n) ≡ startsOf cells n ++ (b ∷ [])
   unfolding startsOf
@@ -183,9 +211,12 @@ module _ (text symbols rules constants : List ℕ) (s : Stage) (place n : ℕ) (
   unfolding readRule isRuleFaulty
   rule-faulty h = rw h
 
-  module _ (k : ℕ) (name : List ℕ) (g : isRuleFaulty fs ≡ false) (p : fieldAt 1 fs ≡ name) (q : k ≡ placeOf name (namesOf text rules 64 (s .rules))) where
+  module _ (k : ℕ) (name : List ℕ) (g : isRuleFaulty fs ≡ false) (p : fieldAt 1 fs ≡ name)
+      (q : k ≡ placeOf name (namesOf text rules 64 (s .rules))) where
     rule-known : isKnown (fieldAt 1 fs) (map (λ r. r .name) (rulesOf text rules (s .rules))) ≡ ltb k (s .rules)
-    rule-known = ap (λ (f : List ℕ). isKnown f (map (λ r. r .name) (rulesOf text rules (s .rules)))) p ∙ rules-known text rules name (s .rules) k q
+    rule-known =
+        ap (λ (f : List ℕ). isKnown f (map (λ r. r .name) (rulesOf text rules (s .rules)))) p
+        ∙ rules-known text rules name (s .rules) k q
 
     pub rule-repeated : k < s .rules → refused 5 n ≡ readRule n (placeMeant place) fs e
     unfolding readRule isRuleFaulty draftOf

@@ -1,11 +1,13 @@
 -- Laws of the last rule of a table as a line adds to it.
---   constraints-grow, equations-grow     cells of one constraint or equation more
---   head-grown, body-grown, sides-grown  the last rule with one head, one constraint of its body, one equation more
---   rules-grown, starts-grown            the table then
+--   rules-grown, starts-grown, sound-grown  the table, where one more is stored in its last row
+--   last-constraints, last-sides            the counts of the last rule
+--   constraint-grown, sides-grown           the last rule with one constraint more in a part, or one equation more
 -- Assumes nothing.
 use mathlib.Core.Path.{_≡_, refl, sym, ap, ap₂, _∙_}
-use mathlib.Core.List.{List, [], _∷_, _++_, map}
+use mathlib.Core.List.{List, [], _∷_, _++_}
 use Prim.Native.Nat.{ℕ, zero, suc, _+_, _-_, _*_, _≤_, _<_}
+use native.Mathlib.Nat.{mul-suc}
+use native.Mathlib.Decide.{ℕ-discrete}
 use native.Mathlib.Omega.{arith}
 use lib.ListN.{length, take, drop, getD, set, length-drop}
 use lib.Seq.{paste, getD-set-same, getD-set-other, drop-set-lt, drop-set-add, take-set-le, take-take, drop-drop, length-take-le}
@@ -15,34 +17,14 @@ use Rattle.semantics.specs.Terms.{Constraint, Equation, Rule}
 use Rattle.syntax.specs.Programs.{onLast, lastRule, withHead, withBody, withEquation}
 use Rattle.syntax.specs.Tables.{cellTerm, cellTerms, cellConstraints, cellEquations, part, ruleOfRow, ruleOf, rulesOf, startsOf}
 use Rattle.syntax.proofs.Tabled.{tabled-same}
+use Rattle.lines.proofs.Constraints.{constraints-append, constraints-length}
+use Rattle.programs.specs.declared.Stage.{Stage}
+use Rattle.programs.specs.Read.{Sound}
 use Rattle.programs.proofs.Pasted.{cut-pasted, cut-before, drop-behind, at-before, new-length}
 use Rattle.programs.proofs.Drafts.{rowAt, row-cell}
 
--- whole constraints in front of more cells
-pub constraints-append : (h : ℕ) (xs ys : List ℕ) → length xs ≡ 5 * h → cellConstraints (xs ++ ys) ≡ cellConstraints xs ++ cellConstraints ys
-unfolding cellConstraints
-constraints-append zero [] ys e = refl
-constraints-append zero (x ∷ xs) ys e = absurd (omega arith)
-constraints-append (suc h) [] ys e = absurd (omega arith)
-constraints-append (suc h) (a ∷ []) ys e = absurd (omega arith)
-constraints-append (suc h) (a ∷ b ∷ []) ys e = absurd (omega arith)
-constraints-append (suc h) (a ∷ b ∷ c ∷ []) ys e = absurd (omega arith)
-constraints-append (suc h) (a ∷ b ∷ c ∷ d ∷ []) ys e = absurd (omega arith)
-constraints-append (suc h) (a ∷ b ∷ c ∷ d ∷ f ∷ xs) ys e =
-    ap (λ (l : List Constraint). record { symbol = a; terms = cellTerms (b ∷ c ∷ d ∷ f ∷ []) } ∷ l) (constraints-append h xs ys (omega arith))
-
-pub constraints-length : (h : ℕ) (xs : List ℕ) → length xs ≡ 5 * h → length (cellConstraints xs) ≡ h
-unfolding cellConstraints
-constraints-length zero [] e = refl
-constraints-length zero (x ∷ xs) e = absurd (omega arith)
-constraints-length (suc h) [] e = absurd (omega arith)
-constraints-length (suc h) (a ∷ []) e = absurd (omega arith)
-constraints-length (suc h) (a ∷ b ∷ []) e = absurd (omega arith)
-constraints-length (suc h) (a ∷ b ∷ c ∷ []) e = absurd (omega arith)
-constraints-length (suc h) (a ∷ b ∷ c ∷ d ∷ []) e = absurd (omega arith)
-constraints-length (suc h) (a ∷ b ∷ c ∷ d ∷ f ∷ xs) e = ap suc (constraints-length h xs (omega arith))
-
-pub equations-append : (h : ℕ) (xs ys : List ℕ) → length xs ≡ 2 * h → cellEquations (xs ++ ys) ≡ cellEquations xs ++ cellEquations ys
+-- whole equations in front of more cells
+equations-append : (h : ℕ) (xs ys : List ℕ) → length xs ≡ 2 * h → cellEquations (xs ++ ys) ≡ cellEquations xs ++ cellEquations ys
 unfolding cellEquations
 equations-append zero [] ys e = refl
 equations-append zero (x ∷ xs) ys e = absurd (omega arith)
@@ -51,7 +33,7 @@ equations-append (suc h) (a ∷ []) ys e = absurd (omega arith)
 equations-append (suc h) (a ∷ b ∷ xs) ys e =
     ap (λ (l : List Equation). record { left = cellTerm a; right = cellTerm b } ∷ l) (equations-append h xs ys (omega arith))
 
-pub equations-length : (h : ℕ) (xs : List ℕ) → length xs ≡ 2 * h → length (cellEquations xs) ≡ h
+equations-length : (h : ℕ) (xs : List ℕ) → length xs ≡ 2 * h → length (cellEquations xs) ≡ h
 unfolding cellEquations
 equations-length zero [] e = refl
 equations-length zero (x ∷ xs) e = absurd (omega arith)
@@ -79,7 +61,12 @@ row-drop cells i b h =
 
 row-cut : (cells : List ℕ) (i b m : ℕ) → b + m ≤ 64 → take m (drop b (rowAt cells i)) ≡ take m (drop (64 * i + b) cells)
 row-cut cells i b m h =
-    ap (λ (l : List ℕ). take m l) (row-drop cells i b (omega arith)) ∙ take-take m (64 - b) (drop (64 * i + b) cells) (omega arith)
+    ap (λ (l : List ℕ). take m l) (row-drop cells i b (omega arith))
+    ∙ take-take m (64 - b) (drop (64 * i + b) cells) (omega arith)
+
+-- the cells of a row from b on, w to each of the count in cell t
+abbrev partOf : List ℕ → ℕ → ℕ → ℕ → List ℕ
+partOf row t b w = take (w * getD row t 0) (drop b row)
 
 -- values stored in row i from `at` on, and one more counted in its cell s
 module _ (cells : List ℕ) (i s at h : ℕ) (vs : List ℕ) (room : 64 * i + 64 ≤ length cells) (fits : at + length vs ≤ 64)
@@ -102,11 +89,33 @@ module _ (cells : List ℕ) (i s at h : ℕ) (vs : List ℕ) (room : 64 * i + 64
   cell-kept : (j : ℕ) → j < 64 * i + 6 → (j ≡ 64 * i + s → ⊥) → getD grown j 0 ≡ getD cells j 0
   cell-kept j p q = getD-set-other stored (64 * i + s) j (suc h) 0 q ∙ at-before cells (64 * i + at) vs inner j (omega arith)
 
-  pub counted : getD grown (64 * i + s) 0 ≡ suc h
-  counted = cell-counted
-
-  pub other-count : (j : ℕ) → j < 6 → (j ≡ s → ⊥) → getD grown (64 * i + j) 0 ≡ getD cells (64 * i + j) 0
+  other-count : (j : ℕ) → j < 6 → (j ≡ s → ⊥) → getD grown (64 * i + j) 0 ≡ getD cells (64 * i + j) 0
   other-count j p q = cell-kept (64 * i + j) (omega arith) (λ e. q (omega (arith, e)))
+
+  count-grown : (t m : ℕ) → t < 6 → getD cells (64 * i + t) 0 ≤ m → (t ≡ s → suc h ≤ m) → getD grown (64 * i + t) 0 ≤ m
+  count-grown t m p q r = elim (ℕ-discrete t s) [
+    | yes e ↦ omega (arith, ap (λ (k : ℕ). getD grown (64 * i + k) 0) e ∙ cell-counted, r e)
+    | no e ↦ omega (arith, other-count t p e, q)
+  ]
+
+  pub sound-grown : (st : Stage) (place count : ℕ) → st .rules ≡ suc i → Sound cells st → count ≤ 64 → (3 ≡ s → h < 4)
+      → (4 ≡ s → h < 6)
+      → (5 ≡ s → h < 4) → Sound grown (record { place = place; symbols = st .symbols; rules = st .rules; constants = count })
+  sound-grown st place count q g fit x y z =
+      let row : st .rules - 1 ≡ i = omega arith in
+      let begun : 0 < st .rules = omega arith in
+      let few : (t m : ℕ) → t < 6 → getD cells (64 * (st .rules - 1) + t) 0 ≤ m → (t ≡ s → suc h ≤ m)
+      → getD grown (64 * (st .rules - 1) + t) 0 ≤ m =
+      rw row count-grown in
+      record {
+        few-symbols = g .few-symbols;
+        few-rules = g .few-rules;
+        few-constants = fit;
+        begun = λ _. begun;
+        few-heads = λ _. few 3 4 (omega arith) (g .few-heads begun) (λ e. omega (arith, x e));
+        few-body = λ _. few 4 6 (omega arith) (g .few-body begun) (λ e. omega (arith, y e));
+        few-sides = λ _. few 5 4 (omega arith) (g .few-sides begun) (λ e. omega (arith, z e));
+      }
 
   row-cell-kept : (j : ℕ) → j < 6 → (j ≡ s → ⊥) → getD (rowAt grown i) j 0 ≡ getD (rowAt cells i) j 0
   row-cell-kept j p q = row-cell grown i j (omega (arith, p)) ∙ other-count j p q ∙ sym (row-cell cells i j (omega (arith, p)))
@@ -125,15 +134,35 @@ module _ (cells : List ℕ) (i s at h : ℕ) (vs : List ℕ) (room : 64 * i + 64
   drop-kept b p q =
       row-drop grown i b p
       ∙ ap (λ (l : List ℕ). take (64 - b) l)
-      (drop-set-lt (64 * i + b) stored (64 * i + s) (suc h) (omega arith) ∙ drop-behind cells (64 * i + at) vs inner (64 * i + b) (omega arith))
+      (drop-set-lt (64 * i + b) stored (64 * i + s) (suc h) (omega arith)
+      ∙ drop-behind cells (64 * i + at) vs inner (64 * i + b) (omega arith))
       ∙ sym (row-drop cells i b p)
 
-  cut-grown : (b m : ℕ) → 6 ≤ b → b + m ≡ at → take (m + length vs) (drop b (rowAt grown i)) ≡ take m (drop b (rowAt cells i)) ++ vs
+  cut-grown : (b m : ℕ) → 6 ≤ b → b + m ≡ at → take (m + length vs) (drop b (rowAt grown i))
+      ≡ take m (drop b (rowAt cells i)) ++ vs
   cut-grown b m p q =
       row-cut grown i b (m + length vs) (omega arith)
       ∙ ap (λ (l : List ℕ). take (m + length vs) l) (drop-set-lt (64 * i + b) stored (64 * i + s) (suc h) (omega arith))
       ∙ cut-pasted cells (64 * i + at) vs inner (64 * i + b) m (omega arith)
       ∙ ap (λ (l : List ℕ). l ++ vs) (sym (row-cut cells i b m (omega arith)))
+
+  -- what a row holds in parts: those before and behind what is stored, and the part that it is stored in
+  part-before : (t b w : ℕ) → t < 6 → (t ≡ s → ⊥) → 6 ≤ b → b + w * getD (rowAt cells i) t 0 ≤ at
+      → partOf (rowAt grown i) t b w ≡ partOf (rowAt cells i) t b w
+  part-before t b w p q r z =
+      ap (λ (n : ℕ). take (w * n) (drop b (rowAt grown i))) (row-cell-kept t p q) ∙ cut-kept b (w * getD (rowAt cells i) t 0) r z
+
+  part-behind : (t b w : ℕ) → t < 6 → (t ≡ s → ⊥) → b ≤ 64 → at + length vs ≤ b
+      → partOf (rowAt grown i) t b w ≡ partOf (rowAt cells i) t b w
+  part-behind t b w p q r z = ap₂ (λ (n : ℕ) (l : List ℕ). take (w * n) l) (row-cell-kept t p q) (drop-kept b r z)
+
+  part-more : (b w : ℕ) → 6 ≤ b → w ≡ length vs → b + w * h ≡ at → h ≡ getD cells (64 * i + s) 0
+      → partOf (rowAt grown i) s b w ≡ partOf (rowAt cells i) s b w ++ vs
+  part-more b w p l q e =
+      ap (λ (n : ℕ). take (w * n) (drop b (rowAt grown i))) row-cell-counted
+      ∙ ap (λ (n : ℕ). take n (drop b (rowAt grown i))) (mul-suc w h ∙ ap (λ (n : ℕ). w * h + n) l)
+      ∙ cut-grown b (w * h) p q
+      ∙ ap (λ (n : ℕ). take (w * n) (drop b (rowAt cells i)) ++ vs) (e ∙ sym (row-cell cells i s (omega arith)))
 
   row-before : (j : ℕ) → j < i → rowAt grown j ≡ rowAt cells j
   row-before j p =
@@ -161,10 +190,12 @@ module _ (cells : List ℕ) (i s at h : ℕ) (vs : List ℕ) (room : 64 * i + 64
 abbrev ruleWith : List ℕ → List Constraint → List Constraint → List Equation → Rule
 ruleWith name heads body equations = record { name = name; heads = heads; body = body; equations = equations }
 
-rule-path : {n n′ : List ℕ} {h h′ b b′ : List Constraint} {e e′ : List Equation} → n ≡ n′ → h ≡ h′ → b ≡ b′ → e ≡ e′ → ruleWith n h b e ≡ ruleWith n′ h′ b′ e′
+rule-path : {n n′ : List ℕ} {h h′ b b′ : List Constraint} {e e′ : List Equation} → n ≡ n′ → h ≡ h′ → b ≡ b′ → e ≡ e′
+    → ruleWith n h b e ≡ ruleWith n′ h′ b′ e′
 rule-path p q r s = cc
 
-five-is : (k a b c d : ℕ) → cellConstraints (k ∷ a ∷ b ∷ c ∷ d ∷ []) ≡ record { symbol = k; terms = cellTerms (a ∷ b ∷ c ∷ d ∷ []) } ∷ []
+five-is : (k a b c d : ℕ) → cellConstraints (k ∷ a ∷ b ∷ c ∷ d ∷ [])
+    ≡ record { symbol = k; terms = cellTerms (a ∷ b ∷ c ∷ d ∷ []) } ∷ []
 unfolding cellConstraints
 five-is k a b c d = refl
 
@@ -172,101 +203,112 @@ two-are : (a b : ℕ) → cellEquations (a ∷ b ∷ []) ≡ record { left = cel
 unfolding cellEquations
 two-are a b = refl
 
--- the counts of the last rule
+-- part 0 of a rule, its heads, and part 1, its body
+abbrev pub constraintsIn : ℕ → Rule → List Constraint
+constraintsIn zero r = r .heads
+constraintsIn (suc w) r = r .body
+
+abbrev pub withConstraint : ℕ → Constraint → Rule → Rule
+withConstraint zero = withHead
+withConstraint (suc w) = withBody
+
+row-constraints : (text row : List ℕ) (w : ℕ) → w ≤ 1
+    → constraintsIn w (ruleOfRow text row) ≡ cellConstraints (partOf row (3 + w) (6 + 20 * w) 5)
+unfolding ruleOfRow
+row-constraints text row zero p = refl
+row-constraints text row (suc zero) p = refl
+row-constraints text row (suc (suc w)) p = absurd (omega arith)
+
 module _ (text cells : List ℕ) (i : ℕ) (room : 64 * i + 64 ≤ length cells) where
   last-is : lastRule (rulesOf text cells (suc i)) ≡ ruleOf text cells i
   unfolding rulesOf
   last-is = last-snoc (tabled (ruleOf text cells) i) (ruleOf text cells i)
 
-  part-length : (b m : ℕ) → b + m ≤ 64 → length (take m (drop b (rowAt cells i))) ≡ m
-  part-length b m h =
-      ap (λ (l : List ℕ). length l) (row-cut cells i b m h)
-      ∙ length-take-le m (drop (64 * i + b) cells) (omega (arith, length-drop (64 * i + b) cells))
+  part-length : (t b w m : ℕ) → t < 6 → m ≡ getD cells (64 * i + t) 0 → b + w * m ≤ 64
+      → length (partOf (rowAt cells i) t b w) ≡ w * m
+  part-length t b w m p e q =
+      let n : getD (rowAt cells i) t 0 ≡ m = row-cell cells i t (omega arith) ∙ sym e in
+      ap (λ (k : ℕ). length (take (w * k) (drop b (rowAt cells i)))) n
+      ∙ ap (λ (l : List ℕ). length l) (row-cut cells i b (w * m) q)
+      ∙ length-take-le (w * m) (drop (64 * i + b) cells) (omega (arith, length-drop (64 * i + b) cells))
 
-  pub last-heads : getD cells (64 * i + 3) 0 ≤ 4 → length (lastRule (rulesOf text cells (suc i)) .heads) ≡ getD cells (64 * i + 3) 0
-  unfolding ruleOf ruleOfRow
-  last-heads h =
-      let e : getD (rowAt cells i) 3 0 ≡ getD cells (64 * i + 3) 0 = row-cell cells i 3 (omega arith) in
-      ap (λ (r : Rule). length (r .heads)) last-is
-      ∙ constraints-length (getD (rowAt cells i) 3 0) (take (5 * getD (rowAt cells i) 3 0) (drop 6 (rowAt cells i)))
-      (part-length 6 (5 * getD (rowAt cells i) 3 0) (omega arith)) ∙ e
+  -- the counts of the last rule
+  pub last-constraints : (w h : ℕ) → w ≤ 1 → h ≡ getD cells (64 * i + (3 + w)) 0 → h ≤ 4 + 2 * w
+      → length (constraintsIn w (lastRule (rulesOf text cells (suc i)))) ≡ h
+  unfolding ruleOf
+  last-constraints w h p e few =
+      ap (λ (r : Rule). length (constraintsIn w r)) last-is
+      ∙ ap (λ (l : List Constraint). length l) (row-constraints text (rowAt cells i) w p)
+      ∙ constraints-length h (partOf (rowAt cells i) (3 + w) (6 + 20 * w) 5)
+      (part-length (3 + w) (6 + 20 * w) 5 h (omega arith) e (omega arith))
 
-  pub last-body : getD cells (64 * i + 4) 0 ≤ 6 → length (lastRule (rulesOf text cells (suc i)) .body) ≡ getD cells (64 * i + 4) 0
+  pub last-sides : (h : ℕ) → h ≡ getD cells (64 * i + 5) 0 → h ≤ 4 → length (lastRule (rulesOf text cells (suc i)) .equations) ≡ h
   unfolding ruleOf ruleOfRow
-  last-body h =
-      let e : getD (rowAt cells i) 4 0 ≡ getD cells (64 * i + 4) 0 = row-cell cells i 4 (omega arith) in
-      ap (λ (r : Rule). length (r .body)) last-is
-      ∙ constraints-length (getD (rowAt cells i) 4 0) (take (5 * getD (rowAt cells i) 4 0) (drop 26 (rowAt cells i)))
-      (part-length 26 (5 * getD (rowAt cells i) 4 0) (omega arith)) ∙ e
-
-  pub last-sides : getD cells (64 * i + 5) 0 ≤ 4 → length (lastRule (rulesOf text cells (suc i)) .equations) ≡ getD cells (64 * i + 5) 0
-  unfolding ruleOf ruleOfRow
-  last-sides h =
-      let e : getD (rowAt cells i) 5 0 ≡ getD cells (64 * i + 5) 0 = row-cell cells i 5 (omega arith) in
+  last-sides h e few =
       ap (λ (r : Rule). length (r .equations)) last-is
-      ∙ equations-length (getD (rowAt cells i) 5 0) (take (2 * getD (rowAt cells i) 5 0) (drop 56 (rowAt cells i)))
-      (part-length 56 (2 * getD (rowAt cells i) 5 0) (omega arith)) ∙ e
+      ∙ equations-length h (partOf (rowAt cells i) 5 56 2) (part-length 5 56 2 h (omega arith) e (omega arith))
 
-  -- one head more
-  module _ (h k a b c d : ℕ) (e : h ≡ getD cells (64 * i + 3) 0) (few : h < 4) where
+  -- the name, and the heads and the body where they stand before what is stored
+  module _ (s at h : ℕ) (vs : List ℕ) (fits : at + length vs ≤ 64) (low : s < 6) (high : 6 ≤ at) where
+    abbrev new : List ℕ
+    new = rowAt (grown cells i s at h vs room fits low high) i
+
+    name-kept : (0 ≡ s → ⊥) → (1 ≡ s → ⊥) → part text (getD new 0 0) (getD new 1 0)
+        ≡ part text (getD (rowAt cells i) 0 0) (getD (rowAt cells i) 1 0)
+    name-kept x y =
+        ap₂ (part text) (row-cell-kept cells i s at h vs room fits low high 0 (omega arith) x)
+        (row-cell-kept cells i s at h vs room fits low high 1 (omega arith) y)
+
+    heads-kept : (3 ≡ s → ⊥) → getD cells (64 * i + 3) 0 ≤ 4 → 26 ≤ at
+        → cellConstraints (partOf new 3 6 5) ≡ cellConstraints (partOf (rowAt cells i) 3 6 5)
+    heads-kept x few p =
+        let n : getD (rowAt cells i) 3 0 ≡ getD cells (64 * i + 3) 0 = row-cell cells i 3 (omega arith) in
+        ap cellConstraints (part-before cells i s at h vs room fits low high 3 6 5 (omega arith) x (omega arith) (omega arith))
+
+  -- one constraint more
+  module _ (h k a b c d : ℕ) (few-heads : getD cells (64 * i + 3) 0 ≤ 4) where
     abbrev five : List ℕ
     five = k ∷ a ∷ b ∷ c ∷ d ∷ []
 
     abbrev constraint : Constraint
     constraint = record { symbol = k; terms = cellTerms (a ∷ b ∷ c ∷ d ∷ []) }
 
-    pub head-grown : ruleOf text (grown cells i 3 (6 + 5 * h) h five room (omega arith) (omega arith) (omega arith)) i
-        ≡ withHead constraint (ruleOf text cells i)
-    unfolding ruleOf ruleOfRow withHead
-    head-grown =
-        let new : List ℕ = rowAt (grown cells i 3 (6 + 5 * h) h five room (omega arith) (omega arith) (omega arith)) i in
-        let old : List ℕ = rowAt cells i in
-        let kept : (j : ℕ) → j < 6 → (j ≡ 3 → ⊥) → getD new j 0 ≡ getD old j 0 =
-        row-cell-kept cells i 3 (6 + 5 * h) h five room (omega arith) (omega arith) (omega arith) in
-        let behind : (n : ℕ) → n ≤ 64 → 6 + 5 * h + 5 ≤ n → drop n new ≡ drop n old =
-        drop-kept cells i 3 (6 + 5 * h) h five room (omega arith) (omega arith) (omega arith) in
-        let count : getD old 3 0 ≡ h = row-cell cells i 3 (omega arith) ∙ sym e in
-        rule-path
-        (ap₂ (part text) (kept 0 (omega arith) (λ z. omega (arith, z))) (kept 1 (omega arith) (λ z. omega (arith, z))))
-        (ap (λ (n : ℕ). cellConstraints (take (5 * n) (drop 6 new)))
-        (row-cell-counted cells i 3 (6 + 5 * h) h five room (omega arith) (omega arith) (omega arith))
-        ∙ ap (λ (n : ℕ). cellConstraints (take n (drop 6 new))) (let z : 5 * suc h ≡ 5 * h + 5 = omega arith in z)
-        ∙ ap cellConstraints (cut-grown cells i 3 (6 + 5 * h) h five room (omega arith) (omega arith) (omega arith) 6 (5 * h) (omega arith) refl)
-        ∙ constraints-append h (take (5 * h) (drop 6 old)) five (part-length 6 (5 * h) (omega arith))
-        ∙ ap₂ (λ (n : ℕ) (l : List Constraint). cellConstraints (take (5 * n) (drop 6 old)) ++ l) (sym count) (five-is k a b c d))
-        (ap₂ (λ (n : ℕ) (l : List ℕ). cellConstraints (take (5 * n) l)) (kept 4 (omega arith) (λ z. omega (arith, z))) (behind 26 (omega arith) (omega arith)))
-        (ap₂ (λ (n : ℕ) (l : List ℕ). cellEquations (take (2 * n) l)) (kept 5 (omega arith) (λ z. omega (arith, z))) (behind 56 (omega arith) (omega arith)))
+    constraints-more : (w : ℕ) (p : w ≤ 1) (e : h ≡ getD cells (64 * i + (3 + w)) 0) (few : h < 4 + 2 * w)
+        → cellConstraints (partOf (new (3 + w) (6 + 20 * w + 5 * h) h five (omega arith) (omega arith) (omega arith)) (3 + w)
+        (6 + 20 * w) 5)
+        ≡ cellConstraints (partOf (rowAt cells i) (3 + w) (6 + 20 * w) 5) ++ (constraint ∷ [])
+    constraints-more w p e few =
+        ap cellConstraints (part-more cells i (3 + w) (6 + 20 * w + 5 * h) h five room (omega arith) (omega arith) (omega arith)
+        (6 + 20 * w) 5 (omega arith) refl refl e)
+        ∙ constraints-append h (partOf (rowAt cells i) (3 + w) (6 + 20 * w) 5) five
+        (part-length (3 + w) (6 + 20 * w) 5 h (omega arith) e (omega arith))
+        ∙ ap (λ (l : List Constraint). cellConstraints (partOf (rowAt cells i) (3 + w) (6 + 20 * w) 5) ++ l) (five-is k a b c d)
 
-  -- one constraint of the body more
-  module _ (h k a b c d : ℕ) (e : h ≡ getD cells (64 * i + 4) 0) (few : h < 6) (heads : getD cells (64 * i + 3) 0 ≤ 4) where
-    abbrev five-more : List ℕ
-    five-more = k ∷ a ∷ b ∷ c ∷ d ∷ []
-
-    pub body-grown : ruleOf text (grown cells i 4 (26 + 5 * h) h five-more room (omega arith) (omega arith) (omega arith)) i
-        ≡ withBody (record { symbol = k; terms = cellTerms (a ∷ b ∷ c ∷ d ∷ []) }) (ruleOf text cells i)
-    unfolding ruleOf ruleOfRow withBody
-    body-grown =
-        let new : List ℕ = rowAt (grown cells i 4 (26 + 5 * h) h five-more room (omega arith) (omega arith) (omega arith)) i in
-        let old : List ℕ = rowAt cells i in
-        let kept : (j : ℕ) → j < 6 → (j ≡ 4 → ⊥) → getD new j 0 ≡ getD old j 0 =
-        row-cell-kept cells i 4 (26 + 5 * h) h five-more room (omega arith) (omega arith) (omega arith) in
-        let count : getD old 4 0 ≡ h = row-cell cells i 4 (omega arith) ∙ sym e in
-        let n3 : getD old 3 0 ≡ getD cells (64 * i + 3) 0 = row-cell cells i 3 (omega arith) in
-        rule-path
-        (ap₂ (part text) (kept 0 (omega arith) (λ z. omega (arith, z))) (kept 1 (omega arith) (λ z. omega (arith, z))))
-        (ap (λ (n : ℕ). cellConstraints (take (5 * n) (drop 6 new))) (kept 3 (omega arith) (λ z. omega (arith, z)))
-        ∙ ap cellConstraints (cut-kept cells i 4 (26 + 5 * h) h five-more room (omega arith) (omega arith) (omega arith) 6 (5 * getD old 3 0) (omega arith) (omega arith)))
-        (ap (λ (n : ℕ). cellConstraints (take (5 * n) (drop 26 new)))
-        (row-cell-counted cells i 4 (26 + 5 * h) h five-more room (omega arith) (omega arith) (omega arith))
-        ∙ ap (λ (n : ℕ). cellConstraints (take n (drop 26 new))) (let z : 5 * suc h ≡ 5 * h + 5 = omega arith in z)
-        ∙ ap cellConstraints (cut-grown cells i 4 (26 + 5 * h) h five-more room (omega arith) (omega arith) (omega arith) 26 (5 * h) (omega arith) refl)
-        ∙ constraints-append h (take (5 * h) (drop 26 old)) five-more (part-length 26 (5 * h) (omega arith))
-        ∙ ap₂ (λ (n : ℕ) (l : List Constraint). cellConstraints (take (5 * n) (drop 26 old)) ++ l) (sym count) (five-is k a b c d))
-        (ap₂ (λ (n : ℕ) (l : List ℕ). cellEquations (take (2 * n) l)) (kept 5 (omega arith) (λ z. omega (arith, z)))
-        (drop-kept cells i 4 (26 + 5 * h) h five-more room (omega arith) (omega arith) (omega arith) 56 (omega arith) (omega arith)))
+    pub constraint-grown : (w : ℕ) (p : w ≤ 1) (e : h ≡ getD cells (64 * i + (3 + w)) 0) (few : h < 4 + 2 * w)
+        → ruleOf text (grown cells i (3 + w) (6 + 20 * w + 5 * h) h five room (omega arith) (omega arith) (omega arith)) i
+        ≡ withConstraint w constraint (ruleOf text cells i)
+    unfolding ruleOf ruleOfRow withHead withBody
+    constraint-grown zero p e few =
+        rule-path (name-kept 3 (6 + 5 * h) h five (omega arith) (omega arith) (omega arith) (λ z. omega (arith, z))
+        (λ z. omega (arith, z)))
+        (constraints-more 0 p e few)
+        (ap cellConstraints (part-behind cells i 3 (6 + 5 * h) h five room (omega arith) (omega arith) (omega arith)
+        4 26 5 (omega arith) (λ z. omega (arith, z)) (omega arith) (omega arith)))
+        (ap cellEquations (part-behind cells i 3 (6 + 5 * h) h five room (omega arith) (omega arith) (omega arith)
+        5 56 2 (omega arith) (λ z. omega (arith, z)) (omega arith) (omega arith)))
+    constraint-grown (suc zero) p e few =
+        rule-path (name-kept 4 (26 + 5 * h) h five (omega arith) (omega arith) (omega arith) (λ z. omega (arith, z))
+        (λ z. omega (arith, z)))
+        (heads-kept 4 (26 + 5 * h) h five (omega arith) (omega arith) (omega arith) (λ z. omega (arith, z)) few-heads
+        (omega arith))
+        (constraints-more 1 p e few)
+        (ap cellEquations (part-behind cells i 4 (26 + 5 * h) h five room (omega arith) (omega arith) (omega arith)
+        5 56 2 (omega arith) (λ z. omega (arith, z)) (omega arith) (omega arith)))
+    constraint-grown (suc (suc w)) p e few = absurd (omega arith)
 
   -- one equation more
-  module _ (h a b : ℕ) (e : h ≡ getD cells (64 * i + 5) 0) (few : h < 4) (heads : getD cells (64 * i + 3) 0 ≤ 4) (body : getD cells (64 * i + 4) 0 ≤ 6) where
+  module _ (h a b : ℕ) (e : h ≡ getD cells (64 * i + 5) 0) (few : h < 4) (heads : getD cells (64 * i + 3) 0 ≤ 4)
+      (body : getD cells (64 * i + 4) 0 ≤ 6) where
     abbrev two-more : List ℕ
     two-more = a ∷ b ∷ []
 
@@ -274,24 +316,14 @@ module _ (text cells : List ℕ) (i : ℕ) (room : 64 * i + 64 ≤ length cells)
         ≡ withEquation (record { left = cellTerm a; right = cellTerm b }) (ruleOf text cells i)
     unfolding ruleOf ruleOfRow withEquation
     sides-grown =
-        let new : List ℕ = rowAt (grown cells i 5 (56 + 2 * h) h two-more room (omega arith) (omega arith) (omega arith)) i in
-        let old : List ℕ = rowAt cells i in
-        let kept : (j : ℕ) → j < 6 → (j ≡ 5 → ⊥) → getD new j 0 ≡ getD old j 0 =
-        row-cell-kept cells i 5 (56 + 2 * h) h two-more room (omega arith) (omega arith) (omega arith) in
-        let cut : (n m : ℕ) → 6 ≤ n → n + m ≤ 56 + 2 * h → take m (drop n new) ≡ take m (drop n old) =
-        cut-kept cells i 5 (56 + 2 * h) h two-more room (omega arith) (omega arith) (omega arith) in
-        let count : getD old 5 0 ≡ h = row-cell cells i 5 (omega arith) ∙ sym e in
-        let n3 : getD old 3 0 ≡ getD cells (64 * i + 3) 0 = row-cell cells i 3 (omega arith) in
-        let n4 : getD old 4 0 ≡ getD cells (64 * i + 4) 0 = row-cell cells i 4 (omega arith) in
-        rule-path
-        (ap₂ (part text) (kept 0 (omega arith) (λ z. omega (arith, z))) (kept 1 (omega arith) (λ z. omega (arith, z))))
-        (ap (λ (n : ℕ). cellConstraints (take (5 * n) (drop 6 new))) (kept 3 (omega arith) (λ z. omega (arith, z)))
-        ∙ ap cellConstraints (cut 6 (5 * getD old 3 0) (omega arith) (omega arith)))
-        (ap (λ (n : ℕ). cellConstraints (take (5 * n) (drop 26 new))) (kept 4 (omega arith) (λ z. omega (arith, z)))
-        ∙ ap cellConstraints (cut 26 (5 * getD old 4 0) (omega arith) (omega arith)))
-        (ap (λ (n : ℕ). cellEquations (take (2 * n) (drop 56 new)))
-        (row-cell-counted cells i 5 (56 + 2 * h) h two-more room (omega arith) (omega arith) (omega arith))
-        ∙ ap (λ (n : ℕ). cellEquations (take n (drop 56 new))) (let z : 2 * suc h ≡ 2 * h + 2 = omega arith in z)
-        ∙ ap cellEquations (cut-grown cells i 5 (56 + 2 * h) h two-more room (omega arith) (omega arith) (omega arith) 56 (2 * h) (omega arith) refl)
-        ∙ equations-append h (take (2 * h) (drop 56 old)) two-more (part-length 56 (2 * h) (omega arith))
-        ∙ ap₂ (λ (n : ℕ) (l : List Equation). cellEquations (take (2 * n) (drop 56 old)) ++ l) (sym count) (two-are a b))
+        let n : getD (rowAt cells i) 4 0 ≡ getD cells (64 * i + 4) 0 = row-cell cells i 4 (omega arith) in
+        rule-path (name-kept 5 (56 + 2 * h) h two-more (omega arith) (omega arith) (omega arith) (λ z. omega (arith, z))
+        (λ z. omega (arith, z)))
+        (heads-kept 5 (56 + 2 * h) h two-more (omega arith) (omega arith) (omega arith) (λ z. omega (arith, z)) heads
+        (omega arith))
+        (ap cellConstraints (part-before cells i 5 (56 + 2 * h) h two-more room (omega arith) (omega arith) (omega arith)
+        4 26 5 (omega arith) (λ z. omega (arith, z)) (omega arith) (omega arith)))
+        (ap cellEquations (part-more cells i 5 (56 + 2 * h) h two-more room (omega arith) (omega arith) (omega arith) 56 2
+        (omega arith) refl refl e)
+        ∙ equations-append h (partOf (rowAt cells i) 5 56 2) two-more (part-length 5 56 2 h (omega arith) e (omega arith))
+        ∙ ap (λ (l : List Equation). cellEquations (partOf (rowAt cells i) 5 56 2) ++ l) (two-are a b))

@@ -3,13 +3,15 @@
 --   cut-before, drop-behind, at-before, at-in    what stands before, behind and in it
 --   row-..           the rows of a table of 64 cells each
 -- Assumes nothing.
-use mathlib.Core.Path.{_≡_, refl, sym, ap, ap₂, _∙_}
-use mathlib.Core.List.{List, [], _∷_, _++_, append-assoc}
-use Prim.Native.Nat.{ℕ, zero, suc, _+_, _-_, _*_, _≤_, _<_, min}
+use mathlib.Core.Path.{_≡_, sym, ap, ap₂, _∙_}
+use mathlib.Core.List.{List, _++_, append-assoc}
+use Prim.Native.Nat.{ℕ, _+_, _-_, _≤_, _<_}
 use native.Mathlib.Omega.{arith}
-use lib.ListN.{length, take, drop, getD, set, length-append, length-take, length-drop, List·getD-append}
-use lib.Seq.{take-length, drop-append-le, take-at, drop-at, take-append-le, take-take, drop-drop, paste, length-take-le, getD-take}
-use lib.Seq.{length-paste-head, getD-append-add, drop-set-add, take-set-lt, take-set-le, drop-append-add, getD-set-other, length-paste}
+use lib.ListN.{length, take, drop, getD, length-append, length-drop, List·getD-append}
+use lib.Seq.{take-length, drop-append-le, take-at, take-append-le, take-take, drop-drop, paste, length-take-le}
+use lib.Seq.{getD-take}
+use lib.Seq.{getD-append-add, drop-append-add}
+use lib.Seq.{length-paste}
 use Rattle.text.proofs.Cursors.{drop-take}
 
 module _ (l : List ℕ) (a : ℕ) (vs : List ℕ) (fits : a + length vs ≤ length l) where
@@ -74,7 +76,8 @@ module _ (l : List ℕ) (a : ℕ) (vs : List ℕ) (fits : a + length vs ≤ leng
   pub at-in : (j : ℕ) → j < k → getD new (a + j) 0 ≡ getD vs j 0
   at-in j h =
       let sized : length (take a l) ≡ a = length-take-le a l (omega arith) in
-      ap₂ (λ (x : List ℕ) (n : ℕ). getD x n 0) (whole ∙ append-assoc (take a l) vs (drop (a + k) l)) (ap (λ (n : ℕ). n + j) (sym sized))
+      ap₂ (λ (x : List ℕ) (n : ℕ). getD x n 0) (whole ∙ append-assoc (take a l) vs (drop (a + k) l))
+      (ap (λ (n : ℕ). n + j) (sym sized))
       ∙ getD-append-add (take a l) (vs ++ drop (a + k) l) j 0
       ∙ List·getD-append vs (drop (a + k) l) 0 j h
 

@@ -1,12 +1,12 @@
 -- Laws of a line by number 2, its form and its place, and of all lines.
 --   line-faulty, line-placeless, line-formed    a line, by the tests that decide it
 --   some-bytes            a line that is not faulty has a byte
---   begun-.., first-place where a line of a form stands
+--   begun, first-place   where a line of a form stands
 --   lines-refused, lines-next, lines-end    the lines from a place on, one line on
 -- Assumes nothing.
 use mathlib.Core.Path.{_≡_, refl, sym, ap, ap₂, _∙_}
 use mathlib.Core.Bool.{Bool, true, false, cond}
-use mathlib.Core.List.{List, [], _∷_}
+use mathlib.Core.List.{List}
 use mathlib.Core.Option.{Option, none, some}
 use Prim.Native.Nat.{ℕ, zero, suc, _+_, _-_, _≤_, _<_}
 use native.Mathlib.Nat.{zero-add}
@@ -17,20 +17,22 @@ use lib.Dec.{ltb}
 use lib.ListN.{length, take, drop, drop-of-length-le}
 use lib.Seq.{length-take-le, length-slice}
 use Rattle.text.specs.Lists.{onward, tabled}
-use Rattle.text.specs.Lines.{Line, lines, lineIsFaulty}
+use Rattle.text.specs.Lines.{lines, lineIsFaulty}
 use Rattle.text.specs.Fields.{fields}
 use Rattle.text.specs.Places.{before, lineAt, fieldsFrom}
 use Rattle.text.proofs.Cursors.{line-at, fields-in}
 use Rattle.text.proofs.Forms.{faulty-empty}
 use Rattle.syntax.specs.Answers.{Answer, refused, accepted, refuseIf, andThen}
-use Rattle.syntax.specs.Forms.{Form, Place, inSymbols, inHeads, inBody, inEquations, symbolForm, headForm, bodyForm, equationForm, formOf}
+use Rattle.syntax.specs.Forms.{Form, Place, inSymbols, inHeads, inBody, inEquations, symbolForm, formOf}
 use Rattle.syntax.specs.Forms.{placeAfter, fieldAt}
 use Rattle.syntax.specs.Programs.{Draft, Reading, maxText, blank, readForm, readLine, readLines, checkRules, readProgram}
 use Rattle.syntax.specs.Tables.{constantOf, constantsOf}
-use Rattle.lines.specs.Read.{placeMeant, placeAnswer}
+use Rattle.lines.specs.declared.LineForm.{LineForm}
+use Rattle.lines.specs.Read.{formMeant, placeMeant, placeAnswer}
 use Rattle.syntax.proofs.Tabled.{tabled-same}
 
-pub some-bytes : (s : List ℕ) (start end : ℕ) → start ≤ end → end ≤ length s → lineIsFaulty (lineAt s start end) ≡ false → start < end
+pub some-bytes : (s : List ℕ) (start end : ℕ) → start ≤ end → end ≤ length s → lineIsFaulty (lineAt s start end) ≡ false
+    → start < end
 unfolding lineAt
 some-bytes s start end h k e = elim (decLt start end) [
   | yes p ↦ p
@@ -50,21 +52,27 @@ module _ (s : List ℕ) (start end n : ℕ) (d : Draft) where
     fields-are : fields (drop start (take end s)) ≡ fieldsFrom (take end s) start
     fields-are = sym (fields-in (take end s) start (omega (arith, length-take-le end s k)))
 
-    opened : readLine n (lineAt s start end) d ≡ onward (placeAfter form (d .place)) (refused 3 n) (λ place. readForm form n place (fieldsFrom (take end s) start) d)
+    opened : readLine n (lineAt s start end) d
+        ≡ onward (placeAfter form (d .place)) (refused 3 n) (λ place. readForm form n place (fieldsFrom (take end s) start) d)
     unfolding readLine lineAt
     opened =
         let same : formOf (fieldAt 0 (fields (drop start (take end s)))) ≡ form =
         ap (λ (fs : List (List ℕ)). formOf (fieldAt 0 fs)) fields-are ∙ sym f in
-        ap (λ (b : Bool). refuseIf b 2 n (onward (placeAfter (formOf (fieldAt 0 (fields (drop start (take end s))))) (d .place)) (refused 3 n)
-        (λ place. readForm (formOf (fieldAt 0 (fields (drop start (take end s))))) n place (fields (drop start (take end s))) d))) e
-        ∙ ap₂ (λ (g : Form) (fs : List (List ℕ)). onward (placeAfter g (d .place)) (refused 3 n) (λ place. readForm g n place fs d)) same fields-are
+        ap (λ (b : Bool). refuseIf b 2 n (onward (placeAfter (formOf (fieldAt 0 (fields (drop start (take end s))))) (d .place))
+        (refused 3 n)
+        (λ place. readForm (formOf (fieldAt 0 (fields (drop start (take end s))))) n place (fields (drop start (take end s))) d)))
+        e
+        ∙ ap₂ (λ (g : Form) (fs : List (List ℕ)). onward (placeAfter g (d .place)) (refused 3 n)
+        (λ place. readForm g n place fs d)) same fields-are
 
-    pub line-placeless : (p : ℕ) → placeAnswer p ≡ placeAfter form (d .place) → 3 < p → refused 3 n ≡ readLine n (lineAt s start end) d
+    pub line-placeless : (p : ℕ) → placeAnswer p ≡ placeAfter form (d .place) → 3 < p
+        → refused 3 n ≡ readLine n (lineAt s start end) d
     unfolding placeAnswer
     line-placeless p q r =
         let none-is : placeAfter form (d .place) ≡ none =
         sym q ∙ ap (λ (b : Bool). cond b (some (placeMeant p)) none) (le-ltb p 4 (omega arith)) in
-        sym (opened ∙ ap (λ (o : Option Place). onward o (refused 3 n) (λ place. readForm form n place (fieldsFrom (take end s) start) d)) none-is)
+        sym (opened ∙ ap (λ (o : Option Place). onward o (refused 3 n)
+        (λ place. readForm form n place (fieldsFrom (take end s) start) d)) none-is)
 
     pub line-formed : (p : ℕ) → placeAnswer p ≡ placeAfter form (d .place) → p ≤ 3
         → readForm form n (placeMeant p) (fieldsFrom (take end s) start) d ≡ readLine n (lineAt s start end) d
@@ -72,60 +80,53 @@ module _ (s : List ℕ) (start end n : ℕ) (d : Draft) where
     line-formed p q r =
         let some-is : placeAfter form (d .place) ≡ some (placeMeant p) =
         sym q ∙ ap (λ (b : Bool). cond b (some (placeMeant p)) none) (lt-ltb p 4 (omega arith)) in
-        sym (opened ∙ ap (λ (o : Option Place). onward o (refused 3 n) (λ place. readForm form n place (fieldsFrom (take end s) start) d)) some-is)
+        sym (opened ∙ ap (λ (o : Option Place). onward o (refused 3 n)
+        (λ place. readForm form n place (fieldsFrom (take end s) start) d)) some-is)
 
 -- a place that a line leads to
 place-some : (p : ℕ) (o : Option Place) → placeAnswer p ≡ o → p < 4 → o ≡ some (placeMeant p)
 unfolding placeAnswer
 place-some p o q r = sym q ∙ ap (λ (b : Bool). cond b (some (placeMeant p)) none) (lt-ltb p 4 r)
 
+-- a K line leads to the place of symbols
+symbols-only : (w v : Place) → placeAfter symbolForm w ≡ some v → v ≡ inSymbols
+unfolding placeAfter
+symbols-only inSymbols v z = cc
+symbols-only inHeads v z = absurd (let y : _≡_ {A = ℕ} 0 1 = cc in omega arith)
+symbols-only inBody v z = absurd (let y : _≡_ {A = ℕ} 0 1 = cc in omega arith)
+symbols-only inEquations v z = absurd (let y : _≡_ {A = ℕ} 0 1 = cc in omega arith)
+
+place-zero : (p : ℕ) → placeMeant p ≡ inSymbols → p ≡ 0
+unfolding placeMeant
+place-zero zero e = refl
+place-zero (suc zero) e = absurd (let y : _≡_ {A = ℕ} 0 1 = cc in omega arith)
+place-zero (suc (suc zero)) e = absurd (let y : _≡_ {A = ℕ} 0 1 = cc in omega arith)
+place-zero (suc (suc (suc p))) e = absurd (let y : _≡_ {A = ℕ} 0 1 = cc in omega arith)
+
 pub first-place : (p q : ℕ) → placeAnswer p ≡ placeAfter symbolForm (placeMeant q) → p < 4 → p ≡ 0
-unfolding placeAfter placeMeant
-first-place zero q e h = refl
-first-place (suc zero) q e h = absurd (inside (placeMeant q) (place-some 1 (placeAfter symbolForm (placeMeant q)) e h))
-  where
-    inside : (w : Place) → placeAfter symbolForm w ≡ some inHeads → ⊥
-    inside inSymbols z = let y : _≡_ {A = ℕ} 0 1 = cc in omega arith
-    inside inHeads z = let y : _≡_ {A = ℕ} 0 1 = cc in omega arith
-    inside inBody z = let y : _≡_ {A = ℕ} 0 1 = cc in omega arith
-    inside inEquations z = let y : _≡_ {A = ℕ} 0 1 = cc in omega arith
-first-place (suc (suc zero)) q e h = absurd (inside (placeMeant q) (place-some 2 (placeAfter symbolForm (placeMeant q)) e h))
-  where
-    inside : (w : Place) → placeAfter symbolForm w ≡ some inBody → ⊥
-    inside inSymbols z = let y : _≡_ {A = ℕ} 0 1 = cc in omega arith
-    inside inHeads z = let y : _≡_ {A = ℕ} 0 1 = cc in omega arith
-    inside inBody z = let y : _≡_ {A = ℕ} 0 1 = cc in omega arith
-    inside inEquations z = let y : _≡_ {A = ℕ} 0 1 = cc in omega arith
-first-place (suc (suc (suc p))) q e h = absurd (inside (placeMeant q) (place-some (suc (suc (suc p))) (placeAfter symbolForm (placeMeant q)) e h))
-  where
-    inside : (w : Place) → placeAfter symbolForm w ≡ some inEquations → ⊥
-    inside inSymbols z = let y : _≡_ {A = ℕ} 0 1 = cc in omega arith
-    inside inHeads z = let y : _≡_ {A = ℕ} 0 1 = cc in omega arith
-    inside inBody z = let y : _≡_ {A = ℕ} 0 1 = cc in omega arith
-    inside inEquations z = let y : _≡_ {A = ℕ} 0 1 = cc in omega arith
+first-place p q e h =
+    place-zero p (symbols-only (placeMeant q) (placeMeant p) (place-some p (placeAfter symbolForm (placeMeant q)) e h))
 
-pub begun-head : (p q : ℕ) → placeAnswer p ≡ placeAfter headForm (placeMeant q) → p < 4 → 0 < q
-unfolding placeMeant placeAfter
-begun-head p zero e h = absurd (let z : none ≡ some (placeMeant p) = place-some p none e h in let y : _≡_ {A = ℕ} 0 1 = cc in omega arith)
-begun-head p (suc q) e h = omega arith
-
-pub begun-body : (p q : ℕ) → placeAnswer p ≡ placeAfter bodyForm (placeMeant q) → p < 4 → 0 < q
-unfolding placeMeant placeAfter
-begun-body p zero e h = absurd (let z : none ≡ some (placeMeant p) = place-some p none e h in let y : _≡_ {A = ℕ} 0 1 = cc in omega arith)
-begun-body p (suc q) e h = omega arith
-
-pub begun-sides : (p q : ℕ) → placeAnswer p ≡ placeAfter equationForm (placeMeant q) → p < 4 → 0 < q
-unfolding placeMeant placeAfter
-begun-sides p zero e h = absurd (let z : none ≡ some (placeMeant p) = place-some p none e h in let y : _≡_ {A = ℕ} 0 1 = cc in omega arith)
-begun-sides p (suc q) e h = omega arith
+pub begun : (form f : LineForm) (p q : ℕ) → placeAfter (formMeant f) inSymbols ≡ none
+    → placeAnswer p ≡ placeAfter (formMeant form) (placeMeant q)
+    → form ≡ f → p < 4 → 0 < q
+unfolding placeMeant
+begun form f p zero x e g h =
+    let z : none ≡ some (placeMeant p) =
+    sym (ap (λ (o : LineForm). placeAfter (formMeant o) inSymbols) g ∙ x)
+    ∙ place-some p (placeAfter (formMeant form) inSymbols) e h in
+    absurd (let y : _≡_ {A = ℕ} 0 1 = cc in omega arith)
+begun form f p (suc q) x e g h = omega arith
 
 -- the lines from a place on
 module _ (s : List ℕ) (start end n : ℕ) (d : Draft) (h : start < length s) (e : end ≡ start + before 10 (drop start s)) where
-  unrolled : readLines n d (lines (drop start s)) ≡ andThen (readLine n (lineAt s start end) d) (λ x. readLines (suc n) x (lines (drop (suc end) s)))
+  unrolled : readLines n d (lines (drop start s))
+      ≡ andThen (readLine n (lineAt s start end) d) (λ x. readLines (suc n) x (lines (drop (suc end) s)))
   unfolding readLines
   unrolled = rw (line-at s start end h e)
 
-  pub lines-refused : (x m : ℕ) → refused x m ≡ readLine n (lineAt s start end) d → refused x m ≡ readLines n d (lines (drop start s))
+  pub lines-refused : (x m : ℕ) → refused x m ≡ readLine n (lineAt s start end) d
+      → refused x m ≡ readLines n d (lines (drop start s))
   lines-refused x m q =
       ap (λ (a : Answer Draft). andThen a (λ y. readLines (suc n) y (lines (drop (suc end) s)))) q ∙ sym unrolled
 
@@ -144,7 +145,8 @@ readingFrom d = record { program = record { symbols = d .symbols; rules = d .rul
 
 -- a program's text, by what decides it
 program-short : (s : List ℕ) → length s ≤ 16384
-    → readProgram s ≡ andThen (readLines 1 blank (lines s)) (λ d. andThen (checkRules (d .symbols) (d .rules) (d .starts)) (λ _. accepted (readingFrom d)))
+    → readProgram s ≡ andThen (readLines 1 blank (lines s))
+    (λ d. andThen (checkRules (d .symbols) (d .rules) (d .starts)) (λ _. accepted (readingFrom d)))
 unfolding readProgram maxText readingFrom
 program-short s h = rw (le-ltb 16384 (length s) h)
 
@@ -166,7 +168,8 @@ module _ (s : List ℕ) (h : length s ≤ 16384) where
     pub program-rules : (x n : ℕ) → refused x n ≡ checkRules (d .symbols) (d .rules) (d .starts) → refused x n ≡ readProgram s
     program-rules x n q = ap (λ (a : Answer ℕ). andThen a (λ _. accepted (readingFrom d))) q ∙ checks
 
-    pub program-read : (y : ℕ) → accepted y ≡ checkRules (d .symbols) (d .rules) (d .starts) → accepted (readingFrom d) ≡ readProgram s
+    pub program-read : (y : ℕ) → accepted y ≡ checkRules (d .symbols) (d .rules) (d .starts)
+        → accepted (readingFrom d) ≡ readProgram s
     program-read y q = ap (λ (a : Answer ℕ). andThen a (λ _. accepted (readingFrom d))) q ∙ checks
 
 -- the constants of a program, as one table

@@ -1,16 +1,16 @@
 -- What the program reader's answers and tables mean: one decoding for each.
 --   termsAnswer                           the code's answer to an H or B line
 --   SymbolIn, RuleIn, SidesIn             what is found of a K, R or E line: number 4
+--   partForm                              the forms that add a constraint
 --   draftOf, lineAnswer, Sound            what the tables hold behind a line, and the code's answer to a line
 --   linesAnswer, rulesAnswer              the code's answer to all lines, and to the rules
 --   programAnswer                         the code's answer to a program's text
 -- Assumes nothing.
 use mathlib.Core.Path.{_≡_}
 use Prim.Native.Nat.{ℕ, zero, suc, _+_, _-_, _*_, _≤_, _<_}
-use mathlib.Core.Bool.{true, false, cond}
+use mathlib.Core.Bool.{true, false}
 use mathlib.Core.List.{List, [], _∷_}
-use mathlib.Core.Option.{none}
-use lib.Dec.{leb, ltb, eqb}
+use lib.Dec.{leb, eqb}
 use lib.ListN.{length, getD, take, drop}
 use Rattle.text.specs.Lists.{every, tabled}
 use Rattle.text.specs.Fields.{isTerm}
@@ -19,7 +19,7 @@ use Rattle.semantics.specs.Terms.{Constraint}
 use Rattle.semantics.specs.Terms as terms
 use Rattle.lines.specs.declared.Named.{Named}
 use Rattle.lines.specs.declared.Named.the-variants.{Faulty, At}
-use Rattle.syntax.specs.Forms.{fieldAt}
+use Rattle.syntax.specs.Forms.{Form, headForm, bodyForm, fieldAt}
 use Rattle.programs.specs.declared.ConstraintCells.{ConstraintCells}
 use Rattle.programs.specs.declared.TermsRead.{TermsRead}
 use Rattle.programs.specs.declared.TermsRead.the-variants.{Refused as termsRefused, Read as termsRead}
@@ -100,6 +100,11 @@ abbrev pub SidesIn : List ℕ → ℕ → Sides → Type 0
 SidesIn line at sidesFaulty = isEquationFaulty (fieldsFrom line at) ≡ true
 SidesIn line at (From start) = SidesAt line at start
 
+-- the form of a line that adds to part 0 of a rule, its heads, or to part 1, its body
+unfoldable pub partForm : ℕ → Form
+partForm zero = headForm
+partForm (suc w) = bodyForm
+
 -- what the tables hold where reading stands
 unfoldable pub draftOf : List ℕ → List ℕ → List ℕ → List ℕ → Stage → Draft
 draftOf text symbols rules constants s =
@@ -141,10 +146,6 @@ abbrev pub linesSound : List ℕ → LinesRead → Type 0
 linesSound rules (linesRefused x n) = 0 ≤ x
 linesSound rules (linesRead s) = Sound rules s
 
--- the weight of the symbol of a number among k, 0 where none has it
-unfoldable pub weightAt : List ℕ → ℕ → ℕ → ℕ
-weightAt symbols k s = cond (ltb s k) (getD symbols (4 * s + 3) 0) 0
-
 -- a number met at line n, or 0 for none
 unfoldable pub met : ℕ → ℕ → Answer ℕ
 met zero n = accepted 0
@@ -153,7 +154,8 @@ met (suc x) n = refused (suc x) n
 -- a rule with its R line: number 8, then 9
 unfoldable pub ruleTests : List terms.Symbol → terms.Rule → ℕ → Answer ℕ
 ruleTests symbols r n =
-    refuseIf (eqb (length (r .heads)) 0) 8 n (refuseIf (leb (terms.weight symbols (r .heads)) (terms.weight symbols (r .body))) 9 n (accepted 0))
+    refuseIf (eqb (length (r .heads)) 0) 8 n
+    (refuseIf (leb (terms.weight symbols (r .heads)) (terms.weight symbols (r .body))) 9 n (accepted 0))
 
 -- the code's answer to the rules
 unfoldable pub rulesAnswer : RulesRead → Answer ℕ

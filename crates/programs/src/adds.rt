@@ -14,13 +14,14 @@ ghost use mathlib.Core.Path.{_≡_};
 ghost use Prim.Native.Nat.{ℕ, _≤_, _<_};
 ghost use lib.ListN.{length, take};
 ghost use Rattle.text.specs.Places.{classTable, fieldsFrom};
-ghost use Rattle.syntax.specs.Forms.{headForm, bodyForm, equationForm};
+ghost use Rattle.syntax.specs.Forms.{equationForm};
 ghost use Rattle.syntax.specs.Programs.{readForm};
 ghost use Rattle.lines.specs.Read.{alphabetLetters, placeMeant};
-ghost use Rattle.programs.specs.Read.{draftOf, lineAnswer, Sound, soundAfter};
+ghost use Rattle.programs.specs.Read.{partForm, draftOf, lineAnswer, Sound, soundAfter};
 
-// An H line: one head more of the last rule.
-pub fn head_line(
+// An H or B line: one constraint more of the last rule, in its heads (part 0) or in its body (part 1). Its row counts them in
+// cells 3 and 4, and holds them from cells 6 and 26 on, at most 4 and 6.
+pub fn constraint_line(
     classes: &[u8],
     letters: &[u8],
     text: &[u8],
@@ -31,18 +32,22 @@ pub fn head_line(
     constants: &mut [u16],
     stage: Stage,
     place: u8,
+    part: usize,
 ) -> LineRead
     requires { ⌜ (now classes ≡ classTable) × (now letters ≡ alphabetLetters) × (at ≤ end) × (end ≤ length (now text))
-        × (length (now text) ≤ 16384) × (length (now symbols) ≡ 128) × (length (now rules) ≡ 2048) × (length (now constants) ≡ 128)
-        × Sound (now rules) stage × (0 < stage .rules) ⌝ }
-    ensures { λ r. ⌜ ((n : ℕ) → lineAnswer (now (text .entry)) (now (symbols .entry)) (now (rules .exit)) (now (constants .exit)) n r
-        ≡ readForm headForm n (placeMeant place) (fieldsFrom (take end (now (text .entry))) at)
+        × (length (now text) ≤ 16384) × (length (now symbols) ≡ 128) × (length (now rules) ≡ 2048)
+        × (length (now constants) ≡ 128) × Sound (now rules) stage × (0 < stage .rules) × (part ≤ 1) ⌝ }
+    ensures { λ r. ⌜ ((n : ℕ) → lineAnswer (now (text .entry)) (now (symbols .entry)) (now (rules .exit))
+        (now (constants .exit)) n r
+        ≡ readForm (partForm part) n (placeMeant place) (fieldsFrom (take end (now (text .entry))) at)
         (draftOf (now (text .entry)) (now (symbols .entry)) (now (rules .entry)) (now (constants .entry)) stage))
         × soundAfter (now (rules .exit)) r ⌝ }
 {
     let n = stage.rules;
     let base = 64 * (n - 1);
-    let h = wide(rules[base + 3]);
+    let slot = 3 + part;
+    let h = wide(rules[base + slot]);
+    let most = 4 + 2 * part;
     match read_terms(
         classes,
         letters,
@@ -53,64 +58,13 @@ pub fn head_line(
         stage.symbols,
         constants,
         stage.constants,
-        4 <= h,
+        most <= h,
     ) {
         TermsRead::Refused(x) => LineRead::Refused(x),
         TermsRead::Read(cells, count) => {
             let values = [cells.symbol, cells.a, cells.b, cells.c, cells.d];
-            let start = 6 + 5 * h;
-            add_cells(rules, base + 3, base + start, &values);
-            LineRead::Next(Stage {
-                place: place,
-                symbols: stage.symbols,
-                rules: n,
-                constants: count,
-            })
-        }
-    }
-}
-
-// A B line: one constraint more of the last rule's body.
-pub fn body_line(
-    classes: &[u8],
-    letters: &[u8],
-    text: &[u8],
-    at: usize,
-    end: usize,
-    symbols: &[u16],
-    rules: &mut [u16],
-    constants: &mut [u16],
-    stage: Stage,
-    place: u8,
-) -> LineRead
-    requires { ⌜ (now classes ≡ classTable) × (now letters ≡ alphabetLetters) × (at ≤ end) × (end ≤ length (now text))
-        × (length (now text) ≤ 16384) × (length (now symbols) ≡ 128) × (length (now rules) ≡ 2048) × (length (now constants) ≡ 128)
-        × Sound (now rules) stage × (0 < stage .rules) ⌝ }
-    ensures { λ r. ⌜ ((n : ℕ) → lineAnswer (now (text .entry)) (now (symbols .entry)) (now (rules .exit)) (now (constants .exit)) n r
-        ≡ readForm bodyForm n (placeMeant place) (fieldsFrom (take end (now (text .entry))) at)
-        (draftOf (now (text .entry)) (now (symbols .entry)) (now (rules .entry)) (now (constants .entry)) stage))
-        × soundAfter (now (rules .exit)) r ⌝ }
-{
-    let n = stage.rules;
-    let base = 64 * (n - 1);
-    let h = wide(rules[base + 4]);
-    match read_terms(
-        classes,
-        letters,
-        text,
-        at,
-        end,
-        symbols,
-        stage.symbols,
-        constants,
-        stage.constants,
-        6 <= h,
-    ) {
-        TermsRead::Refused(x) => LineRead::Refused(x),
-        TermsRead::Read(cells, count) => {
-            let values = [cells.symbol, cells.a, cells.b, cells.c, cells.d];
-            let start = 26 + 5 * h;
-            add_cells(rules, base + 4, base + start, &values);
+            let start = 6 + 20 * part + 5 * h;
+            add_cells(rules, base + slot, base + start, &values);
             LineRead::Next(Stage {
                 place: place,
                 symbols: stage.symbols,
@@ -135,9 +89,10 @@ pub fn equation_line(
     place: u8,
 ) -> LineRead
     requires { ⌜ (now classes ≡ classTable) × (now letters ≡ alphabetLetters) × (at ≤ end) × (end ≤ length (now text))
-        × (length (now text) ≤ 16384) × (length (now symbols) ≡ 128) × (length (now rules) ≡ 2048) × (length (now constants) ≡ 128)
-        × Sound (now rules) stage × (0 < stage .rules) ⌝ }
-    ensures { λ r. ⌜ ((n : ℕ) → lineAnswer (now (text .entry)) (now (symbols .entry)) (now (rules .exit)) (now (constants .exit)) n r
+        × (length (now text) ≤ 16384) × (length (now symbols) ≡ 128) × (length (now rules) ≡ 2048)
+        × (length (now constants) ≡ 128) × Sound (now rules) stage × (0 < stage .rules) ⌝ }
+    ensures { λ r. ⌜ ((n : ℕ) → lineAnswer (now (text .entry)) (now (symbols .entry)) (now (rules .exit))
+        (now (constants .exit)) n r
         ≡ readForm equationForm n (placeMeant place) (fieldsFrom (take end (now (text .entry))) at)
         (draftOf (now (text .entry)) (now (symbols .entry)) (now (rules .entry)) (now (constants .entry)) stage))
         × soundAfter (now (rules .exit)) r ⌝ }

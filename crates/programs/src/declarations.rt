@@ -123,7 +123,8 @@ pub fn symbol_line(
 ) -> LineRead
     requires { ⌜ (now classes ≡ classTable) × (at ≤ end) × (end ≤ length (now text)) × (length (now text) ≤ 16384)
         × (length (now symbols) ≡ 128) × (stage .symbols ≤ 32) × (place ≡ 0) ⌝ }
-    ensures { λ r. ⌜ ((n : ℕ) (rules constants : List ℕ) → lineAnswer (now (text .entry)) (now (symbols .exit)) rules constants n r
+    ensures { λ r. ⌜ ((n : ℕ) (rules constants : List ℕ)
+        → lineAnswer (now (text .entry)) (now (symbols .exit)) rules constants n r
         ≡ readSymbol n (placeMeant place) (fieldsFrom (take end (now (text .entry))) at)
         (draftOf (now (text .entry)) (now (symbols .entry)) rules constants stage))
         × ((rules : List ℕ) → Sound rules stage → soundAfter rules r) ⌝ }

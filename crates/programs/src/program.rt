@@ -5,28 +5,27 @@ use crate::LinesRead;
 use crate::ProgramRead;
 use crate::RulesRead;
 use crate::Stage;
-use crate::adds::body_line;
+use crate::adds::constraint_line;
 use crate::adds::equation_line;
-use crate::adds::head_line;
 use crate::declarations::rule_line;
 use crate::declarations::symbol_line;
 use lines::LineForm;
 use lines::forms::form_at;
 use lines::forms::place_after;
+use lines::weights::weight_of;
 use syntax::names::wide;
 ghost use mathlib.Core.Path.{_≡_};
 ghost use mathlib.Core.List.{List};
-ghost use Prim.Native.Nat.{ℕ, _+_, _*_, _≤_, _<_};
-ghost use lib.ListN.{length, take, getD};
-ghost use Rattle.text.specs.Lists.{total};
+ghost use Prim.Native.Nat.{ℕ, _*_, _≤_, _<_};
+ghost use lib.ListN.{length, take};
 ghost use Rattle.text.specs.Lines.{lines};
 ghost use Rattle.text.specs.Places.{classTable, lineAt, fieldsFrom};
 ghost use Rattle.syntax.specs.Programs.{blank, readForm, readLine, readLines, checkRules, readProgram};
 ghost use Rattle.syntax.specs.Forms.{placeAfter};
-ghost use Rattle.syntax.specs.Tables.{cellConstraints, ruleOfRow, symbolsOf, rulesOf, startsOf};
+ghost use Rattle.syntax.specs.Tables.{ruleOfRow, symbolsOf, rulesOf, startsOf};
 ghost use Rattle.lines.specs.Read.{alphabetLetters, formMeant, placeMeant, placeAnswer};
 ghost use Rattle.programs.specs.Read.{draftOf, lineAnswer, Sound, soundAfter};
-ghost use Rattle.programs.specs.Read.{linesAnswer, linesSound, weightAt, met, ruleTests, rulesAnswer, programAnswer};
+ghost use Rattle.programs.specs.Read.{linesAnswer, linesSound, met, ruleTests, rulesAnswer, programAnswer};
 
 // A line of a form that may stand where it does.
 fn read_form(
@@ -44,8 +43,9 @@ fn read_form(
     place: u8,
 ) -> LineRead
     requires { ⌜ (now classes ≡ classTable) × (now letters ≡ alphabetLetters) × (at ≤ end) × (end ≤ length (now text))
-        × (length (now text) ≤ 16384) × (length (now symbols) ≡ 128) × (length (now rules) ≡ 2048) × (length (now constants) ≡ 128)
-        × Sound (now rules) stage × (place < 4) × (placeAnswer place ≡ placeAfter (formMeant form) (placeMeant (stage .place))) ⌝ }
+        × (length (now text) ≤ 16384) × (length (now symbols) ≡ 128) × (length (now rules) ≡ 2048)
+        × (length (now constants) ≡ 128) × Sound (now rules) stage × (place < 4)
+        × (placeAnswer place ≡ placeAfter (formMeant form) (placeMeant (stage .place))) ⌝ }
     ensures { λ r. ⌜ (lineAnswer (now (text .entry)) (now (symbols .exit)) (now (rules .exit)) (now (constants .exit)) number r
         ≡ readForm (formMeant form) number (placeMeant place) (fieldsFrom (take end (now (text .entry))) at)
         (draftOf (now (text .entry)) (now (symbols .entry)) (now (rules .entry)) (now (constants .entry)) stage))
@@ -54,7 +54,7 @@ fn read_form(
     match form {
         LineForm::Symbol => symbol_line(classes, text, at, end, symbols, stage, place),
         LineForm::Rule => rule_line(classes, text, at, end, number, rules, stage, place),
-        LineForm::Head => head_line(
+        LineForm::Head => constraint_line(
             classes,
             letters,
             text,
@@ -65,8 +65,9 @@ fn read_form(
             constants,
             stage,
             place,
+            0,
         ),
-        LineForm::Body => body_line(
+        LineForm::Body => constraint_line(
             classes,
             letters,
             text,
@@ -77,6 +78,7 @@ fn read_form(
             constants,
             stage,
             place,
+            1,
         ),
         LineForm::Equation => equation_line(
             classes,
@@ -109,8 +111,8 @@ fn read_line(
     stage: Stage,
 ) -> LineRead
     requires { ⌜ (now classes ≡ classTable) × (now letters ≡ alphabetLetters) × (at ≤ end) × (end ≤ length (now text))
-        × (length (now text) ≤ 16384) × (length (now symbols) ≡ 128) × (length (now rules) ≡ 2048) × (length (now constants) ≡ 128)
-        × Sound (now rules) stage ⌝ }
+        × (length (now text) ≤ 16384) × (length (now symbols) ≡ 128) × (length (now rules) ≡ 2048)
+        × (length (now constants) ≡ 128) × Sound (now rules) stage ⌝ }
     ensures { λ r. ⌜ (lineAnswer (now (text .entry)) (now (symbols .exit)) (now (rules .exit)) (now (constants .exit)) number r
         ≡ readLine number (lineAt (now (text .entry)) at end)
         (draftOf (now (text .entry)) (now (symbols .entry)) (now (rules .entry)) (now (constants .entry)) stage))
@@ -191,32 +193,6 @@ fn read_lines(
     LinesRead::Read(stage)
 }
 
-// The weight of a constraint by its symbol's number: 0 where no symbol has it.
-fn weight_at(symbols: &[u16], k: usize, s: usize) -> usize
-    requires { ⌜ 4 * k ≤ length (now symbols) ⌝ }
-    ensures { λ r. ⌜ (r ≡ weightAt (now (symbols .entry)) k s) × (r < 65536) ⌝ }
-{
-    if s < k {
-        return wide(symbols[4 * s + 3]);
-    }
-    0
-}
-
-// The weight of the constraints that cells hold, five to each.
-pub fn weight_of(symbols: &[u16], k: usize, cells: &[u16]) -> usize
-    requires { ⌜ (4 * k ≤ length (now symbols)) × (length (now cells) ≤ 4096) ⌝ }
-    ensures { λ r. ⌜ (r ≡ total (λ c. weightAt (now (symbols .entry)) k (c .symbol)) (cellConstraints (now (cells .entry)))) × (r ≤ 65536 * length (now (cells .entry))) ⌝ }
-{
-    let mut sum = 0;
-    let mut at = 0;
-    while at + 5 <= cells.len() {
-        let s = wide(cells[at]);
-        sum += weight_at(symbols, k, s);
-        at += 5;
-    }
-    sum
-}
-
 // The first cells of a part, as far as it goes.
 fn prefix_of(cells: &[u16], n: usize) -> &[u16]
     ensures { λ r. ⌜ now r ≡ take n (now (cells .entry)) ⌝ }
@@ -230,7 +206,8 @@ fn prefix_of(cells: &[u16], n: usize) -> &[u16]
 // Numbers 8 and 9 of a rule's row: it has a head, and its heads weigh more than its body; 0 where it meets neither.
 fn rule_fault(symbols: &[u16], k: usize, row: &[u16]) -> u8
     requires { ⌜ (4 * k ≤ length (now symbols)) × (length (now row) ≡ 64) ⌝ }
-    ensures { λ r. ⌜ ((text : List ℕ) (n : ℕ) → met r n ≡ ruleTests (symbolsOf text (now (symbols .entry)) k) (ruleOfRow text (now (row .entry))) n) ⌝ }
+    ensures { λ r. ⌜ ((text : List ℕ) (n : ℕ)
+        → met r n ≡ ruleTests (symbolsOf text (now (symbols .entry)) k) (ruleOfRow text (now (row .entry))) n) ⌝ }
 {
     let h = wide(row[3]);
     let b = wide(row[4]);

@@ -1,10 +1,10 @@
 -- `goals::goal::add_letters` meets its contract: the letters after the fields left, from those so far, are the answer.
 -- Assumes nothing.
 use borrow.Author.Needs.{needs}
-use mathlib.Core.Path.{_≡_, refl, sym, ap, _∙_}
+use mathlib.Core.Path.{_≡_, refl, sym, _∙_}
 use mathlib.Core.Bool.{true}
-use mathlib.Core.List.{List, [], _∷_}
-use Prim.Native.Nat.{ℕ, suc, _≤_, _<_, _+_, _-_}
+use mathlib.Core.List.{_∷_}
+use Prim.Native.Nat.{suc, _≤_, _-_}
 use native.Mathlib.Numerals.{add-one}
 use native.Mathlib.Omega.{arith}
 use lib.ListN.{length, take, drop}
@@ -29,7 +29,9 @@ abbrev μ-loop : tie.MeasureT-loop
 μ-loop classes line at letters₀ v count₀ start₀ letters count start = suc (length line) - start
 
 loop-holds : tie.Need-loop-holds Inv-loop μ-loop
-loop-holds c = ((c .before .before .before .pre) .2, (c .before .before .before .pre) .3, omega arith, (c .before .before .before .pre) .1, refl)
+loop-holds c =
+    let pre′ = c .before .before .before .pre in
+    (pre′ .2, pre′ .3, omega arith, pre′ .1, refl)
 
 field-end-requires : tie.Need-field-end-requires Inv-loop μ-loop
 field-end-requires c κs = search needs
@@ -44,41 +46,59 @@ part-add-letter-end : tie.Need-part-add-letter-end Inv-loop μ-loop
 part-add-letter-end c = search needs
 
 add-letter-requires : tie.Need-add-letter-requires Inv-loop μ-loop
-add-letter-requires c κs = (
-  (c .before .before .before .before .before .before .before .before .pre) .0,
-  terms-both _ _ _ (field-cut ((c .before .before .before .before .before .before .before .before .args) .line .now) ((c .before .before .before .before .loop) .start) ((c .before .before .field-end) .result) (omega arith) ((c .before .before .field-end) .ensures .0)) ((c .before .before .before .before .loop) .inv .3) .0,
-  (c .before .before .before .before .loop) .inv .0,
-  (c .before .before .before .before .loop) .inv .1,
-)
+add-letter-requires c κs =
+    let pre′ = c .before .before .before .before .before .before .before .before .pre in
+    let args′ = c .before .before .before .before .before .before .before .before .args in
+    let loop′ = c .before .before .before .before .loop in
+    let field-end′ = c .before .before .field-end in (
+      pre′ .0,
+      terms-both _ _ _ (field-cut (args′ .line .now) (loop′ .start) (field-end′ .result) (omega arith) (field-end′ .ensures .0))
+          (loop′ .inv .3) .0,
+      loop′ .inv .0,
+      loop′ .inv .1,
+    )
 
 add-start : tie.Need-add-start Inv-loop μ-loop
-add-start c = record { fits = omega (arith, (c .before .before .before .before .before .field-end) .ensures .2, (c .before .before .before .before .before .before .before .before .before .before .before .pre) .4) }
+add-start c =
+    let pre′ = c .before .before .before .before .before .before .before .before .before .before .before .pre in
+    let field-end′ = c .before .before .before .before .before .field-end in
+    record { fits = omega (arith, field-end′ .ensures .2, pre′ .4) }
 
 loop-less : tie.Need-loop-less Inv-loop μ-loop
-loop-less c = omega (arith, (c .before .before .before .before .before .field-end) .ensures .1, (c .before .before .before .before .before .field-end) .ensures .2, (c .before .before .before .before .before .before .loop-test) .taken)
+loop-less c =
+    let loop-test′ = c .before .before .before .before .before .before .loop-test in
+    let field-end′ = c .before .before .before .before .before .field-end in
+    omega (arith, field-end′ .ensures .1, field-end′ .ensures .2, loop-test′ .taken)
 
 loop-again : tie.Need-loop-again Inv-loop μ-loop
 loop-again c =
-    let cut : fieldsFrom ((c .before .before .before .before .before .before .before .before .before .before .before .args) .line .now) ((c .before .before .before .before .before .before .before .loop) .start)
-    ≡ take ((c .before .before .before .before .before .field-end) .result - (c .before .before .before .before .before .before .before .loop) .start) (drop ((c .before .before .before .before .before .before .before .loop) .start) ((c .before .before .before .before .before .before .before .before .before .before .before .args) .line .now)) ∷ fieldsFrom ((c .before .before .before .before .before .before .before .before .before .before .before .args) .line .now) (suc ((c .before .before .before .before .before .field-end) .result)) =
-    field-cut ((c .before .before .before .before .before .before .before .before .before .before .before .args) .line .now) ((c .before .before .before .before .before .before .before .loop) .start) ((c .before .before .before .before .before .field-end) .result) (omega arith) ((c .before .before .before .before .before .field-end) .ensures .0) in (
-      (c .before .before .add-letter) .kept .1 .1 .0 ∙ (c .before .before .before .before .before .before .before .loop) .inv .0,
-      (c .before .before .add-letter) .ensures .1,
-      omega (arith, (c .before .before .add-letter) .ensures .2, (c .before .before .before .before .before .before .before .loop) .inv .2),
-      rw (add-one ((c .before .before .before .before .before .field-end) .result)) (terms-both _ _ _ cut ((c .before .before .before .before .before .before .before .loop) .inv .3) .1),
-      rw (add-one ((c .before .before .before .before .before .field-end) .result)) (sym (letters-step _ _ _ cut _ _ ((c .before .before .add-letter) .ensures .0)) ∙ (c .before .before .before .before .before .before .before .loop) .inv .4),
+    let args′ = c .before .before .before .before .before .before .before .before .before .before .before .args in
+    let line′ = args′ .line .now in
+    let loop′ = c .before .before .before .before .before .before .before .loop in
+    let field-end′ = c .before .before .before .before .before .field-end in
+    let add-letter′ = c .before .before .add-letter in
+    let cut : fieldsFrom line′ (loop′ .start)
+    ≡ take (field-end′ .result - loop′ .start) (drop (loop′ .start) line′) ∷ fieldsFrom line′ (suc (field-end′ .result)) =
+    field-cut line′ (loop′ .start) (field-end′ .result) (omega arith) (field-end′ .ensures .0) in (
+      add-letter′ .kept .1 .1 .0 ∙ loop′ .inv .0,
+      add-letter′ .ensures .1,
+      omega (arith, add-letter′ .ensures .2, loop′ .inv .2),
+      rw (add-one (field-end′ .result)) (terms-both _ _ _ cut (loop′ .inv .3) .1),
+      rw (add-one (field-end′ .result)) (sym (letters-step _ _ _ cut _ _ (add-letter′ .ensures .0)) ∙ loop′ .inv .4),
     )
 
 same-length : tie.Need-same-length Inv-loop μ-loop
 same-length c = (c .before .loop) .inv .0 ∙ sym ((c .before .before .before .before .before .pre) .2)
 
 returns : tie.Need-returns Inv-loop μ-loop
-returns c = (
-  sym (letters-end (fieldsFrom ((c .before .before .before .before .before .args) .line .now) ((c .before .loop) .start)) (lettersOf ((c .before .loop) .letters) ((c .before .loop) .count))
-      (fields-out ((c .before .before .before .before .before .args) .line .now) ((c .before .loop) .start) (omega (arith, (c .loop-test) .left)))) ∙ (c .before .loop) .inv .4,
-  (c .before .loop) .inv .1,
-  (c .before .loop) .inv .2,
-)
+returns c =
+    let args′ = c .before .before .before .before .before .args in
+    let loop′ = c .before .loop in (
+      sym (letters-end (fieldsFrom (args′ .line .now) (loop′ .start)) (lettersOf (loop′ .letters) (loop′ .count))
+          (fields-out (args′ .line .now) (loop′ .start) (omega (arith, (c .loop-test) .left)))) ∙ loop′ .inv .4,
+      loop′ .inv .1,
+      loop′ .inv .2,
+    )
 
 pub add-letters-spec : {M : Type 1} → statement M
 add-letters-spec =

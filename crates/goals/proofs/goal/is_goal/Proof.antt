@@ -1,6 +1,6 @@
 -- `goals::goal::is_goal` meets its contract: the form by its first field. Assumes nothing.
 use borrow.Author.Needs.{needs}
-use mathlib.Core.Path.{_≡_, refl, sym, ap, ap₂, _∙_}
+use mathlib.Core.Path.{sym, ap, _∙_}
 use Rattle.syntax.specs.Goals.{isGoalForm}
 use Rattle.lines.specs.Read.{formMeant}
 use Rattle.goals.proofs.goal.is_goal.Statement.{statement}

@@ -1,10 +1,8 @@
 -- `goals::goal::read_goal` meets its contract: what its lines say, and the weight. Assumes nothing.
 use borrow.Author.Needs.{needs}
-use mathlib.Core.Path.{_≡_, refl, sym, ap, ap₂, _∙_}
-use mathlib.Core.List.{List, [], _∷_}
-use Prim.Native.Nat.{ℕ, suc, _+_, _*_, _≤_, _<_}
+use mathlib.Core.Path.{sym, ap, _∙_}
+use Prim.Native.Nat.{_*_}
 use native.Mathlib.Omega.{arith}
-use lib.ListN.{length, take, getD}
 use lib.Seq.{length-take-le}
 use Rattle.goals.specs.ReadGoal.{GoalFits, goalLinesAnswer, goalAnswer}
 use Rattle.goals.proofs.GoalSteps.{goal-long, goal-refused, goal-overweight, goal-accepted}
@@ -13,7 +11,13 @@ use Rattle.goals.proofs.goal.read_goal.Tie as tie
 
 returns : tie.Need-returns
 unfolding goalAnswer
-returns c = (λ p t. goal-long ((c .before .before .before .before .before .before .before .args) .program .now) ((c .before .before .before .before .before .before .before .args) .goal .now) ((c .before .before .before .before .before .before .before .args) .constants .now) ((c .before .before .before .before .before .before .before .args) .n) ((c .before .before .before .before .before .before .before .args) .symbols .now) ((c .before .before .before .before .before .before .before .args) .k) p t ((c .if1) .taken), omega arith)
+returns c =
+    let args′ = c .before .before .before .before .before .before .before .args in (
+      λ p t. goal-long (args′ .program .now) (args′ .goal .now) (args′ .constants .now) (args′ .n) (args′ .symbols .now)
+          (args′ .k)
+          p t ((c .if1) .taken),
+      omega arith,
+    )
 
 classes-requires : tie.Need-classes-requires
 classes-requires c κs = search needs
@@ -32,25 +36,57 @@ enum-known-counts c = search needs
 
 mul-end : tie.Need-mul-end
 mul-end c =
-    let f : GoalFits ((c .before .before .before .before .before .before .before .before .before .before .before .before .before .before .before .before .before .before .before .before .before .before .args) .symbols .now) ((c .before .before .before .before .before .before .before .before .before .before .before .before .before .before .before .before .before .before .before .before .before .before .args) .k) ((c .before .before .before .before .before .before .before .before .before .before .before .before .before .before .before .before .before .before .before .before .before .before .args) .n) ((c .before .before .before .before .before .before .before .before .before .goal-lines) .last .1 .1 .1 .1 .1 .1 .1 .0) ((c .before .before .before .before .before .before .before .before .before .goal-lines) .last .1 .1 .1 .1 .1 .1 .1 .1 .0) ((c .before .counts) .given .0 .0) = rw ((c .before .counts) .given .1) at ((c .before .before .before .before .before .before .before .before .before .goal-lines) .ensures .1) in
+    let args′ = c .before .before .before .before .before .before .before .before .before .before .before .before .before .before
+    .before .before .before .before .before .before .before .before .before .args in
+    let goal-lines′ = c .before .before .before .before .before .before .before .before .before .before .goal-lines in
+    let counts′ = c .before .before .counts in
+    let f : GoalFits (args′ .symbols .now) (args′ .k) (args′ .n) (goal-lines′ .last .1 .1 .1 .1 .1 .1 .1 .0)
+    (goal-lines′ .last .1 .1 .1 .1 .1 .1 .1 .1 .0) (counts′ .given .0 .0) = rw (counts′ .given .1) at (goal-lines′ .ensures .1) in
     omega (arith, f .few)
 
-slice-reshare-prefix-goal-weight : tie.Need-slice-reshare-prefix-goal-weight
-slice-reshare-prefix-goal-weight c =
-    let f : GoalFits ((c .before .before .before .before .before .before .before .before .before .before .before .before .before .before .before .before .before .before .before .before .before .before .args) .symbols .now) ((c .before .before .before .before .before .before .before .before .before .before .before .before .before .before .before .before .before .before .before .before .before .before .args) .k) ((c .before .before .before .before .before .before .before .before .before .before .before .before .before .before .before .before .before .before .before .before .before .before .args) .n) ((c .before .before .before .before .before .before .before .before .before .goal-lines) .last .1 .1 .1 .1 .1 .1 .1 .0) ((c .before .before .before .before .before .before .before .before .before .goal-lines) .last .1 .1 .1 .1 .1 .1 .1 .1 .0) ((c .before .counts) .given .0 .0) = rw ((c .before .counts) .given .1) at ((c .before .before .before .before .before .before .before .before .before .goal-lines) .ensures .1) in
-    omega (arith, f .few, (c .before .before .before .before .before .before .before .before .before .goal-lines) .kept .1 .1 .1 .1 .1 .1 .1 .0, (c .before .before .before .before .before .before .before .before .before .before .before .before .before .before .before .before .before .before .before .before .before .before .pre) .constraint-cells)
+slice-reshare-prefix-weight-of : tie.Need-slice-reshare-prefix-weight-of
+slice-reshare-prefix-weight-of c =
+    let args′ = c .before .before .before .before .before .before .before .before .before .before .before .before .before .before
+    .before .before .before .before .before .before .before .before .before .args in
+    let pre′ = c .before .before .before .before .before .before .before .before .before .before .before .before .before .before
+    .before .before .before .before .before .before .before .before .before .pre in
+    let goal-lines′ = c .before .before .before .before .before .before .before .before .before .before .goal-lines in
+    let counts′ = c .before .before .counts in
+    let f : GoalFits (args′ .symbols .now) (args′ .k) (args′ .n) (goal-lines′ .last .1 .1 .1 .1 .1 .1 .1 .0)
+    (goal-lines′ .last .1 .1 .1 .1 .1 .1 .1 .1 .0) (counts′ .given .0 .0) = rw (counts′ .given .1) at (goal-lines′ .ensures .1) in
+    omega (arith, f .few, goal-lines′ .kept .1 .1 .1 .1 .1 .1 .1 .0, pre′ .constraint-cells)
 
-slice-aggregate-goal-weight : tie.Need-slice-aggregate-goal-weight
-slice-aggregate-goal-weight c =
-    let f : GoalFits ((c .before .before .before .before .before .before .before .before .before .before .before .before .before .before .before .before .before .before .before .before .before .before .before .args) .symbols .now) ((c .before .before .before .before .before .before .before .before .before .before .before .before .before .before .before .before .before .before .before .before .before .before .before .args) .k) ((c .before .before .before .before .before .before .before .before .before .before .before .before .before .before .before .before .before .before .before .before .before .before .before .args) .n) ((c .before .before .before .before .before .before .before .before .before .before .goal-lines) .last .1 .1 .1 .1 .1 .1 .1 .0) ((c .before .before .before .before .before .before .before .before .before .before .goal-lines) .last .1 .1 .1 .1 .1 .1 .1 .1 .0) ((c .before .before .counts) .given .0 .0) = rw ((c .before .before .counts) .given .1) at ((c .before .before .before .before .before .before .before .before .before .before .goal-lines) .ensures .1) in
-    sym (length-take-le (5 * (c .before .before .counts) .given .0 .0 .constraints) ((c .before .before .before .before .before .before .before .before .before .before .goal-lines) .last .1 .1 .1 .1 .1 .1 .1 .0) (omega (arith, f .few, (c .before .before .before .before .before .before .before .before .before .before .goal-lines) .kept .1 .1 .1 .1 .1 .1 .1 .0, (c .before .before .before .before .before .before .before .before .before .before .before .before .before .before .before .before .before .before .before .before .before .before .before .pre) .constraint-cells)))
+slice-aggregate-weight-of : tie.Need-slice-aggregate-weight-of
+slice-aggregate-weight-of c =
+    let args′ = c .before .before .before .before .before .before .before .before .before .before .before .before .before .before
+    .before .before .before .before .before .before .before .before .before .before .args in
+    let pre′ = c .before .before .before .before .before .before .before .before .before .before .before .before .before .before
+    .before .before .before .before .before .before .before .before .before .before .pre in
+    let goal-lines′ = c .before .before .before .before .before .before .before .before .before .before .before .goal-lines in
+    let counts′ = c .before .before .before .counts in
+    let f : GoalFits (args′ .symbols .now) (args′ .k) (args′ .n) (goal-lines′ .last .1 .1 .1 .1 .1 .1 .1 .0)
+    (goal-lines′ .last .1 .1 .1 .1 .1 .1 .1 .1 .0) (counts′ .given .0 .0) = rw (counts′ .given .1) at (goal-lines′ .ensures .1) in
+    sym (length-take-le (5 * counts′ .given .0 .0 .constraints) (goal-lines′ .last .1 .1 .1 .1 .1 .1 .1 .0)
+    (omega (arith, f .few, goal-lines′ .kept .1 .1 .1 .1 .1 .1 .1 .0, pre′ .constraint-cells)))
 
-goal-weight-requires : tie.Need-goal-weight-requires
-goal-weight-requires c κs =
-    let f : GoalFits ((c .before .before .before .before .before .before .before .before .before .before .before .before .before .before .before .before .before .before .before .before .before .before .before .args) .symbols .now) ((c .before .before .before .before .before .before .before .before .before .before .before .before .before .before .before .before .before .before .before .before .before .before .before .args) .k) ((c .before .before .before .before .before .before .before .before .before .before .before .before .before .before .before .before .before .before .before .before .before .before .before .args) .n) ((c .before .before .before .before .before .before .before .before .before .before .goal-lines) .last .1 .1 .1 .1 .1 .1 .1 .0) ((c .before .before .before .before .before .before .before .before .before .before .goal-lines) .last .1 .1 .1 .1 .1 .1 .1 .1 .0) ((c .before .before .counts) .given .0 .0) = rw ((c .before .before .counts) .given .1) at ((c .before .before .before .before .before .before .before .before .before .before .goal-lines) .ensures .1) in (
-      omega (arith, (c .before .before .before .before .before .before .before .before .before .before .before .before .before .before .before .before .before .before .before .before .before .before .before .pre) .symbol-cells, (c .before .before .before .before .before .before .before .before .before .before .before .before .before .before .before .before .before .before .before .before .before .before .before .pre) .few-symbols),
-      length-take-le (5 * (c .before .before .counts) .given .0 .0 .constraints) ((c .before .before .before .before .before .before .before .before .before .before .goal-lines) .last .1 .1 .1 .1 .1 .1 .1 .0) (omega (arith, f .few, (c .before .before .before .before .before .before .before .before .before .before .goal-lines) .kept .1 .1 .1 .1 .1 .1 .1 .0, (c .before .before .before .before .before .before .before .before .before .before .before .before .before .before .before .before .before .before .before .before .before .before .before .pre) .constraint-cells)),
-      f .few,
+weight-of-requires : tie.Need-weight-of-requires
+weight-of-requires c κs =
+    let args′ = c .before .before .before .before .before .before .before .before .before .before .before .before .before .before
+    .before .before .before .before .before .before .before .before .before .before .args in
+    let pre′ = c .before .before .before .before .before .before .before .before .before .before .before .before .before .before
+    .before .before .before .before .before .before .before .before .before .before .pre in
+    let goal-lines′ = c .before .before .before .before .before .before .before .before .before .before .before .goal-lines in
+    let counts′ = c .before .before .before .counts in
+    let f : GoalFits (args′ .symbols .now) (args′ .k) (args′ .n) (goal-lines′ .last .1 .1 .1 .1 .1 .1 .1 .0)
+    (goal-lines′ .last .1 .1 .1 .1 .1 .1 .1 .1 .0) (counts′ .given .0 .0) =
+    rw (counts′ .given .1) at (goal-lines′ .ensures .1) in (
+      omega (arith, pre′ .symbol-cells, pre′ .few-symbols),
+      omega (
+        arith,
+        f .few,
+        length-take-le (5 * counts′ .given .0 .0 .constraints) (goal-lines′ .last .1 .1 .1 .1 .1 .1 .1 .0)
+            (omega (arith, f .few, goal-lines′ .kept .1 .1 .1 .1 .1 .1 .1 .0, pre′ .constraint-cells)),
+      ),
     )
 
 same-length : tie.Need-same-length
@@ -64,11 +100,25 @@ same-length-3 c = search needs
 
 returns-2 : tie.Need-returns-2
 unfolding goalLinesAnswer
-returns-2 c = (
-  λ p t. goal-overweight ((c .before .before .before .before .before .before .before .before .before .before .before .before .before .before .before .before .before .before .before .before .before .before .before .before .before .args) .program .now) ((c .before .before .before .before .before .before .before .before .before .before .before .before .before .before .before .before .before .before .before .before .before .before .before .before .before .args) .goal .now) ((c .before .before .before .before .before .before .before .before .before .before .before .before .before .before .before .before .before .before .before .before .before .before .before .before .before .args) .constants .now) ((c .before .before .before .before .before .before .before .before .before .before .before .before .before .before .before .before .before .before .before .before .before .before .before .before .before .args) .n) ((c .before .before .before .before .before .before .before .before .before .before .before .before .before .before .before .before .before .before .before .before .before .before .before .before .before .args) .symbols .now) ((c .before .before .before .before .before .before .before .before .before .before .before .before .before .before .before .before .before .before .before .before .before .before .before .before .before .args) .k) p t (omega (arith, (c .before .before .before .before .before .before .before .before .before .before .before .before .before .before .before .before .before .before .if1) .left)) ((c .before .before .before .before .before .before .before .before .before .before .before .before .goal-lines) .last .1 .1 .1 .1 .1 .0) ((c .before .before .before .before .before .before .before .before .before .before .before .before .goal-lines) .last .1 .1 .1 .1 .1 .1 .1 .0) ((c .before .before .before .before .before .before .before .before .before .before .before .before .goal-lines) .last .1 .1 .1 .1 .1 .1 .1 .1 .0) ((c .before .before .before .before .counts) .given .0 .0) (ap (goalLinesAnswer ((c .before .before .before .before .before .before .before .before .before .before .before .before .before .before .before .before .before .before .before .before .before .before .before .before .before .args) .program .now) ((c .before .before .before .before .before .before .before .before .before .before .before .before .before .before .before .before .before .before .before .before .before .before .before .before .before .args) .goal .now) ((c .before .before .before .before .before .before .before .before .before .before .before .before .goal-lines) .last .1 .1 .1 .1 .1 .0) ((c .before .before .before .before .before .before .before .before .before .before .before .before .before .before .before .before .before .before .before .before .before .before .before .before .before .args) .n) ((c .before .before .before .before .before .before .before .before .before .before .before .before .goal-lines) .last .1 .1 .1 .1 .1 .1 .1 .0) ((c .before .before .before .before .before .before .before .before .before .before .before .before .goal-lines) .last .1 .1 .1 .1 .1 .1 .1 .1 .0)) (sym ((c .before .before .before .before .counts) .given .1)) ∙ (c .before .before .before .before .before .before .before .before .before .before .before .before .goal-lines) .ensures .0)
-      (omega (arith, (c .before .goal-weight) .ensures ((c .before .before .before .before .before .before .before .before .before .before .before .before .before .before .before .before .before .before .before .before .before .before .before .before .before .args) .program .now), (c .if2) .taken)),
-  omega arith,
-)
+returns-2 c =
+    let args′ = c .before .before .before .before .before .before .before .before .before .before .before .before .before .before
+    .before .before .before .before .before .before .before .before .before .before .before .before .args in
+    let program′ = args′ .program .now in
+    let goal′ = args′ .goal .now in
+    let if1′ = c .before .before .before .before .before .before .before .before .before .before .before .before .before .before
+    .before .before .before .before .before .if1 in
+    let goal-lines′ = c .before .before .before .before .before .before .before .before .before .before .before .before .before
+    .goal-lines in
+    let counts′ = c .before .before .before .before .before .counts in (
+      λ p t. goal-overweight program′ goal′ (args′ .constants .now) (args′ .n) (args′ .symbols .now) (args′ .k) p t
+          (omega (arith, if1′ .left)) (goal-lines′ .last .1 .1 .1 .1 .1 .0) (goal-lines′ .last .1 .1 .1 .1 .1 .1 .1 .0)
+          (goal-lines′ .last .1 .1 .1 .1 .1 .1 .1 .1 .0) (counts′ .given .0 .0)
+          (ap (goalLinesAnswer program′ goal′ (goal-lines′ .last .1 .1 .1 .1 .1 .0) (args′ .n)
+          (goal-lines′ .last .1 .1 .1 .1 .1 .1 .1 .0) (goal-lines′ .last .1 .1 .1 .1 .1 .1 .1 .1 .0)) (sym (counts′ .given .1))
+          ∙ goal-lines′ .ensures .0)
+          (omega (arith, (c .before .weight-of) .ensures program′, (c .if2) .taken)),
+      omega arith,
+    )
 
 same-length-4 : tie.Need-same-length-4
 same-length-4 c = search needs
@@ -81,11 +131,20 @@ same-length-6 c = search needs
 
 returns-3 : tie.Need-returns-3
 unfolding goalLinesAnswer goalAnswer
-returns-3 c = (
-  λ p t. goal-refused ((c .before .before .before .before .before .before .before .before .before .before .before .before .before .before .before .before .before .before .before .before .before .before .args) .program .now) ((c .before .before .before .before .before .before .before .before .before .before .before .before .before .before .before .before .before .before .before .before .before .before .args) .goal .now) ((c .before .before .before .before .before .before .before .before .before .before .before .before .before .before .before .before .before .before .before .before .before .before .args) .constants .now) ((c .before .before .before .before .before .before .before .before .before .before .before .before .before .before .before .before .before .before .before .before .before .before .args) .n) ((c .before .before .before .before .before .before .before .before .before .before .before .before .before .before .before .before .before .before .before .before .before .before .args) .symbols .now) ((c .before .before .before .before .before .before .before .before .before .before .before .before .before .before .before .before .before .before .before .before .before .before .args) .k) p t (omega (arith, (c .before .before .before .before .before .before .before .before .before .before .before .before .before .before .before .if1) .left)) ((c .before .x) .given .0 .0) ((c .before .x) .given .0 .1 .0)
-      (ap (goalLinesAnswer ((c .before .before .before .before .before .before .before .before .before .before .before .before .before .before .before .before .before .before .before .before .before .before .args) .program .now) ((c .before .before .before .before .before .before .before .before .before .before .before .before .before .before .before .before .before .before .before .before .before .before .args) .goal .now) ((c .before .before .before .before .before .before .before .before .before .goal-lines) .last .1 .1 .1 .1 .1 .0) ((c .before .before .before .before .before .before .before .before .before .before .before .before .before .before .before .before .before .before .before .before .before .before .args) .n) ((c .before .before .before .before .before .before .before .before .before .goal-lines) .last .1 .1 .1 .1 .1 .1 .1 .0) ((c .before .before .before .before .before .before .before .before .before .goal-lines) .last .1 .1 .1 .1 .1 .1 .1 .1 .0)) (sym ((c .before .x) .given .1)) ∙ (c .before .before .before .before .before .before .before .before .before .goal-lines) .ensures .0),
-  omega arith,
-)
+returns-3 c =
+    let args′ = c .before .before .before .before .before .before .before .before .before .before .before .before .before .before
+    .before .before .before .before .before .before .before .before .args in
+    let if1′ = c .before .before .before .before .before .before .before .before .before .before .before .before .before .before
+    .before .if1 in
+    let goal-lines′ = c .before .before .before .before .before .before .before .before .before .goal-lines in
+    let x′ = c .before .x in (
+      λ p t. goal-refused (args′ .program .now) (args′ .goal .now) (args′ .constants .now) (args′ .n) (args′ .symbols .now)
+          (args′ .k) p t (omega (arith, if1′ .left)) (x′ .given .0 .0) (x′ .given .0 .1 .0)
+          (ap (goalLinesAnswer (args′ .program .now) (args′ .goal .now) (goal-lines′ .last .1 .1 .1 .1 .1 .0) (args′ .n)
+          (goal-lines′ .last .1 .1 .1 .1 .1 .1 .1 .0) (goal-lines′ .last .1 .1 .1 .1 .1 .1 .1 .1 .0)) (sym (x′ .given .1))
+          ∙ goal-lines′ .ensures .0),
+      omega arith,
+    )
 
 same-length-7 : tie.Need-same-length-7
 same-length-7 c = search needs
@@ -99,10 +158,29 @@ same-length-9 c = search needs
 returns-4 : tie.Need-returns-4
 unfolding goalLinesAnswer
 returns-4 c =
-    let f : GoalFits ((c .before .before .before .before .before .before .before .before .before .before .before .before .before .before .before .before .before .before .before .before .before .before .before .before .before .args) .symbols .now) ((c .before .before .before .before .before .before .before .before .before .before .before .before .before .before .before .before .before .before .before .before .before .before .before .before .before .args) .k) ((c .before .before .before .before .before .before .before .before .before .before .before .before .before .before .before .before .before .before .before .before .before .before .before .before .before .args) .n) ((c .before .before .before .before .before .before .before .before .before .before .before .before .goal-lines) .last .1 .1 .1 .1 .1 .1 .1 .0) ((c .before .before .before .before .before .before .before .before .before .before .before .before .goal-lines) .last .1 .1 .1 .1 .1 .1 .1 .1 .0) ((c .before .before .before .before .counts) .given .0 .0) = rw ((c .before .before .before .before .counts) .given .1) at ((c .before .before .before .before .before .before .before .before .before .before .before .before .goal-lines) .ensures .1) in (
-      λ p t. goal-accepted ((c .before .before .before .before .before .before .before .before .before .before .before .before .before .before .before .before .before .before .before .before .before .before .before .before .before .args) .program .now) ((c .before .before .before .before .before .before .before .before .before .before .before .before .before .before .before .before .before .before .before .before .before .before .before .before .before .args) .goal .now) ((c .before .before .before .before .before .before .before .before .before .before .before .before .before .before .before .before .before .before .before .before .before .before .before .before .before .args) .constants .now) ((c .before .before .before .before .before .before .before .before .before .before .before .before .before .before .before .before .before .before .before .before .before .before .before .before .before .args) .n) ((c .before .before .before .before .before .before .before .before .before .before .before .before .before .before .before .before .before .before .before .before .before .before .before .before .before .args) .symbols .now) ((c .before .before .before .before .before .before .before .before .before .before .before .before .before .before .before .before .before .before .before .before .before .before .before .before .before .args) .k) p t (omega (arith, (c .before .before .before .before .before .before .before .before .before .before .before .before .before .before .before .before .before .before .if1) .left)) ((c .before .before .before .before .before .before .before .before .before .before .before .before .goal-lines) .last .1 .1 .1 .1 .1 .0) ((c .before .before .before .before .before .before .before .before .before .before .before .before .goal-lines) .last .1 .1 .1 .1 .1 .1 .1 .0) ((c .before .before .before .before .before .before .before .before .before .before .before .before .goal-lines) .last .1 .1 .1 .1 .1 .1 .1 .1 .0) ((c .before .before .before .before .counts) .given .0 .0) (ap (goalLinesAnswer ((c .before .before .before .before .before .before .before .before .before .before .before .before .before .before .before .before .before .before .before .before .before .before .before .before .before .args) .program .now) ((c .before .before .before .before .before .before .before .before .before .before .before .before .before .before .before .before .before .before .before .before .before .before .before .before .before .args) .goal .now) ((c .before .before .before .before .before .before .before .before .before .before .before .before .goal-lines) .last .1 .1 .1 .1 .1 .0) ((c .before .before .before .before .before .before .before .before .before .before .before .before .before .before .before .before .before .before .before .before .before .before .before .before .before .args) .n) ((c .before .before .before .before .before .before .before .before .before .before .before .before .goal-lines) .last .1 .1 .1 .1 .1 .1 .1 .0) ((c .before .before .before .before .before .before .before .before .before .before .before .before .goal-lines) .last .1 .1 .1 .1 .1 .1 .1 .1 .0)) (sym ((c .before .before .before .before .counts) .given .1)) ∙ (c .before .before .before .before .before .before .before .before .before .before .before .before .goal-lines) .ensures .0)
-          (omega (arith, (c .before .goal-weight) .ensures ((c .before .before .before .before .before .before .before .before .before .before .before .before .before .before .before .before .before .before .before .before .before .before .before .before .before .args) .program .now), (c .if2) .left)),
-      (f, omega (arith, (c .before .goal-weight) .ensures ((c .before .before .before .before .before .before .before .before .before .before .before .before .before .before .before .before .before .before .before .before .before .before .before .before .before .args) .program .now), (c .if2) .left)),
+    let args′ = c .before .before .before .before .before .before .before .before .before .before .before .before .before .before
+    .before .before .before .before .before .before .before .before .before .before .before .before .args in
+    let symbols′ = args′ .symbols .now in
+    let program′ = args′ .program .now in
+    let goal′ = args′ .goal .now in
+    let if1′ = c .before .before .before .before .before .before .before .before .before .before .before .before .before .before
+    .before .before .before .before .before .if1 in
+    let goal-lines′ = c .before .before .before .before .before .before .before .before .before .before .before .before .before
+    .goal-lines in
+    let counts′ = c .before .before .before .before .before .counts in
+    let weight-of′ = c .before .weight-of in
+    let if2′ = c .if2 in
+    let f : GoalFits symbols′ (args′ .k) (args′ .n) (goal-lines′ .last .1 .1 .1 .1 .1 .1 .1 .0)
+    (goal-lines′ .last .1 .1 .1 .1 .1 .1 .1 .1 .0) (counts′ .given .0 .0) =
+    rw (counts′ .given .1) at (goal-lines′ .ensures .1) in (
+      λ p t. goal-accepted program′ goal′ (args′ .constants .now) (args′ .n) symbols′ (args′ .k) p t (omega (arith, if1′ .left))
+          (goal-lines′ .last .1 .1 .1 .1 .1 .0) (goal-lines′ .last .1 .1 .1 .1 .1 .1 .1 .0)
+          (goal-lines′ .last .1 .1 .1 .1 .1 .1 .1 .1 .0) (counts′ .given .0 .0)
+          (ap (goalLinesAnswer program′ goal′ (goal-lines′ .last .1 .1 .1 .1 .1 .0) (args′ .n)
+          (goal-lines′ .last .1 .1 .1 .1 .1 .1 .1 .0) (goal-lines′ .last .1 .1 .1 .1 .1 .1 .1 .1 .0)) (sym (counts′ .given .1))
+          ∙ goal-lines′ .ensures .0)
+          (omega (arith, weight-of′ .ensures program′, if2′ .left)),
+      (f, omega (arith, weight-of′ .ensures program′, if2′ .left)),
     )
 
 pub read-goal-spec : {M : Type 1} → statement M
@@ -116,9 +194,9 @@ read-goal-spec =
     enum-known-x
     enum-known-counts
     mul-end
-    slice-reshare-prefix-goal-weight
-    slice-aggregate-goal-weight
-    goal-weight-requires
+    slice-reshare-prefix-weight-of
+    slice-aggregate-weight-of
+    weight-of-requires
     same-length
     same-length-2
     same-length-3

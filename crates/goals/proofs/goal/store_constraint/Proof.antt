@@ -1,10 +1,7 @@
 -- `goals::goal::store_constraint` meets its contract: its terms are those of the fields. Assumes nothing.
 use borrow.Author.Needs.{needs}
-use mathlib.Core.Path.{_≡_, refl, sym, ap, ap₂, _∙_}
-use mathlib.Core.List.{List, [], _∷_}
-use Prim.Native.Nat.{ℕ, _*_}
-use native.Mathlib.Omega.{arith}
-use lib.ListN.{length, take, getD}
+use mathlib.Core.Path.{sym, ap, _∙_}
+use lib.ListN.{take, getD}
 use lib.Seq.{length-take-le}
 use Rattle.text.specs.Lists.{placeOf}
 use Rattle.text.specs.Places.{fieldsFrom}
@@ -19,7 +16,10 @@ terms-of-requires : tie.Need-terms-of-requires
 terms-of-requires c κs = search needs
 
 slice-aggregate-fields-left : tie.Need-slice-aggregate-fields-left
-slice-aggregate-fields-left c = sym (length-take-le ((c .before .before .before .before .before .before .before .before .args) .end) ((c .before .before .before .before .before .before .before .before .args) .goal .now) ((c .before .before .before .before .before .before .before .before .pre) .6))
+slice-aggregate-fields-left c =
+    let args′ = c .before .before .before .before .before .before .before .before .args in
+    let pre′ = c .before .before .before .before .before .before .before .before .pre in
+    sym (length-take-le (args′ .end) (args′ .goal .now) (pre′ .6))
 
 fields-left-requires : tie.Need-fields-left-requires
 fields-left-requires c κs = search needs
@@ -47,12 +47,19 @@ same-length c = search needs
 
 returns : tie.Need-returns
 returns c =
-    stored (termOf (λ f. placeOf f (lettersOf ((c .before .before .before .before .before .before .before .before .before .before .before .before .before .args) .letters .now) ((c .before .before .before .before .before .before .before .before .before .before .before .before .before .args) .v)))
-    (constantsOf ((c .before .before .before .before .before .before .before .before .before .before .before .before .before .args) .program .now) ((c .before .before .before .before .before .before .before .before .before .before .before .before .before .args) .goal .now) ((c .before .before .before .before .before .before .before .before .before .before .before .before .before .args) .constants .now) ((c .before .before .before .before .before .before .before .before .before .before .before .before .before .args) .n) ((c .before .before .before .before .before .before .before .before .before .before .before .before .before .args) .more)))
-    (fieldsFrom (take ((c .before .before .before .before .before .before .before .before .before .before .before .before .before .args) .end) ((c .before .before .before .before .before .before .before .before .before .before .before .before .before .args) .goal .now)) ((c .before .before .before .before .before .before .before .before .before .before .before .before .before .args) .at)) ((c .before .before .before .before .before .before .before .before .before .before .before .before .before .args) .s) ((c .before .before .before .before .before .before .before .before .before .before .before .before .before .args) .m)
-    (getD ((c .before .before .before .before .before .before .terms-of) .result) 0 0) (getD ((c .before .before .before .before .before .before .terms-of) .result) 1 0) (getD ((c .before .before .before .before .before .before .terms-of) .result) 2 0) (getD ((c .before .before .before .before .before .before .terms-of) .result) 3 0)
-    ((c .before .before .before .before .fields-left) .result) ((c .before .before .before .before .before .before .before .before .before .before .before .before .before .args) .cells .now) ((c .before .before .store-row) .last .0) ((c .before .before .before .before .fields-left) .ensures) ((c .before .before .before .before .before .before .before .before .before .before .before .before .before .pre) .7)
-    (ap cellTerms (sym (four-list ((c .before .before .before .before .before .before .terms-of) .result) ((c .before .before .before .before .before .before .terms-of) .ensures .1))) ∙ (c .before .before .before .before .before .before .terms-of) .ensures .0) ((c .before .before .before .before .before .before .before .before .before .before .before .before .before .pre) .9) ((c .before .before .store-row) .ensures)
+    let args′ = c .before .before .before .before .before .before .before .before .before .before .before .before .before .args in
+    let goal′ = args′ .goal .now in
+    let pre′ = c .before .before .before .before .before .before .before .before .before .before .before .before .before .pre in
+    let terms-of′ = c .before .before .before .before .before .before .terms-of in
+    let fields-left′ = c .before .before .before .before .fields-left in
+    let store-row′ = c .before .before .store-row in
+    stored (termOf (λ f. placeOf f (lettersOf (args′ .letters .now) (args′ .v)))
+    (constantsOf (args′ .program .now) goal′ (args′ .constants .now) (args′ .n) (args′ .more)))
+    (fieldsFrom (take (args′ .end) goal′) (args′ .at)) (args′ .s) (args′ .m)
+    (getD (terms-of′ .result) 0 0) (getD (terms-of′ .result) 1 0) (getD (terms-of′ .result) 2 0) (getD (terms-of′ .result) 3 0)
+    (fields-left′ .result) (args′ .cells .now) (store-row′ .last .0) (fields-left′ .ensures) (pre′ .7)
+    (ap cellTerms (sym (four-list (terms-of′ .result) (terms-of′ .ensures .1))) ∙ terms-of′ .ensures .0) (pre′ .9)
+    (store-row′ .ensures)
 
 pub store-constraint-spec : {M : Type 1} → statement M
 store-constraint-spec =

@@ -1,9 +1,8 @@
 -- `goals::goal::store_row` meets its contract: the cells are pasted. Assumes nothing.
 use borrow.Author.Needs.{needs}
-use mathlib.Core.Path.{_≡_, refl, sym, ap, ap₂, _∙_}
-use mathlib.Core.List.{List, [], _∷_}
+use mathlib.Core.Path.{ap, _∙_}
+use mathlib.Core.List.{List}
 use Prim.Native.Nat.{ℕ, _*_}
-use native.Mathlib.Omega.{arith}
 use lib.Seq.{paste}
 use Rattle.goals.proofs.GoalCells.{row-built}
 use Rattle.goals.proofs.goal.store_row.Statement.{statement}
@@ -35,10 +34,16 @@ same-length c = search needs
 
 returns : tie.Need-returns
 returns c =
+    let args′ = c .before .before .before .before .before .before .before .before .before .before .args in
+    let kept′ = c .before .before .before .before .before .before .before .before .kept in
+    let kept2′ = c .before .before .before .before .before .before .before .kept2 in
+    let kept3′ = c .before .before .before .before .before .before .kept3 in
+    let kept4′ = c .before .before .before .before .before .kept4 in
     (c .before .before .write-cells) .ensures
-    ∙ ap (λ (l : List ℕ). paste ((c .before .before .before .before .before .before .before .before .before .before .args) .cells .now) (5 * (c .before .before .before .before .before .before .before .before .before .before .args) .m) l 5)
-    (row-built ((c .before .before .before .before .before .before .before .before .before .before .args) .count) ((c .before .before .before .before .before .before .before .before .before .before .args) .s) ((c .before .before .before .before .before .before .before .before .before .before .args) .a) ((c .before .before .before .before .before .before .before .before .before .before .args) .b) ((c .before .before .before .before .before .before .before .before .before .before .args) .c) ((c .before .before .before .before .before .before .before .before .before .before .args) .d) ((c .before .before .before .before .before .before .before .before .kept) .result) ((c .before .before .before .before .before .before .before .kept2) .result) ((c .before .before .before .before .before .before .kept3) .result) ((c .before .before .before .before .before .kept4) .result)
-    ((c .before .before .before .before .before .before .before .before .kept) .ensures) ((c .before .before .before .before .before .before .before .kept2) .ensures) ((c .before .before .before .before .before .before .kept3) .ensures) ((c .before .before .before .before .before .kept4) .ensures))
+    ∙ ap (λ (l : List ℕ). paste (args′ .cells .now) (5 * args′ .m) l 5)
+    (row-built (args′ .count) (args′ .s) (args′ .a) (args′ .b) (args′ .c) (args′ .d) (kept′ .result) (kept2′ .result)
+    (kept3′ .result) (kept4′ .result)
+    (kept′ .ensures) (kept2′ .ensures) (kept3′ .ensures) (kept4′ .ensures))
 
 pub store-row-spec : {M : Type 1} → statement M
 store-row-spec =

@@ -1,6 +1,5 @@
 -- `lines::forms::form_of_byte` meets its contract, at each letter and at all other bytes. Assumes nothing.
-use borrow.Author.Needs.{needs}
-use mathlib.Core.Path.{_≡_, sym}
+use mathlib.Core.Path.{sym}
 use mathlib.Core.Logic.{⊎-elim}
 use Rattle.syntax.specs.Forms.{formOfByte}
 use Rattle.lines.specs.Read.{formMeant}
@@ -35,26 +34,36 @@ returns-6 c = rw ((c .match) .keys6)
 returns-7 : tie.Need-returns-7
 unfolding formMeant
 returns-7 c =
-    sym (form-none ((c .before .before .before .before .before .args) .b) ((c .before .before .before .before .match) .rest .0 .0 .0 .0 .0 .0 .1) ((c .before .before .before .before .match) .rest .0 .0 .0 .0 .0 .1) ((c .before .before .before .before .match) .rest .0 .0 .0 .0 .1) ((c .before .before .before .before .match) .rest .0 .0 .0 .1)
-    ((c .before .before .before .before .match) .rest .0 .0 .1) ((c .before .before .before .before .match) .rest .0 .1))
+    let args′ = c .before .before .before .before .before .args in
+    let match′ = c .before .before .before .before .match in
+    sym (form-none (args′ .b) (match′ .rest .0 .0 .0 .0 .0 .0 .1) (match′ .rest .0 .0 .0 .0 .0 .1) (match′ .rest .0 .0 .0 .0 .1)
+    (match′ .rest .0 .0 .0 .1)
+    (match′ .rest .0 .0 .1) (match′ .rest .0 .1))
 
 returns-8 : tie.Need-returns-8
 unfolding formMeant
 returns-8 c =
-    sym (form-none ((c .before .before .args) .b) ((c .before .match) .rest .0 .0 .0 .0 .0 .0 .1) ((c .before .match) .rest .0 .0 .0 .0 .0 .1) ((c .before .match) .rest .0 .0 .0 .0 .1) ((c .before .match) .rest .0 .0 .0 .1)
-    ((c .before .match) .rest .0 .0 .1) ((c .before .match) .rest .0 .1))
+    let match′ = c .before .match in
+    sym (form-none ((c .before .before .args) .b) (match′ .rest .0 .0 .0 .0 .0 .0 .1) (match′ .rest .0 .0 .0 .0 .0 .1)
+    (match′ .rest .0 .0 .0 .0 .1) (match′ .rest .0 .0 .0 .1)
+    (match′ .rest .0 .0 .1) (match′ .rest .0 .1))
 
 returns-9 : tie.Need-returns-9
 unfolding formMeant
 returns-9 c =
-    sym (form-none ((c .before .before .before .before .args) .b) ((c .before .before .before .match) .rest .0 .0 .0 .0 .0 .0 .1) ((c .before .before .before .match) .rest .0 .0 .0 .0 .0 .1) ((c .before .before .before .match) .rest .0 .0 .0 .0 .1) ((c .before .before .before .match) .rest .0 .0 .0 .1)
-    ((c .before .before .before .match) .rest .0 .0 .1) ((c .before .before .before .match) .rest .0 .1))
+    let match′ = c .before .before .before .match in
+    sym (form-none ((c .before .before .before .before .args) .b) (match′ .rest .0 .0 .0 .0 .0 .0 .1)
+    (match′ .rest .0 .0 .0 .0 .0 .1) (match′ .rest .0 .0 .0 .0 .1) (match′ .rest .0 .0 .0 .1)
+    (match′ .rest .0 .0 .1) (match′ .rest .0 .1))
 
 returns-10 : tie.Need-returns-10
 unfolding formMeant
 returns-10 c =
-    sym (form-none ((c .before .before .before .before .before .args) .b) ((c .before .before .before .before .match) .rest .0 .0 .0 .0 .0 .0 .1) ((c .before .before .before .before .match) .rest .0 .0 .0 .0 .0 .1) ((c .before .before .before .before .match) .rest .0 .0 .0 .0 .1) ((c .before .before .before .before .match) .rest .0 .0 .0 .1)
-    ((c .before .before .before .before .match) .rest .0 .0 .1) ((c .before .before .before .before .match) .rest .0 .1))
+    let args′ = c .before .before .before .before .before .args in
+    let match′ = c .before .before .before .before .match in
+    sym (form-none (args′ .b) (match′ .rest .0 .0 .0 .0 .0 .0 .1) (match′ .rest .0 .0 .0 .0 .0 .1) (match′ .rest .0 .0 .0 .0 .1)
+    (match′ .rest .0 .0 .0 .1)
+    (match′ .rest .0 .0 .1) (match′ .rest .0 .1))
 
 returns-11 : tie.Need-returns-11
 unfolding formOfByte formMeant
@@ -63,8 +72,10 @@ returns-11 c = ⊎-elim (λ e. rw e) (λ e. rw e) ((c .match) .keys7)
 returns-12 : tie.Need-returns-12
 unfolding formMeant
 returns-12 c =
-    sym (form-none ((c .before .before .before .args) .b) ((c .before .before .match) .rest .0 .0 .0 .0 .0 .0 .1) ((c .before .before .match) .rest .0 .0 .0 .0 .0 .1) ((c .before .before .match) .rest .0 .0 .0 .0 .1) ((c .before .before .match) .rest .0 .0 .0 .1)
-    ((c .before .before .match) .rest .0 .0 .1) ((c .before .before .match) .rest .0 .1))
+    let match′ = c .before .before .match in
+    sym (form-none ((c .before .before .before .args) .b) (match′ .rest .0 .0 .0 .0 .0 .0 .1) (match′ .rest .0 .0 .0 .0 .0 .1)
+    (match′ .rest .0 .0 .0 .0 .1) (match′ .rest .0 .0 .0 .1)
+    (match′ .rest .0 .0 .1) (match′ .rest .0 .1))
 
 pub form-of-byte-spec : {M : Type 1} → statement M
 form-of-byte-spec =

@@ -1,10 +1,9 @@
 -- `lines::forms::place_after` meets its contract, at each form and place. Assumes nothing.
 use borrow.Author.Needs.{needs}
-use mathlib.Core.Path.{_≡_, sym}
+use mathlib.Core.Path.{sym}
 use Rattle.syntax.specs.Forms.{placeAfter}
 use Rattle.lines.specs.Read.{formMeant, placeMeant, placeAnswer}
 use Rattle.lines.proofs.Letters.{place-symbol, place-head, place-body, place-equation}
-use borrow.Author.Needs.{needs}
 use Rattle.lines.proofs.forms.place_after.Statement.{statement}
 use Rattle.lines.proofs.forms.place_after.Tie as tie
 
@@ -35,7 +34,8 @@ returns c = rw ((c .before .enum-told) .given .1, (c .if1) .taken)
 
 returns-2 : tie.Need-returns-2
 unfolding formMeant placeAnswer
-returns-2 c = rw ((c .before .enum-told) .given .1) (sym (place-symbol ((c .before .before .before .args) .place) ((c .if1) .left)))
+returns-2 c =
+    rw ((c .before .enum-told) .given .1) (sym (place-symbol ((c .before .before .before .args) .place) ((c .if1) .left)))
 
 returns-3 : tie.Need-returns-3
 unfolding placeAfter placeMeant formMeant placeAnswer
@@ -47,7 +47,8 @@ returns-4 c = rw ((c .before .enum-told3) .given .1, (c .if2) .taken)
 
 returns-5 : tie.Need-returns-5
 unfolding formMeant placeAnswer
-returns-5 c = rw ((c .before .enum-told3) .given .1) (sym (place-head ((c .before .before .before .args) .place) ((c .if2) .left)))
+returns-5 c =
+    rw ((c .before .enum-told3) .given .1) (sym (place-head ((c .before .before .before .args) .place) ((c .if2) .left)))
 
 returns-6 : tie.Need-returns-6
 unfolding placeAfter placeMeant formMeant placeAnswer
@@ -59,7 +60,9 @@ returns-7 c = rw ((c .before .before .enum-told4) .given .1, (c .if4) .taken)
 
 returns-8 : tie.Need-returns-8
 unfolding formMeant placeAnswer
-returns-8 c = rw ((c .before .before .enum-told4) .given .1) (sym (place-body ((c .before .before .before .before .args) .place) ((c .before .if3) .left) ((c .if4) .left)))
+returns-8 c =
+    rw ((c .before .before .enum-told4) .given .1)
+    (sym (place-body ((c .before .before .before .before .args) .place) ((c .before .if3) .left) ((c .if4) .left)))
 
 returns-9 : tie.Need-returns-9
 unfolding placeAfter placeMeant formMeant placeAnswer
@@ -67,7 +70,8 @@ returns-9 c = rw ((c .before .enum-told5) .given .1, (c .if5) .taken)
 
 returns-10 : tie.Need-returns-10
 unfolding formMeant placeAnswer
-returns-10 c = rw ((c .before .enum-told5) .given .1) (sym (place-equation ((c .before .before .before .args) .place) ((c .if5) .left)))
+returns-10 c =
+    rw ((c .before .enum-told5) .given .1) (sym (place-equation ((c .before .before .before .args) .place) ((c .if5) .left)))
 
 returns-11 : tie.Need-returns-11
 unfolding placeAfter formMeant placeAnswer

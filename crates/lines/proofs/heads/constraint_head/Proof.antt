@@ -1,26 +1,31 @@
 -- `lines::heads::constraint_head` meets its contract: number 4, then 6. Assumes nothing.
 use borrow.Author.Needs.{needs}
-use mathlib.Core.Path.{_≡_, refl, sym, ap, _∙_}
+use mathlib.Core.Path.{refl, sym, ap, _∙_}
 use mathlib.Core.Logic.{inl, inr}
 use Prim.Native.Nat.{ℕ}
 use native.Mathlib.Numerals.{add-one}
 use native.Mathlib.Omega.{arith}
-use lib.ListN.{length, take, drop}
+use lib.ListN.{length, take}
 use lib.Seq.{length-take-le}
 use Rattle.text.specs.Places.{fieldsFrom}
 use Rattle.text.proofs.Cursors.{drop-take}
 use Rattle.syntax.specs.Tables.{symbolsOf}
 use Rattle.lines.specs.Read.{NamedAt}
 use Rattle.lines.proofs.Shapes.{head-none, head-found}
-use borrow.Author.Needs.{needs}
 use Rattle.lines.proofs.heads.constraint_head.Statement.{statement}
 use Rattle.lines.proofs.heads.constraint_head.Tie as tie
 
 slice-aggregate-line : tie.Need-slice-aggregate-line
-slice-aggregate-line c = sym (length-take-le ((c .before .before .before .before .before .args) .end) ((c .before .before .before .before .before .args) .second .now) ((c .before .before .before .before .before .pre) .2))
+slice-aggregate-line c =
+    let args′ = c .before .before .before .before .before .args in
+    let pre′ = c .before .before .before .before .before .pre in
+    sym (length-take-le (args′ .end) (args′ .second .now) (pre′ .2))
 
 constraint-form-requires : tie.Need-constraint-form-requires
-constraint-form-requires c κs = ((c .before .before .before .before .before .pre) .0, omega (arith, length-take-le ((c .before .before .before .before .before .args) .end) ((c .before .before .before .before .before .args) .second .now) ((c .before .before .before .before .before .pre) .2)))
+constraint-form-requires c κs =
+    let pre′ = c .before .before .before .before .before .pre in
+    let args′ = c .before .before .before .before .before .args in
+    (pre′ .0, omega (arith, length-take-le (args′ .end) (args′ .second .now) (pre′ .2)))
 
 enum-told : tie.Need-enum-told
 enum-told c = search needs
@@ -30,26 +35,36 @@ enum-known-start c = search needs
 
 add-from : tie.Need-add-from
 add-from c =
-    let named : NamedAt (take ((c .before .before .before .before .before .before .before .before .before .args) .end) ((c .before .before .before .before .before .before .before .before .before .args) .second .now)) ((c .before .before .before .before .before .before .before .before .before .args) .at) ((c .before .start) .given .0 .0) ((c .before .start) .given .0 .1 .0) =
-    rw ((c .before .start) .given .1) at ((c .before .before .before .constraint-form) .ensures) in
-    record { fits = omega (arith, named .stops, length-take-le ((c .before .before .before .before .before .before .before .before .before .args) .end) ((c .before .before .before .before .before .before .before .before .before .args) .second .now) ((c .before .before .before .before .before .before .before .before .before .pre) .2), (c .before .before .before .before .before .before .before .before .before .pre) .2, (c .before .before .before .before .before .before .before .before .before .pre) .3) }
+    let args′ = c .before .before .before .before .before .before .before .before .before .args in
+    let second′ = args′ .second .now in
+    let pre′ = c .before .before .before .before .before .before .before .before .before .pre in
+    let start′ = c .before .start in
+    let named : NamedAt (take (args′ .end) second′) (args′ .at) (start′ .given .0 .0) (start′ .given .0 .1 .0) =
+    rw (start′ .given .1) at ((c .before .before .before .constraint-form) .ensures) in
+    record { fits = omega (arith, named .stops, length-take-le (args′ .end) second′ (pre′ .2), pre′ .2, pre′ .3) }
 
 sub-declared : tie.Need-sub-declared
 sub-declared c =
-    let named : NamedAt (take ((c .before .before .before .before .before .before .before .before .before .args) .end) ((c .before .before .before .before .before .before .before .before .before .args) .second .now)) ((c .before .before .before .before .before .before .before .before .before .args) .at) ((c .before .start) .given .0 .0) ((c .before .start) .given .0 .1 .0) =
-    rw ((c .before .start) .given .1) at ((c .before .before .before .constraint-form) .ensures) in
+    let args′ = c .before .before .before .before .before .before .before .before .before .args in
+    let start′ = c .before .start in
+    let named : NamedAt (take (args′ .end) (args′ .second .now)) (args′ .at) (start′ .given .0 .0) (start′ .given .0 .1 .0) =
+    rw (start′ .given .1) at ((c .before .before .before .constraint-form) .ensures) in
     named .starts
 
 part-declared-start : tie.Need-part-declared-start
 part-declared-start c =
-    let named : NamedAt (take ((c .before .before .before .before .before .before .before .before .before .args) .end) ((c .before .before .before .before .before .before .before .before .before .args) .second .now)) ((c .before .before .before .before .before .before .before .before .before .args) .at) ((c .before .start) .given .0 .0) ((c .before .start) .given .0 .1 .0) =
-    rw ((c .before .start) .given .1) at ((c .before .before .before .constraint-form) .ensures) in
+    let args′ = c .before .before .before .before .before .before .before .before .before .args in
+    let start′ = c .before .start in
+    let named : NamedAt (take (args′ .end) (args′ .second .now)) (args′ .at) (start′ .given .0 .0) (start′ .given .0 .1 .0) =
+    rw (start′ .given .1) at ((c .before .before .before .constraint-form) .ensures) in
     named .starts
 
 part-declared-end : tie.Need-part-declared-end
 part-declared-end c =
-    let named : NamedAt (take ((c .before .before .before .before .before .before .before .before .before .args) .end) ((c .before .before .before .before .before .before .before .before .before .args) .second .now)) ((c .before .before .before .before .before .before .before .before .before .args) .at) ((c .before .start) .given .0 .0) ((c .before .start) .given .0 .1 .0) =
-    rw ((c .before .start) .given .1) at ((c .before .before .before .constraint-form) .ensures) in
+    let args′ = c .before .before .before .before .before .before .before .before .before .args in
+    let start′ = c .before .start in
+    let named : NamedAt (take (args′ .end) (args′ .second .now)) (args′ .at) (start′ .given .0 .0) (start′ .given .0 .1 .0) =
+    rw (start′ .given .1) at ((c .before .before .before .constraint-form) .ensures) in
     named .stops
 
 fields-left-requires : tie.Need-fields-left-requires
@@ -60,15 +75,22 @@ declared-requires c κs = search needs
 
 returns : tie.Need-returns
 returns c =
-    let named : NamedAt (take ((c .before .before .before .before .before .before .before .before .before .before .before .before .before .args) .end) ((c .before .before .before .before .before .before .before .before .before .before .before .before .before .args) .second .now)) ((c .before .before .before .before .before .before .before .before .before .before .before .before .before .args) .at) ((c .before .before .before .before .before .start) .given .0 .0) ((c .before .before .before .before .before .start) .given .0 .1 .0) =
-    rw ((c .before .before .before .before .before .start) .given .1) at ((c .before .before .before .before .before .before .before .constraint-form) .ensures) in
+    let args′ = c .before .before .before .before .before .before .before .before .before .before .before .before .before .args in
+    let second′ = args′ .second .now in
+    let constraint-form′ = c .before .before .before .before .before .before .before .constraint-form in
+    let start′ = c .before .before .before .before .before .start in
+    let fields-left′ = c .before .before .fields-left in
+    let declared′ = c .before .declared in
+    let named : NamedAt (take (args′ .end) second′) (args′ .at) (start′ .given .0 .0) (start′ .given .0 .1 .0) =
+    rw (start′ .given .1) at (constraint-form′ .ensures) in
     inr (
       named .fine,
-      head-none (symbolsOf ((c .before .before .before .before .before .before .before .before .before .before .before .before .before .args) .first .now) ((c .before .before .before .before .before .before .before .before .before .before .before .before .before .args) .symbols .now) ((c .before .before .before .before .before .before .before .before .before .before .before .before .before .args) .k)) (take ((c .before .before .before .before .before .before .before .before .before .before .before .before .before .args) .end) ((c .before .before .before .before .before .before .before .before .before .before .before .before .before .args) .second .now)) _
-          ((c .before .before .before .before .before .before .before .before .before .before .before .before .before .args) .at) ((c .before .before .before .before .before .start) .given .0 .0) ((c .before .before .before .before .before .start) .given .0 .1 .0) ((c .before .before .fields-left) .result) ((c .before .before .before .before .before .before .before .before .before .before .before .before .before .args) .k) ((c .before .declared) .result) named
-          (sym (drop-take ((c .before .before .before .before .before .start) .given .0 .0) ((c .before .before .before .before .before .start) .given .0 .1 .0) (take ((c .before .before .before .before .before .before .before .before .before .before .before .before .before .args) .end) ((c .before .before .before .before .before .before .before .before .before .before .before .before .before .args) .second .now)) (named .starts)))
-          ((c .before .before .fields-left) .ensures ∙ ap (λ (n : ℕ). length (fieldsFrom (take ((c .before .before .before .before .before .before .before .before .before .before .before .before .before .args) .end) ((c .before .before .before .before .before .before .before .before .before .before .before .before .before .args) .second .now)) n)) (add-one ((c .before .before .before .before .before .start) .given .0 .1 .0)))
-          ((c .before .declared) .ensures) ((c .if1) .taken),
+      head-none (symbolsOf (args′ .first .now) (args′ .symbols .now) (args′ .k)) (take (args′ .end) second′) _
+          (args′ .at) (start′ .given .0 .0) (start′ .given .0 .1 .0) (fields-left′ .result) (args′ .k) (declared′ .result) named
+          (sym (drop-take (start′ .given .0 .0) (start′ .given .0 .1 .0) (take (args′ .end) second′) (named .starts)))
+          (fields-left′ .ensures ∙ ap (λ (n : ℕ). length (fieldsFrom (take (args′ .end) second′) n))
+          (add-one (start′ .given .0 .1 .0)))
+          (declared′ .ensures) ((c .if1) .taken),
       refl,
     )
 
@@ -77,13 +99,20 @@ returns-2 c = inl (rw ((c .enum-told) .given .1) at ((c .before .before .constra
 
 returns-3 : tie.Need-returns-3
 returns-3 c =
-    let named : NamedAt (take ((c .before .before .before .before .before .before .before .before .before .before .before .before .before .args) .end) ((c .before .before .before .before .before .before .before .before .before .before .before .before .before .args) .second .now)) ((c .before .before .before .before .before .before .before .before .before .before .before .before .before .args) .at) ((c .before .before .before .before .before .start) .given .0 .0) ((c .before .before .before .before .before .start) .given .0 .1 .0) =
-    rw ((c .before .before .before .before .before .start) .given .1) at ((c .before .before .before .before .before .before .before .constraint-form) .ensures) in
-    rw (add-one ((c .before .before .before .before .before .start) .given .0 .1 .0)) (head-found (symbolsOf ((c .before .before .before .before .before .before .before .before .before .before .before .before .before .args) .first .now) ((c .before .before .before .before .before .before .before .before .before .before .before .before .before .args) .symbols .now) ((c .before .before .before .before .before .before .before .before .before .before .before .before .before .args) .k)) (take ((c .before .before .before .before .before .before .before .before .before .before .before .before .before .args) .end) ((c .before .before .before .before .before .before .before .before .before .before .before .before .before .args) .second .now)) _
-    ((c .before .before .before .before .before .before .before .before .before .before .before .before .before .args) .at) ((c .before .before .before .before .before .start) .given .0 .0) ((c .before .before .before .before .before .start) .given .0 .1 .0) ((c .before .before .fields-left) .result) ((c .before .before .before .before .before .before .before .before .before .before .before .before .before .args) .k) ((c .before .declared) .result) named
-    (sym (drop-take ((c .before .before .before .before .before .start) .given .0 .0) ((c .before .before .before .before .before .start) .given .0 .1 .0) (take ((c .before .before .before .before .before .before .before .before .before .before .before .before .before .args) .end) ((c .before .before .before .before .before .before .before .before .before .before .before .before .before .args) .second .now)) (named .starts)))
-    ((c .before .before .fields-left) .ensures ∙ ap (λ (n : ℕ). length (fieldsFrom (take ((c .before .before .before .before .before .before .before .before .before .before .before .before .before .args) .end) ((c .before .before .before .before .before .before .before .before .before .before .before .before .before .args) .second .now)) n)) (add-one ((c .before .before .before .before .before .start) .given .0 .1 .0)))
-    ((c .before .declared) .ensures) ((c .if1) .left))
+    let args′ = c .before .before .before .before .before .before .before .before .before .before .before .before .before .args in
+    let second′ = args′ .second .now in
+    let constraint-form′ = c .before .before .before .before .before .before .before .constraint-form in
+    let start′ = c .before .before .before .before .before .start in
+    let fields-left′ = c .before .before .fields-left in
+    let declared′ = c .before .declared in
+    let named : NamedAt (take (args′ .end) second′) (args′ .at) (start′ .given .0 .0) (start′ .given .0 .1 .0) =
+    rw (start′ .given .1) at (constraint-form′ .ensures) in
+    rw (add-one (start′ .given .0 .1 .0)) (head-found (symbolsOf (args′ .first .now) (args′ .symbols .now) (args′ .k))
+    (take (args′ .end) second′) _
+    (args′ .at) (start′ .given .0 .0) (start′ .given .0 .1 .0) (fields-left′ .result) (args′ .k) (declared′ .result) named
+    (sym (drop-take (start′ .given .0 .0) (start′ .given .0 .1 .0) (take (args′ .end) second′) (named .starts)))
+    (fields-left′ .ensures ∙ ap (λ (n : ℕ). length (fieldsFrom (take (args′ .end) second′) n)) (add-one (start′ .given .0 .1 .0)))
+    (declared′ .ensures) ((c .if1) .left))
 
 pub constraint-head-spec : {M : Type 1} → statement M
 constraint-head-spec =

@@ -1,9 +1,8 @@
 -- `lines::heads::declared` meets its contract, by where the name is found and by the arity there. Assumes nothing.
 use borrow.Author.Needs.{needs}
-use mathlib.Core.Path.{_≡_, sym, _∙_}
+use mathlib.Core.Path.{sym, _∙_}
 use native.Mathlib.Omega.{arith}
 use Rattle.lines.proofs.Shapes.{declared-none, declared-other, declared-as}
-use borrow.Author.Needs.{needs}
 use Rattle.lines.proofs.heads.declared.Statement.{statement}
 use Rattle.lines.proofs.heads.declared.Tie as tie
 
@@ -12,8 +11,10 @@ find-name-requires c κs = search needs
 
 returns : tie.Need-returns
 returns c =
-    declared-none ((c .before .before .before .before .before .args) .text .now) ((c .before .before .before .before .before .args) .symbols .now) ((c .before .before .before .before .before .args) .k) ((c .before .before .before .before .before .args) .name .now) ((c .before .before .before .before .before .args) .terms) ((c .before .find-name) .result)
-    ((c .before .find-name) .ensures .0) ((c .if1) .taken)
+    let args′ = c .before .before .before .before .before .args in
+    let find-name′ = c .before .find-name in
+    declared-none (args′ .text .now) (args′ .symbols .now) (args′ .k) (args′ .name .now) (args′ .terms) (find-name′ .result)
+    (find-name′ .ensures .0) ((c .if1) .taken)
 
 mul-wide : tie.Need-mul-wide
 mul-wide c = search needs
@@ -32,13 +33,19 @@ wide-requires c κs = search needs
 
 returns-2 : tie.Need-returns-2
 returns-2 c =
-    declared-other ((c .before .before .before .before .before .before .before .before .args) .text .now) ((c .before .before .before .before .before .before .before .before .args) .symbols .now) ((c .before .before .before .before .before .before .before .before .args) .k) ((c .before .before .before .before .before .before .before .before .args) .name .now) ((c .before .before .before .before .before .before .before .before .args) .terms) ((c .before .before .before .before .find-name) .result)
-    ((c .before .before .before .before .find-name) .ensures .0) (omega (arith, (c .before .before .before .if1) .left, (c .before .before .before .before .find-name) .ensures .1)) (λ e. (c .if2) .taken ((c .before .wide) .ensures .0 ∙ e))
+    let args′ = c .before .before .before .before .before .before .before .before .args in
+    let find-name′ = c .before .before .before .before .find-name in
+    declared-other (args′ .text .now) (args′ .symbols .now) (args′ .k) (args′ .name .now) (args′ .terms) (find-name′ .result)
+    (find-name′ .ensures .0) (omega (arith, (c .before .before .before .if1) .left, find-name′ .ensures .1))
+    (λ e. (c .if2) .taken ((c .before .wide) .ensures .0 ∙ e))
 
 returns-3 : tie.Need-returns-3
 returns-3 c =
-    declared-as ((c .before .before .before .before .before .before .before .before .args) .text .now) ((c .before .before .before .before .before .before .before .before .args) .symbols .now) ((c .before .before .before .before .before .before .before .before .args) .k) ((c .before .before .before .before .before .before .before .before .args) .name .now) ((c .before .before .before .before .before .before .before .before .args) .terms) ((c .before .before .before .before .find-name) .result)
-    ((c .before .before .before .before .find-name) .ensures .0) (omega (arith, (c .before .before .before .if1) .left, (c .before .before .before .before .find-name) .ensures .1)) (sym ((c .before .wide) .ensures .0) ∙ (c .if2) .left)
+    let args′ = c .before .before .before .before .before .before .before .before .args in
+    let find-name′ = c .before .before .before .before .find-name in
+    declared-as (args′ .text .now) (args′ .symbols .now) (args′ .k) (args′ .name .now) (args′ .terms) (find-name′ .result)
+    (find-name′ .ensures .0) (omega (arith, (c .before .before .before .if1) .left, find-name′ .ensures .1))
+    (sym ((c .before .wide) .ensures .0) ∙ (c .if2) .left)
 
 pub declared-spec : {M : Type 1} → statement M
 declared-spec =

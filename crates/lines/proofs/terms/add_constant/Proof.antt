@@ -1,20 +1,19 @@
 -- `lines::terms::add_constant` meets its contract: a name that no constant has, and no other field, is one more. Assumes nothing.
 use borrow.Author.Needs.{needs}
 use mathlib.Core.Path.{_≡_, sym, ap, _∙_}
-use mathlib.Core.Bool.{true, false}
+use mathlib.Core.Bool.{true}
 use mathlib.Core.List.{List}
-use Prim.Native.Nat.{ℕ, _≤_, _<_, _+_, _-_, _*_}
+use Prim.Native.Nat.{ℕ, _-_}
 use native.Mathlib.Numerals.{add-one}
 use native.Mathlib.Omega.{arith}
 use borrow.Author.Tests.{not-true, not-false}
-use lib.ListN.{length, take, drop, length-set}
+use lib.ListN.{take, drop, length-set}
 use Rattle.text.specs.Lists.{placeOf}
 use Rattle.text.specs.Fields.{isName}
 use Rattle.text.proofs.Cursors.{drop-take}
 use Rattle.syntax.specs.Tables.{part, constantsOf}
 use Rattle.lines.specs.Read.{addedOf}
 use Rattle.lines.proofs.Constants.{after-none, after-known, after-full, after-new}
-use borrow.Author.Needs.{needs}
 use Rattle.lines.proofs.terms.add_constant.Statement.{statement}
 use Rattle.lines.proofs.terms.add_constant.Tie as tie
 
@@ -33,10 +32,14 @@ is-name-requires c κs = search needs
 returns : tie.Need-returns
 unfolding addedOf
 returns c =
-    after-none ((c .before .before .before .before .before .before .before .args) .first .now) ((c .before .before .before .before .before .before .before .args) .second .now) ((c .before .before .before .before .before .before .before .args) .cells .now) ((c .before .before .before .before .before .before .before .args) .n) ((c .before .before .before .before .before .before .before .args) .m)
-    (drop ((c .before .before .before .before .before .before .before .args) .start) (take ((c .before .before .before .before .before .before .before .args) .end) ((c .before .before .before .before .before .before .before .args) .second .now))) ((c .before .before .before .before .before .before .before .pre) .5)
-    (ap isName (drop-take ((c .before .before .before .before .before .before .before .args) .start) ((c .before .before .before .before .before .before .before .args) .end) ((c .before .before .before .before .before .before .before .args) .second .now) ((c .before .before .before .before .before .before .before .pre) .1))
-    ∙ sym ((c .before .is-name) .ensures) ∙ not-true ((c .before .is-name) .result) ((c .if1) .taken))
+    let args′ = c .before .before .before .before .before .before .before .args in
+    let second′ = args′ .second .now in
+    let pre′ = c .before .before .before .before .before .before .before .pre in
+    let is-name′ = c .before .is-name in
+    after-none (args′ .first .now) second′ (args′ .cells .now) (args′ .n) (args′ .m)
+    (drop (args′ .start) (take (args′ .end) second′)) (pre′ .5)
+    (ap isName (drop-take (args′ .start) (args′ .end) second′ (pre′ .1))
+    ∙ sym (is-name′ .ensures) ∙ not-true (is-name′ .result) ((c .if1) .taken))
 
 find-constant-requires : tie.Need-find-constant-requires
 find-constant-requires c κs = search needs
@@ -50,16 +53,23 @@ same-length c = search needs
 returns-2 : tie.Need-returns-2
 unfolding addedOf
 returns-2 c =
-    let named : isName (drop ((c .before .before .before .before .before .before .before .before .before .before .args) .start) (take ((c .before .before .before .before .before .before .before .before .before .before .args) .end) ((c .before .before .before .before .before .before .before .before .before .before .args) .second .now))) ≡ true =
-    ap isName (drop-take ((c .before .before .before .before .before .before .before .before .before .before .args) .start) ((c .before .before .before .before .before .before .before .before .before .before .args) .end) ((c .before .before .before .before .before .before .before .before .before .before .args) .second .now) ((c .before .before .before .before .before .before .before .before .before .before .pre) .1))
-    ∙ sym ((c .before .before .before .before .is-name) .ensures) ∙ not-false ((c .before .before .before .before .is-name) .result) ((c .before .before .before .if1) .left) in
-    let found : (c .before .find-constant) .result ≡ placeOf (drop ((c .before .before .before .before .before .before .before .before .before .before .args) .start) (take ((c .before .before .before .before .before .before .before .before .before .before .args) .end) ((c .before .before .before .before .before .before .before .before .before .before .args) .second .now)))
-    (constantsOf ((c .before .before .before .before .before .before .before .before .before .before .args) .first .now) ((c .before .before .before .before .before .before .before .before .before .before .args) .second .now) ((c .before .before .before .before .before .before .before .before .before .before .args) .cells .now) ((c .before .before .before .before .before .before .before .before .before .before .args) .n) ((c .before .before .before .before .before .before .before .before .before .before .args) .m)) =
-    (c .before .find-constant) .ensures .0
-    ∙ ap (λ (f : List ℕ). placeOf f (constantsOf ((c .before .before .before .before .before .before .before .before .before .before .args) .first .now) ((c .before .before .before .before .before .before .before .before .before .before .args) .second .now) ((c .before .before .before .before .before .before .before .before .before .before .args) .cells .now) ((c .before .before .before .before .before .before .before .before .before .before .args) .n) ((c .before .before .before .before .before .before .before .before .before .before .args) .m)))
-    (sym (drop-take ((c .before .before .before .before .before .before .before .before .before .before .args) .start) ((c .before .before .before .before .before .before .before .before .before .before .args) .end) ((c .before .before .before .before .before .before .before .before .before .before .args) .second .now) ((c .before .before .before .before .before .before .before .before .before .before .pre) .1))) in
-    after-known ((c .before .before .before .before .before .before .before .before .before .before .args) .first .now) ((c .before .before .before .before .before .before .before .before .before .before .args) .second .now) ((c .before .before .before .before .before .before .before .before .before .before .args) .cells .now) ((c .before .before .before .before .before .before .before .before .before .before .args) .n) ((c .before .before .before .before .before .before .before .before .before .before .args) .m)
-    (drop ((c .before .before .before .before .before .before .before .before .before .before .args) .start) (take ((c .before .before .before .before .before .before .before .before .before .before .args) .end) ((c .before .before .before .before .before .before .before .before .before .before .args) .second .now))) ((c .before .before .before .before .before .before .before .before .before .before .pre) .5) ((c .before .find-constant) .result) named found ((c .if2) .taken)
+    let args′ = c .before .before .before .before .before .before .before .before .before .before .args in
+    let second′ = args′ .second .now in
+    let first′ = args′ .first .now in
+    let cells′ = args′ .cells .now in
+    let pre′ = c .before .before .before .before .before .before .before .before .before .before .pre in
+    let is-name′ = c .before .before .before .before .is-name in
+    let find-constant′ = c .before .find-constant in
+    let named : isName (drop (args′ .start) (take (args′ .end) second′)) ≡ true =
+    ap isName (drop-take (args′ .start) (args′ .end) second′ (pre′ .1))
+    ∙ sym (is-name′ .ensures) ∙ not-false (is-name′ .result) ((c .before .before .before .if1) .left) in
+    let found : find-constant′ .result ≡ placeOf (drop (args′ .start) (take (args′ .end) second′))
+    (constantsOf first′ second′ cells′ (args′ .n) (args′ .m)) =
+    find-constant′ .ensures .0
+    ∙ ap (λ (f : List ℕ). placeOf f (constantsOf first′ second′ cells′ (args′ .n) (args′ .m)))
+    (sym (drop-take (args′ .start) (args′ .end) second′ (pre′ .1))) in
+    after-known first′ second′ cells′ (args′ .n) (args′ .m)
+    (drop (args′ .start) (take (args′ .end) second′)) (pre′ .5) (find-constant′ .result) named found ((c .if2) .taken)
 
 same-length-2 : tie.Need-same-length-2
 same-length-2 c = search needs
@@ -67,17 +77,24 @@ same-length-2 c = search needs
 returns-3 : tie.Need-returns-3
 unfolding addedOf
 returns-3 c =
-    let named : isName (drop ((c .before .before .before .before .before .before .before .before .before .before .before .args) .start) (take ((c .before .before .before .before .before .before .before .before .before .before .before .args) .end) ((c .before .before .before .before .before .before .before .before .before .before .before .args) .second .now))) ≡ true =
-    ap isName (drop-take ((c .before .before .before .before .before .before .before .before .before .before .before .args) .start) ((c .before .before .before .before .before .before .before .before .before .before .before .args) .end) ((c .before .before .before .before .before .before .before .before .before .before .before .args) .second .now) ((c .before .before .before .before .before .before .before .before .before .before .before .pre) .1))
-    ∙ sym ((c .before .before .before .before .before .is-name) .ensures) ∙ not-false ((c .before .before .before .before .before .is-name) .result) ((c .before .before .before .before .if1) .left) in
-    let found : (c .before .before .find-constant) .result ≡ placeOf (drop ((c .before .before .before .before .before .before .before .before .before .before .before .args) .start) (take ((c .before .before .before .before .before .before .before .before .before .before .before .args) .end) ((c .before .before .before .before .before .before .before .before .before .before .before .args) .second .now)))
-    (constantsOf ((c .before .before .before .before .before .before .before .before .before .before .before .args) .first .now) ((c .before .before .before .before .before .before .before .before .before .before .before .args) .second .now) ((c .before .before .before .before .before .before .before .before .before .before .before .args) .cells .now) ((c .before .before .before .before .before .before .before .before .before .before .before .args) .n) ((c .before .before .before .before .before .before .before .before .before .before .before .args) .m)) =
-    (c .before .before .find-constant) .ensures .0
-    ∙ ap (λ (f : List ℕ). placeOf f (constantsOf ((c .before .before .before .before .before .before .before .before .before .before .before .args) .first .now) ((c .before .before .before .before .before .before .before .before .before .before .before .args) .second .now) ((c .before .before .before .before .before .before .before .before .before .before .before .args) .cells .now) ((c .before .before .before .before .before .before .before .before .before .before .before .args) .n) ((c .before .before .before .before .before .before .before .before .before .before .before .args) .m)))
-    (sym (drop-take ((c .before .before .before .before .before .before .before .before .before .before .before .args) .start) ((c .before .before .before .before .before .before .before .before .before .before .before .args) .end) ((c .before .before .before .before .before .before .before .before .before .before .before .args) .second .now) ((c .before .before .before .before .before .before .before .before .before .before .before .pre) .1))) in
-    after-full ((c .before .before .before .before .before .before .before .before .before .before .before .args) .first .now) ((c .before .before .before .before .before .before .before .before .before .before .before .args) .second .now) ((c .before .before .before .before .before .before .before .before .before .before .before .args) .cells .now) ((c .before .before .before .before .before .before .before .before .before .before .before .args) .n) ((c .before .before .before .before .before .before .before .before .before .before .before .args) .m)
-    (drop ((c .before .before .before .before .before .before .before .before .before .before .before .args) .start) (take ((c .before .before .before .before .before .before .before .before .before .before .before .args) .end) ((c .before .before .before .before .before .before .before .before .before .before .before .args) .second .now))) ((c .before .before .before .before .before .before .before .before .before .before .before .pre) .5) ((c .before .before .find-constant) .result) named found
-    ((c .before .if2) .left) ((c .before .before .find-constant) .ensures .1) ((c .if3) .taken)
+    let args′ = c .before .before .before .before .before .before .before .before .before .before .before .args in
+    let second′ = args′ .second .now in
+    let first′ = args′ .first .now in
+    let cells′ = args′ .cells .now in
+    let pre′ = c .before .before .before .before .before .before .before .before .before .before .before .pre in
+    let is-name′ = c .before .before .before .before .before .is-name in
+    let find-constant′ = c .before .before .find-constant in
+    let named : isName (drop (args′ .start) (take (args′ .end) second′)) ≡ true =
+    ap isName (drop-take (args′ .start) (args′ .end) second′ (pre′ .1))
+    ∙ sym (is-name′ .ensures) ∙ not-false (is-name′ .result) ((c .before .before .before .before .if1) .left) in
+    let found : find-constant′ .result ≡ placeOf (drop (args′ .start) (take (args′ .end) second′))
+    (constantsOf first′ second′ cells′ (args′ .n) (args′ .m)) =
+    find-constant′ .ensures .0
+    ∙ ap (λ (f : List ℕ). placeOf f (constantsOf first′ second′ cells′ (args′ .n) (args′ .m)))
+    (sym (drop-take (args′ .start) (args′ .end) second′ (pre′ .1))) in
+    after-full first′ second′ cells′ (args′ .n) (args′ .m)
+    (drop (args′ .start) (take (args′ .end) second′)) (pre′ .5) (find-constant′ .result) named found
+    ((c .before .if2) .left) (find-constant′ .ensures .1) ((c .if3) .taken)
 
 cast-cells : tie.Need-cast-cells
 cast-cells c = search needs
@@ -118,18 +135,26 @@ same-length-3 c = search needs
 returns-4 : tie.Need-returns-4
 unfolding addedOf part
 returns-4 c =
-    let named : isName (drop ((c .before .before .before .before .before .before .before .before .before .before .before .args) .start) (take ((c .before .before .before .before .before .before .before .before .before .before .before .args) .end) ((c .before .before .before .before .before .before .before .before .before .before .before .args) .second .now))) ≡ true =
-    ap isName (drop-take ((c .before .before .before .before .before .before .before .before .before .before .before .args) .start) ((c .before .before .before .before .before .before .before .before .before .before .before .args) .end) ((c .before .before .before .before .before .before .before .before .before .before .before .args) .second .now) ((c .before .before .before .before .before .before .before .before .before .before .before .pre) .1))
-    ∙ sym ((c .before .before .before .before .before .is-name) .ensures) ∙ not-false ((c .before .before .before .before .before .is-name) .result) ((c .before .before .before .before .if1) .left) in
-    let found : (c .before .before .find-constant) .result ≡ placeOf (drop ((c .before .before .before .before .before .before .before .before .before .before .before .args) .start) (take ((c .before .before .before .before .before .before .before .before .before .before .before .args) .end) ((c .before .before .before .before .before .before .before .before .before .before .before .args) .second .now)))
-    (constantsOf ((c .before .before .before .before .before .before .before .before .before .before .before .args) .first .now) ((c .before .before .before .before .before .before .before .before .before .before .before .args) .second .now) ((c .before .before .before .before .before .before .before .before .before .before .before .args) .cells .now) ((c .before .before .before .before .before .before .before .before .before .before .before .args) .n) ((c .before .before .before .before .before .before .before .before .before .before .before .args) .m)) =
-    (c .before .before .find-constant) .ensures .0
-    ∙ ap (λ (f : List ℕ). placeOf f (constantsOf ((c .before .before .before .before .before .before .before .before .before .before .before .args) .first .now) ((c .before .before .before .before .before .before .before .before .before .before .before .args) .second .now) ((c .before .before .before .before .before .before .before .before .before .before .before .args) .cells .now) ((c .before .before .before .before .before .before .before .before .before .before .before .args) .n) ((c .before .before .before .before .before .before .before .before .before .before .before .args) .m)))
-    (sym (drop-take ((c .before .before .before .before .before .before .before .before .before .before .before .args) .start) ((c .before .before .before .before .before .before .before .before .before .before .before .args) .end) ((c .before .before .before .before .before .before .before .before .before .before .before .args) .second .now) ((c .before .before .before .before .before .before .before .before .before .before .before .pre) .1))) in
-    rw (add-one ((c .before .before .before .before .before .before .before .before .before .before .before .args) .m)) (after-new ((c .before .before .before .before .before .before .before .before .before .before .before .args) .first .now) ((c .before .before .before .before .before .before .before .before .before .before .before .args) .second .now) ((c .before .before .before .before .before .before .before .before .before .before .before .args) .cells .now) ((c .before .before .before .before .before .before .before .before .before .before .before .args) .n) ((c .before .before .before .before .before .before .before .before .before .before .before .args) .m)
-    (drop ((c .before .before .before .before .before .before .before .before .before .before .before .args) .start) (take ((c .before .before .before .before .before .before .before .before .before .before .before .args) .end) ((c .before .before .before .before .before .before .before .before .before .before .before .args) .second .now))) ((c .before .before .before .before .before .before .before .before .before .before .before .pre) .5) ((c .before .before .find-constant) .result) ((c .before .before .before .before .before .before .before .before .before .before .before .args) .start) ((c .before .before .before .before .before .before .before .before .before .before .before .args) .end - (c .before .before .before .before .before .before .before .before .before .before .before .args) .start)
-    named found ((c .before .if2) .left) ((c .before .before .find-constant) .ensures .1) ((c .if3) .left) ((c .before .before .before .before .before .before .before .before .before .before .before .pre) .4)
-    (drop-take ((c .before .before .before .before .before .before .before .before .before .before .before .args) .start) ((c .before .before .before .before .before .before .before .before .before .before .before .args) .end) ((c .before .before .before .before .before .before .before .before .before .before .before .args) .second .now) ((c .before .before .before .before .before .before .before .before .before .before .before .pre) .1)))
+    let args′ = c .before .before .before .before .before .before .before .before .before .before .before .args in
+    let second′ = args′ .second .now in
+    let first′ = args′ .first .now in
+    let cells′ = args′ .cells .now in
+    let pre′ = c .before .before .before .before .before .before .before .before .before .before .before .pre in
+    let is-name′ = c .before .before .before .before .before .is-name in
+    let find-constant′ = c .before .before .find-constant in
+    let named : isName (drop (args′ .start) (take (args′ .end) second′)) ≡ true =
+    ap isName (drop-take (args′ .start) (args′ .end) second′ (pre′ .1))
+    ∙ sym (is-name′ .ensures) ∙ not-false (is-name′ .result) ((c .before .before .before .before .if1) .left) in
+    let found : find-constant′ .result ≡ placeOf (drop (args′ .start) (take (args′ .end) second′))
+    (constantsOf first′ second′ cells′ (args′ .n) (args′ .m)) =
+    find-constant′ .ensures .0
+    ∙ ap (λ (f : List ℕ). placeOf f (constantsOf first′ second′ cells′ (args′ .n) (args′ .m)))
+    (sym (drop-take (args′ .start) (args′ .end) second′ (pre′ .1))) in
+    rw (add-one (args′ .m)) (after-new first′ second′ cells′ (args′ .n) (args′ .m)
+    (drop (args′ .start) (take (args′ .end) second′)) (pre′ .5) (find-constant′ .result) (args′ .start)
+    (args′ .end - args′ .start)
+    named found ((c .before .if2) .left) (find-constant′ .ensures .1) ((c .if3) .left) (pre′ .4)
+    (drop-take (args′ .start) (args′ .end) second′ (pre′ .1)))
 
 pub add-constant-spec : {M : Type 1} → statement M
 add-constant-spec =

@@ -2,9 +2,9 @@
 -- Assumes nothing.
 use borrow.Author.Needs.{needs}
 use mathlib.Core.Path.{_≡_, refl, sym, ap, _∙_}
-use mathlib.Core.List.{List, [], _∷_}
-use mathlib.Core.Option.{Option, none, some}
-use Prim.Native.Nat.{ℕ, suc, _≤_, _<_, _+_, _-_}
+use mathlib.Core.List.{List}
+use mathlib.Core.Option.{some}
+use Prim.Native.Nat.{ℕ, suc, _≤_, _+_, _-_}
 use native.Mathlib.Numerals.{add-one}
 use native.Mathlib.Omega.{arith}
 use lib.ListN.{length, take, drop}
@@ -15,7 +15,7 @@ use Rattle.syntax.specs.Forms.{constantsAfter}
 use Rattle.syntax.specs.Tables.{constantsOf}
 use Rattle.lines.specs.Read.{addedOf, roomy}
 use Rattle.syntax.proofs.Tabled.{constants-length}
-use Rattle.lines.proofs.Constants.{added-step, added-full, added-end, roomy-is}
+use Rattle.lines.proofs.Constants.{added-step, added-full, added-end, added-fits}
 use Rattle.lines.proofs.Cells.{line-field}
 use Rattle.lines.proofs.terms.add_constants.Statement.{statement}
 use Rattle.lines.proofs.terms.add_constants.Tie as tie
@@ -30,72 +30,115 @@ abbrev μ-loop : tie.MeasureT-loop
 μ-loop classes first second at end cells₀ n m line count₀ start₀ cells count start = suc end - start
 
 slice-aggregate-line : tie.Need-slice-aggregate-line Inv-loop μ-loop
-slice-aggregate-line c = sym (length-take-le ((c .before .before .before .before .before .args) .end) ((c .before .before .before .before .before .args) .second .now) ((c .before .before .before .before .before .pre) .2))
+slice-aggregate-line c =
+    let args′ = c .before .before .before .before .before .args in
+    let pre′ = c .before .before .before .before .before .pre in
+    sym (length-take-le (args′ .end) (args′ .second .now) (pre′ .2))
 
 loop-holds : tie.Need-loop-holds Inv-loop μ-loop
 loop-holds c = ((c .before .before .before .before .before .pre) .4, omega arith, omega arith, refl)
 
 field-end-requires : tie.Need-field-end-requires Inv-loop μ-loop
-field-end-requires c κs = omega (arith, length-take-le ((c .before .before .before .before .before .before .before .args) .end) ((c .before .before .before .before .before .before .before .args) .second .now) ((c .before .before .before .before .before .before .before .pre) .2))
+field-end-requires c κs =
+    let args′ = c .before .before .before .before .before .before .before .args in
+    let pre′ = c .before .before .before .before .before .before .before .pre in
+    omega (arith, length-take-le (args′ .end) (args′ .second .now) (pre′ .2))
 
 add-constant-requires : tie.Need-add-constant-requires Inv-loop μ-loop
 add-constant-requires c κs =
-    let sized : length (take ((c .before .before .before .before .before .before .before .before .before .args) .end) ((c .before .before .before .before .before .before .before .before .before .args) .second .now)) ≡ (c .before .before .before .before .before .before .before .before .before .args) .end = length-take-le ((c .before .before .before .before .before .before .before .before .before .args) .end) ((c .before .before .before .before .before .before .before .before .before .args) .second .now) ((c .before .before .before .before .before .before .before .before .before .pre) .2) in
-    ((c .before .before .before .before .before .before .before .before .before .pre) .0, (c .before .field-end) .ensures .1, omega (arith, (c .before .field-end) .ensures .2), (c .before .before .before .before .before .before .before .before .before .pre) .3, (c .before .before .before .loop) .inv .0, (c .before .before .before .loop) .inv .1)
+    let args′ = c .before .before .before .before .before .before .before .before .before .args in
+    let second′ = args′ .second .now in
+    let pre′ = c .before .before .before .before .before .before .before .before .before .pre in
+    let loop′ = c .before .before .before .loop in
+    let field-end′ = c .before .field-end in
+    let sized : length (take (args′ .end) second′) ≡ args′ .end =
+    length-take-le (args′ .end) second′ (pre′ .2) in
+    (pre′ .0, field-end′ .ensures .1, omega (arith, field-end′ .ensures .2), pre′ .3, loop′ .inv .0, loop′ .inv .1)
 
 enum-told : tie.Need-enum-told Inv-loop μ-loop
 enum-told c = search needs
 
 same-length : tie.Need-same-length Inv-loop μ-loop
-same-length c = (c .before .before .before .before .add-constant) .kept .1 .1 .1 .1 .1 .0 ∙ (c .before .before .before .before .before .before .before .before .loop) .inv .0 ∙ sym ((c .before .before .before .before .before .before .before .before .before .before .before .before .before .before .pre) .4)
+same-length c =
+    let pre′ = c .before .before .before .before .before .before .before .before .before .before .before .before .before .before
+    .pre in
+    let loop′ = c .before .before .before .before .before .before .before .before .loop in
+    (c .before .before .before .before .add-constant) .kept .1 .1 .1 .1 .1 .0 ∙ loop′ .inv .0 ∙ sym (pre′ .4)
 
 returns : tie.Need-returns Inv-loop μ-loop
 unfolding addedOf
 returns c =
-    let sized : length (take ((c .before .before .before .before .before .before .before .before .before .before .before .before .before .before .args) .end) ((c .before .before .before .before .before .before .before .before .before .before .before .before .before .before .args) .second .now)) ≡ (c .before .before .before .before .before .before .before .before .before .before .before .before .before .before .args) .end = length-take-le ((c .before .before .before .before .before .before .before .before .before .before .before .before .before .before .args) .end) ((c .before .before .before .before .before .before .before .before .before .before .before .before .before .before .args) .second .now) ((c .before .before .before .before .before .before .before .before .before .before .before .before .before .before .pre) .2) in
-    added-full (drop ((c .before .before .before .before .before .before .before .before .loop) .start) (take ((c .before .before .before .before .before .before .field-end) .result) ((c .before .before .before .before .before .before .before .before .before .before .before .before .before .before .args) .second .now))) (fieldsFrom (take ((c .before .before .before .before .before .before .before .before .before .before .before .before .before .before .args) .end) ((c .before .before .before .before .before .before .before .before .before .before .before .before .before .before .args) .second .now)) ((c .before .before .before .before .before .before .before .before .loop) .start))
-    (fieldsFrom (take ((c .before .before .before .before .before .before .before .before .before .before .before .before .before .before .args) .end) ((c .before .before .before .before .before .before .before .before .before .before .before .before .before .before .args) .second .now)) (suc ((c .before .before .before .before .before .before .field-end) .result)))
-    (constantsOf ((c .before .before .before .before .before .before .before .before .before .before .before .before .before .before .args) .first .now) ((c .before .before .before .before .before .before .before .before .before .before .before .before .before .before .args) .second .now) ((c .before .before .before .before .before .before .before .before .loop) .cells) ((c .before .before .before .before .before .before .before .before .before .before .before .before .before .before .args) .n) ((c .before .before .before .before .before .before .before .before .loop) .count))
-    (line-field ((c .before .before .before .before .before .before .before .before .before .before .before .before .before .before .args) .second .now) ((c .before .before .before .before .before .before .before .before .loop) .start) ((c .before .before .before .before .before .before .field-end) .result) ((c .before .before .before .before .before .before .before .before .before .before .before .before .before .before .args) .end) ((c .before .before .before .before .before .before .before .loop-test) .taken) ((c .before .before .before .before .before .before .before .before .before .before .before .before .before .before .pre) .2)
-    ((c .before .before .before .before .before .before .field-end) .ensures .0) ((c .before .before .before .before .before .before .field-end) .ensures .2))
-    (ap (addedOf ((c .before .before .before .before .before .before .before .before .before .before .before .before .before .before .args) .first .now) ((c .before .before .before .before .before .before .before .before .before .before .before .before .before .before .args) .second .now) ((c .before .before .before .before .add-constant) .last .1 .1 .1 .1 .1 .0) ((c .before .before .before .before .before .before .before .before .before .before .before .before .before .before .args) .n)) (sym ((c .enum-told) .given .1))
-    ∙ (c .before .before .before .before .add-constant) .ensures)
-    ∙ (c .before .before .before .before .before .before .before .before .loop) .inv .3
+    let args′ = c .before .before .before .before .before .before .before .before .before .before .before .before .before .before
+    .args in
+    let second′ = args′ .second .now in
+    let first′ = args′ .first .now in
+    let pre′ = c .before .before .before .before .before .before .before .before .before .before .before .before .before .before
+    .pre in
+    let loop′ = c .before .before .before .before .before .before .before .before .loop in
+    let loop-test′ = c .before .before .before .before .before .before .before .loop-test in
+    let field-end′ = c .before .before .before .before .before .before .field-end in
+    let add-constant′ = c .before .before .before .before .add-constant in
+    added-full (drop (loop′ .start) (take (field-end′ .result) second′)) (fieldsFrom (take (args′ .end) second′) (loop′ .start))
+    (fieldsFrom (take (args′ .end) second′) (suc (field-end′ .result)))
+    (constantsOf first′ second′ (loop′ .cells) (args′ .n) (loop′ .count))
+    (line-field second′ (loop′ .start) (field-end′ .result) (args′ .end) (loop-test′ .taken) (pre′ .2)
+    (field-end′ .ensures .0) (field-end′ .ensures .2))
+    (ap (addedOf first′ second′ (add-constant′ .last .1 .1 .1 .1 .1 .0) (args′ .n)) (sym ((c .enum-told) .given .1))
+    ∙ add-constant′ .ensures)
+    ∙ loop′ .inv .3
 
 enum-known-k : tie.Need-enum-known-k Inv-loop μ-loop
 enum-known-k c = search needs
 
 add-start : tie.Need-add-start Inv-loop μ-loop
 add-start c =
-    let sized : length (take ((c .before .before .before .before .before .before .before .before .before .before .before .before .before .before .before .args) .end) ((c .before .before .before .before .before .before .before .before .before .before .before .before .before .before .before .args) .second .now)) ≡ (c .before .before .before .before .before .before .before .before .before .before .before .before .before .before .before .args) .end = length-take-le ((c .before .before .before .before .before .before .before .before .before .before .before .before .before .before .before .args) .end) ((c .before .before .before .before .before .before .before .before .before .before .before .before .before .before .before .args) .second .now) ((c .before .before .before .before .before .before .before .before .before .before .before .before .before .before .before .pre) .2) in
-    record { fits = omega (arith, (c .before .before .before .before .before .before .before .field-end) .ensures .2, (c .before .before .before .before .before .before .before .before .before .before .before .before .before .before .before .pre) .2, (c .before .before .before .before .before .before .before .before .before .before .before .before .before .before .before .pre) .3) }
+    let args′ = c .before .before .before .before .before .before .before .before .before .before .before .before .before .before
+    .before .args in
+    let second′ = args′ .second .now in
+    let pre′ = c .before .before .before .before .before .before .before .before .before .before .before .before .before .before
+    .before .pre in
+    let field-end′ = c .before .before .before .before .before .before .before .field-end in
+    let sized : length (take (args′ .end) second′) ≡ args′ .end =
+    length-take-le (args′ .end) second′ (pre′ .2) in
+    record { fits = omega (arith, field-end′ .ensures .2, pre′ .2, pre′ .3) }
 
 loop-less : tie.Need-loop-less Inv-loop μ-loop
 loop-less c =
-    let sized : length (take ((c .before .before .before .before .before .before .before .before .before .before .before .before .before .before .before .args) .end) ((c .before .before .before .before .before .before .before .before .before .before .before .before .before .before .before .args) .second .now)) ≡ (c .before .before .before .before .before .before .before .before .before .before .before .before .before .before .before .args) .end = length-take-le ((c .before .before .before .before .before .before .before .before .before .before .before .before .before .before .before .args) .end) ((c .before .before .before .before .before .before .before .before .before .before .before .before .before .before .before .args) .second .now) ((c .before .before .before .before .before .before .before .before .before .before .before .before .before .before .before .pre) .2) in
-    omega (arith, (c .before .before .before .before .before .before .before .field-end) .ensures .1, (c .before .before .before .before .before .before .before .field-end) .ensures .2, (c .before .before .before .before .before .before .before .before .loop-test) .taken)
+    let loop-test′ = c .before .before .before .before .before .before .before .before .loop-test in
+    let field-end′ = c .before .before .before .before .before .before .before .field-end in
+    omega (arith, field-end′ .ensures .1, field-end′ .ensures .2, loop-test′ .taken)
 
 loop-again : tie.Need-loop-again Inv-loop μ-loop
 unfolding addedOf
 loop-again c =
-    let sized : length (take ((c .before .before .before .before .before .before .before .before .before .before .before .before .before .before .before .args) .end) ((c .before .before .before .before .before .before .before .before .before .before .before .before .before .before .before .args) .second .now)) ≡ (c .before .before .before .before .before .before .before .before .before .before .before .before .before .before .before .args) .end = length-take-le ((c .before .before .before .before .before .before .before .before .before .before .before .before .before .before .before .args) .end) ((c .before .before .before .before .before .before .before .before .before .before .before .before .before .before .before .args) .second .now) ((c .before .before .before .before .before .before .before .before .before .before .before .before .before .before .before .pre) .2) in
-    let cells : List ℕ = (c .before .before .before .before .before .add-constant) .last .1 .1 .1 .1 .1 .0 in
-    let known : some (constantsOf ((c .before .before .before .before .before .before .before .before .before .before .before .before .before .before .before .args) .first .now) ((c .before .before .before .before .before .before .before .before .before .before .before .before .before .before .before .args) .second .now) cells ((c .before .before .before .before .before .before .before .before .before .before .before .before .before .before .before .args) .n) ((c .before .k) .given .0 .0)) ≡ _ =
-    ap (addedOf ((c .before .before .before .before .before .before .before .before .before .before .before .before .before .before .before .args) .first .now) ((c .before .before .before .before .before .before .before .before .before .before .before .before .before .before .before .args) .second .now) cells ((c .before .before .before .before .before .before .before .before .before .before .before .before .before .before .before .args) .n)) (sym ((c .before .k) .given .1)) ∙ (c .before .before .before .before .before .add-constant) .ensures in (
-      (c .before .before .before .before .before .add-constant) .kept .1 .1 .1 .1 .1 .0 ∙ (c .before .before .before .before .before .before .before .before .before .loop) .inv .0,
+    let args′ = c .before .before .before .before .before .before .before .before .before .before .before .before .before .before
+    .before .args in
+    let second′ = args′ .second .now in
+    let first′ = args′ .first .now in
+    let pre′ = c .before .before .before .before .before .before .before .before .before .before .before .before .before .before
+    .before .pre in
+    let loop′ = c .before .before .before .before .before .before .before .before .before .loop in
+    let loop-test′ = c .before .before .before .before .before .before .before .before .loop-test in
+    let field-end′ = c .before .before .before .before .before .before .before .field-end in
+    let add-constant′ = c .before .before .before .before .before .add-constant in
+    let k′ = c .before .k in
+    let sized : length (take (args′ .end) second′) ≡ args′ .end = length-take-le (args′ .end) second′ (pre′ .2) in
+    let cells : List ℕ = add-constant′ .last .1 .1 .1 .1 .1 .0 in
+    let known : some (constantsOf first′ second′ cells (args′ .n) (k′ .given .0 .0)) ≡ _ =
+    ap (addedOf first′ second′ cells (args′ .n)) (sym (k′ .given .1)) ∙ add-constant′ .ensures in (
+      add-constant′ .kept .1 .1 .1 .1 .1 .0 ∙ loop′ .inv .0,
       omega (
         arith,
-        roomy-is _ _ known .1,
-        ap (λ (l : List (List ℕ)). length l) (roomy-is _ _ known .0),
-        constants-length ((c .before .before .before .before .before .before .before .before .before .before .before .before .before .before .before .args) .first .now) ((c .before .before .before .before .before .before .before .before .before .before .before .before .before .before .before .args) .second .now) cells ((c .before .before .before .before .before .before .before .before .before .before .before .before .before .before .before .args) .n) ((c .before .k) .given .0 .0),
+        added-fits first′ second′ cells (args′ .n) (k′ .given .0 .0) _ known,
       ),
-      omega (arith, (c .before .before .before .before .before .before .before .field-end) .ensures .2),
-      rw (add-one ((c .before .before .before .before .before .before .before .field-end) .result))
-          (sym (added-step (drop ((c .before .before .before .before .before .before .before .before .before .loop) .start) (take ((c .before .before .before .before .before .before .before .field-end) .result) ((c .before .before .before .before .before .before .before .before .before .before .before .before .before .before .before .args) .second .now))) (fieldsFrom (take ((c .before .before .before .before .before .before .before .before .before .before .before .before .before .before .before .args) .end) ((c .before .before .before .before .before .before .before .before .before .before .before .before .before .before .before .args) .second .now)) ((c .before .before .before .before .before .before .before .before .before .loop) .start))
-          (fieldsFrom (take ((c .before .before .before .before .before .before .before .before .before .before .before .before .before .before .before .args) .end) ((c .before .before .before .before .before .before .before .before .before .before .before .before .before .before .before .args) .second .now)) (suc ((c .before .before .before .before .before .before .before .field-end) .result)))
-          (constantsOf ((c .before .before .before .before .before .before .before .before .before .before .before .before .before .before .before .args) .first .now) ((c .before .before .before .before .before .before .before .before .before .before .before .before .before .before .before .args) .second .now) ((c .before .before .before .before .before .before .before .before .before .loop) .cells) ((c .before .before .before .before .before .before .before .before .before .before .before .before .before .before .before .args) .n) ((c .before .before .before .before .before .before .before .before .before .loop) .count))
-          (line-field ((c .before .before .before .before .before .before .before .before .before .before .before .before .before .before .before .args) .second .now) ((c .before .before .before .before .before .before .before .before .before .loop) .start) ((c .before .before .before .before .before .before .before .field-end) .result) ((c .before .before .before .before .before .before .before .before .before .before .before .before .before .before .before .args) .end) ((c .before .before .before .before .before .before .before .before .loop-test) .taken) ((c .before .before .before .before .before .before .before .before .before .before .before .before .before .before .before .pre) .2)
-          ((c .before .before .before .before .before .before .before .field-end) .ensures .0) ((c .before .before .before .before .before .before .before .field-end) .ensures .2)) _ known) ∙ (c .before .before .before .before .before .before .before .before .before .loop) .inv .3),
+      omega (arith, field-end′ .ensures .2),
+      rw (add-one (field-end′ .result))
+          (sym (added-step (drop (loop′ .start) (take (field-end′ .result) second′))
+          (fieldsFrom (take (args′ .end) second′) (loop′ .start))
+          (fieldsFrom (take (args′ .end) second′) (suc (field-end′ .result)))
+          (constantsOf first′ second′ (loop′ .cells) (args′ .n) (loop′ .count))
+          (line-field second′ (loop′ .start) (field-end′ .result) (args′ .end) (loop-test′ .taken) (pre′ .2)
+          (field-end′ .ensures .0) (field-end′ .ensures .2)) _ known) ∙ loop′ .inv .3),
     )
 
 same-length-2 : tie.Need-same-length-2 Inv-loop μ-loop
@@ -104,12 +147,17 @@ same-length-2 c = (c .before .loop) .inv .0 ∙ sym ((c .before .before .before 
 returns-2 : tie.Need-returns-2 Inv-loop μ-loop
 unfolding addedOf
 returns-2 c =
-    let sized : length (take ((c .before .before .before .before .before .before .before .args) .end) ((c .before .before .before .before .before .before .before .args) .second .now)) ≡ (c .before .before .before .before .before .before .before .args) .end = length-take-le ((c .before .before .before .before .before .before .before .args) .end) ((c .before .before .before .before .before .before .before .args) .second .now) ((c .before .before .before .before .before .before .before .pre) .2) in
-    added-end (fieldsFrom (take ((c .before .before .before .before .before .before .before .args) .end) ((c .before .before .before .before .before .before .before .args) .second .now)) ((c .before .loop) .start))
-    (constantsOf ((c .before .before .before .before .before .before .before .args) .first .now) ((c .before .before .before .before .before .before .before .args) .second .now) ((c .before .loop) .cells) ((c .before .before .before .before .before .before .before .args) .n) ((c .before .loop) .count))
-    (fields-out (take ((c .before .before .before .before .before .before .before .args) .end) ((c .before .before .before .before .before .before .before .args) .second .now)) ((c .before .loop) .start) (omega (arith, (c .loop-test) .left)))
-    (omega (arith, constants-length ((c .before .before .before .before .before .before .before .args) .first .now) ((c .before .before .before .before .before .before .before .args) .second .now) ((c .before .loop) .cells) ((c .before .before .before .before .before .before .before .args) .n) ((c .before .loop) .count)))
-    ∙ (c .before .loop) .inv .3
+    let args′ = c .before .before .before .before .before .before .before .args in
+    let first′ = args′ .first .now in
+    let second′ = args′ .second .now in
+    let pre′ = c .before .before .before .before .before .before .before .pre in
+    let loop′ = c .before .loop in
+    let sized : length (take (args′ .end) second′) ≡ args′ .end = length-take-le (args′ .end) second′ (pre′ .2) in
+    added-end (fieldsFrom (take (args′ .end) second′) (loop′ .start))
+    (constantsOf first′ second′ (loop′ .cells) (args′ .n) (loop′ .count))
+    (fields-out (take (args′ .end) second′) (loop′ .start) (omega (arith, (c .loop-test) .left)))
+    (omega (arith, constants-length first′ second′ (loop′ .cells) (args′ .n) (loop′ .count)))
+    ∙ loop′ .inv .3
 
 pub add-constants-spec : {M : Type 1} → statement M
 add-constants-spec =

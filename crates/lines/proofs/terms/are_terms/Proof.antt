@@ -1,12 +1,11 @@
 -- `lines::terms::are_terms` meets its contract: the fields passed are terms, so the rest decides. Assumes nothing.
 use borrow.Author.Needs.{needs}
 use mathlib.Core.Path.{_≡_, refl, sym, ap, _∙_}
-use mathlib.Core.List.{List, [], _∷_}
-use Prim.Native.Nat.{ℕ, suc, _≤_, _<_, _+_, _-_}
+use Prim.Native.Nat.{suc, _≤_, _+_, _-_}
 use native.Mathlib.Numerals.{add-one}
 use native.Mathlib.Omega.{arith}
 use borrow.Author.Tests.{not-true, not-false}
-use lib.ListN.{length, take, drop}
+use lib.ListN.{length}
 use Rattle.text.specs.Lists.{every}
 use Rattle.text.specs.Fields.{isTerm}
 use Rattle.text.specs.Places.{fieldsFrom}
@@ -16,7 +15,8 @@ use Rattle.lines.proofs.terms.are_terms.Statement.{statement}
 use Rattle.lines.proofs.terms.are_terms.Tie as tie
 
 abbrev Inv-loop : tie.InvT-loop
-Inv-loop classes line at start₀ start = (start ≤ length line + 1) × (every isTerm (fieldsFrom line start) ≡ every isTerm (fieldsFrom line at))
+Inv-loop classes line at start₀ start =
+    (start ≤ length line + 1) × (every isTerm (fieldsFrom line start) ≡ every isTerm (fieldsFrom line at))
 
 abbrev μ-loop : tie.MeasureT-loop
 μ-loop classes line at start₀ start = suc (length line) - start
@@ -41,9 +41,15 @@ is-term-requires c κs = search needs
 
 returns : tie.Need-returns Inv-loop μ-loop
 returns c =
-    sym (terms-fail _ (fieldsFrom ((c .before .before .before .before .before .before .before .before .args) .line .now) ((c .before .before .before .before .before .loop) .start)) _
-    (field-cut ((c .before .before .before .before .before .before .before .before .args) .line .now) ((c .before .before .before .before .before .loop) .start) ((c .before .before .before .field-end) .result) ((c .before .before .before .before .loop-test) .taken) ((c .before .before .before .field-end) .ensures .0))
-    (sym ((c .before .is-term) .ensures) ∙ not-true ((c .before .is-term) .result) ((c .if1) .taken))) ∙ (c .before .before .before .before .before .loop) .inv .1
+    let args′ = c .before .before .before .before .before .before .before .before .args in
+    let line′ = args′ .line .now in
+    let loop′ = c .before .before .before .before .before .loop in
+    let field-end′ = c .before .before .before .field-end in
+    let is-term′ = c .before .is-term in
+    sym (terms-fail _ (fieldsFrom line′ (loop′ .start)) _
+    (field-cut line′ (loop′ .start) (field-end′ .result) ((c .before .before .before .before .loop-test) .taken)
+    (field-end′ .ensures .0))
+    (sym (is-term′ .ensures) ∙ not-true (is-term′ .result) ((c .if1) .taken))) ∙ loop′ .inv .1
 
 add-start : tie.Need-add-start Inv-loop μ-loop
 add-start c = search needs
@@ -52,16 +58,24 @@ loop-less : tie.Need-loop-less Inv-loop μ-loop
 loop-less c = search needs
 
 loop-again : tie.Need-loop-again Inv-loop μ-loop
-loop-again c = (
-  omega arith,
-  rw add-one (sym (terms-step _ (fieldsFrom ((c .before .before .before .before .before .before .before .before .args) .line .now) ((c .before .before .before .before .before .loop) .start)) _
-      (field-cut ((c .before .before .before .before .before .before .before .before .args) .line .now) ((c .before .before .before .before .before .loop) .start) ((c .before .before .before .field-end) .result) ((c .before .before .before .before .loop-test) .taken) ((c .before .before .before .field-end) .ensures .0))
-      (sym ((c .before .is-term) .ensures) ∙ not-false ((c .before .is-term) .result) ((c .if1) .left))) ∙ (c .before .before .before .before .before .loop) .inv .1),
-)
+loop-again c =
+    let args′ = c .before .before .before .before .before .before .before .before .args in
+    let line′ = args′ .line .now in
+    let loop′ = c .before .before .before .before .before .loop in
+    let field-end′ = c .before .before .before .field-end in
+    let is-term′ = c .before .is-term in (
+      omega arith,
+      rw add-one (sym (terms-step _ (fieldsFrom line′ (loop′ .start)) _
+          (field-cut line′ (loop′ .start) (field-end′ .result)
+          ((c .before .before .before .before .loop-test) .taken) (field-end′ .ensures .0))
+          (sym (is-term′ .ensures) ∙ not-false (is-term′ .result) ((c .if1) .left))) ∙ loop′ .inv .1),
+    )
 
 returns-2 : tie.Need-returns-2 Inv-loop μ-loop
 returns-2 c =
-    sym (ap (every isTerm) (fields-out ((c .before .before .before .before .args) .line .now) ((c .before .loop) .start) ((c .loop-test) .left))) ∙ (c .before .loop) .inv .1
+    let loop′ = c .before .loop in
+    sym (ap (every isTerm) (fields-out ((c .before .before .before .before .args) .line .now) (loop′ .start)
+    ((c .loop-test) .left))) ∙ loop′ .inv .1
 
 pub are-terms-spec : {M : Type 1} → statement M
 are-terms-spec =

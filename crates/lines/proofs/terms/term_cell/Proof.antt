@@ -1,14 +1,13 @@
 -- `lines::terms::term_cell` meets its contract: a name is a constant's, and a letter a variable's. Assumes nothing.
 use borrow.Author.Needs.{needs}
-use mathlib.Core.Path.{_≡_, refl, sym, ap, _∙_}
-use mathlib.Core.List.{List, [], _∷_}
-use Prim.Native.Nat.{ℕ, _≤_, _<_, _+_}
+use mathlib.Core.Path.{_≡_, sym, ap, _∙_}
+use mathlib.Core.List.{List}
+use Prim.Native.Nat.{ℕ}
 use native.Mathlib.Omega.{arith}
-use lib.ListN.{length, getD}
+use lib.ListN.{length}
 use Rattle.text.specs.Lists.{placeOf}
 use Rattle.syntax.specs.Tables.{lettersOf, constantsOf}
 use Rattle.lines.proofs.Cells.{cell-constant, cell-variable, letter-one, one-list}
-use borrow.Author.Needs.{needs}
 use Rattle.lines.proofs.terms.term_cell.Statement.{statement}
 use Rattle.lines.proofs.terms.term_cell.Tie as tie
 
@@ -25,16 +24,22 @@ add-result : tie.Need-add-result
 add-result c = search needs
 
 returns : tie.Need-returns
-returns c = (
-  cell-constant (λ g. placeOf g (lettersOf ((c .before .before .before .before .before .before .before .before .before .args) .letters .now) ((c .before .before .before .before .before .before .before .before .before .args) .v)))
-      (constantsOf ((c .before .before .before .before .before .before .before .before .before .args) .first .now) ((c .before .before .before .before .before .before .before .before .before .args) .second .now) ((c .before .before .before .before .before .before .before .before .before .args) .cells .now) ((c .before .before .before .before .before .before .before .before .before .args) .n) ((c .before .before .before .before .before .before .before .before .before .args) .m)) ((c .before .before .before .before .before .before .before .before .before .args) .f .now) ((c .find-constant) .result)
-      (sym ((c .before .before .is-name) .ensures) ∙ (c .before .if1) .taken) ((c .find-constant) .ensures .0) (omega (arith, (c .find-constant) .ensures .1)),
-  omega arith,
-)
+returns c =
+    let args′ = c .before .before .before .before .before .before .before .before .before .args in
+    let find-constant′ = c .find-constant in (
+      cell-constant (λ g. placeOf g (lettersOf (args′ .letters .now) (args′ .v)))
+          (constantsOf (args′ .first .now) (args′ .second .now) (args′ .cells .now) (args′ .n) (args′ .m)) (args′ .f .now)
+          (find-constant′ .result)
+          (sym ((c .before .before .is-name) .ensures) ∙ (c .before .if1) .taken) (find-constant′ .ensures .0)
+          (omega (arith, find-constant′ .ensures .1)),
+      omega arith,
+    )
 
 shared-slice-read-find-letter : tie.Need-shared-slice-read-find-letter
 shared-slice-read-find-letter c =
-    omega (arith, letter-one ((c .before .before .before .before .before .before .before .before .before .args) .f .now) (sym ((c .before .before .is-name) .ensures) ∙ (c .before .if1) .left) ((c .before .before .before .before .before .before .before .before .before .pre) .5))
+    let args′ = c .before .before .before .before .before .before .before .before .before .args in
+    let pre′ = c .before .before .before .before .before .before .before .before .before .pre in
+    omega (arith, letter-one (args′ .f .now) (sym ((c .before .before .is-name) .ensures) ∙ (c .before .if1) .left) (pre′ .5))
 
 find-letter-requires : tie.Need-find-letter-requires
 find-letter-requires c κs = search needs
@@ -47,11 +52,19 @@ add-result-2 c = search needs
 
 returns-2 : tie.Need-returns-2
 returns-2 c =
-    let one : length ((c .before .before .before .before .before .before .before .before .before .before .args) .f .now) ≡ 1 = letter-one ((c .before .before .before .before .before .before .before .before .before .before .args) .f .now) (sym ((c .before .before .before .is-name) .ensures) ∙ (c .before .before .if1) .left) ((c .before .before .before .before .before .before .before .before .before .before .pre) .5) in (
-      cell-variable (λ g. placeOf g (lettersOf ((c .before .before .before .before .before .before .before .before .before .before .args) .letters .now) ((c .before .before .before .before .before .before .before .before .before .before .args) .v)))
-          (constantsOf ((c .before .before .before .before .before .before .before .before .before .before .args) .first .now) ((c .before .before .before .before .before .before .before .before .before .before .args) .second .now) ((c .before .before .before .before .before .before .before .before .before .before .args) .cells .now) ((c .before .before .before .before .before .before .before .before .before .before .args) .n) ((c .before .before .before .before .before .before .before .before .before .before .args) .m)) ((c .before .before .before .before .before .before .before .before .before .before .args) .f .now) ((c .find-letter) .result)
-          (sym ((c .before .before .before .is-name) .ensures) ∙ (c .before .before .if1) .left)
-          ((c .find-letter) .ensures .0 ∙ ap (λ (g : List ℕ). placeOf g (lettersOf ((c .before .before .before .before .before .before .before .before .before .before .args) .letters .now) ((c .before .before .before .before .before .before .before .before .before .before .args) .v))) (sym (one-list ((c .before .before .before .before .before .before .before .before .before .before .args) .f .now) one))),
+    let args′ = c .before .before .before .before .before .before .before .before .before .before .args in
+    let f′ = args′ .f .now in
+    let letters′ = args′ .letters .now in
+    let pre′ = c .before .before .before .before .before .before .before .before .before .before .pre in
+    let is-name′ = c .before .before .before .is-name in
+    let if1′ = c .before .before .if1 in
+    let find-letter′ = c .find-letter in
+    let one : length f′ ≡ 1 = letter-one f′ (sym (is-name′ .ensures) ∙ if1′ .left) (pre′ .5) in (
+      cell-variable (λ g. placeOf g (lettersOf letters′ (args′ .v)))
+          (constantsOf (args′ .first .now) (args′ .second .now) (args′ .cells .now) (args′ .n) (args′ .m)) f′
+          (find-letter′ .result)
+          (sym (is-name′ .ensures) ∙ if1′ .left)
+          (find-letter′ .ensures .0 ∙ ap (λ (g : List ℕ). placeOf g (lettersOf letters′ (args′ .v))) (sym (one-list f′ one))),
       omega arith,
     )
 

@@ -1,13 +1,13 @@
 -- `lines::terms::terms_of` meets its contract: the first cells hold the terms of the fields passed, and 0 stands behind them.
 -- Assumes nothing.
 use borrow.Author.Needs.{needs}
-use mathlib.Core.Path.{_≡_, refl, sym, ap, _∙_}
+use mathlib.Core.Path.{_≡_, sym, ap}
 use mathlib.Core.Bool.{true}
-use mathlib.Core.List.{List, [], _∷_, map}
-use Prim.Native.Nat.{ℕ, suc, _≤_, _<_, _+_, _-_}
+use mathlib.Core.List.{List, map}
+use Prim.Native.Nat.{ℕ, suc, _≤_, _+_, _-_}
 use native.Mathlib.Numerals.{add-one}
 use native.Mathlib.Omega.{arith}
-use lib.ListN.{length, take, drop}
+use lib.ListN.{length, take}
 use lib.Seq.{length-take-le}
 use Rattle.text.specs.Lists.{every, placeOf}
 use Rattle.text.specs.Fields.{isTerm}
@@ -33,18 +33,27 @@ abbrev μ-loop : tie.MeasureT-loop
 μ-loop classes first second at end cells n m letters v line r₀ j₀ start₀ r j start = suc end - start
 
 slice-aggregate-line : tie.Need-slice-aggregate-line Inv-loop μ-loop
-slice-aggregate-line c = sym (length-take-le ((c .before .before .before .before .before .before .args) .end) ((c .before .before .before .before .before .before .args) .second .now) ((c .before .before .before .before .before .before .pre) .6))
+slice-aggregate-line c =
+    let args′ = c .before .before .before .before .before .before .args in
+    let pre′ = c .before .before .before .before .before .before .pre in
+    sym (length-take-le (args′ .end) (args′ .second .now) (pre′ .6))
 
 loop-holds : tie.Need-loop-holds Inv-loop μ-loop
-loop-holds c = (
-  omega arith,
-  (c .before .before .before .before .before .before .pre) .8,
-  filled-start (termFor ((c .before .before .before .before .before .before .args) .first .now) ((c .before .before .before .before .before .before .args) .second .now) ((c .before .before .before .before .before .before .args) .cells .now) ((c .before .before .before .before .before .before .args) .n) ((c .before .before .before .before .before .before .args) .m) ((c .before .before .before .before .before .before .args) .letters .now) ((c .before .before .before .before .before .before .args) .v))
-      (fieldsFrom (take ((c .before .before .before .before .before .before .args) .end) ((c .before .before .before .before .before .before .args) .second .now)) ((c .before .before .before .before .before .before .args) .at)) ((c .before .before .before .before .before .before .pre) .7),
-)
+loop-holds c =
+    let pre′ = c .before .before .before .before .before .before .pre in
+    let args′ = c .before .before .before .before .before .before .args in (
+      omega arith,
+      pre′ .8,
+      filled-start (termFor (args′ .first .now) (args′ .second .now) (args′ .cells .now) (args′ .n) (args′ .m)
+          (args′ .letters .now) (args′ .v))
+          (fieldsFrom (take (args′ .end) (args′ .second .now)) (args′ .at)) (pre′ .7),
+    )
 
 field-end-requires : tie.Need-field-end-requires Inv-loop μ-loop
-field-end-requires c κs = omega (arith, length-take-le ((c .before .before .before .before .before .before .before .before .args) .end) ((c .before .before .before .before .before .before .before .before .args) .second .now) ((c .before .before .before .before .before .before .before .before .pre) .6))
+field-end-requires c κs =
+    let args′ = c .before .before .before .before .before .before .before .before .args in
+    let pre′ = c .before .before .before .before .before .before .before .before .pre in
+    omega (arith, length-take-le (args′ .end) (args′ .second .now) (pre′ .6))
 
 sub-term-cell : tie.Need-sub-term-cell Inv-loop μ-loop
 sub-term-cell c = search needs
@@ -57,77 +66,107 @@ part-term-cell-end c = search needs
 
 term-cell-requires : tie.Need-term-cell-requires Inv-loop μ-loop
 term-cell-requires c κs =
-    let sized : length (take ((c .before .before .before .before .before .before .before .before .before .before .args) .end) ((c .before .before .before .before .before .before .before .before .before .before .args) .second .now)) ≡ (c .before .before .before .before .before .before .before .before .before .before .args) .end = length-take-le ((c .before .before .before .before .before .before .before .before .before .before .args) .end) ((c .before .before .before .before .before .before .before .before .before .before .args) .second .now) ((c .before .before .before .before .before .before .before .before .before .before .pre) .6) in (
-      (c .before .before .before .before .before .before .before .before .before .before .pre) .0,
-      (c .before .before .before .before .before .before .before .before .before .before .pre) .1,
-      (c .before .before .before .before .before .before .before .before .before .before .pre) .2,
-      (c .before .before .before .before .before .before .before .before .before .before .pre) .3,
-      (c .before .before .before .before .before .before .before .before .before .before .pre) .4,
-      terms-both _ (fieldsFrom (take ((c .before .before .before .before .before .before .before .before .before .before .args) .end) ((c .before .before .before .before .before .before .before .before .before .before .args) .second .now)) ((c .before .before .before .loop) .start)) _
-          (field-cut (take ((c .before .before .before .before .before .before .before .before .before .before .args) .end) ((c .before .before .before .before .before .before .before .before .before .before .args) .second .now)) ((c .before .before .before .loop) .start) ((c .before .field-end) .result) (omega (arith, (c .before .before .loop-test) .taken)) ((c .before .field-end) .ensures .0))
-          ((c .before .before .before .loop) .inv .1) .0,
+    let args′ = c .before .before .before .before .before .before .before .before .before .before .args in
+    let second′ = args′ .second .now in
+    let pre′ = c .before .before .before .before .before .before .before .before .before .before .pre in
+    let loop′ = c .before .before .before .loop in
+    let field-end′ = c .before .field-end in (
+      pre′ .0,
+      pre′ .1,
+      pre′ .2,
+      pre′ .3,
+      pre′ .4,
+      terms-both _ (fieldsFrom (take (args′ .end) second′) (loop′ .start)) _
+          (field-cut (take (args′ .end) second′) (loop′ .start) (field-end′ .result)
+          (omega (arith, (c .before .before .loop-test) .taken)) (field-end′ .ensures .0))
+          (loop′ .inv .1) .0,
     )
 
 mul-r : tie.Need-mul-r Inv-loop μ-loop
 mul-r c =
-    let sized : length (take ((c .before .before .before .before .before .before .before .before .before .before .before .args) .end) ((c .before .before .before .before .before .before .before .before .before .before .before .args) .second .now)) ≡ (c .before .before .before .before .before .before .before .before .before .before .before .args) .end = length-take-le ((c .before .before .before .before .before .before .before .before .before .before .before .args) .end) ((c .before .before .before .before .before .before .before .before .before .before .before .args) .second .now) ((c .before .before .before .before .before .before .before .before .before .before .before .pre) .6) in
-    let more : length (fieldsFrom (take ((c .before .before .before .before .before .before .before .before .before .before .before .args) .end) ((c .before .before .before .before .before .before .before .before .before .before .before .args) .second .now)) ((c .before .before .before .before .loop) .start))
-    ≡ suc (length (fieldsFrom (take ((c .before .before .before .before .before .before .before .before .before .before .before .args) .end) ((c .before .before .before .before .before .before .before .before .before .before .before .args) .second .now)) (suc ((c .before .before .field-end) .result)))) =
-    ap (λ (fs : List (List ℕ)). length fs) (field-cut (take ((c .before .before .before .before .before .before .before .before .before .before .before .args) .end) ((c .before .before .before .before .before .before .before .before .before .before .before .args) .second .now)) ((c .before .before .before .before .loop) .start) ((c .before .before .field-end) .result) (omega (arith, (c .before .before .before .loop-test) .taken)) ((c .before .before .field-end) .ensures .0)) in
-    record { fits = omega (arith, (c .before .before .before .before .loop) .inv .2 .fits) }
+    let loop′ = c .before .before .before .before .loop in
+    record { fits = omega (arith, loop′ .inv .2 .fits) }
 
 array-write-r : tie.Need-array-write-r Inv-loop μ-loop
 array-write-r c =
-    let sized : length (take ((c .before .before .before .before .before .before .before .before .before .before .before .args) .end) ((c .before .before .before .before .before .before .before .before .before .before .before .args) .second .now)) ≡ (c .before .before .before .before .before .before .before .before .before .before .before .args) .end = length-take-le ((c .before .before .before .before .before .before .before .before .before .before .before .args) .end) ((c .before .before .before .before .before .before .before .before .before .before .before .args) .second .now) ((c .before .before .before .before .before .before .before .before .before .before .before .pre) .6) in
-    let more : length (fieldsFrom (take ((c .before .before .before .before .before .before .before .before .before .before .before .args) .end) ((c .before .before .before .before .before .before .before .before .before .before .before .args) .second .now)) ((c .before .before .before .before .loop) .start))
-    ≡ suc (length (fieldsFrom (take ((c .before .before .before .before .before .before .before .before .before .before .before .args) .end) ((c .before .before .before .before .before .before .before .before .before .before .before .args) .second .now)) (suc ((c .before .before .field-end) .result)))) =
-    ap (λ (fs : List (List ℕ)). length fs) (field-cut (take ((c .before .before .before .before .before .before .before .before .before .before .before .args) .end) ((c .before .before .before .before .before .before .before .before .before .before .before .args) .second .now)) ((c .before .before .before .before .loop) .start) ((c .before .before .field-end) .result) (omega (arith, (c .before .before .before .loop-test) .taken)) ((c .before .before .field-end) .ensures .0)) in
-    omega (arith, (c .before .before .before .before .loop) .inv .2 .fits)
+    let args′ = c .before .before .before .before .before .before .before .before .before .before .before .args in
+    let second′ = args′ .second .now in
+    let pre′ = c .before .before .before .before .before .before .before .before .before .before .before .pre in
+    let loop′ = c .before .before .before .before .loop in
+    let field-end′ = c .before .before .field-end in
+    let sized : length (take (args′ .end) second′) ≡ args′ .end = length-take-le (args′ .end) second′ (pre′ .6) in
+    let more : length (fieldsFrom (take (args′ .end) second′) (loop′ .start))
+    ≡ suc (length (fieldsFrom (take (args′ .end) second′) (suc (field-end′ .result)))) =
+    ap (λ (fs : List (List ℕ)). length fs) (field-cut (take (args′ .end) second′) (loop′ .start) (field-end′ .result)
+    (omega (arith, (c .before .before .before .loop-test) .taken)) (field-end′ .ensures .0)) in
+    omega (arith, loop′ .inv .2 .fits)
 
 add-j : tie.Need-add-j Inv-loop μ-loop
 add-j c =
-    let sized : length (take ((c .before .before .before .before .before .before .before .before .before .before .before .args) .end) ((c .before .before .before .before .before .before .before .before .before .before .before .args) .second .now)) ≡ (c .before .before .before .before .before .before .before .before .before .before .before .args) .end = length-take-le ((c .before .before .before .before .before .before .before .before .before .before .before .args) .end) ((c .before .before .before .before .before .before .before .before .before .before .before .args) .second .now) ((c .before .before .before .before .before .before .before .before .before .before .before .pre) .6) in
-    let more : length (fieldsFrom (take ((c .before .before .before .before .before .before .before .before .before .before .before .args) .end) ((c .before .before .before .before .before .before .before .before .before .before .before .args) .second .now)) ((c .before .before .before .before .loop) .start))
-    ≡ suc (length (fieldsFrom (take ((c .before .before .before .before .before .before .before .before .before .before .before .args) .end) ((c .before .before .before .before .before .before .before .before .before .before .before .args) .second .now)) (suc ((c .before .before .field-end) .result)))) =
-    ap (λ (fs : List (List ℕ)). length fs) (field-cut (take ((c .before .before .before .before .before .before .before .before .before .before .before .args) .end) ((c .before .before .before .before .before .before .before .before .before .before .before .args) .second .now)) ((c .before .before .before .before .loop) .start) ((c .before .before .field-end) .result) (omega (arith, (c .before .before .before .loop-test) .taken)) ((c .before .before .field-end) .ensures .0)) in
-    record { fits = omega (arith, (c .before .before .before .before .loop) .inv .2 .fits) }
+    let loop′ = c .before .before .before .before .loop in
+    record { fits = omega (arith, loop′ .inv .2 .fits) }
 
 add-start : tie.Need-add-start Inv-loop μ-loop
 add-start c =
-    let sized : length (take ((c .before .before .before .before .before .before .before .before .before .before .before .args) .end) ((c .before .before .before .before .before .before .before .before .before .before .before .args) .second .now)) ≡ (c .before .before .before .before .before .before .before .before .before .before .before .args) .end = length-take-le ((c .before .before .before .before .before .before .before .before .before .before .before .args) .end) ((c .before .before .before .before .before .before .before .before .before .before .before .args) .second .now) ((c .before .before .before .before .before .before .before .before .before .before .before .pre) .6) in
-    record { fits = omega (arith, (c .before .before .field-end) .ensures .2, (c .before .before .before .before .before .before .before .before .before .before .before .fits) .end, (c .before .before .field-end) .ok) }
+    let args′ = c .before .before .before .before .before .before .before .before .before .before .before .args in
+    let second′ = args′ .second .now in
+    let pre′ = c .before .before .before .before .before .before .before .before .before .before .before .pre in
+    let fits′ = c .before .before .before .before .before .before .before .before .before .before .before .fits in
+    let field-end′ = c .before .before .field-end in
+    let sized : length (take (args′ .end) second′) ≡ args′ .end =
+    length-take-le (args′ .end) second′ (pre′ .6) in
+    record { fits = omega (arith, field-end′ .ensures .2, fits′ .end, field-end′ .ok) }
 
 loop-less : tie.Need-loop-less Inv-loop μ-loop
 loop-less c =
-    let sized : length (take ((c .before .before .before .before .before .before .before .before .before .before .before .args) .end) ((c .before .before .before .before .before .before .before .before .before .before .before .args) .second .now)) ≡ (c .before .before .before .before .before .before .before .before .before .before .before .args) .end = length-take-le ((c .before .before .before .before .before .before .before .before .before .before .before .args) .end) ((c .before .before .before .before .before .before .before .before .before .before .before .args) .second .now) ((c .before .before .before .before .before .before .before .before .before .before .before .pre) .6) in
-    omega (arith, (c .before .before .field-end) .ensures .1, (c .before .before .field-end) .ensures .2, (c .before .before .before .loop-test) .taken)
+    let field-end′ = c .before .before .field-end in
+    omega (arith, field-end′ .ensures .1, field-end′ .ensures .2, (c .before .before .before .loop-test) .taken)
 
 loop-again : tie.Need-loop-again Inv-loop μ-loop
 loop-again c =
-    let sized : length (take ((c .before .before .before .before .before .before .before .before .before .before .before .args) .end) ((c .before .before .before .before .before .before .before .before .before .before .before .args) .second .now)) ≡ (c .before .before .before .before .before .before .before .before .before .before .before .args) .end = length-take-le ((c .before .before .before .before .before .before .before .before .before .before .before .args) .end) ((c .before .before .before .before .before .before .before .before .before .before .before .args) .second .now) ((c .before .before .before .before .before .before .before .before .before .before .before .pre) .6) in
-    rw (add-one ((c .before .before .field-end) .result), add-one ((c .before .before .before .before .loop) .j), add-one ((c .before .before .before .before .before .before .before .before .before .before .before .args) .end)) (
-      omega (arith, (c .before .before .field-end) .ensures .2),
-      terms-both _ (fieldsFrom (take ((c .before .before .before .before .before .before .before .before .before .before .before .args) .end) ((c .before .before .before .before .before .before .before .before .before .before .before .args) .second .now)) ((c .before .before .before .before .loop) .start)) _
-          (field-cut (take ((c .before .before .before .before .before .before .before .before .before .before .before .args) .end) ((c .before .before .before .before .before .before .before .before .before .before .before .args) .second .now)) ((c .before .before .before .before .loop) .start) ((c .before .before .field-end) .result) (omega (arith, (c .before .before .before .loop-test) .taken)) ((c .before .before .field-end) .ensures .0))
-          ((c .before .before .before .before .loop) .inv .1) .1,
-      filled-step (termFor ((c .before .before .before .before .before .before .before .before .before .before .before .args) .first .now) ((c .before .before .before .before .before .before .before .before .before .before .before .args) .second .now) ((c .before .before .before .before .before .before .before .before .before .before .before .args) .cells .now) ((c .before .before .before .before .before .before .before .before .before .before .before .args) .n) ((c .before .before .before .before .before .before .before .before .before .before .before .args) .m) ((c .before .before .before .before .before .before .before .before .before .before .before .args) .letters .now) ((c .before .before .before .before .before .before .before .before .before .before .before .args) .v))
-          (map (termFor ((c .before .before .before .before .before .before .before .before .before .before .before .args) .first .now) ((c .before .before .before .before .before .before .before .before .before .before .before .args) .second .now) ((c .before .before .before .before .before .before .before .before .before .before .before .args) .cells .now) ((c .before .before .before .before .before .before .before .before .before .before .before .args) .n) ((c .before .before .before .before .before .before .before .before .before .before .before .args) .m) ((c .before .before .before .before .before .before .before .before .before .before .before .args) .letters .now) ((c .before .before .before .before .before .before .before .before .before .before .before .args) .v))
-          (fieldsFrom (take ((c .before .before .before .before .before .before .before .before .before .before .before .args) .end) ((c .before .before .before .before .before .before .before .before .before .before .before .args) .second .now)) ((c .before .before .before .before .before .before .before .before .before .before .before .args) .at)))
-          ((c .before .before .before .before .loop) .r) ((c .before .before .before .before .loop) .j) _ (fieldsFrom (take ((c .before .before .before .before .before .before .before .before .before .before .before .args) .end) ((c .before .before .before .before .before .before .before .before .before .before .before .args) .second .now)) ((c .before .before .before .before .loop) .start))
-          (fieldsFrom (take ((c .before .before .before .before .before .before .before .before .before .before .before .args) .end) ((c .before .before .before .before .before .before .before .before .before .before .before .args) .second .now)) (suc ((c .before .before .field-end) .result))) ((c .term-cell) .result) ((c .before .before .before .before .loop) .inv .2)
-          (field-cut (take ((c .before .before .before .before .before .before .before .before .before .before .before .args) .end) ((c .before .before .before .before .before .before .before .before .before .before .before .args) .second .now)) ((c .before .before .before .before .loop) .start) ((c .before .before .field-end) .result) (omega (arith, (c .before .before .before .loop-test) .taken)) ((c .before .before .field-end) .ensures .0))
-          ((c .term-cell) .ensures .0) ((c .term-cell) .ensures .1),
+    let args′ = c .before .before .before .before .before .before .before .before .before .before .before .args in
+    let second′ = args′ .second .now in
+    let first′ = args′ .first .now in
+    let cells′ = args′ .cells .now in
+    let letters′ = args′ .letters .now in
+    let pre′ = c .before .before .before .before .before .before .before .before .before .before .before .pre in
+    let loop′ = c .before .before .before .before .loop in
+    let loop-test′ = c .before .before .before .loop-test in
+    let field-end′ = c .before .before .field-end in
+    let term-cell′ = c .term-cell in
+    let sized : length (take (args′ .end) second′) ≡ args′ .end = length-take-le (args′ .end) second′ (pre′ .6) in
+    rw (add-one (field-end′ .result), add-one (loop′ .j), add-one (args′ .end)) (
+      omega (arith, field-end′ .ensures .2),
+      terms-both _ (fieldsFrom (take (args′ .end) second′) (loop′ .start)) _
+          (field-cut (take (args′ .end) second′) (loop′ .start) (field-end′ .result) (omega (arith, loop-test′ .taken))
+          (field-end′ .ensures .0))
+          (loop′ .inv .1) .1,
+      filled-step (termFor first′ second′ cells′ (args′ .n) (args′ .m) letters′ (args′ .v))
+          (map (termFor first′ second′ cells′ (args′ .n) (args′ .m) letters′ (args′ .v))
+          (fieldsFrom (take (args′ .end) second′) (args′ .at)))
+          (loop′ .r) (loop′ .j) _ (fieldsFrom (take (args′ .end) second′) (loop′ .start))
+          (fieldsFrom (take (args′ .end) second′) (suc (field-end′ .result))) (term-cell′ .result) (loop′ .inv .2)
+          (field-cut (take (args′ .end) second′) (loop′ .start) (field-end′ .result) (omega (arith, loop-test′ .taken))
+          (field-end′ .ensures .0))
+          (term-cell′ .ensures .0) (term-cell′ .ensures .1),
     )
 
 returns : tie.Need-returns Inv-loop μ-loop
 returns c =
-    let sized : length (take ((c .before .before .before .before .before .before .before .before .args) .end) ((c .before .before .before .before .before .before .before .before .args) .second .now)) ≡ (c .before .before .before .before .before .before .before .before .args) .end = length-take-le ((c .before .before .before .before .before .before .before .before .args) .end) ((c .before .before .before .before .before .before .before .before .args) .second .now) ((c .before .before .before .before .before .before .before .before .pre) .6) in (
-      filled-end (termFor ((c .before .before .before .before .before .before .before .before .args) .first .now) ((c .before .before .before .before .before .before .before .before .args) .second .now) ((c .before .before .before .before .before .before .before .before .args) .cells .now) ((c .before .before .before .before .before .before .before .before .args) .n) ((c .before .before .before .before .before .before .before .before .args) .m) ((c .before .before .before .before .before .before .before .before .args) .letters .now) ((c .before .before .before .before .before .before .before .before .args) .v))
-          (map (termFor ((c .before .before .before .before .before .before .before .before .args) .first .now) ((c .before .before .before .before .before .before .before .before .args) .second .now) ((c .before .before .before .before .before .before .before .before .args) .cells .now) ((c .before .before .before .before .before .before .before .before .args) .n) ((c .before .before .before .before .before .before .before .before .args) .m) ((c .before .before .before .before .before .before .before .before .args) .letters .now) ((c .before .before .before .before .before .before .before .before .args) .v))
-          (fieldsFrom (take ((c .before .before .before .before .before .before .before .before .args) .end) ((c .before .before .before .before .before .before .before .before .args) .second .now)) ((c .before .before .before .before .before .before .before .before .args) .at)))
-          ((c .before .loop) .r) ((c .before .loop) .j) (fieldsFrom (take ((c .before .before .before .before .before .before .before .before .args) .end) ((c .before .before .before .before .before .before .before .before .args) .second .now)) ((c .before .loop) .start)) ((c .before .loop) .inv .2)
-          (fields-out (take ((c .before .before .before .before .before .before .before .before .args) .end) ((c .before .before .before .before .before .before .before .before .args) .second .now)) ((c .before .loop) .start) (omega (arith, (c .loop-test) .left))),
-      (c .before .loop) .inv .2 .sized,
+    let args′ = c .before .before .before .before .before .before .before .before .args in
+    let second′ = args′ .second .now in
+    let first′ = args′ .first .now in
+    let cells′ = args′ .cells .now in
+    let letters′ = args′ .letters .now in
+    let pre′ = c .before .before .before .before .before .before .before .before .pre in
+    let loop′ = c .before .loop in
+    let sized : length (take (args′ .end) second′) ≡ args′ .end = length-take-le (args′ .end) second′ (pre′ .6) in (
+      filled-end (termFor first′ second′ cells′ (args′ .n) (args′ .m) letters′ (args′ .v))
+          (map (termFor first′ second′ cells′ (args′ .n) (args′ .m) letters′ (args′ .v))
+          (fieldsFrom (take (args′ .end) second′) (args′ .at)))
+          (loop′ .r) (loop′ .j) (fieldsFrom (take (args′ .end) second′) (loop′ .start)) (loop′ .inv .2)
+          (fields-out (take (args′ .end) second′) (loop′ .start) (omega (arith, (c .loop-test) .left))),
+      loop′ .inv .2 .sized,
     )
 
 pub terms-of-spec : {M : Type 1} → statement M

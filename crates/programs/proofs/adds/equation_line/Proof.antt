@@ -2,27 +2,17 @@
 -- Assumes nothing.
 use borrow.Author.Needs.{needs}
 use mathlib.Core.Path.{_≡_, refl, sym, ap, _∙_}
-use mathlib.Core.List.{List, [], _∷_, map}
-use mathlib.Core.Option.{some, none}
-use Prim.Native.Nat.{ℕ, suc, _≤_, _<_, _+_, _-_, _*_}
+use mathlib.Core.Option.{some}
+use Prim.Native.Nat.{ℕ, _+_}
 use native.Mathlib.Omega.{arith}
-use lib.ListN.{length, take, drop, getD, set}
-use lib.Seq.{paste, length-take-le}
-use Rattle.text.specs.Lists.{placeOf}
-use Rattle.text.specs.Places.{fieldsFrom}
+use lib.ListN.{length, take}
+use lib.Seq.{length-take-le}
 use Rattle.text.proofs.Laws.{tabled-length}
-use Rattle.semantics.specs.Terms.{Term}
-use Rattle.syntax.specs.Forms.{letterNumber, termOf}
-use Rattle.syntax.specs.Programs.{withEquation}
-use Rattle.syntax.specs.Tables.{cellTerm, cellTerms, constantsOf, lettersOf}
+use Rattle.syntax.specs.Tables.{constantsOf}
 use Rattle.lines.specs.Read.{alphabetLetters, addedOf}
-use Rattle.programs.specs.Read.{lineAnswer, Sound, SidesAt}
-use Rattle.syntax.proofs.Tabled.{constants-length}
-use Rattle.lines.proofs.Constants.{roomy-is}
-use Rattle.lines.proofs.Steps.{letters-are, four-list}
-use Rattle.programs.proofs.Grown.{grown, rules-grown, starts-grown, counted, other-count, sides-grown}
-use Rattle.programs.proofs.Lasts.{draft-grown, sides-faulty, sides-full, sides-many, sides-next, sides-pair}
-use borrow.Author.Needs.{needs}
+use Rattle.programs.specs.Read.{lineAnswer, SidesAt}
+use Rattle.lines.proofs.Constants.{added-fits}
+use Rattle.programs.proofs.Lasts.{sides-faulty, sides-fit, sides-full, sides-many, sides-next}
 use Rattle.programs.proofs.adds.equation_line.Statement.{statement}
 use Rattle.programs.proofs.adds.equation_line.Tie as tie
 
@@ -33,10 +23,16 @@ mul-base : tie.Need-mul-base
 mul-base c = search needs
 
 slice-aggregate-line : tie.Need-slice-aggregate-line
-slice-aggregate-line c = sym (length-take-le ((c .before .before .before .before .before .before .before .args) .end) ((c .before .before .before .before .before .before .before .args) .text .now) ((c .before .before .before .before .before .before .before .pre) .3))
+slice-aggregate-line c =
+    let args′ = c .before .before .before .before .before .before .before .args in
+    let pre′ = c .before .before .before .before .before .before .before .pre in
+    sym (length-take-le (args′ .end) (args′ .text .now) (pre′ .3))
 
 equation-form-requires : tie.Need-equation-form-requires
-equation-form-requires c κs = ((c .before .before .before .before .before .before .before .pre) .0, omega (arith, length-take-le ((c .before .before .before .before .before .before .before .args) .end) ((c .before .before .before .before .before .before .before .args) .text .now) ((c .before .before .before .before .before .before .before .pre) .3), (c .before .before .before .before .before .before .before .pre) .2))
+equation-form-requires c κs =
+    let pre′ = c .before .before .before .before .before .before .before .pre in
+    let args′ = c .before .before .before .before .before .before .before .args in
+    (pre′ .0, omega (arith, length-take-le (args′ .end) (args′ .text .now) (pre′ .3), pre′ .2))
 
 enum-told : tie.Need-enum-told
 enum-told c = search needs
@@ -59,31 +55,35 @@ wide-requires c κs = search needs
 returns : tie.Need-returns
 unfolding lineAnswer
 returns c =
-    let i : ℕ = (c .before .before .before .before .before .before .before .before .before .before .before .before .before .before .args) .stage .rules - 1 in
-    let q : (c .before .before .before .before .before .before .before .before .before .before .before .before .before .before .args) .stage .rules ≡ suc i = omega (arith, (c .before .before .before .before .before .before .before .before .before .before .before .before .before .before .pre) .9) in
-    let room : 64 * i + 64 ≤ length ((c .before .before .before .before .before .before .before .before .before .before .before .before .before .before .args) .rules .now) = omega (arith, (c .before .before .before .before .before .before .before .before .before .before .before .before .before .before .pre) .6, (c .before .before .before .before .before .before .before .before .before .before .before .before .before .before .pre) .8 .few-rules, (c .before .before .before .before .before .before .before .before .before .before .before .before .before .before .pre) .9) in
-    let h : ℕ = (c .before .wide) .result in
-    let e : h ≡ getD ((c .before .before .before .before .before .before .before .before .before .before .before .before .before .before .args) .rules .now) (64 * i + 5) 0 = (c .before .wide) .ensures .0 in
-    let heads : getD ((c .before .before .before .before .before .before .before .before .before .before .before .before .before .before .args) .rules .now) (64 * i + 3) 0 ≤ 4 = (c .before .before .before .before .before .before .before .before .before .before .before .before .before .before .pre) .8 .few-heads ((c .before .before .before .before .before .before .before .before .before .before .before .before .before .before .pre) .9) in
-    let body : getD ((c .before .before .before .before .before .before .before .before .before .before .before .before .before .before .args) .rules .now) (64 * i + 4) 0 ≤ 6 = (c .before .before .before .before .before .before .before .before .before .before .before .before .before .before .pre) .8 .few-body ((c .before .before .before .before .before .before .before .before .before .before .before .before .before .before .pre) .9) in
-    let sides : getD ((c .before .before .before .before .before .before .before .before .before .before .before .before .before .before .args) .rules .now) (64 * i + 5) 0 ≤ 4 = (c .before .before .before .before .before .before .before .before .before .before .before .before .before .before .pre) .8 .few-sides ((c .before .before .before .before .before .before .before .before .before .before .before .before .before .before .pre) .9) in
-    let at : SidesAt (take ((c .before .before .before .before .before .before .before .before .before .before .before .before .before .before .args) .end) ((c .before .before .before .before .before .before .before .before .before .before .before .before .before .before .args) .text .now)) ((c .before .before .before .before .before .before .before .before .before .before .before .before .before .before .args) .at) ((c .before .before .before .before .from) .given .0 .0) = rw ((c .before .before .before .before .from) .given .1) at ((c .before .before .before .before .before .before .equation-form) .ensures) in
-    let sized : length (take ((c .before .before .before .before .before .before .before .before .before .before .before .before .before .before .args) .end) ((c .before .before .before .before .before .before .before .before .before .before .before .before .before .before .args) .text .now)) ≡ (c .before .before .before .before .before .before .before .before .before .before .before .before .before .before .args) .end = length-take-le ((c .before .before .before .before .before .before .before .before .before .before .before .before .before .before .args) .end) ((c .before .before .before .before .before .before .before .before .before .before .before .before .before .before .args) .text .now) ((c .before .before .before .before .before .before .before .before .before .before .before .before .before .before .pre) .3) in
-    (λ n. sides-full ((c .before .before .before .before .before .before .before .before .before .before .before .before .before .before .args) .text .now) ((c .before .before .before .before .before .before .before .before .before .before .before .before .before .before .args) .symbols .now) ((c .before .before .before .before .before .before .before .before .before .before .before .before .before .before .args) .rules .now) ((c .before .before .before .before .before .before .before .before .before .before .before .before .before .before .args) .constants .now) ((c .before .before .before .before .before .before .before .before .before .before .before .before .before .before .args) .stage) i ((c .before .before .before .before .before .before .before .before .before .before .before .before .before .before .args) .place) n (fieldsFrom (take ((c .before .before .before .before .before .before .before .before .before .before .before .before .before .before .args) .end) ((c .before .before .before .before .before .before .before .before .before .before .before .before .before .before .args) .text .now)) ((c .before .before .before .before .before .before .before .before .before .before .before .before .before .before .args) .at)) q room h e (omega arith) (take ((c .before .before .before .before .before .before .before .before .before .before .before .before .before .before .args) .end) ((c .before .before .before .before .before .before .before .before .before .before .before .before .before .before .args) .text .now)) ((c .before .before .before .before .before .before .before .before .before .before .before .before .before .before .args) .at) ((c .before .before .before .before .from) .given .0 .0) refl at ((c .if1) .taken), omega arith)
+    let equation-form′ = c .before .before .before .before .before .before .equation-form in
+    let wide′ = c .before .wide in
+    let pre′ = c .before .before .before .before .before .before .before .before .before .before .before .before .before .before
+    .pre in
+    let args′ = c .before .before .before .before .before .before .before .before .before .before .before .before .before .before
+    .args in
+    let text′ = args′ .text .now in
+    let from′ = c .before .before .before .before .from in
+    let sides : SidesAt (take (args′ .end) text′) (args′ .at) (from′ .given .0 .0) =
+    rw (from′ .given .1) at (equation-form′ .ensures) in (
+      λ n. sides-full text′ (args′ .symbols .now) (args′ .rules .now) (args′ .constants .now) (args′ .stage) (args′ .place) _
+          (pre′ .6) (pre′ .8) (pre′ .9) (wide′ .result) (wide′ .ensures .0) (take (args′ .end) text′) (args′ .at) _ refl sides n
+          ((c .if1) .taken),
+      omega arith,
+    )
 
 add-constants-requires : tie.Need-add-constants-requires
 add-constants-requires c κs =
-    let i : ℕ = (c .before .before .before .before .before .before .before .before .before .before .before .before .before .before .before .args) .stage .rules - 1 in
-    let q : (c .before .before .before .before .before .before .before .before .before .before .before .before .before .before .before .args) .stage .rules ≡ suc i = omega (arith, (c .before .before .before .before .before .before .before .before .before .before .before .before .before .before .before .pre) .9) in
-    let room : 64 * i + 64 ≤ length ((c .before .before .before .before .before .before .before .before .before .before .before .before .before .before .before .args) .rules .now) = omega (arith, (c .before .before .before .before .before .before .before .before .before .before .before .before .before .before .before .pre) .6, (c .before .before .before .before .before .before .before .before .before .before .before .before .before .before .before .pre) .8 .few-rules, (c .before .before .before .before .before .before .before .before .before .before .before .before .before .before .before .pre) .9) in
-    let h : ℕ = (c .before .before .wide) .result in
-    let e : h ≡ getD ((c .before .before .before .before .before .before .before .before .before .before .before .before .before .before .before .args) .rules .now) (64 * i + 5) 0 = (c .before .before .wide) .ensures .0 in
-    let heads : getD ((c .before .before .before .before .before .before .before .before .before .before .before .before .before .before .before .args) .rules .now) (64 * i + 3) 0 ≤ 4 = (c .before .before .before .before .before .before .before .before .before .before .before .before .before .before .before .pre) .8 .few-heads ((c .before .before .before .before .before .before .before .before .before .before .before .before .before .before .before .pre) .9) in
-    let body : getD ((c .before .before .before .before .before .before .before .before .before .before .before .before .before .before .before .args) .rules .now) (64 * i + 4) 0 ≤ 6 = (c .before .before .before .before .before .before .before .before .before .before .before .before .before .before .before .pre) .8 .few-body ((c .before .before .before .before .before .before .before .before .before .before .before .before .before .before .before .pre) .9) in
-    let sides : getD ((c .before .before .before .before .before .before .before .before .before .before .before .before .before .before .before .args) .rules .now) (64 * i + 5) 0 ≤ 4 = (c .before .before .before .before .before .before .before .before .before .before .before .before .before .before .before .pre) .8 .few-sides ((c .before .before .before .before .before .before .before .before .before .before .before .before .before .before .before .pre) .9) in
-    let at : SidesAt (take ((c .before .before .before .before .before .before .before .before .before .before .before .before .before .before .before .args) .end) ((c .before .before .before .before .before .before .before .before .before .before .before .before .before .before .before .args) .text .now)) ((c .before .before .before .before .before .before .before .before .before .before .before .before .before .before .before .args) .at) ((c .before .before .before .before .before .from) .given .0 .0) = rw ((c .before .before .before .before .before .from) .given .1) at ((c .before .before .before .before .before .before .before .equation-form) .ensures) in
-    let sized : length (take ((c .before .before .before .before .before .before .before .before .before .before .before .before .before .before .before .args) .end) ((c .before .before .before .before .before .before .before .before .before .before .before .before .before .before .before .args) .text .now)) ≡ (c .before .before .before .before .before .before .before .before .before .before .before .before .before .before .before .args) .end = length-take-le ((c .before .before .before .before .before .before .before .before .before .before .before .before .before .before .before .args) .end) ((c .before .before .before .before .before .before .before .before .before .before .before .before .before .before .before .args) .text .now) ((c .before .before .before .before .before .before .before .before .before .before .before .before .before .before .before .pre) .3) in
-    ((c .before .before .before .before .before .before .before .before .before .before .before .before .before .before .before .pre) .0, omega (arith, at .within), (c .before .before .before .before .before .before .before .before .before .before .before .before .before .before .before .pre) .3, (c .before .before .before .before .before .before .before .before .before .before .before .before .before .before .before .pre) .4, (c .before .before .before .before .before .before .before .before .before .before .before .before .before .before .before .pre) .7, omega (arith, (c .before .before .before .before .before .before .before .before .before .before .before .before .before .before .before .pre) .8 .few-constants))
+    let equation-form′ = c .before .before .before .before .before .before .before .equation-form in
+    let pre′ = c .before .before .before .before .before .before .before .before .before .before .before .before .before .before
+    .before .pre in
+    let args′ = c .before .before .before .before .before .before .before .before .before .before .before .before .before .before
+    .before .args in
+    let text′ = args′ .text .now in
+    let from′ = c .before .before .before .before .before .from in
+    let sides : SidesAt (take (args′ .end) text′) (args′ .at) (from′ .given .0 .0) =
+    rw (from′ .given .1) at (equation-form′ .ensures) in
+    let sized : length (take (args′ .end) text′) ≡ args′ .end = length-take-le (args′ .end) text′ (pre′ .3) in
+    (pre′ .0, omega (arith, sides .within), pre′ .3, pre′ .4, pre′ .7, omega (arith, pre′ .8 .few-constants))
 
 enum-told-2 : tie.Need-enum-told-2
 enum-told-2 c = search needs
@@ -94,34 +94,30 @@ enum-known-count c = search needs
 terms-of-requires : tie.Need-terms-of-requires
 unfolding addedOf alphabetLetters
 terms-of-requires c κs =
-    let i : ℕ = (c .before .before .before .before .before .before .before .before .before .before .before .before .before .before .before .before .before .before .before .before .before .before .args) .stage .rules - 1 in
-    let q : (c .before .before .before .before .before .before .before .before .before .before .before .before .before .before .before .before .before .before .before .before .before .before .args) .stage .rules ≡ suc i = omega (arith, (c .before .before .before .before .before .before .before .before .before .before .before .before .before .before .before .before .before .before .before .before .before .before .pre) .9) in
-    let room : 64 * i + 64 ≤ length ((c .before .before .before .before .before .before .before .before .before .before .before .before .before .before .before .before .before .before .before .before .before .before .args) .rules .now) = omega (arith, (c .before .before .before .before .before .before .before .before .before .before .before .before .before .before .before .before .before .before .before .before .before .before .pre) .6, (c .before .before .before .before .before .before .before .before .before .before .before .before .before .before .before .before .before .before .before .before .before .before .pre) .8 .few-rules, (c .before .before .before .before .before .before .before .before .before .before .before .before .before .before .before .before .before .before .before .before .before .before .pre) .9) in
-    let h : ℕ = (c .before .before .before .before .before .before .before .before .before .wide) .result in
-    let e : h ≡ getD ((c .before .before .before .before .before .before .before .before .before .before .before .before .before .before .before .before .before .before .before .before .before .before .args) .rules .now) (64 * i + 5) 0 = (c .before .before .before .before .before .before .before .before .before .wide) .ensures .0 in
-    let heads : getD ((c .before .before .before .before .before .before .before .before .before .before .before .before .before .before .before .before .before .before .before .before .before .before .args) .rules .now) (64 * i + 3) 0 ≤ 4 = (c .before .before .before .before .before .before .before .before .before .before .before .before .before .before .before .before .before .before .before .before .before .before .pre) .8 .few-heads ((c .before .before .before .before .before .before .before .before .before .before .before .before .before .before .before .before .before .before .before .before .before .before .pre) .9) in
-    let body : getD ((c .before .before .before .before .before .before .before .before .before .before .before .before .before .before .before .before .before .before .before .before .before .before .args) .rules .now) (64 * i + 4) 0 ≤ 6 = (c .before .before .before .before .before .before .before .before .before .before .before .before .before .before .before .before .before .before .before .before .before .before .pre) .8 .few-body ((c .before .before .before .before .before .before .before .before .before .before .before .before .before .before .before .before .before .before .before .before .before .before .pre) .9) in
-    let sides : getD ((c .before .before .before .before .before .before .before .before .before .before .before .before .before .before .before .before .before .before .before .before .before .before .args) .rules .now) (64 * i + 5) 0 ≤ 4 = (c .before .before .before .before .before .before .before .before .before .before .before .before .before .before .before .before .before .before .before .before .before .before .pre) .8 .few-sides ((c .before .before .before .before .before .before .before .before .before .before .before .before .before .before .before .before .before .before .before .before .before .before .pre) .9) in
-    let at : SidesAt (take ((c .before .before .before .before .before .before .before .before .before .before .before .before .before .before .before .before .before .before .before .before .before .before .args) .end) ((c .before .before .before .before .before .before .before .before .before .before .before .before .before .before .before .before .before .before .before .before .before .before .args) .text .now)) ((c .before .before .before .before .before .before .before .before .before .before .before .before .before .before .before .before .before .before .before .before .before .before .args) .at) ((c .before .before .before .before .before .before .before .before .before .before .before .before .from) .given .0 .0) = rw ((c .before .before .before .before .before .before .before .before .before .before .before .before .from) .given .1) at ((c .before .before .before .before .before .before .before .before .before .before .before .before .before .before .equation-form) .ensures) in
-    let sized : length (take ((c .before .before .before .before .before .before .before .before .before .before .before .before .before .before .before .before .before .before .before .before .before .before .args) .end) ((c .before .before .before .before .before .before .before .before .before .before .before .before .before .before .before .before .before .before .before .before .before .before .args) .text .now)) ≡ (c .before .before .before .before .before .before .before .before .before .before .before .before .before .before .before .before .before .before .before .before .before .before .args) .end = length-take-le ((c .before .before .before .before .before .before .before .before .before .before .before .before .before .before .before .before .before .before .before .before .before .before .args) .end) ((c .before .before .before .before .before .before .before .before .before .before .before .before .before .before .before .before .before .before .before .before .before .before .args) .text .now) ((c .before .before .before .before .before .before .before .before .before .before .before .before .before .before .before .before .before .before .before .before .before .before .pre) .3) in
-    let known : some (constantsOf ((c .before .before .before .before .before .before .before .before .before .before .before .before .before .before .before .before .before .before .before .before .before .before .args) .text .now) ((c .before .before .before .before .before .before .before .before .before .before .before .before .before .before .before .before .before .before .before .before .before .before .args) .text .now) ((c .before .before .before .before .before .before .add-constants) .last .1 .1 .1 .1 .1 .0) 0 ((c .before .before .count) .given .0 .0)) ≡ _ =
-    ap (addedOf ((c .before .before .before .before .before .before .before .before .before .before .before .before .before .before .before .before .before .before .before .before .before .before .args) .text .now) ((c .before .before .before .before .before .before .before .before .before .before .before .before .before .before .before .before .before .before .before .before .before .before .args) .text .now) ((c .before .before .before .before .before .before .add-constants) .last .1 .1 .1 .1 .1 .0) 0) (sym ((c .before .before .count) .given .1)) ∙ (c .before .before .before .before .before .before .add-constants) .ensures in
-    let fit : ((c .before .before .count) .given .0 .0) ≤ 64 =
-    omega (
-      arith,
-      roomy-is _ _ known .1,
-      ap (λ (l : List (List ℕ)). length l) (roomy-is _ _ known .0),
-      constants-length ((c .before .before .before .before .before .before .before .before .before .before .before .before .before .before .before .before .before .before .before .before .before .before .args) .text .now) ((c .before .before .before .before .before .before .before .before .before .before .before .before .before .before .before .before .before .before .before .before .before .before .args) .text .now) ((c .before .before .before .before .before .before .add-constants) .last .1 .1 .1 .1 .1 .0) 0 ((c .before .before .count) .given .0 .0),
-    ) in (
-      (c .before .before .before .before .before .before .before .before .before .before .before .before .before .before .before .before .before .before .before .before .before .before .pre) .0,
-      (c .before .before .before .before .before .before .add-constants) .kept .1 .1 .1 .1 .1 .0 ∙ (c .before .before .before .before .before .before .before .before .before .before .before .before .before .before .before .before .before .before .before .before .before .before .pre) .7,
+    let equation-form′ = c .before .before .before .before .before .before .before .before .before .before .before .before .before
+    .before .equation-form in
+    let pre′ = c .before .before .before .before .before .before .before .before .before .before .before .before .before .before
+    .before .before .before .before .before .before .before .before .pre in
+    let args′ = c .before .before .before .before .before .before .before .before .before .before .before .before .before .before
+    .before .before .before .before .before .before .before .before .args in
+    let text′ = args′ .text .now in
+    let from′ = c .before .before .before .before .before .before .before .before .before .before .before .before .from in
+    let sides : SidesAt (take (args′ .end) text′) (args′ .at) (from′ .given .0 .0) =
+    rw (from′ .given .1) at (equation-form′ .ensures) in
+    let sized : length (take (args′ .end) text′) ≡ args′ .end = length-take-le (args′ .end) text′ (pre′ .3) in
+    let added′ = c .before .before .before .before .before .before .add-constants in
+    let count′ = c .before .before .count in
+    let known : some (constantsOf text′ text′ (added′ .last .1 .1 .1 .1 .1 .0) 0 (count′ .given .0 .0)) ≡ _ =
+    ap (addedOf text′ text′ (added′ .last .1 .1 .1 .1 .1 .0) 0) (sym (count′ .given .1)) ∙ added′ .ensures in (
+      pre′ .0,
+      added′ .kept .1 .1 .1 .1 .1 .0 ∙ pre′ .7,
+      added-fits text′ text′ (added′ .last .1 .1 .1 .1 .1 .0) 0 (count′ .given .0 .0) _ known,
       omega arith,
-      omega arith,
-      rw ((c .before .before .before .before .before .before .before .before .before .before .before .before .before .before .before .before .before .before .before .before .before .before .pre) .1) (omega (arith, tabled-length (λ (i : ℕ). 65 + i) 26)),
-      omega (arith, at .within),
-      (c .before .before .before .before .before .before .before .before .before .before .before .before .before .before .before .before .before .before .before .before .before .before .pre) .3,
-      omega (arith, at .two),
-      at .terms,
+      rw (pre′ .1) (omega (arith, tabled-length (λ (i : ℕ). 65 + i) 26)),
+      omega (arith, sides .within),
+      pre′ .3,
+      omega (arith, sides .two),
+      sides .terms,
     )
 
 array-read-t38 : tie.Need-array-read-t38
@@ -138,56 +134,49 @@ add-start c = search needs
 
 add-add-cells : tie.Need-add-add-cells
 add-add-cells c =
-    let i : ℕ = (c .before .before .before .before .before .before .before .before .before .before .before .before .before .before .before .before .before .before .before .before .before .before .before .before .args) .stage .rules - 1 in
-    let q : (c .before .before .before .before .before .before .before .before .before .before .before .before .before .before .before .before .before .before .before .before .before .before .before .before .args) .stage .rules ≡ suc i = omega (arith, (c .before .before .before .before .before .before .before .before .before .before .before .before .before .before .before .before .before .before .before .before .before .before .before .before .pre) .9) in
-    let room : 64 * i + 64 ≤ length ((c .before .before .before .before .before .before .before .before .before .before .before .before .before .before .before .before .before .before .before .before .before .before .before .before .args) .rules .now) = omega (arith, (c .before .before .before .before .before .before .before .before .before .before .before .before .before .before .before .before .before .before .before .before .before .before .before .before .pre) .6, (c .before .before .before .before .before .before .before .before .before .before .before .before .before .before .before .before .before .before .before .before .before .before .before .before .pre) .8 .few-rules, (c .before .before .before .before .before .before .before .before .before .before .before .before .before .before .before .before .before .before .before .before .before .before .before .before .pre) .9) in
-    let h : ℕ = (c .before .before .before .before .before .before .before .before .before .before .before .wide) .result in
-    let e : h ≡ getD ((c .before .before .before .before .before .before .before .before .before .before .before .before .before .before .before .before .before .before .before .before .before .before .before .before .args) .rules .now) (64 * i + 5) 0 = (c .before .before .before .before .before .before .before .before .before .before .before .wide) .ensures .0 in
-    let heads : getD ((c .before .before .before .before .before .before .before .before .before .before .before .before .before .before .before .before .before .before .before .before .before .before .before .before .args) .rules .now) (64 * i + 3) 0 ≤ 4 = (c .before .before .before .before .before .before .before .before .before .before .before .before .before .before .before .before .before .before .before .before .before .before .before .before .pre) .8 .few-heads ((c .before .before .before .before .before .before .before .before .before .before .before .before .before .before .before .before .before .before .before .before .before .before .before .before .pre) .9) in
-    let body : getD ((c .before .before .before .before .before .before .before .before .before .before .before .before .before .before .before .before .before .before .before .before .before .before .before .before .args) .rules .now) (64 * i + 4) 0 ≤ 6 = (c .before .before .before .before .before .before .before .before .before .before .before .before .before .before .before .before .before .before .before .before .before .before .before .before .pre) .8 .few-body ((c .before .before .before .before .before .before .before .before .before .before .before .before .before .before .before .before .before .before .before .before .before .before .before .before .pre) .9) in
-    let sides : getD ((c .before .before .before .before .before .before .before .before .before .before .before .before .before .before .before .before .before .before .before .before .before .before .before .before .args) .rules .now) (64 * i + 5) 0 ≤ 4 = (c .before .before .before .before .before .before .before .before .before .before .before .before .before .before .before .before .before .before .before .before .before .before .before .before .pre) .8 .few-sides ((c .before .before .before .before .before .before .before .before .before .before .before .before .before .before .before .before .before .before .before .before .before .before .before .before .pre) .9) in
-    let at : SidesAt (take ((c .before .before .before .before .before .before .before .before .before .before .before .before .before .before .before .before .before .before .before .before .before .before .before .before .args) .end) ((c .before .before .before .before .before .before .before .before .before .before .before .before .before .before .before .before .before .before .before .before .before .before .before .before .args) .text .now)) ((c .before .before .before .before .before .before .before .before .before .before .before .before .before .before .before .before .before .before .before .before .before .before .before .before .args) .at) ((c .before .before .before .before .before .before .before .before .before .before .before .before .before .before .from) .given .0 .0) = rw ((c .before .before .before .before .before .before .before .before .before .before .before .before .before .before .from) .given .1) at ((c .before .before .before .before .before .before .before .before .before .before .before .before .before .before .before .before .equation-form) .ensures) in
-    let sized : length (take ((c .before .before .before .before .before .before .before .before .before .before .before .before .before .before .before .before .before .before .before .before .before .before .before .before .args) .end) ((c .before .before .before .before .before .before .before .before .before .before .before .before .before .before .before .before .before .before .before .before .before .before .before .before .args) .text .now)) ≡ (c .before .before .before .before .before .before .before .before .before .before .before .before .before .before .before .before .before .before .before .before .before .before .before .before .args) .end = length-take-le ((c .before .before .before .before .before .before .before .before .before .before .before .before .before .before .before .before .before .before .before .before .before .before .before .before .args) .end) ((c .before .before .before .before .before .before .before .before .before .before .before .before .before .before .before .before .before .before .before .before .before .before .before .before .args) .text .now) ((c .before .before .before .before .before .before .before .before .before .before .before .before .before .before .before .before .before .before .before .before .before .before .before .before .pre) .3) in
-    record { fits = omega (arith, (c .before .before .before .before .before .before .before .before .before .before .before .before .before .before .before .before .before .before .before .before .before .before .before .before .pre) .8 .few-rules) }
+    let pre′ = c .before .before .before .before .before .before .before .before .before .before .before .before .before .before
+    .before .before .before .before .before .before .before .before .before .before .pre in
+    record { fits = omega (arith, pre′ .8 .few-rules, pre′ .9) }
 
 add-add-cells-2 : tie.Need-add-add-cells-2
 add-add-cells-2 c =
-    let i : ℕ = (c .before .before .before .before .before .before .before .before .before .before .before .before .before .before .before .before .before .before .before .before .before .before .before .before .args) .stage .rules - 1 in
-    let q : (c .before .before .before .before .before .before .before .before .before .before .before .before .before .before .before .before .before .before .before .before .before .before .before .before .args) .stage .rules ≡ suc i = omega (arith, (c .before .before .before .before .before .before .before .before .before .before .before .before .before .before .before .before .before .before .before .before .before .before .before .before .pre) .9) in
-    let room : 64 * i + 64 ≤ length ((c .before .before .before .before .before .before .before .before .before .before .before .before .before .before .before .before .before .before .before .before .before .before .before .before .args) .rules .now) = omega (arith, (c .before .before .before .before .before .before .before .before .before .before .before .before .before .before .before .before .before .before .before .before .before .before .before .before .pre) .6, (c .before .before .before .before .before .before .before .before .before .before .before .before .before .before .before .before .before .before .before .before .before .before .before .before .pre) .8 .few-rules, (c .before .before .before .before .before .before .before .before .before .before .before .before .before .before .before .before .before .before .before .before .before .before .before .before .pre) .9) in
-    let h : ℕ = (c .before .before .before .before .before .before .before .before .before .before .before .wide) .result in
-    let e : h ≡ getD ((c .before .before .before .before .before .before .before .before .before .before .before .before .before .before .before .before .before .before .before .before .before .before .before .before .args) .rules .now) (64 * i + 5) 0 = (c .before .before .before .before .before .before .before .before .before .before .before .wide) .ensures .0 in
-    let heads : getD ((c .before .before .before .before .before .before .before .before .before .before .before .before .before .before .before .before .before .before .before .before .before .before .before .before .args) .rules .now) (64 * i + 3) 0 ≤ 4 = (c .before .before .before .before .before .before .before .before .before .before .before .before .before .before .before .before .before .before .before .before .before .before .before .before .pre) .8 .few-heads ((c .before .before .before .before .before .before .before .before .before .before .before .before .before .before .before .before .before .before .before .before .before .before .before .before .pre) .9) in
-    let body : getD ((c .before .before .before .before .before .before .before .before .before .before .before .before .before .before .before .before .before .before .before .before .before .before .before .before .args) .rules .now) (64 * i + 4) 0 ≤ 6 = (c .before .before .before .before .before .before .before .before .before .before .before .before .before .before .before .before .before .before .before .before .before .before .before .before .pre) .8 .few-body ((c .before .before .before .before .before .before .before .before .before .before .before .before .before .before .before .before .before .before .before .before .before .before .before .before .pre) .9) in
-    let sides : getD ((c .before .before .before .before .before .before .before .before .before .before .before .before .before .before .before .before .before .before .before .before .before .before .before .before .args) .rules .now) (64 * i + 5) 0 ≤ 4 = (c .before .before .before .before .before .before .before .before .before .before .before .before .before .before .before .before .before .before .before .before .before .before .before .before .pre) .8 .few-sides ((c .before .before .before .before .before .before .before .before .before .before .before .before .before .before .before .before .before .before .before .before .before .before .before .before .pre) .9) in
-    let at : SidesAt (take ((c .before .before .before .before .before .before .before .before .before .before .before .before .before .before .before .before .before .before .before .before .before .before .before .before .args) .end) ((c .before .before .before .before .before .before .before .before .before .before .before .before .before .before .before .before .before .before .before .before .before .before .before .before .args) .text .now)) ((c .before .before .before .before .before .before .before .before .before .before .before .before .before .before .before .before .before .before .before .before .before .before .before .before .args) .at) ((c .before .before .before .before .before .before .before .before .before .before .before .before .before .before .from) .given .0 .0) = rw ((c .before .before .before .before .before .before .before .before .before .before .before .before .before .before .from) .given .1) at ((c .before .before .before .before .before .before .before .before .before .before .before .before .before .before .before .before .equation-form) .ensures) in
-    let sized : length (take ((c .before .before .before .before .before .before .before .before .before .before .before .before .before .before .before .before .before .before .before .before .before .before .before .before .args) .end) ((c .before .before .before .before .before .before .before .before .before .before .before .before .before .before .before .before .before .before .before .before .before .before .before .before .args) .text .now)) ≡ (c .before .before .before .before .before .before .before .before .before .before .before .before .before .before .before .before .before .before .before .before .before .before .before .before .args) .end = length-take-le ((c .before .before .before .before .before .before .before .before .before .before .before .before .before .before .before .before .before .before .before .before .before .before .before .before .args) .end) ((c .before .before .before .before .before .before .before .before .before .before .before .before .before .before .before .before .before .before .before .before .before .before .before .before .args) .text .now) ((c .before .before .before .before .before .before .before .before .before .before .before .before .before .before .before .before .before .before .before .before .before .before .before .before .pre) .3) in
-    record { fits = omega (arith, (c .before .before .before .before .before .before .before .before .before .before .before .before .before .before .before .before .before .before .before .before .before .before .before .before .pre) .8 .few-rules) }
+    let if1′ = c .before .before .before .before .before .before .before .before .before .before .if1 in
+    let pre′ = c .before .before .before .before .before .before .before .before .before .before .before .before .before .before
+    .before .before .before .before .before .before .before .before .before .before .pre in
+    record { fits = omega (arith, if1′ .left, pre′ .8 .few-rules, pre′ .9) }
 
 slice-aggregate-add-cells : tie.Need-slice-aggregate-add-cells
 slice-aggregate-add-cells c = search needs
 
 add-cells-requires : tie.Need-add-cells-requires
 add-cells-requires c κs =
-    let i : ℕ = (c .before .before .before .before .before .before .before .before .before .before .before .before .before .before .before .before .before .before .before .before .before .before .before .before .before .args) .stage .rules - 1 in
-    let q : (c .before .before .before .before .before .before .before .before .before .before .before .before .before .before .before .before .before .before .before .before .before .before .before .before .before .args) .stage .rules ≡ suc i = omega (arith, (c .before .before .before .before .before .before .before .before .before .before .before .before .before .before .before .before .before .before .before .before .before .before .before .before .before .pre) .9) in
-    let room : 64 * i + 64 ≤ length ((c .before .before .before .before .before .before .before .before .before .before .before .before .before .before .before .before .before .before .before .before .before .before .before .before .before .args) .rules .now) = omega (arith, (c .before .before .before .before .before .before .before .before .before .before .before .before .before .before .before .before .before .before .before .before .before .before .before .before .before .pre) .6, (c .before .before .before .before .before .before .before .before .before .before .before .before .before .before .before .before .before .before .before .before .before .before .before .before .before .pre) .8 .few-rules, (c .before .before .before .before .before .before .before .before .before .before .before .before .before .before .before .before .before .before .before .before .before .before .before .before .before .pre) .9) in
-    let h : ℕ = (c .before .before .before .before .before .before .before .before .before .before .before .before .wide) .result in
-    let e : h ≡ getD ((c .before .before .before .before .before .before .before .before .before .before .before .before .before .before .before .before .before .before .before .before .before .before .before .before .before .args) .rules .now) (64 * i + 5) 0 = (c .before .before .before .before .before .before .before .before .before .before .before .before .wide) .ensures .0 in
-    let heads : getD ((c .before .before .before .before .before .before .before .before .before .before .before .before .before .before .before .before .before .before .before .before .before .before .before .before .before .args) .rules .now) (64 * i + 3) 0 ≤ 4 = (c .before .before .before .before .before .before .before .before .before .before .before .before .before .before .before .before .before .before .before .before .before .before .before .before .before .pre) .8 .few-heads ((c .before .before .before .before .before .before .before .before .before .before .before .before .before .before .before .before .before .before .before .before .before .before .before .before .before .pre) .9) in
-    let body : getD ((c .before .before .before .before .before .before .before .before .before .before .before .before .before .before .before .before .before .before .before .before .before .before .before .before .before .args) .rules .now) (64 * i + 4) 0 ≤ 6 = (c .before .before .before .before .before .before .before .before .before .before .before .before .before .before .before .before .before .before .before .before .before .before .before .before .before .pre) .8 .few-body ((c .before .before .before .before .before .before .before .before .before .before .before .before .before .before .before .before .before .before .before .before .before .before .before .before .before .pre) .9) in
-    let sides : getD ((c .before .before .before .before .before .before .before .before .before .before .before .before .before .before .before .before .before .before .before .before .before .before .before .before .before .args) .rules .now) (64 * i + 5) 0 ≤ 4 = (c .before .before .before .before .before .before .before .before .before .before .before .before .before .before .before .before .before .before .before .before .before .before .before .before .before .pre) .8 .few-sides ((c .before .before .before .before .before .before .before .before .before .before .before .before .before .before .before .before .before .before .before .before .before .before .before .before .before .pre) .9) in
-    let at : SidesAt (take ((c .before .before .before .before .before .before .before .before .before .before .before .before .before .before .before .before .before .before .before .before .before .before .before .before .before .args) .end) ((c .before .before .before .before .before .before .before .before .before .before .before .before .before .before .before .before .before .before .before .before .before .before .before .before .before .args) .text .now)) ((c .before .before .before .before .before .before .before .before .before .before .before .before .before .before .before .before .before .before .before .before .before .before .before .before .before .args) .at) ((c .before .before .before .before .before .before .before .before .before .before .before .before .before .before .before .from) .given .0 .0) = rw ((c .before .before .before .before .before .before .before .before .before .before .before .before .before .before .before .from) .given .1) at ((c .before .before .before .before .before .before .before .before .before .before .before .before .before .before .before .before .before .equation-form) .ensures) in
-    let sized : length (take ((c .before .before .before .before .before .before .before .before .before .before .before .before .before .before .before .before .before .before .before .before .before .before .before .before .before .args) .end) ((c .before .before .before .before .before .before .before .before .before .before .before .before .before .before .before .before .before .before .before .before .before .before .before .before .before .args) .text .now)) ≡ (c .before .before .before .before .before .before .before .before .before .before .before .before .before .before .before .before .before .before .before .before .before .before .before .before .before .args) .end = length-take-le ((c .before .before .before .before .before .before .before .before .before .before .before .before .before .before .before .before .before .before .before .before .before .before .before .before .before .args) .end) ((c .before .before .before .before .before .before .before .before .before .before .before .before .before .before .before .before .before .before .before .before .before .before .before .before .before .args) .text .now) ((c .before .before .before .before .before .before .before .before .before .before .before .before .before .before .before .before .before .before .before .before .before .before .before .before .before .pre) .3) in
-    (omega (arith, (c .before .before .before .before .before .before .before .before .before .before .before .if1) .left), omega arith, omega arith)
+    let equation-form′ = c .before .before .before .before .before .before .before .before .before .before .before .before .before
+    .before .before .before .before .equation-form in
+    let wide′ = c .before .before .before .before .before .before .before .before .before .before .before .before .wide in
+    let if1′ = c .before .before .before .before .before .before .before .before .before .before .before .if1 in
+    let pre′ = c .before .before .before .before .before .before .before .before .before .before .before .before .before .before
+    .before .before .before .before .before .before .before .before .before .before .before .pre in
+    let args′ = c .before .before .before .before .before .before .before .before .before .before .before .before .before .before
+    .before .before .before .before .before .before .before .before .before .before .before .args in
+    let text′ = args′ .text .now in
+    let from′ = c .before .before .before .before .before .before .before .before .before .before .before .before .before .before
+    .before .from in
+    let sides : SidesAt (take (args′ .end) text′) (args′ .at) (from′ .given .0 .0) =
+    rw (from′ .given .1) at (equation-form′ .ensures) in
+    sides-fit text′ (args′ .symbols .now) (args′ .rules .now) (args′ .constants .now) (args′ .stage) (args′ .place) _
+    (pre′ .6) (pre′ .8) (pre′ .9) (wide′ .result) (wide′ .ensures .0) (take (args′ .end) text′) (args′ .at) _ refl sides
+    (if1′ .left)
 
 returns-2 : tie.Need-returns-2
 unfolding lineAnswer
 returns-2 c =
-    let i : ℕ = (c .before .before .before .before .before .before .before .before .before .before .args) .stage .rules - 1 in
-    let q : (c .before .before .before .before .before .before .before .before .before .before .args) .stage .rules ≡ suc i = omega (arith, (c .before .before .before .before .before .before .before .before .before .before .pre) .9) in
-    let room : 64 * i + 64 ≤ length ((c .before .before .before .before .before .before .before .before .before .before .args) .rules .now) = omega (arith, (c .before .before .before .before .before .before .before .before .before .before .pre) .6, (c .before .before .before .before .before .before .before .before .before .before .pre) .8 .few-rules, (c .before .before .before .before .before .before .before .before .before .before .pre) .9) in
-    (λ n. sides-faulty ((c .before .before .before .before .before .before .before .before .before .before .args) .text .now) ((c .before .before .before .before .before .before .before .before .before .before .args) .symbols .now) ((c .before .before .before .before .before .before .before .before .before .before .args) .rules .now) ((c .before .before .before .before .before .before .before .before .before .before .args) .constants .now) ((c .before .before .before .before .before .before .before .before .before .before .args) .stage) i ((c .before .before .before .before .before .before .before .before .before .before .args) .place) n (fieldsFrom (take ((c .before .before .before .before .before .before .before .before .before .before .args) .end) ((c .before .before .before .before .before .before .before .before .before .before .args) .text .now)) ((c .before .before .before .before .before .before .before .before .before .before .args) .at)) q room (rw ((c .enum-told) .given .1) at ((c .before .before .equation-form) .ensures)), omega arith)
+    let pre′ = c .before .before .before .before .before .before .before .before .before .before .pre in
+    let args′ = c .before .before .before .before .before .before .before .before .before .before .args in (
+      λ n. sides-faulty (args′ .text .now) (args′ .symbols .now) (args′ .rules .now) (args′ .constants .now) (args′ .stage)
+          (args′ .place) _
+          (pre′ .6) (pre′ .8) (pre′ .9) n (rw ((c .enum-told) .given .1) at ((c .before .before .equation-form) .ensures)),
+      omega arith,
+    )
 
 same-length : tie.Need-same-length
 same-length c = search needs
@@ -195,18 +184,23 @@ same-length c = search needs
 returns-3 : tie.Need-returns-3
 unfolding lineAnswer addedOf
 returns-3 c =
-    let i : ℕ = (c .before .before .before .before .before .before .before .before .before .before .before .before .before .before .before .before .before .before .before .before .args) .stage .rules - 1 in
-    let q : (c .before .before .before .before .before .before .before .before .before .before .before .before .before .before .before .before .before .before .before .before .args) .stage .rules ≡ suc i = omega (arith, (c .before .before .before .before .before .before .before .before .before .before .before .before .before .before .before .before .before .before .before .before .pre) .9) in
-    let room : 64 * i + 64 ≤ length ((c .before .before .before .before .before .before .before .before .before .before .before .before .before .before .before .before .before .before .before .before .args) .rules .now) = omega (arith, (c .before .before .before .before .before .before .before .before .before .before .before .before .before .before .before .before .before .before .before .before .pre) .6, (c .before .before .before .before .before .before .before .before .before .before .before .before .before .before .before .before .before .before .before .before .pre) .8 .few-rules, (c .before .before .before .before .before .before .before .before .before .before .before .before .before .before .before .before .before .before .before .before .pre) .9) in
-    let h : ℕ = (c .before .before .before .before .before .before .before .wide) .result in
-    let e : h ≡ getD ((c .before .before .before .before .before .before .before .before .before .before .before .before .before .before .before .before .before .before .before .before .args) .rules .now) (64 * i + 5) 0 = (c .before .before .before .before .before .before .before .wide) .ensures .0 in
-    let heads : getD ((c .before .before .before .before .before .before .before .before .before .before .before .before .before .before .before .before .before .before .before .before .args) .rules .now) (64 * i + 3) 0 ≤ 4 = (c .before .before .before .before .before .before .before .before .before .before .before .before .before .before .before .before .before .before .before .before .pre) .8 .few-heads ((c .before .before .before .before .before .before .before .before .before .before .before .before .before .before .before .before .before .before .before .before .pre) .9) in
-    let body : getD ((c .before .before .before .before .before .before .before .before .before .before .before .before .before .before .before .before .before .before .before .before .args) .rules .now) (64 * i + 4) 0 ≤ 6 = (c .before .before .before .before .before .before .before .before .before .before .before .before .before .before .before .before .before .before .before .before .pre) .8 .few-body ((c .before .before .before .before .before .before .before .before .before .before .before .before .before .before .before .before .before .before .before .before .pre) .9) in
-    let sides : getD ((c .before .before .before .before .before .before .before .before .before .before .before .before .before .before .before .before .before .before .before .before .args) .rules .now) (64 * i + 5) 0 ≤ 4 = (c .before .before .before .before .before .before .before .before .before .before .before .before .before .before .before .before .before .before .before .before .pre) .8 .few-sides ((c .before .before .before .before .before .before .before .before .before .before .before .before .before .before .before .before .before .before .before .before .pre) .9) in
-    let at : SidesAt (take ((c .before .before .before .before .before .before .before .before .before .before .before .before .before .before .before .before .before .before .before .before .args) .end) ((c .before .before .before .before .before .before .before .before .before .before .before .before .before .before .before .before .before .before .before .before .args) .text .now)) ((c .before .before .before .before .before .before .before .before .before .before .before .before .before .before .before .before .before .before .before .before .args) .at) ((c .before .before .before .before .before .before .before .before .before .before .from) .given .0 .0) = rw ((c .before .before .before .before .before .before .before .before .before .before .from) .given .1) at ((c .before .before .before .before .before .before .before .before .before .before .before .before .equation-form) .ensures) in
-    let sized : length (take ((c .before .before .before .before .before .before .before .before .before .before .before .before .before .before .before .before .before .before .before .before .args) .end) ((c .before .before .before .before .before .before .before .before .before .before .before .before .before .before .before .before .before .before .before .before .args) .text .now)) ≡ (c .before .before .before .before .before .before .before .before .before .before .before .before .before .before .before .before .before .before .before .before .args) .end = length-take-le ((c .before .before .before .before .before .before .before .before .before .before .before .before .before .before .before .before .before .before .before .before .args) .end) ((c .before .before .before .before .before .before .before .before .before .before .before .before .before .before .before .before .before .before .before .before .args) .text .now) ((c .before .before .before .before .before .before .before .before .before .before .before .before .before .before .before .before .before .before .before .before .pre) .3) in (
-      λ n. sides-many ((c .before .before .before .before .before .before .before .before .before .before .before .before .before .before .before .before .before .before .before .before .args) .text .now) ((c .before .before .before .before .before .before .before .before .before .before .before .before .before .before .before .before .before .before .before .before .args) .symbols .now) ((c .before .before .before .before .before .before .before .before .before .before .before .before .before .before .before .before .before .before .before .before .args) .rules .now) ((c .before .before .before .before .before .before .before .before .before .before .before .before .before .before .before .before .before .before .before .before .args) .constants .now) ((c .before .before .before .before .before .before .before .before .before .before .before .before .before .before .before .before .before .before .before .before .args) .stage) i ((c .before .before .before .before .before .before .before .before .before .before .before .before .before .before .before .before .before .before .before .before .args) .place) n (fieldsFrom (take ((c .before .before .before .before .before .before .before .before .before .before .before .before .before .before .before .before .before .before .before .before .args) .end) ((c .before .before .before .before .before .before .before .before .before .before .before .before .before .before .before .before .before .before .before .before .args) .text .now)) ((c .before .before .before .before .before .before .before .before .before .before .before .before .before .before .before .before .before .before .before .before .args) .at)) q room h e (omega arith) (take ((c .before .before .before .before .before .before .before .before .before .before .before .before .before .before .before .before .before .before .before .before .args) .end) ((c .before .before .before .before .before .before .before .before .before .before .before .before .before .before .before .before .before .before .before .before .args) .text .now)) ((c .before .before .before .before .before .before .before .before .before .before .before .before .before .before .before .before .before .before .before .before .args) .at) ((c .before .before .before .before .before .before .before .before .before .before .from) .given .0 .0) refl at ((c .before .before .before .before .before .before .if1) .left)
-          (ap (addedOf ((c .before .before .before .before .before .before .before .before .before .before .before .before .before .before .before .before .before .before .before .before .args) .text .now) ((c .before .before .before .before .before .before .before .before .before .before .before .before .before .before .before .before .before .before .before .before .args) .text .now) ((c .before .before .before .before .add-constants) .last .1 .1 .1 .1 .1 .0) 0) (sym ((c .enum-told2) .given .1)) ∙ (c .before .before .before .before .add-constants) .ensures),
+    let equation-form′ = c .before .before .before .before .before .before .before .before .before .before .before .before
+    .equation-form in
+    let wide′ = c .before .before .before .before .before .before .before .wide in
+    let if1′ = c .before .before .before .before .before .before .if1 in
+    let pre′ = c .before .before .before .before .before .before .before .before .before .before .before .before .before .before
+    .before .before .before .before .before .before .pre in
+    let args′ = c .before .before .before .before .before .before .before .before .before .before .before .before .before .before
+    .before .before .before .before .before .before .args in
+    let text′ = args′ .text .now in
+    let from′ = c .before .before .before .before .before .before .before .before .before .before .from in
+    let sides : SidesAt (take (args′ .end) text′) (args′ .at) (from′ .given .0 .0) =
+    rw (from′ .given .1) at (equation-form′ .ensures) in
+    let added′ = c .before .before .before .before .add-constants in (
+      λ n. sides-many text′ (args′ .symbols .now) (args′ .rules .now) (args′ .constants .now) (args′ .stage) (args′ .place) _
+          (pre′ .6) (pre′ .8) (pre′ .9) (wide′ .result) (wide′ .ensures .0) (take (args′ .end) text′) (args′ .at) _ refl sides n
+          (if1′ .left)
+          (ap (addedOf text′ text′ (added′ .last .1 .1 .1 .1 .1 .0) 0) (sym ((c .enum-told2) .given .1)) ∙ added′ .ensures),
       omega arith,
     )
 
@@ -219,50 +213,32 @@ same-length-3 c = search needs
 returns-4 : tie.Need-returns-4
 unfolding lineAnswer addedOf
 returns-4 c =
-    let i : ℕ = (c .before .before .before .before .before .before .before .before .before .before .before .before .before .before .before .before .before .before .before .before .before .before .before .before .before .before .before .before .args) .stage .rules - 1 in
-    let q : (c .before .before .before .before .before .before .before .before .before .before .before .before .before .before .before .before .before .before .before .before .before .before .before .before .before .before .before .before .args) .stage .rules ≡ suc i = omega (arith, (c .before .before .before .before .before .before .before .before .before .before .before .before .before .before .before .before .before .before .before .before .before .before .before .before .before .before .before .before .pre) .9) in
-    let room : 64 * i + 64 ≤ length ((c .before .before .before .before .before .before .before .before .before .before .before .before .before .before .before .before .before .before .before .before .before .before .before .before .before .before .before .before .args) .rules .now) = omega (arith, (c .before .before .before .before .before .before .before .before .before .before .before .before .before .before .before .before .before .before .before .before .before .before .before .before .before .before .before .before .pre) .6, (c .before .before .before .before .before .before .before .before .before .before .before .before .before .before .before .before .before .before .before .before .before .before .before .before .before .before .before .before .pre) .8 .few-rules, (c .before .before .before .before .before .before .before .before .before .before .before .before .before .before .before .before .before .before .before .before .before .before .before .before .before .before .before .before .pre) .9) in
-    let h : ℕ = (c .before .before .before .before .before .before .before .before .before .before .before .before .before .before .before .wide) .result in
-    let e : h ≡ getD ((c .before .before .before .before .before .before .before .before .before .before .before .before .before .before .before .before .before .before .before .before .before .before .before .before .before .before .before .before .args) .rules .now) (64 * i + 5) 0 = (c .before .before .before .before .before .before .before .before .before .before .before .before .before .before .before .wide) .ensures .0 in
-    let heads : getD ((c .before .before .before .before .before .before .before .before .before .before .before .before .before .before .before .before .before .before .before .before .before .before .before .before .before .before .before .before .args) .rules .now) (64 * i + 3) 0 ≤ 4 = (c .before .before .before .before .before .before .before .before .before .before .before .before .before .before .before .before .before .before .before .before .before .before .before .before .before .before .before .before .pre) .8 .few-heads ((c .before .before .before .before .before .before .before .before .before .before .before .before .before .before .before .before .before .before .before .before .before .before .before .before .before .before .before .before .pre) .9) in
-    let body : getD ((c .before .before .before .before .before .before .before .before .before .before .before .before .before .before .before .before .before .before .before .before .before .before .before .before .before .before .before .before .args) .rules .now) (64 * i + 4) 0 ≤ 6 = (c .before .before .before .before .before .before .before .before .before .before .before .before .before .before .before .before .before .before .before .before .before .before .before .before .before .before .before .before .pre) .8 .few-body ((c .before .before .before .before .before .before .before .before .before .before .before .before .before .before .before .before .before .before .before .before .before .before .before .before .before .before .before .before .pre) .9) in
-    let sides : getD ((c .before .before .before .before .before .before .before .before .before .before .before .before .before .before .before .before .before .before .before .before .before .before .before .before .before .before .before .before .args) .rules .now) (64 * i + 5) 0 ≤ 4 = (c .before .before .before .before .before .before .before .before .before .before .before .before .before .before .before .before .before .before .before .before .before .before .before .before .before .before .before .before .pre) .8 .few-sides ((c .before .before .before .before .before .before .before .before .before .before .before .before .before .before .before .before .before .before .before .before .before .before .before .before .before .before .before .before .pre) .9) in
-    let at : SidesAt (take ((c .before .before .before .before .before .before .before .before .before .before .before .before .before .before .before .before .before .before .before .before .before .before .before .before .before .before .before .before .args) .end) ((c .before .before .before .before .before .before .before .before .before .before .before .before .before .before .before .before .before .before .before .before .before .before .before .before .before .before .before .before .args) .text .now)) ((c .before .before .before .before .before .before .before .before .before .before .before .before .before .before .before .before .before .before .before .before .before .before .before .before .before .before .before .before .args) .at) ((c .before .before .before .before .before .before .before .before .before .before .before .before .before .before .before .before .before .before .from) .given .0 .0) = rw ((c .before .before .before .before .before .before .before .before .before .before .before .before .before .before .before .before .before .before .from) .given .1) at ((c .before .before .before .before .before .before .before .before .before .before .before .before .before .before .before .before .before .before .before .before .equation-form) .ensures) in
-    let sized : length (take ((c .before .before .before .before .before .before .before .before .before .before .before .before .before .before .before .before .before .before .before .before .before .before .before .before .before .before .before .before .args) .end) ((c .before .before .before .before .before .before .before .before .before .before .before .before .before .before .before .before .before .before .before .before .before .before .before .before .before .before .before .before .args) .text .now)) ≡ (c .before .before .before .before .before .before .before .before .before .before .before .before .before .before .before .before .before .before .before .before .before .before .before .before .before .before .before .before .args) .end = length-take-le ((c .before .before .before .before .before .before .before .before .before .before .before .before .before .before .before .before .before .before .before .before .before .before .before .before .before .before .before .before .args) .end) ((c .before .before .before .before .before .before .before .before .before .before .before .before .before .before .before .before .before .before .before .before .before .before .before .before .before .before .before .before .args) .text .now) ((c .before .before .before .before .before .before .before .before .before .before .before .before .before .before .before .before .before .before .before .before .before .before .before .before .before .before .before .before .pre) .3) in
-    let known : some (constantsOf ((c .before .before .before .before .before .before .before .before .before .before .before .before .before .before .before .before .before .before .before .before .before .before .before .before .before .before .before .before .args) .text .now) ((c .before .before .before .before .before .before .before .before .before .before .before .before .before .before .before .before .before .before .before .before .before .before .before .before .before .before .before .before .args) .text .now) ((c .before .before .before .before .before .before .before .before .before .before .before .before .add-constants) .last .1 .1 .1 .1 .1 .0) 0 ((c .before .before .before .before .before .before .before .before .count) .given .0 .0)) ≡ _ =
-    ap (addedOf ((c .before .before .before .before .before .before .before .before .before .before .before .before .before .before .before .before .before .before .before .before .before .before .before .before .before .before .before .before .args) .text .now) ((c .before .before .before .before .before .before .before .before .before .before .before .before .before .before .before .before .before .before .before .before .before .before .before .before .before .before .before .before .args) .text .now) ((c .before .before .before .before .before .before .before .before .before .before .before .before .add-constants) .last .1 .1 .1 .1 .1 .0) 0) (sym ((c .before .before .before .before .before .before .before .before .count) .given .1)) ∙ (c .before .before .before .before .before .before .before .before .before .before .before .before .add-constants) .ensures in
-    let fit : ((c .before .before .before .before .before .before .before .before .count) .given .0 .0) ≤ 64 =
-    omega (
-      arith,
-      roomy-is _ _ known .1,
-      ap (λ (l : List (List ℕ)). length l) (roomy-is _ _ known .0),
-      constants-length ((c .before .before .before .before .before .before .before .before .before .before .before .before .before .before .before .before .before .before .before .before .before .before .before .before .before .before .before .before .args) .text .now) ((c .before .before .before .before .before .before .before .before .before .before .before .before .before .before .before .before .before .before .before .before .before .before .before .before .before .before .before .before .args) .text .now) ((c .before .before .before .before .before .before .before .before .before .before .before .before .add-constants) .last .1 .1 .1 .1 .1 .0) 0 ((c .before .before .before .before .before .before .before .before .count) .given .0 .0),
-    ) in
-    let ds : List (List ℕ) = constantsOf ((c .before .before .before .before .before .before .before .before .before .before .before .before .before .before .before .before .before .before .before .before .before .before .before .before .before .before .before .before .args) .text .now) ((c .before .before .before .before .before .before .before .before .before .before .before .before .before .before .before .before .before .before .before .before .before .before .before .before .before .before .before .before .args) .text .now) ((c .before .before .before .before .before .before .before .before .before .before .before .before .add-constants) .last .1 .1 .1 .1 .1 .0) 0 ((c .before .before .before .before .before .before .before .before .count) .given .0 .0) in
-    let rest : List (List ℕ) = fieldsFrom (take ((c .before .before .before .before .before .before .before .before .before .before .before .before .before .before .before .before .before .before .before .before .before .before .before .before .before .before .before .before .args) .end) ((c .before .before .before .before .before .before .before .before .before .before .before .before .before .before .before .before .before .before .before .before .before .before .before .before .before .before .before .before .args) .text .now)) ((c .before .before .before .before .before .before .before .before .before .before .before .before .before .before .before .before .before .before .from) .given .0 .0) in
-    let ts : List ℕ = (c .before .before .before .before .before .terms-of) .result in
-    let pair : cellTerm (getD ts 0 0) ∷ cellTerm (getD ts 1 0) ∷ [] ≡ map (termOf letterNumber ds) rest =
-    sides-pair ts (termOf letterNumber ds) rest ((c .before .before .before .before .before .terms-of) .ensures .1) (at .two)
-    ((c .before .before .before .before .before .terms-of) .ensures .0 ∙ ap (λ (l : List ℕ). map (termOf (λ g. placeOf g (lettersOf l 26)) ds) rest) ((c .before .before .before .before .before .before .before .before .before .before .before .before .before .before .before .before .before .before .before .before .before .before .before .before .before .before .before .before .pre) .1) ∙ letters-are ds rest (at .terms)) in
-    let grow : (c .before .before .add-cells) .last .0 ≡ grown ((c .before .before .before .before .before .before .before .before .before .before .before .before .before .before .before .before .before .before .before .before .before .before .before .before .before .before .before .before .args) .rules .now) i 5 (56 + 2 * h) h (getD ((c .before .before .before .before .before .terms-of) .result) 0 0 ∷ getD ((c .before .before .before .before .before .terms-of) .result) 1 0 ∷ []) room (omega arith) (omega arith) (omega arith) =
-    (c .before .before .add-cells) .ensures ∙ ap (λ (v : ℕ). set (paste ((c .before .before .before .before .before .before .before .before .before .before .before .before .before .before .before .before .before .before .before .before .before .before .before .before .before .before .before .before .args) .rules .now) (64 * i + (56 + 2 * h)) (getD ((c .before .before .before .before .before .terms-of) .result) 0 0 ∷ getD ((c .before .before .before .before .before .terms-of) .result) 1 0 ∷ []) 2) (64 * i + 5) (suc v)) (sym e) in
-    rw grow (
-      λ n. sides-next ((c .before .before .before .before .before .before .before .before .before .before .before .before .before .before .before .before .before .before .before .before .before .before .before .before .before .before .before .before .args) .text .now) ((c .before .before .before .before .before .before .before .before .before .before .before .before .before .before .before .before .before .before .before .before .before .before .before .before .before .before .before .before .args) .symbols .now) ((c .before .before .before .before .before .before .before .before .before .before .before .before .before .before .before .before .before .before .before .before .before .before .before .before .before .before .before .before .args) .rules .now) ((c .before .before .before .before .before .before .before .before .before .before .before .before .before .before .before .before .before .before .before .before .before .before .before .before .before .before .before .before .args) .constants .now) ((c .before .before .before .before .before .before .before .before .before .before .before .before .before .before .before .before .before .before .before .before .before .before .before .before .before .before .before .before .args) .stage) i ((c .before .before .before .before .before .before .before .before .before .before .before .before .before .before .before .before .before .before .before .before .before .before .before .before .before .before .before .before .args) .place) n (fieldsFrom (take ((c .before .before .before .before .before .before .before .before .before .before .before .before .before .before .before .before .before .before .before .before .before .before .before .before .before .before .before .before .args) .end) ((c .before .before .before .before .before .before .before .before .before .before .before .before .before .before .before .before .before .before .before .before .before .before .before .before .before .before .before .before .args) .text .now)) ((c .before .before .before .before .before .before .before .before .before .before .before .before .before .before .before .before .before .before .before .before .before .before .before .before .before .before .before .before .args) .at)) q room h e (omega arith) (take ((c .before .before .before .before .before .before .before .before .before .before .before .before .before .before .before .before .before .before .before .before .before .before .before .before .before .before .before .before .args) .end) ((c .before .before .before .before .before .before .before .before .before .before .before .before .before .before .before .before .before .before .before .before .before .before .before .before .before .before .before .before .args) .text .now)) ((c .before .before .before .before .before .before .before .before .before .before .before .before .before .before .before .before .before .before .before .before .before .before .before .before .before .before .before .before .args) .at) ((c .before .before .before .before .before .before .before .before .before .before .before .before .before .before .before .before .before .before .from) .given .0 .0) refl at ds (cellTerm (getD ts 0 0)) (cellTerm (getD ts 1 0)) _ ((c .before .before .before .before .before .before .before .before .before .before .before .before .before .before .if1) .left) known pair
-          (draft-grown ((c .before .before .before .before .before .before .before .before .before .before .before .before .before .before .before .before .before .before .before .before .before .before .before .before .before .before .before .before .args) .text .now) ((c .before .before .before .before .before .before .before .before .before .before .before .before .before .before .before .before .before .before .before .before .before .before .before .before .before .before .before .before .args) .symbols .now) ((c .before .before .before .before .before .before .before .before .before .before .before .before .before .before .before .before .before .before .before .before .before .before .before .before .before .before .before .before .args) .rules .now) ((c .before .before .before .before .before .before .before .before .before .before .before .before .before .before .before .before .before .before .before .before .before .before .before .before .before .before .before .before .args) .constants .now) ((c .before .before .before .before .before .before .before .before .before .before .before .before .before .before .before .before .before .before .before .before .before .before .before .before .before .before .before .before .args) .stage) i ((c .before .before .before .before .before .before .before .before .before .before .before .before .before .before .before .before .before .before .before .before .before .before .before .before .before .before .before .before .args) .place) n (fieldsFrom (take ((c .before .before .before .before .before .before .before .before .before .before .before .before .before .before .before .before .before .before .before .before .before .before .before .before .before .before .before .before .args) .end) ((c .before .before .before .before .before .before .before .before .before .before .before .before .before .before .before .before .before .before .before .before .before .before .before .before .before .before .before .before .args) .text .now)) ((c .before .before .before .before .before .before .before .before .before .before .before .before .before .before .before .before .before .before .before .before .before .before .before .before .before .before .before .before .args) .at)) q room (grown ((c .before .before .before .before .before .before .before .before .before .before .before .before .before .before .before .before .before .before .before .before .before .before .before .before .before .before .before .before .args) .rules .now) i 5 (56 + 2 * h) h (getD ((c .before .before .before .before .before .terms-of) .result) 0 0 ∷ getD ((c .before .before .before .before .before .terms-of) .result) 1 0 ∷ []) room (omega arith) (omega arith) (omega arith)) ((c .before .before .before .before .before .before .before .before .before .before .before .before .add-constants) .last .1 .1 .1 .1 .1 .0) ((c .before .before .before .before .before .before .before .before .count) .given .0 .0)
-          (withEquation (record { left = cellTerm (getD ts 0 0); right = cellTerm (getD ts 1 0) }))
-          (rules-grown ((c .before .before .before .before .before .before .before .before .before .before .before .before .before .before .before .before .before .before .before .before .before .before .before .before .before .before .before .before .args) .rules .now) i 5 (56 + 2 * h) h (getD ((c .before .before .before .before .before .terms-of) .result) 0 0 ∷ getD ((c .before .before .before .before .before .terms-of) .result) 1 0 ∷ []) room (omega arith) (omega arith) (omega arith) ((c .before .before .before .before .before .before .before .before .before .before .before .before .before .before .before .before .before .before .before .before .before .before .before .before .before .before .before .before .args) .text .now) (withEquation (record { left = cellTerm (getD ts 0 0); right = cellTerm (getD ts 1 0) }))
-          (sides-grown ((c .before .before .before .before .before .before .before .before .before .before .before .before .before .before .before .before .before .before .before .before .before .before .before .before .before .before .before .before .args) .text .now) ((c .before .before .before .before .before .before .before .before .before .before .before .before .before .before .before .before .before .before .before .before .before .before .before .before .before .before .before .before .args) .rules .now) i room h (getD ts 0 0) (getD ts 1 0) e ((c .before .before .before .before .before .before .before .before .before .before .before .before .before .before .if1) .left) heads body))
-          (starts-grown ((c .before .before .before .before .before .before .before .before .before .before .before .before .before .before .before .before .before .before .before .before .before .before .before .before .before .before .before .before .args) .rules .now) i 5 (56 + 2 * h) h (getD ((c .before .before .before .before .before .terms-of) .result) 0 0 ∷ getD ((c .before .before .before .before .before .terms-of) .result) 1 0 ∷ []) room (omega arith) (omega arith) (omega arith) (λ z. omega (arith, z)))),
-      record {
-        few-symbols = (c .before .before .before .before .before .before .before .before .before .before .before .before .before .before .before .before .before .before .before .before .before .before .before .before .before .before .before .before .pre) .8 .few-symbols;
-        few-rules = (c .before .before .before .before .before .before .before .before .before .before .before .before .before .before .before .before .before .before .before .before .before .before .before .before .before .before .before .before .pre) .8 .few-rules;
-        few-constants = fit;
-        begun = λ z. (c .before .before .before .before .before .before .before .before .before .before .before .before .before .before .before .before .before .before .before .before .before .before .before .before .before .before .before .before .pre) .9;
-        few-heads = λ z. omega (arith, other-count ((c .before .before .before .before .before .before .before .before .before .before .before .before .before .before .before .before .before .before .before .before .before .before .before .before .before .before .before .before .args) .rules .now) i 5 (56 + 2 * h) h (getD ((c .before .before .before .before .before .terms-of) .result) 0 0 ∷ getD ((c .before .before .before .before .before .terms-of) .result) 1 0 ∷ []) room (omega arith) (omega arith) (omega arith) 3 (omega arith) (λ z. omega (arith, z)), heads);
-        few-body = λ z. omega (arith, other-count ((c .before .before .before .before .before .before .before .before .before .before .before .before .before .before .before .before .before .before .before .before .before .before .before .before .before .before .before .before .args) .rules .now) i 5 (56 + 2 * h) h (getD ((c .before .before .before .before .before .terms-of) .result) 0 0 ∷ getD ((c .before .before .before .before .before .terms-of) .result) 1 0 ∷ []) room (omega arith) (omega arith) (omega arith) 4 (omega arith) (λ z. omega (arith, z)), body);
-        few-sides = λ z. omega (arith, counted ((c .before .before .before .before .before .before .before .before .before .before .before .before .before .before .before .before .before .before .before .before .before .before .before .before .before .before .before .before .args) .rules .now) i 5 (56 + 2 * h) h (getD ((c .before .before .before .before .before .terms-of) .result) 0 0 ∷ getD ((c .before .before .before .before .before .terms-of) .result) 1 0 ∷ []) room (omega arith) (omega arith) (omega arith), (c .before .before .before .before .before .before .before .before .before .before .before .before .before .before .if1) .left);
-      },
-    )
+    let equation-form′ = c .before .before .before .before .before .before .before .before .before .before .before .before .before
+    .before .before .before .before .before .before .before .equation-form in
+    let wide′ = c .before .before .before .before .before .before .before .before .before .before .before .before .before .before
+    .before .wide in
+    let if1′ = c .before .before .before .before .before .before .before .before .before .before .before .before .before .before
+    .if1 in
+    let terms-of′ = c .before .before .before .before .before .terms-of in
+    let pre′ = c .before .before .before .before .before .before .before .before .before .before .before .before .before .before
+    .before .before .before .before .before .before .before .before .before .before .before .before .before .before .pre in
+    let args′ = c .before .before .before .before .before .before .before .before .before .before .before .before .before .before
+    .before .before .before .before .before .before .before .before .before .before .before .before .before .before .args in
+    let text′ = args′ .text .now in
+    let from′ = c .before .before .before .before .before .before .before .before .before .before .before .before .before .before
+    .before .before .before .before .from in
+    let sides : SidesAt (take (args′ .end) text′) (args′ .at) (from′ .given .0 .0) =
+    rw (from′ .given .1) at (equation-form′ .ensures) in
+    let added′ = c .before .before .before .before .before .before .before .before .before .before .before .before
+    .add-constants in
+    let count′ = c .before .before .before .before .before .before .before .before .count in
+    let known : some (constantsOf text′ text′ (added′ .last .1 .1 .1 .1 .1 .0) 0 (count′ .given .0 .0)) ≡ _ =
+    ap (addedOf text′ text′ (added′ .last .1 .1 .1 .1 .1 .0) 0) (sym (count′ .given .1)) ∙ added′ .ensures in
+    sides-next text′ (args′ .symbols .now) (args′ .rules .now) (args′ .constants .now) (args′ .stage) (args′ .place) _
+    (pre′ .6) (pre′ .8) (pre′ .9) (wide′ .result) (wide′ .ensures .0) (take (args′ .end) text′) (args′ .at) _ refl sides
+    (args′ .letters .now) (terms-of′ .result) _ (added′ .last .1 .1 .1 .1 .1 .0) (count′ .given .0 .0) (if1′ .left) (pre′ .1)
+    (terms-of′ .ensures .1) known
+    (terms-of′ .ensures .0) ((c .before .before .add-cells) .ensures)
 
 pub equation-line-spec : {M : Type 1} → statement M
 equation-line-spec =

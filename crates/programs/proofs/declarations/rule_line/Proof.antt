@@ -1,27 +1,30 @@
 -- `programs::declarations::rule_line` meets its contract: numbers 4, 5 and 7, else the rule is stored behind the others.
 -- Assumes nothing.
 use borrow.Author.Needs.{needs}
-use mathlib.Core.Path.{_≡_, refl, sym, ap, _∙_}
-use mathlib.Core.List.{List, [], _∷_}
-use Prim.Native.Nat.{ℕ, suc, _≤_, _<_, _+_, _-_, _*_}
+use mathlib.Core.Path.{_≡_, sym, _∙_}
+use Prim.Native.Nat.{suc, _-_}
 use native.Mathlib.Numerals.{add-one}
 use native.Mathlib.Omega.{arith}
-use lib.ListN.{length, take, drop, getD}
+use lib.ListN.{length, take}
 use lib.Seq.{length-take-le}
 use Rattle.text.specs.Places.{fieldsFrom}
 use Rattle.text.proofs.Cursors.{drop-take}
-use Rattle.programs.specs.Read.{RuleAt, lineAnswer, Sound}
+use Rattle.programs.specs.Read.{RuleAt, lineAnswer}
 use Rattle.lines.proofs.Cells.{part-in-line}
 use Rattle.programs.proofs.Drafts.{rule-faulty, rule-repeated, rule-full, rule-new, fresh-heads, fresh-body, fresh-sides}
-use borrow.Author.Needs.{needs}
 use Rattle.programs.proofs.declarations.rule_line.Statement.{statement}
 use Rattle.programs.proofs.declarations.rule_line.Tie as tie
 
 slice-aggregate-line : tie.Need-slice-aggregate-line
-slice-aggregate-line c = sym (length-take-le ((c .before .before .before .before .args) .end) ((c .before .before .before .before .args) .text .now) ((c .before .before .before .before .pre) .2))
+slice-aggregate-line c =
+    let args′ = c .before .before .before .before .args in
+    sym (length-take-le (args′ .end) (args′ .text .now) ((c .before .before .before .before .pre) .2))
 
 rule-form-requires : tie.Need-rule-form-requires
-rule-form-requires c κs = ((c .before .before .before .before .pre) .0, omega (arith, length-take-le ((c .before .before .before .before .args) .end) ((c .before .before .before .before .args) .text .now) ((c .before .before .before .before .pre) .2)))
+rule-form-requires c κs =
+    let pre′ = c .before .before .before .before .pre in
+    let args′ = c .before .before .before .before .args in
+    (pre′ .0, omega (arith, length-take-le (args′ .end) (args′ .text .now) (pre′ .2)))
 
 enum-told : tie.Need-enum-told
 enum-told c = search needs
@@ -31,20 +34,26 @@ enum-known-start c = search needs
 
 sub-find-name : tie.Need-sub-find-name
 sub-find-name c =
-    let f : RuleAt (take ((c .before .before .before .before .before .before .before .before .before .args) .end) ((c .before .before .before .before .before .before .before .before .before .args) .text .now)) ((c .before .before .before .before .before .before .before .before .before .args) .at) ((c .before .before .start) .given .0 .0) ((c .before .before .start) .given .0 .1 .0) = rw ((c .before .before .start) .given .1) at ((c .before .before .before .before .rule-form) .ensures) in
-    let sized : length (take ((c .before .before .before .before .before .before .before .before .before .args) .end) ((c .before .before .before .before .before .before .before .before .before .args) .text .now)) ≡ (c .before .before .before .before .before .before .before .before .before .args) .end = length-take-le ((c .before .before .before .before .before .before .before .before .before .args) .end) ((c .before .before .before .before .before .before .before .before .before .args) .text .now) ((c .before .before .before .before .before .before .before .before .before .pre) .2) in
+    let args′ = c .before .before .before .before .before .before .before .before .before .args in
+    let start′ = c .before .before .start in
+    let f : RuleAt (take (args′ .end) (args′ .text .now)) (args′ .at) (start′ .given .0 .0) (start′ .given .0 .1 .0) =
+    rw (start′ .given .1) at ((c .before .before .before .before .rule-form) .ensures) in
     f .starts
 
 part-find-name-start : tie.Need-part-find-name-start
 part-find-name-start c =
-    let f : RuleAt (take ((c .before .before .before .before .before .before .before .before .before .args) .end) ((c .before .before .before .before .before .before .before .before .before .args) .text .now)) ((c .before .before .before .before .before .before .before .before .before .args) .at) ((c .before .before .start) .given .0 .0) ((c .before .before .start) .given .0 .1 .0) = rw ((c .before .before .start) .given .1) at ((c .before .before .before .before .rule-form) .ensures) in
-    let sized : length (take ((c .before .before .before .before .before .before .before .before .before .args) .end) ((c .before .before .before .before .before .before .before .before .before .args) .text .now)) ≡ (c .before .before .before .before .before .before .before .before .before .args) .end = length-take-le ((c .before .before .before .before .before .before .before .before .before .args) .end) ((c .before .before .before .before .before .before .before .before .before .args) .text .now) ((c .before .before .before .before .before .before .before .before .before .pre) .2) in
+    let args′ = c .before .before .before .before .before .before .before .before .before .args in
+    let start′ = c .before .before .start in
+    let f : RuleAt (take (args′ .end) (args′ .text .now)) (args′ .at) (start′ .given .0 .0) (start′ .given .0 .1 .0) =
+    rw (start′ .given .1) at ((c .before .before .before .before .rule-form) .ensures) in
     f .starts
 
 part-find-name-end : tie.Need-part-find-name-end
 part-find-name-end c =
-    let f : RuleAt (take ((c .before .before .before .before .before .before .before .before .before .args) .end) ((c .before .before .before .before .before .before .before .before .before .args) .text .now)) ((c .before .before .before .before .before .before .before .before .before .args) .at) ((c .before .before .start) .given .0 .0) ((c .before .before .start) .given .0 .1 .0) = rw ((c .before .before .start) .given .1) at ((c .before .before .before .before .rule-form) .ensures) in
-    let sized : length (take ((c .before .before .before .before .before .before .before .before .before .args) .end) ((c .before .before .before .before .before .before .before .before .before .args) .text .now)) ≡ (c .before .before .before .before .before .before .before .before .before .args) .end = length-take-le ((c .before .before .before .before .before .before .before .before .before .args) .end) ((c .before .before .before .before .before .before .before .before .before .args) .text .now) ((c .before .before .before .before .before .before .before .before .before .pre) .2) in
+    let args′ = c .before .before .before .before .before .before .before .before .before .args in
+    let start′ = c .before .before .start in
+    let f : RuleAt (take (args′ .end) (args′ .text .now)) (args′ .at) (start′ .given .0 .0) (start′ .given .0 .1 .0) =
+    rw (start′ .given .1) at ((c .before .before .before .before .rule-form) .ensures) in
     f .stops
 
 find-name-requires : tie.Need-find-name-requires
@@ -56,9 +65,20 @@ same-length c = search needs
 returns : tie.Need-returns
 unfolding lineAnswer
 returns c =
-    let f : RuleAt (take ((c .before .before .before .before .before .before .before .before .before .before .before .before .args) .end) ((c .before .before .before .before .before .before .before .before .before .before .before .before .args) .text .now)) ((c .before .before .before .before .before .before .before .before .before .before .before .before .args) .at) ((c .before .before .before .before .before .start) .given .0 .0) ((c .before .before .before .before .before .start) .given .0 .1 .0) = rw ((c .before .before .before .before .before .start) .given .1) at ((c .before .before .before .before .before .before .before .rule-form) .ensures) in
-    let sized : length (take ((c .before .before .before .before .before .before .before .before .before .before .before .before .args) .end) ((c .before .before .before .before .before .before .before .before .before .before .before .before .args) .text .now)) ≡ (c .before .before .before .before .before .before .before .before .before .before .before .before .args) .end = length-take-le ((c .before .before .before .before .before .before .before .before .before .before .before .before .args) .end) ((c .before .before .before .before .before .before .before .before .before .before .before .before .args) .text .now) ((c .before .before .before .before .before .before .before .before .before .before .before .before .pre) .2) in
-    ((λ symbols constants. rule-repeated ((c .before .before .before .before .before .before .before .before .before .before .before .before .args) .text .now) symbols ((c .before .before .before .before .before .before .before .before .before .before .before .before .args) .rules .now) constants ((c .before .before .before .before .before .before .before .before .before .before .before .before .args) .stage) ((c .before .before .before .before .before .before .before .before .before .before .before .before .args) .place) ((c .before .before .before .before .before .before .before .before .before .before .before .before .args) .number) (fieldsFrom (take ((c .before .before .before .before .before .before .before .before .before .before .before .before .args) .end) ((c .before .before .before .before .before .before .before .before .before .before .before .before .args) .text .now)) ((c .before .before .before .before .before .before .before .before .before .before .before .before .args) .at)) ((c .before .find-name) .result) _ (f .fine) (f .name ∙ drop-take ((c .before .before .before .before .before .start) .given .0 .0) ((c .before .before .before .before .before .start) .given .0 .1 .0) (take ((c .before .before .before .before .before .before .before .before .before .before .before .before .args) .end) ((c .before .before .before .before .before .before .before .before .before .before .before .before .args) .text .now)) (f .starts)) ((c .before .find-name) .ensures .0) ((c .if1) .taken)), λ d. omega arith)
+    let args′ = c .before .before .before .before .before .before .before .before .before .before .before .before .args in
+    let text′ = args′ .text .now in
+    let rule-form′ = c .before .before .before .before .before .before .before .rule-form in
+    let start′ = c .before .before .before .before .before .start in
+    let find-name′ = c .before .find-name in
+    let f : RuleAt (take (args′ .end) text′) (args′ .at) (start′ .given .0 .0) (start′ .given .0 .1 .0) =
+    rw (start′ .given .1) at (rule-form′ .ensures) in (
+      (λ symbols constants. rule-repeated text′ symbols (args′ .rules .now) constants (args′ .stage) (args′ .place)
+          (args′ .number)
+          (fieldsFrom (take (args′ .end) text′) (args′ .at)) (find-name′ .result) _ (f .fine)
+          (f .name ∙ drop-take (start′ .given .0 .0) (start′ .given .0 .1 .0) (take (args′ .end) text′) (f .starts))
+          (find-name′ .ensures .0) ((c .if1) .taken)),
+      λ d. omega arith,
+    )
 
 same-length-2 : tie.Need-same-length-2
 same-length-2 c = search needs
@@ -66,27 +86,54 @@ same-length-2 c = search needs
 returns-2 : tie.Need-returns-2
 unfolding lineAnswer
 returns-2 c =
-    let f : RuleAt (take ((c .before .before .before .before .before .before .before .before .before .before .before .before .before .args) .end) ((c .before .before .before .before .before .before .before .before .before .before .before .before .before .args) .text .now)) ((c .before .before .before .before .before .before .before .before .before .before .before .before .before .args) .at) ((c .before .before .before .before .before .before .start) .given .0 .0) ((c .before .before .before .before .before .before .start) .given .0 .1 .0) = rw ((c .before .before .before .before .before .before .start) .given .1) at ((c .before .before .before .before .before .before .before .before .rule-form) .ensures) in
-    let sized : length (take ((c .before .before .before .before .before .before .before .before .before .before .before .before .before .args) .end) ((c .before .before .before .before .before .before .before .before .before .before .before .before .before .args) .text .now)) ≡ (c .before .before .before .before .before .before .before .before .before .before .before .before .before .args) .end = length-take-le ((c .before .before .before .before .before .before .before .before .before .before .before .before .before .args) .end) ((c .before .before .before .before .before .before .before .before .before .before .before .before .before .args) .text .now) ((c .before .before .before .before .before .before .before .before .before .before .before .before .before .pre) .2) in
-    ((λ symbols constants. rule-full ((c .before .before .before .before .before .before .before .before .before .before .before .before .before .args) .text .now) symbols ((c .before .before .before .before .before .before .before .before .before .before .before .before .before .args) .rules .now) constants ((c .before .before .before .before .before .before .before .before .before .before .before .before .before .args) .stage) ((c .before .before .before .before .before .before .before .before .before .before .before .before .before .args) .place) ((c .before .before .before .before .before .before .before .before .before .before .before .before .before .args) .number) (fieldsFrom (take ((c .before .before .before .before .before .before .before .before .before .before .before .before .before .args) .end) ((c .before .before .before .before .before .before .before .before .before .before .before .before .before .args) .text .now)) ((c .before .before .before .before .before .before .before .before .before .before .before .before .before .args) .at)) ((c .before .before .find-name) .result) _ (f .fine) (f .name ∙ drop-take ((c .before .before .before .before .before .before .start) .given .0 .0) ((c .before .before .before .before .before .before .start) .given .0 .1 .0) (take ((c .before .before .before .before .before .before .before .before .before .before .before .before .before .args) .end) ((c .before .before .before .before .before .before .before .before .before .before .before .before .before .args) .text .now)) (f .starts)) ((c .before .before .find-name) .ensures .0) ((c .before .if1) .left) ((c .if2) .taken)), λ d. omega arith)
+    let args′ = c .before .before .before .before .before .before .before .before .before .before .before .before .before .args in
+    let text′ = args′ .text .now in
+    let rule-form′ = c .before .before .before .before .before .before .before .before .rule-form in
+    let start′ = c .before .before .before .before .before .before .start in
+    let find-name′ = c .before .before .find-name in
+    let f : RuleAt (take (args′ .end) text′) (args′ .at) (start′ .given .0 .0) (start′ .given .0 .1 .0) =
+    rw (start′ .given .1) at (rule-form′ .ensures) in (
+      (λ symbols constants. rule-full text′ symbols (args′ .rules .now) constants (args′ .stage) (args′ .place) (args′ .number)
+          (fieldsFrom (take (args′ .end) text′) (args′ .at)) (find-name′ .result) _ (f .fine)
+          (f .name ∙ drop-take (start′ .given .0 .0) (start′ .given .0 .1 .0) (take (args′ .end) text′) (f .starts))
+          (find-name′ .ensures .0) ((c .before .if1) .left) ((c .if2) .taken)),
+      λ d. omega arith,
+    )
 
 cast-t25 : tie.Need-cast-t25
 cast-t25 c =
-    let f : RuleAt (take ((c .before .before .before .before .before .before .before .before .before .before .before .before .before .args) .end) ((c .before .before .before .before .before .before .before .before .before .before .before .before .before .args) .text .now)) ((c .before .before .before .before .before .before .before .before .before .before .before .before .before .args) .at) ((c .before .before .before .before .before .before .start) .given .0 .0) ((c .before .before .before .before .before .before .start) .given .0 .1 .0) = rw ((c .before .before .before .before .before .before .start) .given .1) at ((c .before .before .before .before .before .before .before .before .rule-form) .ensures) in
-    let sized : length (take ((c .before .before .before .before .before .before .before .before .before .before .before .before .before .args) .end) ((c .before .before .before .before .before .before .before .before .before .before .before .before .before .args) .text .now)) ≡ (c .before .before .before .before .before .before .before .before .before .before .before .before .before .args) .end = length-take-le ((c .before .before .before .before .before .before .before .before .before .before .before .before .before .args) .end) ((c .before .before .before .before .before .before .before .before .before .before .before .before .before .args) .text .now) ((c .before .before .before .before .before .before .before .before .before .before .before .before .before .pre) .2) in
-    record { fits = omega (arith, f .starts, f .stops, (c .before .before .before .before .before .before .before .before .before .before .before .before .before .pre) .2, (c .before .before .before .before .before .before .before .before .before .before .before .before .before .pre) .3) }
+    let args′ = c .before .before .before .before .before .before .before .before .before .before .before .before .before .args in
+    let text′ = args′ .text .now in
+    let pre′ = c .before .before .before .before .before .before .before .before .before .before .before .before .before .pre in
+    let rule-form′ = c .before .before .before .before .before .before .before .before .rule-form in
+    let start′ = c .before .before .before .before .before .before .start in
+    let f : RuleAt (take (args′ .end) text′) (args′ .at) (start′ .given .0 .0) (start′ .given .0 .1 .0) =
+    rw (start′ .given .1) at (rule-form′ .ensures) in
+    let sized : length (take (args′ .end) text′) ≡ args′ .end =
+    length-take-le (args′ .end) text′ (pre′ .2) in
+    record { fits = omega (arith, f .starts, f .stops, pre′ .2, pre′ .3) }
 
 sub-t21 : tie.Need-sub-t21
 sub-t21 c =
-    let f : RuleAt (take ((c .before .before .before .before .before .before .before .before .before .before .before .before .before .args) .end) ((c .before .before .before .before .before .before .before .before .before .before .before .before .before .args) .text .now)) ((c .before .before .before .before .before .before .before .before .before .before .before .before .before .args) .at) ((c .before .before .before .before .before .before .start) .given .0 .0) ((c .before .before .before .before .before .before .start) .given .0 .1 .0) = rw ((c .before .before .before .before .before .before .start) .given .1) at ((c .before .before .before .before .before .before .before .before .rule-form) .ensures) in
-    let sized : length (take ((c .before .before .before .before .before .before .before .before .before .before .before .before .before .args) .end) ((c .before .before .before .before .before .before .before .before .before .before .before .before .before .args) .text .now)) ≡ (c .before .before .before .before .before .before .before .before .before .before .before .before .before .args) .end = length-take-le ((c .before .before .before .before .before .before .before .before .before .before .before .before .before .args) .end) ((c .before .before .before .before .before .before .before .before .before .before .before .before .before .args) .text .now) ((c .before .before .before .before .before .before .before .before .before .before .before .before .before .pre) .2) in
+    let args′ = c .before .before .before .before .before .before .before .before .before .before .before .before .before .args in
+    let rule-form′ = c .before .before .before .before .before .before .before .before .rule-form in
+    let start′ = c .before .before .before .before .before .before .start in
+    let f : RuleAt (take (args′ .end) (args′ .text .now)) (args′ .at) (start′ .given .0 .0) (start′ .given .0 .1 .0) =
+    rw (start′ .given .1) at (rule-form′ .ensures) in
     f .starts
 
 cast-t26 : tie.Need-cast-t26
 cast-t26 c =
-    let f : RuleAt (take ((c .before .before .before .before .before .before .before .before .before .before .before .before .before .args) .end) ((c .before .before .before .before .before .before .before .before .before .before .before .before .before .args) .text .now)) ((c .before .before .before .before .before .before .before .before .before .before .before .before .before .args) .at) ((c .before .before .before .before .before .before .start) .given .0 .0) ((c .before .before .before .before .before .before .start) .given .0 .1 .0) = rw ((c .before .before .before .before .before .before .start) .given .1) at ((c .before .before .before .before .before .before .before .before .rule-form) .ensures) in
-    let sized : length (take ((c .before .before .before .before .before .before .before .before .before .before .before .before .before .args) .end) ((c .before .before .before .before .before .before .before .before .before .before .before .before .before .args) .text .now)) ≡ (c .before .before .before .before .before .before .before .before .before .before .before .before .before .args) .end = length-take-le ((c .before .before .before .before .before .before .before .before .before .before .before .before .before .args) .end) ((c .before .before .before .before .before .before .before .before .before .before .before .before .before .args) .text .now) ((c .before .before .before .before .before .before .before .before .before .before .before .before .before .pre) .2) in
-    record { fits = omega (arith, f .starts, f .stops, (c .before .before .before .before .before .before .before .before .before .before .before .before .before .pre) .2, (c .before .before .before .before .before .before .before .before .before .before .before .before .before .pre) .3) }
+    let args′ = c .before .before .before .before .before .before .before .before .before .before .before .before .before .args in
+    let text′ = args′ .text .now in
+    let pre′ = c .before .before .before .before .before .before .before .before .before .before .before .before .before .pre in
+    let rule-form′ = c .before .before .before .before .before .before .before .before .rule-form in
+    let start′ = c .before .before .before .before .before .before .start in
+    let f : RuleAt (take (args′ .end) text′) (args′ .at) (start′ .given .0 .0) (start′ .given .0 .1 .0) =
+    rw (start′ .given .1) at (rule-form′ .ensures) in
+    let sized : length (take (args′ .end) text′) ≡ args′ .end =
+    length-take-le (args′ .end) text′ (pre′ .2) in
+    record { fits = omega (arith, f .starts, f .stops, pre′ .2, pre′ .3) }
 
 mul-write-cells : tie.Need-mul-write-cells
 mul-write-cells c = search needs
@@ -103,7 +150,12 @@ add-t21 c = search needs
 returns-3 : tie.Need-returns-3
 unfolding lineAnswer
 returns-3 c =
-    ((λ symbols constants. rule-faulty ((c .before .before .before .before .before .before .before .args) .text .now) symbols ((c .before .before .before .before .before .before .before .args) .rules .now) constants ((c .before .before .before .before .before .before .before .args) .stage) ((c .before .before .before .before .before .before .before .args) .place) ((c .before .before .before .before .before .before .before .args) .number) (fieldsFrom (take ((c .before .before .before .before .before .before .before .args) .end) ((c .before .before .before .before .before .before .before .args) .text .now)) ((c .before .before .before .before .before .before .before .args) .at)) (rw ((c .enum-told) .given .1) at ((c .before .before .rule-form) .ensures))), λ d. omega arith)
+    let args′ = c .before .before .before .before .before .before .before .args in (
+      (λ symbols constants. rule-faulty (args′ .text .now) symbols (args′ .rules .now) constants (args′ .stage) (args′ .place)
+          (args′ .number) (fieldsFrom (take (args′ .end) (args′ .text .now)) (args′ .at))
+          (rw ((c .enum-told) .given .1) at ((c .before .before .rule-form) .ensures))),
+      λ d. omega arith,
+    )
 
 same-length-3 : tie.Need-same-length-3
 same-length-3 c = search needs
@@ -111,21 +163,50 @@ same-length-3 c = search needs
 returns-4 : tie.Need-returns-4
 unfolding lineAnswer
 returns-4 c =
-    let f : RuleAt (take ((c .before .before .before .before .before .before .before .before .before .before .before .before .before .before .before .before .before .before .args) .end) ((c .before .before .before .before .before .before .before .before .before .before .before .before .before .before .before .before .before .before .args) .text .now)) ((c .before .before .before .before .before .before .before .before .before .before .before .before .before .before .before .before .before .before .args) .at) ((c .before .before .before .before .before .before .before .before .before .before .before .start) .given .0 .0) ((c .before .before .before .before .before .before .before .before .before .before .before .start) .given .0 .1 .0) = rw ((c .before .before .before .before .before .before .before .before .before .before .before .start) .given .1) at ((c .before .before .before .before .before .before .before .before .before .before .before .before .before .rule-form) .ensures) in
-    let sized : length (take ((c .before .before .before .before .before .before .before .before .before .before .before .before .before .before .before .before .before .before .args) .end) ((c .before .before .before .before .before .before .before .before .before .before .before .before .before .before .before .before .before .before .args) .text .now)) ≡ (c .before .before .before .before .before .before .before .before .before .before .before .before .before .before .before .before .before .before .args) .end = length-take-le ((c .before .before .before .before .before .before .before .before .before .before .before .before .before .before .before .before .before .before .args) .end) ((c .before .before .before .before .before .before .before .before .before .before .before .before .before .before .before .before .before .before .args) .text .now) ((c .before .before .before .before .before .before .before .before .before .before .before .before .before .before .before .before .before .before .pre) .2) in
-    let last : suc ((c .before .before .before .before .before .before .before .before .before .before .before .before .before .before .before .before .before .before .args) .stage .rules) - 1 ≡ (c .before .before .before .before .before .before .before .before .before .before .before .before .before .before .before .before .before .before .args) .stage .rules = omega arith in (
-      (λ symbols constants. rw ((c .before .before .write-cells) .ensures, add-one ((c .before .before .before .before .before .before .before .before .before .before .before .before .before .before .before .before .before .before .args) .stage .rules))
-          (rule-new ((c .before .before .before .before .before .before .before .before .before .before .before .before .before .before .before .before .before .before .args) .text .now) symbols ((c .before .before .before .before .before .before .before .before .before .before .before .before .before .before .before .before .before .before .args) .rules .now) constants ((c .before .before .before .before .before .before .before .before .before .before .before .before .before .before .before .before .before .before .args) .stage) ((c .before .before .before .before .before .before .before .before .before .before .before .before .before .before .before .before .before .before .args) .place) ((c .before .before .before .before .before .before .before .before .before .before .before .before .before .before .before .before .before .before .args) .number) (fieldsFrom (take ((c .before .before .before .before .before .before .before .before .before .before .before .before .before .before .before .before .before .before .args) .end) ((c .before .before .before .before .before .before .before .before .before .before .before .before .before .before .before .before .before .before .args) .text .now)) ((c .before .before .before .before .before .before .before .before .before .before .before .before .before .before .before .before .before .before .args) .at))
-          ((c .before .before .before .before .before .before .before .find-name) .result) _ (f .fine) (f .name ∙ drop-take ((c .before .before .before .before .before .before .before .before .before .before .before .start) .given .0 .0) ((c .before .before .before .before .before .before .before .before .before .before .before .start) .given .0 .1 .0) (take ((c .before .before .before .before .before .before .before .before .before .before .before .before .before .before .before .before .before .before .args) .end) ((c .before .before .before .before .before .before .before .before .before .before .before .before .before .before .before .before .before .before .args) .text .now)) (f .starts)) ((c .before .before .before .before .before .before .before .find-name) .ensures .0) _ _ ((c .before .before .before .before .before .before .if1) .left) ((c .before .before .before .before .before .if2) .left) ((c .before .before .before .before .before .before .before .before .before .before .before .before .before .before .before .before .before .before .pre) .4)
-          (part-in-line ((c .before .before .before .before .before .before .before .before .before .before .before .before .before .before .before .before .before .before .args) .text .now) ((c .before .before .before .before .before .before .before .before .before .before .before .start) .given .0 .0) ((c .before .before .before .before .before .before .before .before .before .before .before .start) .given .0 .1 .0) ((c .before .before .before .before .before .before .before .before .before .before .before .before .before .before .before .before .before .before .args) .end) (f .starts) (omega (arith, f .stops))))),
-      λ d. rw ((c .before .before .write-cells) .ensures, add-one ((c .before .before .before .before .before .before .before .before .before .before .before .before .before .before .before .before .before .before .args) .stage .rules)) (record {
+    let args′ = c .before .before .before .before .before .before .before .before .before .before .before .before .before .before
+    .before .before .before .before .args in
+    let text′ = args′ .text .now in
+    let rules′ = args′ .rules .now in
+    let pre′ = c .before .before .before .before .before .before .before .before .before .before .before .before .before .before
+    .before .before .before .before .pre in
+    let rule-form′ = c .before .before .before .before .before .before .before .before .before .before .before .before .before
+    .rule-form in
+    let start′ = c .before .before .before .before .before .before .before .before .before .before .before .start in
+    let find-name′ = c .before .before .before .before .before .before .before .find-name in
+    let if1′ = c .before .before .before .before .before .before .if1 in
+    let if2′ = c .before .before .before .before .before .if2 in
+    let write-cells′ = c .before .before .write-cells in
+    let f : RuleAt (take (args′ .end) text′) (args′ .at) (start′ .given .0 .0) (start′ .given .0 .1 .0) =
+    rw (start′ .given .1) at (rule-form′ .ensures) in
+    let sized : length (take (args′ .end) text′) ≡ args′ .end = length-take-le (args′ .end) text′ (pre′ .2) in
+    let last : suc (args′ .stage .rules) - 1 ≡ args′ .stage .rules = omega arith in (
+      (λ symbols constants. rw (write-cells′ .ensures, add-one (args′ .stage .rules))
+          (rule-new text′ symbols rules′ constants (args′ .stage) (args′ .place) (args′ .number)
+          (fieldsFrom (take (args′ .end) text′) (args′ .at))
+          (find-name′ .result) _ (f .fine) (f .name ∙ drop-take (start′ .given .0 .0) (start′ .given .0 .1 .0)
+          (take (args′ .end) text′) (f .starts)) (find-name′ .ensures .0) _ _ (if1′ .left) (if2′ .left) (pre′ .4)
+          (part-in-line text′ (start′ .given .0 .0) (start′ .given .0 .1 .0) (args′ .end) (f .starts)
+          (omega (arith, f .stops))))),
+      λ d. rw (write-cells′ .ensures, add-one (args′ .stage .rules)) (record {
         few-symbols = d .few-symbols;
-        few-rules = omega (arith, (c .before .before .before .before .before .if2) .left);
+        few-rules = omega (arith, if2′ .left);
         few-constants = d .few-constants;
         begun = λ h. omega arith;
-        few-heads = λ h. rw last (omega (arith, fresh-heads ((c .before .before .before .before .before .before .before .before .before .before .before .before .before .before .before .before .before .before .args) .text .now) ((c .before .before .before .before .before .before .before .before .before .before .before .before .before .before .before .before .before .before .args) .rules .now) ((c .before .before .before .before .before .before .before .before .before .before .before .before .before .before .before .before .before .before .args) .stage .rules) ((c .before .before .before .before .before .before .before .before .before .before .before .start) .given .0 .0) (((c .before .before .before .before .before .before .before .before .before .before .before .start) .given .0 .1 .0) - ((c .before .before .before .before .before .before .before .before .before .before .before .start) .given .0 .0)) ((c .before .before .before .before .before .before .before .before .before .before .before .before .before .before .before .before .before .before .args) .number) (omega (arith, (c .before .before .before .before .before .before .before .before .before .before .before .before .before .before .before .before .before .before .pre) .4, (c .before .before .before .before .before .if2) .left))));
-        few-body = λ h. rw last (omega (arith, fresh-body ((c .before .before .before .before .before .before .before .before .before .before .before .before .before .before .before .before .before .before .args) .text .now) ((c .before .before .before .before .before .before .before .before .before .before .before .before .before .before .before .before .before .before .args) .rules .now) ((c .before .before .before .before .before .before .before .before .before .before .before .before .before .before .before .before .before .before .args) .stage .rules) ((c .before .before .before .before .before .before .before .before .before .before .before .start) .given .0 .0) (((c .before .before .before .before .before .before .before .before .before .before .before .start) .given .0 .1 .0) - ((c .before .before .before .before .before .before .before .before .before .before .before .start) .given .0 .0)) ((c .before .before .before .before .before .before .before .before .before .before .before .before .before .before .before .before .before .before .args) .number) (omega (arith, (c .before .before .before .before .before .before .before .before .before .before .before .before .before .before .before .before .before .before .pre) .4, (c .before .before .before .before .before .if2) .left))));
-        few-sides = λ h. rw last (omega (arith, fresh-sides ((c .before .before .before .before .before .before .before .before .before .before .before .before .before .before .before .before .before .before .args) .text .now) ((c .before .before .before .before .before .before .before .before .before .before .before .before .before .before .before .before .before .before .args) .rules .now) ((c .before .before .before .before .before .before .before .before .before .before .before .before .before .before .before .before .before .before .args) .stage .rules) ((c .before .before .before .before .before .before .before .before .before .before .before .start) .given .0 .0) (((c .before .before .before .before .before .before .before .before .before .before .before .start) .given .0 .1 .0) - ((c .before .before .before .before .before .before .before .before .before .before .before .start) .given .0 .0)) ((c .before .before .before .before .before .before .before .before .before .before .before .before .before .before .before .before .before .before .args) .number) (omega (arith, (c .before .before .before .before .before .before .before .before .before .before .before .before .before .before .before .before .before .before .pre) .4, (c .before .before .before .before .before .if2) .left))));
+        few-heads = λ h. rw last (omega (
+          arith,
+          fresh-heads text′ rules′ (args′ .stage .rules) (start′ .given .0 .0)
+              ((start′ .given .0 .1 .0) - (start′ .given .0 .0)) (args′ .number) (omega (arith, pre′ .4, if2′ .left)),
+        ));
+        few-body = λ h. rw last (omega (
+          arith,
+          fresh-body text′ rules′ (args′ .stage .rules) (start′ .given .0 .0)
+              ((start′ .given .0 .1 .0) - (start′ .given .0 .0)) (args′ .number) (omega (arith, pre′ .4, if2′ .left)),
+        ));
+        few-sides = λ h. rw last (omega (
+          arith,
+          fresh-sides text′ rules′ (args′ .stage .rules) (start′ .given .0 .0)
+              ((start′ .given .0 .1 .0) - (start′ .given .0 .0)) (args′ .number) (omega (arith, pre′ .4, if2′ .left)),
+        ));
       }),
     )
 

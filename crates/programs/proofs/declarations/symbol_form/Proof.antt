@@ -3,12 +3,12 @@
 use borrow.Author.Needs.{needs}
 use mathlib.Core.Path.{_≡_, refl, sym, ap, ap₂, _∙_}
 use mathlib.Core.Bool.{Bool, true, false, not, _||_}
-use mathlib.Core.List.{List, [], _∷_}
-use Prim.Native.Nat.{ℕ, suc, _≤_, _<_, _+_}
+use mathlib.Core.List.{List, _∷_}
+use Prim.Native.Nat.{ℕ, suc, _+_}
 use native.Mathlib.Numerals.{add-one}
 use native.Mathlib.Omega.{arith}
 use borrow.Author.Tests.{not-true, not-false}
-use lib.ListN.{length, take, drop}
+use lib.ListN.{take, drop}
 use Rattle.text.specs.Fields.{isName, isNumberIn}
 use Rattle.text.specs.Places.{before, fieldsFrom}
 use Rattle.text.proofs.Cursors.{drop-take}
@@ -16,7 +16,6 @@ use Rattle.text.proofs.Forms.{in-short}
 use Rattle.lines.specs.Read.{isSymbolFaulty}
 use Rattle.lines.proofs.Shapes.{start-within, second-starts, third-starts, four-fields, symbol-count, symbol-shape}
 use Rattle.lines.proofs.Shapes.{field-one, field-two, field-three, short-part}
-use borrow.Author.Needs.{needs}
 use Rattle.programs.proofs.declarations.symbol_form.Statement.{statement}
 use Rattle.programs.proofs.declarations.symbol_form.Tie as tie
 
@@ -24,7 +23,9 @@ count-fields-requires : tie.Need-count-fields-requires
 count-fields-requires c κs = search needs
 
 returns : tie.Need-returns
-returns c = symbol-count (fieldsFrom ((c .before .before .before .before .args) .line .now) ((c .before .before .before .before .args) .at)) (λ e. (c .if1) .taken ((c .before .count-fields) .ensures ∙ e))
+returns c =
+    let args′ = c .before .before .before .before .args in
+    symbol-count (fieldsFrom (args′ .line .now) (args′ .at)) (λ e. (c .if1) .taken ((c .before .count-fields) .ensures ∙ e))
 
 field-end-requires : tie.Need-field-end-requires
 field-end-requires c κs = search needs
@@ -34,7 +35,11 @@ add-start c = search needs
 
 field-end-requires-2 : tie.Need-field-end-requires-2
 field-end-requires-2 c κs =
-    start-within ((c .before .before .before .before .before .args) .line .now) ((c .before .before .before .before .before .args) .at) ((c .field-end) .result) ((c .field-end) .result + 1) _ _ _ _ _ ((c .before .before .before .before .before .pre) .1) ((c .field-end) .ensures .0) refl
+    let args′ = c .before .before .before .before .before .args in
+    let pre′ = c .before .before .before .before .before .pre in
+    let field-end′ = c .field-end in
+    start-within (args′ .line .now) (args′ .at) (field-end′ .result) (field-end′ .result + 1) _ _ _ _ _ (pre′ .1)
+    (field-end′ .ensures .0) refl
     refl refl refl refl refl (sym ((c .before .before .count-fields) .ensures) ∙ (c .before .if1) .left)
 
 add-second : tie.Need-add-second
@@ -42,16 +47,29 @@ add-second c = search needs
 
 field-end-requires-3 : tie.Need-field-end-requires-3
 field-end-requires-3 c κs =
-    second-starts ((c .before .before .before .before .before .before .args) .line .now) ((c .before .before .before .before .before .before .args) .at) ((c .before .field-end) .result) ((c .before .field-end) .result + 1) ((c .field-end2) .result) ((c .field-end2) .result + 1) _ _ _
-    ((c .before .before .before .before .before .before .pre) .1) ((c .before .field-end) .ensures .0) refl ((c .field-end2) .ensures .0) refl refl refl refl (sym ((c .before .before .before .count-fields) .ensures) ∙ (c .before .before .if1) .left)
+    let args′ = c .before .before .before .before .before .before .args in
+    let pre′ = c .before .before .before .before .before .before .pre in
+    let field-end′ = c .before .field-end in
+    let field-end2′ = c .field-end2 in
+    second-starts (args′ .line .now) (args′ .at) (field-end′ .result) (field-end′ .result + 1) (field-end2′ .result)
+    (field-end2′ .result + 1) _ _ _
+    (pre′ .1) (field-end′ .ensures .0) refl (field-end2′ .ensures .0) refl refl refl refl
+    (sym ((c .before .before .before .count-fields) .ensures) ∙ (c .before .before .if1) .left)
 
 add-third : tie.Need-add-third
 add-third c = search needs
 
 field-end-requires-4 : tie.Need-field-end-requires-4
 field-end-requires-4 c κs =
-    third-starts ((c .before .before .before .before .before .before .before .args) .line .now) ((c .before .before .before .before .before .before .before .args) .at) ((c .before .before .field-end) .result) ((c .before .before .field-end) .result + 1) ((c .before .field-end2) .result) ((c .before .field-end2) .result + 1)
-    ((c .field-end3) .result) ((c .field-end3) .result + 1) _ ((c .before .before .before .before .before .before .before .pre) .1) ((c .before .before .field-end) .ensures .0) refl ((c .before .field-end2) .ensures .0) refl ((c .field-end3) .ensures .0)
+    let args′ = c .before .before .before .before .before .before .before .args in
+    let pre′ = c .before .before .before .before .before .before .before .pre in
+    let field-end′ = c .before .before .field-end in
+    let field-end2′ = c .before .field-end2 in
+    let field-end3′ = c .field-end3 in
+    third-starts (args′ .line .now) (args′ .at) (field-end′ .result) (field-end′ .result + 1) (field-end2′ .result)
+    (field-end2′ .result + 1)
+    (field-end3′ .result) (field-end3′ .result + 1) _ (pre′ .1) (field-end′ .ensures .0) refl (field-end2′ .ensures .0) refl
+    (field-end3′ .ensures .0)
     refl refl (sym ((c .before .before .before .before .count-fields) .ensures) ∙ (c .before .before .before .if1) .left)
 
 sub-is-name : tie.Need-sub-is-name
@@ -68,21 +86,33 @@ is-name-requires c κs = search needs
 
 returns-2 : tie.Need-returns-2
 returns-2 c =
-    let f : List ℕ = drop ((c .before .before .before .before .before .before .before .before .before .before .before .args) .at) (take ((c .before .before .before .before .before .before .field-end) .result) ((c .before .before .before .before .before .before .before .before .before .before .before .args) .line .now)) in
-    let g : List ℕ = drop ((c .before .before .before .before .before .before .field-end) .result + 1) (take ((c .before .before .before .before .before .field-end2) .result) ((c .before .before .before .before .before .before .before .before .before .before .before .args) .line .now)) in
-    let h : List ℕ = drop ((c .before .before .before .before .before .field-end2) .result + 1) (take ((c .before .before .before .before .field-end3) .result) ((c .before .before .before .before .before .before .before .before .before .before .before .args) .line .now)) in
-    let i : List ℕ = drop ((c .before .before .before .before .field-end3) .result + 1) (take ((c .before .before .before .field-end4) .result) ((c .before .before .before .before .before .before .before .before .before .before .before .args) .line .now)) in
-    let all : List (List ℕ) = fieldsFrom ((c .before .before .before .before .before .before .before .before .before .before .before .args) .line .now) ((c .before .before .before .before .before .before .before .before .before .before .before .args) .at) in
-    let rest : List (List ℕ) = fieldsFrom ((c .before .before .before .before .before .before .before .before .before .before .before .args) .line .now) (suc ((c .before .before .before .field-end4) .result)) in
+    let args′ = c .before .before .before .before .before .before .before .before .before .before .before .args in
+    let line′ = args′ .line .now in
+    let pre′ = c .before .before .before .before .before .before .before .before .before .before .before .pre in
+    let count-fields′ = c .before .before .before .before .before .before .before .before .count-fields in
+    let if1′ = c .before .before .before .before .before .before .before .if1 in
+    let field-end′ = c .before .before .before .before .before .before .field-end in
+    let field-end2′ = c .before .before .before .before .before .field-end2 in
+    let field-end3′ = c .before .before .before .before .field-end3 in
+    let field-end4′ = c .before .before .before .field-end4 in
+    let is-name′ = c .before .is-name in
+    let f : List ℕ = drop (args′ .at) (take (field-end′ .result) line′) in
+    let g : List ℕ = drop (field-end′ .result + 1) (take (field-end2′ .result) line′) in
+    let h : List ℕ = drop (field-end2′ .result + 1) (take (field-end3′ .result) line′) in
+    let i : List ℕ = drop (field-end3′ .result + 1) (take (field-end4′ .result) line′) in
+    let all : List (List ℕ) = fieldsFrom line′ (args′ .at) in
+    let rest : List (List ℕ) = fieldsFrom line′ (suc (field-end4′ .result)) in
     let shape : all ≡ f ∷ g ∷ h ∷ i ∷ rest =
-    four-fields ((c .before .before .before .before .before .before .before .before .before .before .before .args) .line .now) ((c .before .before .before .before .before .before .before .before .before .before .before .args) .at) ((c .before .before .before .before .before .before .field-end) .result) ((c .before .before .before .before .before .before .field-end) .result + 1) ((c .before .before .before .before .before .field-end2) .result) ((c .before .before .before .before .before .field-end2) .result + 1) ((c .before .before .before .before .field-end3) .result)
-    ((c .before .before .before .before .field-end3) .result + 1) ((c .before .before .before .field-end4) .result) ((c .before .before .before .before .before .before .before .before .before .before .before .pre) .1) ((c .before .before .before .before .before .before .field-end) .ensures .0) refl ((c .before .before .before .before .before .field-end2) .ensures .0) refl ((c .before .before .before .before .field-end3) .ensures .0) refl
-    ((c .before .before .before .field-end4) .ensures .0) (sym ((c .before .before .before .before .before .before .before .before .count-fields) .ensures) ∙ (c .before .before .before .before .before .before .before .if1) .left) in
+    four-fields line′ (args′ .at) (field-end′ .result) (field-end′ .result + 1) (field-end2′ .result) (field-end2′ .result + 1)
+    (field-end3′ .result)
+    (field-end3′ .result + 1) (field-end4′ .result) (pre′ .1) (field-end′ .ensures .0) refl (field-end2′ .ensures .0) refl
+    (field-end3′ .ensures .0) refl
+    (field-end4′ .ensures .0) (sym (count-fields′ .ensures) ∙ if1′ .left) in
     let faulty : isSymbolFaulty all ≡ (not (isName g) || not (isNumberIn 0 4 h) || not (isNumberIn 1 31 i)) =
-    symbol-shape f g h i all rest shape (sym ((c .before .before .before .before .before .before .before .before .count-fields) .ensures) ∙ (c .before .before .before .before .before .before .before .if1) .left) in
+    symbol-shape f g h i all rest shape (sym (count-fields′ .ensures) ∙ if1′ .left) in
     let named : isName g ≡ false =
-    ap isName (drop-take ((c .before .before .before .before .before .before .field-end) .result + 1) ((c .before .before .before .before .before .field-end2) .result) ((c .before .before .before .before .before .before .before .before .before .before .before .args) .line .now) ((c .before .before .before .before .before .field-end2) .ensures .1))
-    ∙ sym ((c .before .is-name) .ensures) ∙ not-true ((c .before .is-name) .result) ((c .if2) .taken) in
+    ap isName (drop-take (field-end′ .result + 1) (field-end2′ .result) line′ (field-end2′ .ensures .1))
+    ∙ sym (is-name′ .ensures) ∙ not-true (is-name′ .result) ((c .if2) .taken) in
     faulty ∙ ap (λ (b : Bool). not b || not (isNumberIn 0 4 h) || not (isNumberIn 1 31 i)) named
 
 sub-is-number-in : tie.Need-sub-is-number-in
@@ -99,24 +129,39 @@ is-number-in-requires c κs = search needs
 
 returns-3 : tie.Need-returns-3
 returns-3 c =
-    let f : List ℕ = drop ((c .before .before .before .before .before .before .before .before .before .before .before .before .before .before .args) .at) (take ((c .before .before .before .before .before .before .before .before .before .field-end) .result) ((c .before .before .before .before .before .before .before .before .before .before .before .before .before .before .args) .line .now)) in
-    let g : List ℕ = drop ((c .before .before .before .before .before .before .before .before .before .field-end) .result + 1) (take ((c .before .before .before .before .before .before .before .before .field-end2) .result) ((c .before .before .before .before .before .before .before .before .before .before .before .before .before .before .args) .line .now)) in
-    let h : List ℕ = drop ((c .before .before .before .before .before .before .before .before .field-end2) .result + 1) (take ((c .before .before .before .before .before .before .before .field-end3) .result) ((c .before .before .before .before .before .before .before .before .before .before .before .before .before .before .args) .line .now)) in
-    let i : List ℕ = drop ((c .before .before .before .before .before .before .before .field-end3) .result + 1) (take ((c .before .before .before .before .before .before .field-end4) .result) ((c .before .before .before .before .before .before .before .before .before .before .before .before .before .before .args) .line .now)) in
-    let all : List (List ℕ) = fieldsFrom ((c .before .before .before .before .before .before .before .before .before .before .before .before .before .before .args) .line .now) ((c .before .before .before .before .before .before .before .before .before .before .before .before .before .before .args) .at) in
-    let rest : List (List ℕ) = fieldsFrom ((c .before .before .before .before .before .before .before .before .before .before .before .before .before .before .args) .line .now) (suc ((c .before .before .before .before .before .before .field-end4) .result)) in
+    let args′ = c .before .before .before .before .before .before .before .before .before .before .before .before .before .before
+    .args in
+    let line′ = args′ .line .now in
+    let pre′ = c .before .before .before .before .before .before .before .before .before .before .before .before .before .before
+    .pre in
+    let count-fields′ = c .before .before .before .before .before .before .before .before .before .before .before .count-fields in
+    let if1′ = c .before .before .before .before .before .before .before .before .before .before .if1 in
+    let field-end′ = c .before .before .before .before .before .before .before .before .before .field-end in
+    let field-end2′ = c .before .before .before .before .before .before .before .before .field-end2 in
+    let field-end3′ = c .before .before .before .before .before .before .before .field-end3 in
+    let field-end4′ = c .before .before .before .before .before .before .field-end4 in
+    let is-name′ = c .before .before .before .before .is-name in
+    let is-number-in′ = c .before .is-number-in in
+    let f : List ℕ = drop (args′ .at) (take (field-end′ .result) line′) in
+    let g : List ℕ = drop (field-end′ .result + 1) (take (field-end2′ .result) line′) in
+    let h : List ℕ = drop (field-end2′ .result + 1) (take (field-end3′ .result) line′) in
+    let i : List ℕ = drop (field-end3′ .result + 1) (take (field-end4′ .result) line′) in
+    let all : List (List ℕ) = fieldsFrom line′ (args′ .at) in
+    let rest : List (List ℕ) = fieldsFrom line′ (suc (field-end4′ .result)) in
     let shape : all ≡ f ∷ g ∷ h ∷ i ∷ rest =
-    four-fields ((c .before .before .before .before .before .before .before .before .before .before .before .before .before .before .args) .line .now) ((c .before .before .before .before .before .before .before .before .before .before .before .before .before .before .args) .at) ((c .before .before .before .before .before .before .before .before .before .field-end) .result) ((c .before .before .before .before .before .before .before .before .before .field-end) .result + 1) ((c .before .before .before .before .before .before .before .before .field-end2) .result) ((c .before .before .before .before .before .before .before .before .field-end2) .result + 1) ((c .before .before .before .before .before .before .before .field-end3) .result)
-    ((c .before .before .before .before .before .before .before .field-end3) .result + 1) ((c .before .before .before .before .before .before .field-end4) .result) ((c .before .before .before .before .before .before .before .before .before .before .before .before .before .before .pre) .1) ((c .before .before .before .before .before .before .before .before .before .field-end) .ensures .0) refl ((c .before .before .before .before .before .before .before .before .field-end2) .ensures .0) refl ((c .before .before .before .before .before .before .before .field-end3) .ensures .0) refl
-    ((c .before .before .before .before .before .before .field-end4) .ensures .0) (sym ((c .before .before .before .before .before .before .before .before .before .before .before .count-fields) .ensures) ∙ (c .before .before .before .before .before .before .before .before .before .before .if1) .left) in
+    four-fields line′ (args′ .at) (field-end′ .result) (field-end′ .result + 1) (field-end2′ .result) (field-end2′ .result + 1)
+    (field-end3′ .result)
+    (field-end3′ .result + 1) (field-end4′ .result) (pre′ .1) (field-end′ .ensures .0) refl (field-end2′ .ensures .0) refl
+    (field-end3′ .ensures .0) refl
+    (field-end4′ .ensures .0) (sym (count-fields′ .ensures) ∙ if1′ .left) in
     let faulty : isSymbolFaulty all ≡ (not (isName g) || not (isNumberIn 0 4 h) || not (isNumberIn 1 31 i)) =
-    symbol-shape f g h i all rest shape (sym ((c .before .before .before .before .before .before .before .before .before .before .before .count-fields) .ensures) ∙ (c .before .before .before .before .before .before .before .before .before .before .if1) .left) in
+    symbol-shape f g h i all rest shape (sym (count-fields′ .ensures) ∙ if1′ .left) in
     let named : isName g ≡ true =
-    ap isName (drop-take ((c .before .before .before .before .before .before .before .before .before .field-end) .result + 1) ((c .before .before .before .before .before .before .before .before .field-end2) .result) ((c .before .before .before .before .before .before .before .before .before .before .before .before .before .before .args) .line .now) ((c .before .before .before .before .before .before .before .before .field-end2) .ensures .1))
-    ∙ sym ((c .before .before .before .before .is-name) .ensures) ∙ not-false ((c .before .before .before .before .is-name) .result) ((c .before .before .before .if2) .left) in
+    ap isName (drop-take (field-end′ .result + 1) (field-end2′ .result) line′ (field-end2′ .ensures .1))
+    ∙ sym (is-name′ .ensures) ∙ not-false (is-name′ .result) ((c .before .before .before .if2) .left) in
     let counted : isNumberIn 0 4 h ≡ false =
-    ap (isNumberIn 0 4) (drop-take ((c .before .before .before .before .before .before .before .before .field-end2) .result + 1) ((c .before .before .before .before .before .before .before .field-end3) .result) ((c .before .before .before .before .before .before .before .before .before .before .before .before .before .before .args) .line .now) ((c .before .before .before .before .before .before .before .field-end3) .ensures .1))
-    ∙ sym ((c .before .is-number-in) .ensures) ∙ not-true ((c .before .is-number-in) .result) ((c .if3) .taken) in
+    ap (isNumberIn 0 4) (drop-take (field-end2′ .result + 1) (field-end3′ .result) line′ (field-end3′ .ensures .1))
+    ∙ sym (is-number-in′ .ensures) ∙ not-true (is-number-in′ .result) ((c .if3) .taken) in
     faulty ∙ ap₂ (λ (b d : Bool). not b || not d || not (isNumberIn 1 31 i)) named counted
 
 sub-is-number-in-2 : tie.Need-sub-is-number-in-2
@@ -133,72 +178,112 @@ is-number-in-requires-2 c κs = search needs
 
 returns-4 : tie.Need-returns-4
 returns-4 c =
-    let f : List ℕ = drop ((c .before .before .before .before .before .before .before .before .before .before .before .before .before .before .before .before .before .args) .at) (take ((c .before .before .before .before .before .before .before .before .before .before .before .before .field-end) .result) ((c .before .before .before .before .before .before .before .before .before .before .before .before .before .before .before .before .before .args) .line .now)) in
-    let g : List ℕ = drop ((c .before .before .before .before .before .before .before .before .before .before .before .before .field-end) .result + 1) (take ((c .before .before .before .before .before .before .before .before .before .before .before .field-end2) .result) ((c .before .before .before .before .before .before .before .before .before .before .before .before .before .before .before .before .before .args) .line .now)) in
-    let h : List ℕ = drop ((c .before .before .before .before .before .before .before .before .before .before .before .field-end2) .result + 1) (take ((c .before .before .before .before .before .before .before .before .before .before .field-end3) .result) ((c .before .before .before .before .before .before .before .before .before .before .before .before .before .before .before .before .before .args) .line .now)) in
-    let i : List ℕ = drop ((c .before .before .before .before .before .before .before .before .before .before .field-end3) .result + 1) (take ((c .before .before .before .before .before .before .before .before .before .field-end4) .result) ((c .before .before .before .before .before .before .before .before .before .before .before .before .before .before .before .before .before .args) .line .now)) in
-    let all : List (List ℕ) = fieldsFrom ((c .before .before .before .before .before .before .before .before .before .before .before .before .before .before .before .before .before .args) .line .now) ((c .before .before .before .before .before .before .before .before .before .before .before .before .before .before .before .before .before .args) .at) in
-    let rest : List (List ℕ) = fieldsFrom ((c .before .before .before .before .before .before .before .before .before .before .before .before .before .before .before .before .before .args) .line .now) (suc ((c .before .before .before .before .before .before .before .before .before .field-end4) .result)) in
+    let args′ = c .before .before .before .before .before .before .before .before .before .before .before .before .before .before
+    .before .before .before .args in
+    let line′ = args′ .line .now in
+    let pre′ = c .before .before .before .before .before .before .before .before .before .before .before .before .before .before
+    .before .before .before .pre in
+    let count-fields′ = c .before .before .before .before .before .before .before .before .before .before .before .before .before
+    .before .count-fields in
+    let if1′ = c .before .before .before .before .before .before .before .before .before .before .before .before .before .if1 in
+    let field-end′ = c .before .before .before .before .before .before .before .before .before .before .before .before
+    .field-end in
+    let field-end2′ = c .before .before .before .before .before .before .before .before .before .before .before .field-end2 in
+    let field-end3′ = c .before .before .before .before .before .before .before .before .before .before .field-end3 in
+    let field-end4′ = c .before .before .before .before .before .before .before .before .before .field-end4 in
+    let is-name′ = c .before .before .before .before .before .before .before .is-name in
+    let if2′ = c .before .before .before .before .before .before .if2 in
+    let is-number-in′ = c .before .before .before .before .is-number-in in
+    let is-number-in2′ = c .before .is-number-in2 in
+    let f : List ℕ = drop (args′ .at) (take (field-end′ .result) line′) in
+    let g : List ℕ = drop (field-end′ .result + 1) (take (field-end2′ .result) line′) in
+    let h : List ℕ = drop (field-end2′ .result + 1) (take (field-end3′ .result) line′) in
+    let i : List ℕ = drop (field-end3′ .result + 1) (take (field-end4′ .result) line′) in
+    let all : List (List ℕ) = fieldsFrom line′ (args′ .at) in
+    let rest : List (List ℕ) = fieldsFrom line′ (suc (field-end4′ .result)) in
     let shape : all ≡ f ∷ g ∷ h ∷ i ∷ rest =
-    four-fields ((c .before .before .before .before .before .before .before .before .before .before .before .before .before .before .before .before .before .args) .line .now) ((c .before .before .before .before .before .before .before .before .before .before .before .before .before .before .before .before .before .args) .at) ((c .before .before .before .before .before .before .before .before .before .before .before .before .field-end) .result) ((c .before .before .before .before .before .before .before .before .before .before .before .before .field-end) .result + 1) ((c .before .before .before .before .before .before .before .before .before .before .before .field-end2) .result) ((c .before .before .before .before .before .before .before .before .before .before .before .field-end2) .result + 1) ((c .before .before .before .before .before .before .before .before .before .before .field-end3) .result)
-    ((c .before .before .before .before .before .before .before .before .before .before .field-end3) .result + 1) ((c .before .before .before .before .before .before .before .before .before .field-end4) .result) ((c .before .before .before .before .before .before .before .before .before .before .before .before .before .before .before .before .before .pre) .1) ((c .before .before .before .before .before .before .before .before .before .before .before .before .field-end) .ensures .0) refl ((c .before .before .before .before .before .before .before .before .before .before .before .field-end2) .ensures .0) refl ((c .before .before .before .before .before .before .before .before .before .before .field-end3) .ensures .0) refl
-    ((c .before .before .before .before .before .before .before .before .before .field-end4) .ensures .0) (sym ((c .before .before .before .before .before .before .before .before .before .before .before .before .before .before .count-fields) .ensures) ∙ (c .before .before .before .before .before .before .before .before .before .before .before .before .before .if1) .left) in
+    four-fields line′ (args′ .at) (field-end′ .result) (field-end′ .result + 1) (field-end2′ .result) (field-end2′ .result + 1)
+    (field-end3′ .result)
+    (field-end3′ .result + 1) (field-end4′ .result) (pre′ .1) (field-end′ .ensures .0) refl (field-end2′ .ensures .0) refl
+    (field-end3′ .ensures .0) refl
+    (field-end4′ .ensures .0) (sym (count-fields′ .ensures) ∙ if1′ .left) in
     let faulty : isSymbolFaulty all ≡ (not (isName g) || not (isNumberIn 0 4 h) || not (isNumberIn 1 31 i)) =
-    symbol-shape f g h i all rest shape (sym ((c .before .before .before .before .before .before .before .before .before .before .before .before .before .before .count-fields) .ensures) ∙ (c .before .before .before .before .before .before .before .before .before .before .before .before .before .if1) .left) in
+    symbol-shape f g h i all rest shape (sym (count-fields′ .ensures) ∙ if1′ .left) in
     let named : isName g ≡ true =
-    ap isName (drop-take ((c .before .before .before .before .before .before .before .before .before .before .before .before .field-end) .result + 1) ((c .before .before .before .before .before .before .before .before .before .before .before .field-end2) .result) ((c .before .before .before .before .before .before .before .before .before .before .before .before .before .before .before .before .before .args) .line .now) ((c .before .before .before .before .before .before .before .before .before .before .before .field-end2) .ensures .1))
-    ∙ sym ((c .before .before .before .before .before .before .before .is-name) .ensures) ∙ not-false ((c .before .before .before .before .before .before .before .is-name) .result) ((c .before .before .before .before .before .before .if2) .left) in
+    ap isName (drop-take (field-end′ .result + 1) (field-end2′ .result) line′ (field-end2′ .ensures .1))
+    ∙ sym (is-name′ .ensures) ∙ not-false (is-name′ .result) (if2′ .left) in
     let counted : isNumberIn 0 4 h ≡ true =
-    ap (isNumberIn 0 4) (drop-take ((c .before .before .before .before .before .before .before .before .before .before .before .field-end2) .result + 1) ((c .before .before .before .before .before .before .before .before .before .before .field-end3) .result) ((c .before .before .before .before .before .before .before .before .before .before .before .before .before .before .before .before .before .args) .line .now) ((c .before .before .before .before .before .before .before .before .before .before .field-end3) .ensures .1))
-    ∙ sym ((c .before .before .before .before .is-number-in) .ensures) ∙ not-false ((c .before .before .before .before .is-number-in) .result) ((c .before .before .before .if3) .left) in
+    ap (isNumberIn 0 4) (drop-take (field-end2′ .result + 1) (field-end3′ .result) line′ (field-end3′ .ensures .1))
+    ∙ sym (is-number-in′ .ensures) ∙ not-false (is-number-in′ .result) ((c .before .before .before .if3) .left) in
     let weighed : isNumberIn 1 31 i ≡ false =
-    ap (isNumberIn 1 31) (drop-take ((c .before .before .before .before .before .before .before .before .before .before .field-end3) .result + 1) ((c .before .before .before .before .before .before .before .before .before .field-end4) .result) ((c .before .before .before .before .before .before .before .before .before .before .before .before .before .before .before .before .before .args) .line .now) ((c .before .before .before .before .before .before .before .before .before .field-end4) .ensures .1))
-    ∙ sym ((c .before .is-number-in2) .ensures) ∙ not-true ((c .before .is-number-in2) .result) ((c .if4) .taken) in
+    ap (isNumberIn 1 31) (drop-take (field-end3′ .result + 1) (field-end4′ .result) line′ (field-end4′ .ensures .1))
+    ∙ sym (is-number-in2′ .ensures) ∙ not-true (is-number-in2′ .result) ((c .if4) .taken) in
     faulty ∙ ap₂ (λ (b d : Bool). not b || not d || not (isNumberIn 1 31 i)) named counted ∙ ap not weighed
 
 returns-5 : tie.Need-returns-5
 returns-5 c =
-    let f : List ℕ = drop ((c .before .before .before .before .before .before .before .before .before .before .before .before .before .before .before .before .before .args) .at) (take ((c .before .before .before .before .before .before .before .before .before .before .before .before .field-end) .result) ((c .before .before .before .before .before .before .before .before .before .before .before .before .before .before .before .before .before .args) .line .now)) in
-    let g : List ℕ = drop ((c .before .before .before .before .before .before .before .before .before .before .before .before .field-end) .result + 1) (take ((c .before .before .before .before .before .before .before .before .before .before .before .field-end2) .result) ((c .before .before .before .before .before .before .before .before .before .before .before .before .before .before .before .before .before .args) .line .now)) in
-    let h : List ℕ = drop ((c .before .before .before .before .before .before .before .before .before .before .before .field-end2) .result + 1) (take ((c .before .before .before .before .before .before .before .before .before .before .field-end3) .result) ((c .before .before .before .before .before .before .before .before .before .before .before .before .before .before .before .before .before .args) .line .now)) in
-    let i : List ℕ = drop ((c .before .before .before .before .before .before .before .before .before .before .field-end3) .result + 1) (take ((c .before .before .before .before .before .before .before .before .before .field-end4) .result) ((c .before .before .before .before .before .before .before .before .before .before .before .before .before .before .before .before .before .args) .line .now)) in
-    let all : List (List ℕ) = fieldsFrom ((c .before .before .before .before .before .before .before .before .before .before .before .before .before .before .before .before .before .args) .line .now) ((c .before .before .before .before .before .before .before .before .before .before .before .before .before .before .before .before .before .args) .at) in
-    let rest : List (List ℕ) = fieldsFrom ((c .before .before .before .before .before .before .before .before .before .before .before .before .before .before .before .before .before .args) .line .now) (suc ((c .before .before .before .before .before .before .before .before .before .field-end4) .result)) in
+    let args′ = c .before .before .before .before .before .before .before .before .before .before .before .before .before .before
+    .before .before .before .args in
+    let line′ = args′ .line .now in
+    let pre′ = c .before .before .before .before .before .before .before .before .before .before .before .before .before .before
+    .before .before .before .pre in
+    let count-fields′ = c .before .before .before .before .before .before .before .before .before .before .before .before .before
+    .before .count-fields in
+    let if1′ = c .before .before .before .before .before .before .before .before .before .before .before .before .before .if1 in
+    let field-end′ = c .before .before .before .before .before .before .before .before .before .before .before .before
+    .field-end in
+    let field-end2′ = c .before .before .before .before .before .before .before .before .before .before .before .field-end2 in
+    let field-end3′ = c .before .before .before .before .before .before .before .before .before .before .field-end3 in
+    let field-end4′ = c .before .before .before .before .before .before .before .before .before .field-end4 in
+    let is-name′ = c .before .before .before .before .before .before .before .is-name in
+    let if2′ = c .before .before .before .before .before .before .if2 in
+    let is-number-in′ = c .before .before .before .before .is-number-in in
+    let if3′ = c .before .before .before .if3 in
+    let is-number-in2′ = c .before .is-number-in2 in
+    let if4′ = c .if4 in
+    let f : List ℕ = drop (args′ .at) (take (field-end′ .result) line′) in
+    let g : List ℕ = drop (field-end′ .result + 1) (take (field-end2′ .result) line′) in
+    let h : List ℕ = drop (field-end2′ .result + 1) (take (field-end3′ .result) line′) in
+    let i : List ℕ = drop (field-end3′ .result + 1) (take (field-end4′ .result) line′) in
+    let all : List (List ℕ) = fieldsFrom line′ (args′ .at) in
+    let rest : List (List ℕ) = fieldsFrom line′ (suc (field-end4′ .result)) in
     let shape : all ≡ f ∷ g ∷ h ∷ i ∷ rest =
-    four-fields ((c .before .before .before .before .before .before .before .before .before .before .before .before .before .before .before .before .before .args) .line .now) ((c .before .before .before .before .before .before .before .before .before .before .before .before .before .before .before .before .before .args) .at) ((c .before .before .before .before .before .before .before .before .before .before .before .before .field-end) .result) ((c .before .before .before .before .before .before .before .before .before .before .before .before .field-end) .result + 1) ((c .before .before .before .before .before .before .before .before .before .before .before .field-end2) .result) ((c .before .before .before .before .before .before .before .before .before .before .before .field-end2) .result + 1) ((c .before .before .before .before .before .before .before .before .before .before .field-end3) .result)
-    ((c .before .before .before .before .before .before .before .before .before .before .field-end3) .result + 1) ((c .before .before .before .before .before .before .before .before .before .field-end4) .result) ((c .before .before .before .before .before .before .before .before .before .before .before .before .before .before .before .before .before .pre) .1) ((c .before .before .before .before .before .before .before .before .before .before .before .before .field-end) .ensures .0) refl ((c .before .before .before .before .before .before .before .before .before .before .before .field-end2) .ensures .0) refl ((c .before .before .before .before .before .before .before .before .before .before .field-end3) .ensures .0) refl
-    ((c .before .before .before .before .before .before .before .before .before .field-end4) .ensures .0) (sym ((c .before .before .before .before .before .before .before .before .before .before .before .before .before .before .count-fields) .ensures) ∙ (c .before .before .before .before .before .before .before .before .before .before .before .before .before .if1) .left) in
+    four-fields line′ (args′ .at) (field-end′ .result) (field-end′ .result + 1) (field-end2′ .result) (field-end2′ .result + 1)
+    (field-end3′ .result)
+    (field-end3′ .result + 1) (field-end4′ .result) (pre′ .1) (field-end′ .ensures .0) refl (field-end2′ .ensures .0) refl
+    (field-end3′ .ensures .0) refl
+    (field-end4′ .ensures .0) (sym (count-fields′ .ensures) ∙ if1′ .left) in
     let faulty : isSymbolFaulty all ≡ (not (isName g) || not (isNumberIn 0 4 h) || not (isNumberIn 1 31 i)) =
-    symbol-shape f g h i all rest shape (sym ((c .before .before .before .before .before .before .before .before .before .before .before .before .before .before .count-fields) .ensures) ∙ (c .before .before .before .before .before .before .before .before .before .before .before .before .before .if1) .left) in
+    symbol-shape f g h i all rest shape (sym (count-fields′ .ensures) ∙ if1′ .left) in
     let named : isName g ≡ true =
-    ap isName (drop-take ((c .before .before .before .before .before .before .before .before .before .before .before .before .field-end) .result + 1) ((c .before .before .before .before .before .before .before .before .before .before .before .field-end2) .result) ((c .before .before .before .before .before .before .before .before .before .before .before .before .before .before .before .before .before .args) .line .now) ((c .before .before .before .before .before .before .before .before .before .before .before .field-end2) .ensures .1))
-    ∙ sym ((c .before .before .before .before .before .before .before .is-name) .ensures) ∙ not-false ((c .before .before .before .before .before .before .before .is-name) .result) ((c .before .before .before .before .before .before .if2) .left) in
+    ap isName (drop-take (field-end′ .result + 1) (field-end2′ .result) line′ (field-end2′ .ensures .1))
+    ∙ sym (is-name′ .ensures) ∙ not-false (is-name′ .result) (if2′ .left) in
     let counted : isNumberIn 0 4 h ≡ true =
-    ap (isNumberIn 0 4) (drop-take ((c .before .before .before .before .before .before .before .before .before .before .before .field-end2) .result + 1) ((c .before .before .before .before .before .before .before .before .before .before .field-end3) .result) ((c .before .before .before .before .before .before .before .before .before .before .before .before .before .before .before .before .before .args) .line .now) ((c .before .before .before .before .before .before .before .before .before .before .field-end3) .ensures .1))
-    ∙ sym ((c .before .before .before .before .is-number-in) .ensures) ∙ not-false ((c .before .before .before .before .is-number-in) .result) ((c .before .before .before .if3) .left) in
+    ap (isNumberIn 0 4) (drop-take (field-end2′ .result + 1) (field-end3′ .result) line′ (field-end3′ .ensures .1))
+    ∙ sym (is-number-in′ .ensures) ∙ not-false (is-number-in′ .result) (if3′ .left) in
     let weighed : isNumberIn 1 31 i ≡ true =
-    ap (isNumberIn 1 31) (drop-take ((c .before .before .before .before .before .before .before .before .before .before .field-end3) .result + 1) ((c .before .before .before .before .before .before .before .before .before .field-end4) .result) ((c .before .before .before .before .before .before .before .before .before .before .before .before .before .before .before .before .before .args) .line .now) ((c .before .before .before .before .before .before .before .before .before .field-end4) .ensures .1))
-    ∙ sym ((c .before .is-number-in2) .ensures) ∙ not-false ((c .before .is-number-in2) .result) ((c .if4) .left) in
-    let second : (c .before .before .before .before .before .before .before .before .before .before .before .field-end2) .result + 1 ≡ suc ((c .before .before .before .before .before .before .before .before .before .before .before .field-end2) .result) = add-one ((c .before .before .before .before .before .before .before .before .before .before .before .field-end2) .result) in
-    let third : (c .before .before .before .before .before .before .before .before .before .before .field-end3) .result + 1 ≡ suc ((c .before .before .before .before .before .before .before .before .before .before .field-end3) .result) = add-one ((c .before .before .before .before .before .before .before .before .before .before .field-end3) .result) in
+    ap (isNumberIn 1 31) (drop-take (field-end3′ .result + 1) (field-end4′ .result) line′ (field-end4′ .ensures .1))
+    ∙ sym (is-number-in2′ .ensures) ∙ not-false (is-number-in2′ .result) (if4′ .left) in
+    let second : field-end2′ .result + 1 ≡ suc (field-end2′ .result) = add-one (field-end2′ .result) in
+    let third : field-end3′ .result + 1 ≡ suc (field-end3′ .result) = add-one (field-end3′ .result) in
     record {
       fine = faulty ∙ ap₂ (λ (b d : Bool). not b || not d || not (isNumberIn 1 31 i)) named counted ∙ ap not weighed;
       name = field-one f g all (h ∷ i ∷ rest) shape;
-      arity = field-two f g h all (i ∷ rest) shape ∙ ap (λ (n : ℕ). drop n (take ((c .before .before .before .before .before .before .before .before .before .before .field-end3) .result) ((c .before .before .before .before .before .before .before .before .before .before .before .before .before .before .before .before .before .args) .line .now))) second;
-      weight = field-three f g h i all rest shape ∙ ap (λ (n : ℕ). drop n (take ((c .before .before .before .before .before .before .before .before .before .field-end4) .result) ((c .before .before .before .before .before .before .before .before .before .before .before .before .before .before .before .before .before .args) .line .now))) third;
-      starts = (c .before .before .before .before .before .before .before .before .before .before .before .field-end2) .ensures .1;
-      nexts = omega (arith, (c .before .before .before .before .before .before .before .before .before .before .field-end3) .ensures .1);
-      lasts = omega (arith, (c .before .before .before .before .before .before .before .before .before .field-end4) .ensures .1);
-      stops = (c .before .before .before .before .before .before .before .before .before .field-end4) .ensures .2;
+      arity = field-two f g h all (i ∷ rest) shape ∙ ap (λ (n : ℕ). drop n (take (field-end3′ .result) line′)) second;
+      weight = field-three f g h i all rest shape ∙ ap (λ (n : ℕ). drop n (take (field-end4′ .result) line′)) third;
+      starts = field-end2′ .ensures .1;
+      nexts = omega (arith, field-end3′ .ensures .1);
+      lasts = omega (arith, field-end4′ .ensures .1);
+      stops = field-end4′ .ensures .2;
       short-arity = omega (
         arith,
-        short-part ((c .before .before .before .before .before .before .before .before .before .before .before .before .before .before .before .before .before .args) .line .now) ((c .before .before .before .before .before .before .before .before .before .before .before .field-end2) .result + 1) ((c .before .before .before .before .before .before .before .before .before .before .field-end3) .result) ((c .before .before .before .before .before .before .before .before .before .before .field-end3) .ensures .1) ((c .before .before .before .before .before .before .before .before .before .before .field-end3) .ensures .2)
-            (in-short 0 4 _ (omega arith) (sym ((c .before .before .before .before .is-number-in) .ensures) ∙ not-false ((c .before .before .before .before .is-number-in) .result) ((c .before .before .before .if3) .left))),
+        short-part line′ (field-end2′ .result + 1) (field-end3′ .result) (field-end3′ .ensures .1) (field-end3′ .ensures .2)
+            (in-short 0 4 _ (omega arith) (sym (is-number-in′ .ensures) ∙ not-false (is-number-in′ .result) (if3′ .left))),
       );
       short-weight = omega (
         arith,
-        short-part ((c .before .before .before .before .before .before .before .before .before .before .before .before .before .before .before .before .before .args) .line .now) ((c .before .before .before .before .before .before .before .before .before .before .field-end3) .result + 1) ((c .before .before .before .before .before .before .before .before .before .field-end4) .result) ((c .before .before .before .before .before .before .before .before .before .field-end4) .ensures .1) ((c .before .before .before .before .before .before .before .before .before .field-end4) .ensures .2)
-            (in-short 1 31 _ (omega arith) (sym ((c .before .is-number-in2) .ensures) ∙ not-false ((c .before .is-number-in2) .result) ((c .if4) .left))),
+        short-part line′ (field-end3′ .result + 1) (field-end4′ .result) (field-end4′ .ensures .1) (field-end4′ .ensures .2)
+            (in-short 1 31 _ (omega arith) (sym (is-number-in2′ .ensures) ∙ not-false (is-number-in2′ .result) (if4′ .left))),
       );
     }
 

@@ -1,15 +1,15 @@
 -- `programs::program::check_rules` meets its contract: the rules left, checked from here, are the answer. Assumes nothing.
 use borrow.Author.Needs.{needs}
-use mathlib.Core.Path.{_≡_, refl, sym, ap, _∙_}
+use mathlib.Core.Path.{_≡_, refl, ap, _∙_}
 use mathlib.Core.List.{List}
-use Prim.Native.Nat.{ℕ, suc, _≤_, _<_, _+_, _-_, _*_}
+use Prim.Native.Nat.{ℕ, _≤_, _+_, _-_, _*_}
 use native.Mathlib.Numerals.{add-one}
 use native.Mathlib.Omega.{arith}
-use lib.ListN.{length, take, drop, getD, length-drop}
+use lib.ListN.{take, drop, getD, length-drop}
 use lib.Seq.{length-take-le}
 use Rattle.syntax.specs.Programs.{checkRules}
 use Rattle.syntax.specs.Tables.{symbolsOf, rulesOf, startsOf, ruleOf, ruleOfRow}
-use Rattle.programs.specs.Read.{rulesAnswer, met, ruleTests}
+use Rattle.programs.specs.Read.{rulesAnswer, ruleTests}
 use Rattle.programs.proofs.Drafts.{rules-count}
 use Rattle.programs.proofs.Weights.{check-refused, check-next, check-end}
 use Rattle.programs.proofs.program.check_rules.Statement.{statement}
@@ -45,11 +45,15 @@ part-rule-fault-end : tie.Need-part-rule-fault-end Inv-loop μ-loop
 part-rule-fault-end c = search needs
 
 rule-fault-requires : tie.Need-rule-fault-requires Inv-loop μ-loop
-rule-fault-requires c κs = (
-  (c .before .before .before .before .before .pre) .0,
-  length-take-le (64 * (c .before .before .loop) .i + 64 - 64 * (c .before .before .loop) .i) (drop (64 * (c .before .before .loop) .i) ((c .before .before .before .before .before .args) .rules .now)) (omega (arith, length-drop (64 * (c .before .before .loop) .i) ((c .before .before .before .before .before .args) .rules .now), (c .before .loop-test) .taken, (c .before .before .before .before .before .pre) .1))
-      ∙ (let z : 64 * (c .before .before .loop) .i + 64 - 64 * (c .before .before .loop) .i ≡ 64 = omega arith in z),
-)
+rule-fault-requires c κs =
+    let pre′ = c .before .before .before .before .before .pre in
+    let args′ = c .before .before .before .before .before .args in
+    let loop′ = c .before .before .loop in (
+      pre′ .0,
+      length-take-le (64 * loop′ .i + 64 - 64 * loop′ .i) (drop (64 * loop′ .i) (args′ .rules .now))
+          (omega (arith, length-drop (64 * loop′ .i) (args′ .rules .now), (c .before .loop-test) .taken, pre′ .1))
+          ∙ (let z : 64 * loop′ .i + 64 - 64 * loop′ .i ≡ 64 = omega arith in z),
+    )
 
 add-t15 : tie.Need-add-t15 Inv-loop μ-loop
 add-t15 c = search needs
@@ -63,10 +67,17 @@ shared-slice-read-t18 c = search needs
 returns : tie.Need-returns Inv-loop μ-loop
 unfolding rulesAnswer ruleOf
 returns c =
-    λ text. check-refused text ((c .before .before .before .before .before .before .before .before .args) .symbols .now) ((c .before .before .before .before .before .before .before .before .args) .rules .now) ((c .before .before .before .before .before .before .before .before .args) .k) ((c .before .before .before .before .before .before .before .before .args) .n) ((c .before .before .before .before .before .loop) .i) ((c .before .before .before .before .loop-test) .taken) ((c .before .before .rule-fault) .result)
-    ((c .before .before .rule-fault) .ensures text (getD ((c .before .before .before .before .before .before .before .before .args) .rules .now) (64 * (c .before .before .before .before .before .loop) .i + 2) 0)
-    ∙ ap (λ (m : ℕ). ruleTests (symbolsOf text ((c .before .before .before .before .before .before .before .before .args) .symbols .now) ((c .before .before .before .before .before .before .before .before .args) .k)) (ruleOfRow text (take m (drop (64 * (c .before .before .before .before .before .loop) .i) ((c .before .before .before .before .before .before .before .before .args) .rules .now))))
-    (getD ((c .before .before .before .before .before .before .before .before .args) .rules .now) (64 * (c .before .before .before .before .before .loop) .i + 2) 0)) (let z : 64 * (c .before .before .before .before .before .loop) .i + 64 - 64 * (c .before .before .before .before .before .loop) .i ≡ 64 = omega arith in z)) ((c .before .if1) .taken) ∙ (c .before .before .before .before .before .loop) .inv .1 text
+    let args′ = c .before .before .before .before .before .before .before .before .args in
+    let symbols′ = args′ .symbols .now in
+    let rules′ = args′ .rules .now in
+    let loop′ = c .before .before .before .before .before .loop in
+    let rule-fault′ = c .before .before .rule-fault in
+    λ text. check-refused text symbols′ rules′ (args′ .k) (args′ .n) (loop′ .i)
+    ((c .before .before .before .before .loop-test) .taken) (rule-fault′ .result)
+    (rule-fault′ .ensures text (getD rules′ (64 * loop′ .i + 2) 0)
+    ∙ ap (λ (m : ℕ). ruleTests (symbolsOf text symbols′ (args′ .k)) (ruleOfRow text (take m (drop (64 * loop′ .i) rules′)))
+    (getD rules′ (64 * loop′ .i + 2) 0)) (let z : 64 * loop′ .i + 64 - 64 * loop′ .i ≡ 64 = omega arith in z))
+    ((c .before .if1) .taken) ∙ loop′ .inv .1 text
 
 add-i : tie.Need-add-i Inv-loop μ-loop
 add-i c = search needs
@@ -76,20 +87,30 @@ loop-less c = search needs
 
 loop-again : tie.Need-loop-again Inv-loop μ-loop
 unfolding ruleOf
-loop-again c = (
-  omega arith,
-  λ text. rw (add-one ((c .before .before .before .before .loop) .i))
-      (check-next text ((c .before .before .before .before .before .before .before .args) .symbols .now) ((c .before .before .before .before .before .before .before .args) .rules .now) ((c .before .before .before .before .before .before .before .args) .k) ((c .before .before .before .before .before .before .before .args) .n) ((c .before .before .before .before .loop) .i) ((c .before .before .before .loop-test) .taken) ((c .before .rule-fault) .result)
-      ((c .before .rule-fault) .ensures text (getD ((c .before .before .before .before .before .before .before .args) .rules .now) (64 * (c .before .before .before .before .loop) .i + 2) 0)
-      ∙ ap (λ (m : ℕ). ruleTests (symbolsOf text ((c .before .before .before .before .before .before .before .args) .symbols .now) ((c .before .before .before .before .before .before .before .args) .k)) (ruleOfRow text (take m (drop (64 * (c .before .before .before .before .loop) .i) ((c .before .before .before .before .before .before .before .args) .rules .now))))
-      (getD ((c .before .before .before .before .before .before .before .args) .rules .now) (64 * (c .before .before .before .before .loop) .i + 2) 0)) (let z : 64 * (c .before .before .before .before .loop) .i + 64 - 64 * (c .before .before .before .before .loop) .i ≡ 64 = omega arith in z)) ((c .if1) .left) ∙ (c .before .before .before .before .loop) .inv .1 text),
-)
+loop-again c =
+    let args′ = c .before .before .before .before .before .before .before .args in
+    let symbols′ = args′ .symbols .now in
+    let rules′ = args′ .rules .now in
+    let loop′ = c .before .before .before .before .loop in
+    let rule-fault′ = c .before .rule-fault in (
+      omega arith,
+      λ text. rw (add-one (loop′ .i))
+          (check-next text symbols′ rules′ (args′ .k) (args′ .n) (loop′ .i) ((c .before .before .before .loop-test) .taken)
+          (rule-fault′ .result)
+          (rule-fault′ .ensures text (getD rules′ (64 * loop′ .i + 2) 0)
+          ∙ ap (λ (m : ℕ). ruleTests (symbolsOf text symbols′ (args′ .k)) (ruleOfRow text (take m (drop (64 * loop′ .i) rules′)))
+          (getD rules′ (64 * loop′ .i + 2) 0)) (let z : 64 * loop′ .i + 64 - 64 * loop′ .i ≡ 64 = omega arith in z))
+          ((c .if1) .left) ∙ loop′ .inv .1 text),
+    )
 
 returns-2 : tie.Need-returns-2 Inv-loop μ-loop
 unfolding rulesAnswer
 returns-2 c =
-    λ text. check-end (symbolsOf text ((c .before .before .before .before .args) .symbols .now) ((c .before .before .before .before .args) .k)) (rulesOf text ((c .before .before .before .before .args) .rules .now) ((c .before .before .before .before .args) .n)) (startsOf ((c .before .before .before .before .args) .rules .now) ((c .before .before .before .before .args) .n)) ((c .before .loop) .i)
-    (omega (arith, rules-count text ((c .before .before .before .before .args) .rules .now) ((c .before .before .before .before .args) .n), (c .loop-test) .left)) ∙ (c .before .loop) .inv .1 text
+    let args′ = c .before .before .before .before .args in
+    let loop′ = c .before .loop in
+    λ text. check-end (symbolsOf text (args′ .symbols .now) (args′ .k)) (rulesOf text (args′ .rules .now) (args′ .n))
+    (startsOf (args′ .rules .now) (args′ .n)) (loop′ .i)
+    (omega (arith, rules-count text (args′ .rules .now) (args′ .n), (c .loop-test) .left)) ∙ loop′ .inv .1 text
 
 pub check-rules-spec : {M : Type 1} → statement M
 check-rules-spec =

@@ -1,14 +1,14 @@
 -- `programs::program::read_form` meets its contract, form by form. Assumes nothing.
 use borrow.Author.Needs.{needs}
-use mathlib.Core.Path.{_≡_, refl, sym, ap, _∙_}
+use mathlib.Core.Path.{refl, ap, _∙_}
 use native.Mathlib.Omega.{arith}
 use Rattle.lines.specs.declared.LineForm.{LineForm}
+use Rattle.lines.specs.declared.LineForm.the-variants.{Head, Body, Equation}
 use Rattle.syntax.specs.Forms.{placeAfter}
 use Rattle.syntax.specs.Programs.{readForm}
 use Rattle.lines.specs.Read.{formMeant, placeMeant}
-use Rattle.programs.specs.Read.{lineAnswer}
-use Rattle.programs.proofs.Whole.{first-place, begun-head, begun-body, begun-sides}
-use borrow.Author.Needs.{needs}
+use Rattle.programs.specs.Read.{partForm, lineAnswer}
+use Rattle.programs.proofs.Whole.{first-place, begun}
 use Rattle.programs.proofs.program.read_form.Statement.{statement}
 use Rattle.programs.proofs.program.read_form.Tie as tie
 
@@ -18,67 +18,85 @@ enum-told c = search needs
 symbol-line-requires : tie.Need-symbol-line-requires
 unfolding formMeant
 symbol-line-requires c κs =
-    ((c .before .before .before .before .before .before .before .before .before .pre) .0, (c .before .before .before .before .before .before .before .before .before .pre) .2, (c .before .before .before .before .before .before .before .before .before .pre) .3, (c .before .before .before .before .before .before .before .before .before .pre) .4, (c .before .before .before .before .before .before .before .before .before .pre) .5, (c .before .before .before .before .before .before .before .before .before .pre) .8 .few-symbols, first-place ((c .before .before .before .before .before .before .before .before .before .args) .place) ((c .before .before .before .before .before .before .before .before .before .args) .stage .place) ((c .before .before .before .before .before .before .before .before .before .pre) .10 ∙ ap (λ (f : LineForm). placeAfter (formMeant f) (placeMeant ((c .before .before .before .before .before .before .before .before .before .args) .stage .place))) ((c .before .enum-told) .given .1)) ((c .before .before .before .before .before .before .before .before .before .pre) .9))
+    let pre′ = c .before .before .before .before .before .before .before .before .before .pre in
+    let args′ = c .before .before .before .before .before .before .before .before .before .args in (
+      pre′ .0,
+      pre′ .2,
+      pre′ .3,
+      pre′ .4,
+      pre′ .5,
+      pre′ .8 .few-symbols,
+      first-place (args′ .place) (args′ .stage .place)
+          (pre′ .10 ∙ ap (λ (f : LineForm). placeAfter (formMeant f) (placeMeant (args′ .stage .place)))
+          ((c .before .enum-told) .given .1)) (pre′ .9),
+    )
 
 enum-told-2 : tie.Need-enum-told-2
 enum-told-2 c = search needs
 
 rule-line-requires : tie.Need-rule-line-requires
-rule-line-requires c κs = ((c .before .before .before .before .before .before .before .before .before .pre) .0, (c .before .before .before .before .before .before .before .before .before .pre) .2, (c .before .before .before .before .before .before .before .before .before .pre) .3, (c .before .before .before .before .before .before .before .before .before .pre) .4, (c .before .before .before .before .before .before .before .before .before .pre) .6, (c .before .before .before .before .before .before .before .before .before .pre) .8 .few-rules)
+rule-line-requires c κs =
+    let pre′ = c .before .before .before .before .before .before .before .before .before .pre in
+    (pre′ .0, pre′ .2, pre′ .3, pre′ .4, pre′ .6, pre′ .8 .few-rules)
 
 enum-told-3 : tie.Need-enum-told-3
 enum-told-3 c = search needs
 
-head-line-requires : tie.Need-head-line-requires
-unfolding formMeant
-head-line-requires c κs = (
-  (c .before .before .before .before .before .before .before .before .before .before .before .pre) .0,
-  (c .before .before .before .before .before .before .before .before .before .before .before .pre) .1,
-  (c .before .before .before .before .before .before .before .before .before .before .before .pre) .2,
-  (c .before .before .before .before .before .before .before .before .before .before .before .pre) .3,
-  (c .before .before .before .before .before .before .before .before .before .before .before .pre) .4,
-  (c .before .before .before .before .before .before .before .before .before .before .before .pre) .5,
-  (c .before .before .before .before .before .before .before .before .before .before .before .pre) .6,
-  (c .before .before .before .before .before .before .before .before .before .before .before .pre) .7,
-  (c .before .before .before .before .before .before .before .before .before .before .before .pre) .8,
-  (c .before .before .before .before .before .before .before .before .before .before .before .pre) .8 .begun (begun-head ((c .before .before .before .before .before .before .before .before .before .before .before .args) .place) ((c .before .before .before .before .before .before .before .before .before .before .before .args) .stage .place) ((c .before .before .before .before .before .before .before .before .before .before .before .pre) .10 ∙ ap (λ (f : LineForm). placeAfter (formMeant f) (placeMeant ((c .before .before .before .before .before .before .before .before .before .before .before .args) .stage .place))) ((c .before .before .before .enum-told3) .given .1)) ((c .before .before .before .before .before .before .before .before .before .before .before .pre) .9)),
-)
+constraint-line-requires : tie.Need-constraint-line-requires
+unfolding formMeant placeAfter
+constraint-line-requires c κs =
+    let pre′ = c .before .before .before .before .before .before .before .before .before .before .before .pre in (
+      pre′ .0,
+      pre′ .1,
+      pre′ .2,
+      pre′ .3,
+      pre′ .4,
+      pre′ .5,
+      pre′ .6,
+      pre′ .7,
+      pre′ .8,
+      pre′ .8 .begun (begun _ Head _ _ refl (pre′ .10) ((c .before .before .before .enum-told3) .given .1) (pre′ .9)),
+      omega arith,
+    )
 
 enum-told-4 : tie.Need-enum-told-4
 enum-told-4 c = search needs
 
-body-line-requires : tie.Need-body-line-requires
-unfolding formMeant
-body-line-requires c κs = (
-  (c .before .before .before .before .before .before .before .before .before .before .before .pre) .0,
-  (c .before .before .before .before .before .before .before .before .before .before .before .pre) .1,
-  (c .before .before .before .before .before .before .before .before .before .before .before .pre) .2,
-  (c .before .before .before .before .before .before .before .before .before .before .before .pre) .3,
-  (c .before .before .before .before .before .before .before .before .before .before .before .pre) .4,
-  (c .before .before .before .before .before .before .before .before .before .before .before .pre) .5,
-  (c .before .before .before .before .before .before .before .before .before .before .before .pre) .6,
-  (c .before .before .before .before .before .before .before .before .before .before .before .pre) .7,
-  (c .before .before .before .before .before .before .before .before .before .before .before .pre) .8,
-  (c .before .before .before .before .before .before .before .before .before .before .before .pre) .8 .begun (begun-body ((c .before .before .before .before .before .before .before .before .before .before .before .args) .place) ((c .before .before .before .before .before .before .before .before .before .before .before .args) .stage .place) ((c .before .before .before .before .before .before .before .before .before .before .before .pre) .10 ∙ ap (λ (f : LineForm). placeAfter (formMeant f) (placeMeant ((c .before .before .before .before .before .before .before .before .before .before .before .args) .stage .place))) ((c .before .before .before .enum-told4) .given .1)) ((c .before .before .before .before .before .before .before .before .before .before .before .pre) .9)),
-)
+constraint-line-requires-2 : tie.Need-constraint-line-requires-2
+unfolding formMeant placeAfter
+constraint-line-requires-2 c κs =
+    let pre′ = c .before .before .before .before .before .before .before .before .before .before .before .pre in (
+      pre′ .0,
+      pre′ .1,
+      pre′ .2,
+      pre′ .3,
+      pre′ .4,
+      pre′ .5,
+      pre′ .6,
+      pre′ .7,
+      pre′ .8,
+      pre′ .8 .begun (begun _ Body _ _ refl (pre′ .10) ((c .before .before .before .enum-told4) .given .1) (pre′ .9)),
+      omega arith,
+    )
 
 enum-told-5 : tie.Need-enum-told-5
 enum-told-5 c = search needs
 
 equation-line-requires : tie.Need-equation-line-requires
-unfolding formMeant
-equation-line-requires c κs = (
-  (c .before .before .before .before .before .before .before .before .before .before .before .pre) .0,
-  (c .before .before .before .before .before .before .before .before .before .before .before .pre) .1,
-  (c .before .before .before .before .before .before .before .before .before .before .before .pre) .2,
-  (c .before .before .before .before .before .before .before .before .before .before .before .pre) .3,
-  (c .before .before .before .before .before .before .before .before .before .before .before .pre) .4,
-  (c .before .before .before .before .before .before .before .before .before .before .before .pre) .5,
-  (c .before .before .before .before .before .before .before .before .before .before .before .pre) .6,
-  (c .before .before .before .before .before .before .before .before .before .before .before .pre) .7,
-  (c .before .before .before .before .before .before .before .before .before .before .before .pre) .8,
-  (c .before .before .before .before .before .before .before .before .before .before .before .pre) .8 .begun (begun-sides ((c .before .before .before .before .before .before .before .before .before .before .before .args) .place) ((c .before .before .before .before .before .before .before .before .before .before .before .args) .stage .place) ((c .before .before .before .before .before .before .before .before .before .before .before .pre) .10 ∙ ap (λ (f : LineForm). placeAfter (formMeant f) (placeMeant ((c .before .before .before .before .before .before .before .before .before .before .before .args) .stage .place))) ((c .before .before .before .enum-told5) .given .1)) ((c .before .before .before .before .before .before .before .before .before .before .before .pre) .9)),
-)
+unfolding formMeant placeAfter
+equation-line-requires c κs =
+    let pre′ = c .before .before .before .before .before .before .before .before .before .before .before .pre in (
+      pre′ .0,
+      pre′ .1,
+      pre′ .2,
+      pre′ .3,
+      pre′ .4,
+      pre′ .5,
+      pre′ .6,
+      pre′ .7,
+      pre′ .8,
+      pre′ .8 .begun (begun _ Equation _ _ refl (pre′ .10) ((c .before .before .before .enum-told5) .given .1) (pre′ .9)),
+    )
 
 enum-told-6 : tie.Need-enum-told-6
 enum-told-6 c = search needs
@@ -92,8 +110,15 @@ same-length c = search needs
 returns : tie.Need-returns
 unfolding formMeant readForm
 returns c =
-    rw ((c .before .before .before .before .enum-told) .given .1)
-    ((c .before .before .symbol-line) .ensures .0 ((c .before .before .before .before .before .before .before .before .before .before .before .before .args) .number) ((c .before .before .before .before .before .before .before .before .before .before .before .before .args) .rules .now) ((c .before .before .before .before .before .before .before .before .before .before .before .before .args) .constants .now), (c .before .before .symbol-line) .ensures .1 ((c .before .before .before .before .before .before .before .before .before .before .before .before .args) .rules .now) ((c .before .before .before .before .before .before .before .before .before .before .before .before .pre) .8))
+    let args′ = c .before .before .before .before .before .before .before .before .before .before .before .before .args in
+    let rules′ = args′ .rules .now in
+    let pre′ = c .before .before .before .before .before .before .before .before .before .before .before .before .pre in
+    let symbol-line′ = c .before .before .symbol-line in
+    rw ((c .before .before .before .before .enum-told) .given .1) (
+      symbol-line′ .ensures .0 (args′ .number) rules′ (args′ .constants .now),
+      symbol-line′ .ensures .1
+          rules′ (pre′ .8),
+    )
 
 same-length-2 : tie.Need-same-length-2
 same-length-2 c = search needs
@@ -101,7 +126,11 @@ same-length-2 c = search needs
 returns-2 : tie.Need-returns-2
 unfolding formMeant readForm
 returns-2 c =
-    rw ((c .before .before .before .before .enum-told2) .given .1) ((c .before .before .rule-line) .ensures .0 ((c .before .before .before .before .before .before .before .before .before .before .before .before .args) .symbols .now) ((c .before .before .before .before .before .before .before .before .before .before .before .before .args) .constants .now), (c .before .before .rule-line) .ensures .1 ((c .before .before .before .before .before .before .before .before .before .before .before .before .pre) .8))
+    let args′ = c .before .before .before .before .before .before .before .before .before .before .before .before .args in
+    let pre′ = c .before .before .before .before .before .before .before .before .before .before .before .before .pre in
+    let rule-line′ = c .before .before .rule-line in
+    rw ((c .before .before .before .before .enum-told2) .given .1)
+    (rule-line′ .ensures .0 (args′ .symbols .now) (args′ .constants .now), rule-line′ .ensures .1 (pre′ .8))
 
 same-length-3 : tie.Need-same-length-3
 same-length-3 c = search needs
@@ -113,8 +142,13 @@ same-length-5 : tie.Need-same-length-5
 same-length-5 c = search needs
 
 returns-3 : tie.Need-returns-3
-unfolding formMeant
-returns-3 c = rw ((c .before .before .before .before .before .before .before .before .enum-told3) .given .1) ((c .before .before .before .before .head-line) .ensures .0 ((c .before .before .before .before .before .before .before .before .before .before .before .before .before .before .before .before .args) .number), (c .before .before .before .before .head-line) .ensures .1)
+unfolding formMeant partForm
+returns-3 c =
+    let args′ = c .before .before .before .before .before .before .before .before .before .before .before .before .before .before
+    .before .before .args in
+    let enum-told3′ = c .before .before .before .before .before .before .before .before .enum-told3 in
+    let constraint-line′ = c .before .before .before .before .constraint-line in
+    rw (enum-told3′ .given .1) (constraint-line′ .ensures .0 (args′ .number), constraint-line′ .ensures .1)
 
 same-length-6 : tie.Need-same-length-6
 same-length-6 c = search needs
@@ -126,8 +160,13 @@ same-length-8 : tie.Need-same-length-8
 same-length-8 c = search needs
 
 returns-4 : tie.Need-returns-4
-unfolding formMeant
-returns-4 c = rw ((c .before .before .before .before .before .before .before .before .enum-told4) .given .1) ((c .before .before .before .before .body-line) .ensures .0 ((c .before .before .before .before .before .before .before .before .before .before .before .before .before .before .before .before .args) .number), (c .before .before .before .before .body-line) .ensures .1)
+unfolding formMeant partForm
+returns-4 c =
+    let args′ = c .before .before .before .before .before .before .before .before .before .before .before .before .before .before
+    .before .before .args in
+    let enum-told4′ = c .before .before .before .before .before .before .before .before .enum-told4 in
+    let constraint-line2′ = c .before .before .before .before .constraint-line2 in
+    rw (enum-told4′ .given .1) (constraint-line2′ .ensures .0 (args′ .number), constraint-line2′ .ensures .1)
 
 same-length-9 : tie.Need-same-length-9
 same-length-9 c = search needs
@@ -140,7 +179,12 @@ same-length-11 c = search needs
 
 returns-5 : tie.Need-returns-5
 unfolding formMeant
-returns-5 c = rw ((c .before .before .before .before .before .before .before .before .enum-told5) .given .1) ((c .before .before .before .before .equation-line) .ensures .0 ((c .before .before .before .before .before .before .before .before .before .before .before .before .before .before .before .before .args) .number), (c .before .before .before .before .equation-line) .ensures .1)
+returns-5 c =
+    let args′ = c .before .before .before .before .before .before .before .before .before .before .before .before .before .before
+    .before .before .args in
+    let enum-told5′ = c .before .before .before .before .before .before .before .before .enum-told5 in
+    let equation-line′ = c .before .before .before .before .equation-line in
+    rw (enum-told5′ .given .1) (equation-line′ .ensures .0 (args′ .number), equation-line′ .ensures .1)
 
 returns-6 : tie.Need-returns-6
 unfolding formMeant readForm lineAnswer
@@ -159,9 +203,9 @@ read-form-spec =
     enum-told-2
     rule-line-requires
     enum-told-3
-    head-line-requires
+    constraint-line-requires
     enum-told-4
-    body-line-requires
+    constraint-line-requires-2
     enum-told-5
     equation-line-requires
     enum-told-6

@@ -1,17 +1,14 @@
 -- `programs::program::read_program` meets its contract: number 1, then the lines, then the rules. Assumes nothing.
 use borrow.Author.Needs.{needs}
-use mathlib.Core.Path.{_≡_, refl, sym, ap, _∙_}
+use mathlib.Core.Path.{refl, sym, ap, _∙_}
 use mathlib.Core.List.{List}
-use Prim.Native.Nat.{ℕ, _≤_, _<_}
+use Prim.Native.Nat.{ℕ}
 use native.Mathlib.Omega.{arith}
-use lib.ListN.{length}
 use Rattle.syntax.specs.Answers.{Answer, accepted}
 use Rattle.syntax.specs.Programs.{Reading}
-use Rattle.syntax.specs.Tables.{symbolsOf, rulesOf}
 use Rattle.lines.specs.Read.{alphabetLetters}
 use Rattle.programs.specs.Read.{draftOf, linesAnswer, rulesAnswer, readingOf, programAnswer, Sound}
 use Rattle.programs.proofs.Whole.{readingFrom, program-long, program-lines, program-rules, program-read, constants-alone}
-use borrow.Author.Needs.{needs}
 use Rattle.programs.proofs.program.read_program.Statement.{statement}
 use Rattle.programs.proofs.program.read_program.Tie as tie
 
@@ -30,7 +27,11 @@ slice-aggregate-read-lines c = search needs
 
 read-lines-requires : tie.Need-read-lines-requires
 unfolding alphabetLetters
-read-lines-requires c κs = ((c .before .before .before .before .before .before .classes) .ensures, refl, (c .before .before .before .before .before .before .before .if1) .left, (c .before .before .before .before .before .before .before .before .before .before .before .before .pre) .0, (c .before .before .before .before .before .before .before .before .before .before .before .before .pre) .1, (c .before .before .before .before .before .before .before .before .before .before .before .before .pre) .2)
+read-lines-requires c κs =
+    let pre′ = c .before .before .before .before .before .before .before .before .before .before .before .before .pre in
+    let if1′ = c .before .before .before .before .before .before .before .if1 in
+    let classes′ = c .before .before .before .before .before .before .classes in
+    (classes′ .ensures, refl, if1′ .left, pre′ .0, pre′ .1, pre′ .2)
 
 enum-known-x : tie.Need-enum-known-x
 enum-known-x c = search needs
@@ -40,8 +41,17 @@ enum-known-stage c = search needs
 
 check-rules-requires : tie.Need-check-rules-requires
 check-rules-requires c κs =
-    let sound : Sound ((c .before .before .before .before .before .before .before .before .before .before .before .read-lines) .last .1 .1 .1 .1 .0) ((c .before .before .before .stage) .given .0 .0) = rw ((c .before .before .before .stage) .given .1) at ((c .before .before .before .before .before .before .before .before .before .before .before .read-lines) .ensures .1) in
-    (omega (arith, sound .few-symbols, (c .before .before .before .before .before .before .before .before .before .before .before .read-lines) .kept .1 .1 .1 .0, (c .before .before .before .before .before .before .before .before .before .before .before .before .before .before .before .before .before .before .before .before .before .before .before .before .pre) .0), omega (arith, sound .few-rules, (c .before .before .before .before .before .before .before .before .before .before .before .read-lines) .kept .1 .1 .1 .1 .0, (c .before .before .before .before .before .before .before .before .before .before .before .before .before .before .before .before .before .before .before .before .before .before .before .before .pre) .1), sound .few-rules)
+    let pre′ = c .before .before .before .before .before .before .before .before .before .before .before .before .before .before
+    .before .before .before .before .before .before .before .before .before .before .pre in
+    let read-lines′ = c .before .before .before .before .before .before .before .before .before .before .before .read-lines in
+    let stage′ = c .before .before .before .stage in
+    let sound : Sound (read-lines′ .last .1 .1 .1 .1 .0) (stage′ .given .0 .0) =
+    rw (stage′ .given .1) at (read-lines′ .ensures .1) in (
+      omega (arith, sound .few-symbols, read-lines′ .kept .1 .1 .1 .0, pre′ .0),
+      omega
+          (arith, sound .few-rules, read-lines′ .kept .1 .1 .1 .1 .0, pre′ .1),
+      sound .few-rules,
+    )
 
 enum-known-x-2 : tie.Need-enum-known-x-2
 enum-known-x-2 c = search needs
@@ -61,8 +71,16 @@ same-length-3 c = search needs
 returns-2 : tie.Need-returns-2
 unfolding programAnswer linesAnswer
 returns-2 c =
-    program-lines ((c .before .before .before .before .before .before .before .before .before .before .before .before .before .before .before .before .before .before .before .before .before .before .args) .text .now) ((c .before .before .before .before .before .before .before .before .before .before .before .before .before .before .before .before .before .if1) .left) ((c .before .x) .given .0 .0) ((c .before .x) .given .0 .1 .0)
-    (ap (linesAnswer ((c .before .before .before .before .before .before .before .before .before .before .before .before .before .before .before .before .before .before .before .before .before .before .args) .text .now) ((c .before .before .before .before .before .before .before .before .before .read-lines) .last .1 .1 .1 .0) ((c .before .before .before .before .before .before .before .before .before .read-lines) .last .1 .1 .1 .1 .0) ((c .before .before .before .before .before .before .before .before .before .read-lines) .last .1 .1 .1 .1 .1 .0)) (sym ((c .before .x) .given .1)) ∙ (c .before .before .before .before .before .before .before .before .before .read-lines) .ensures .0)
+    let args′ = c .before .before .before .before .before .before .before .before .before .before .before .before .before .before
+    .before .before .before .before .before .before .before .before .args in
+    let text′ = args′ .text .now in
+    let if1′ = c .before .before .before .before .before .before .before .before .before .before .before .before .before .before
+    .before .before .before .if1 in
+    let read-lines′ = c .before .before .before .before .before .before .before .before .before .read-lines in
+    let x′ = c .before .x in
+    program-lines text′ (if1′ .left) (x′ .given .0 .0) (x′ .given .0 .1 .0)
+    (ap (linesAnswer text′ (read-lines′ .last .1 .1 .1 .0) (read-lines′ .last .1 .1 .1 .1 .0)
+    (read-lines′ .last .1 .1 .1 .1 .1 .0)) (sym (x′ .given .1)) ∙ read-lines′ .ensures .0)
 
 same-length-4 : tie.Need-same-length-4
 same-length-4 c = search needs
@@ -76,8 +94,21 @@ same-length-6 c = search needs
 returns-3 : tie.Need-returns-3
 unfolding programAnswer linesAnswer rulesAnswer draftOf
 returns-3 c =
-    program-rules ((c .before .before .before .before .before .before .before .before .before .before .before .before .before .before .before .before .before .before .before .before .before .before .before .before .before .before .before .before .args) .text .now) ((c .before .before .before .before .before .before .before .before .before .before .before .before .before .before .before .before .before .before .before .before .before .before .before .if1) .left) (draftOf ((c .before .before .before .before .before .before .before .before .before .before .before .before .before .before .before .before .before .before .before .before .before .before .before .before .before .before .before .before .args) .text .now) ((c .before .before .before .before .before .before .before .before .before .before .before .before .before .before .before .read-lines) .last .1 .1 .1 .0) ((c .before .before .before .before .before .before .before .before .before .before .before .before .before .before .before .read-lines) .last .1 .1 .1 .1 .0) ((c .before .before .before .before .before .before .before .before .before .before .before .before .before .before .before .read-lines) .last .1 .1 .1 .1 .1 .0) ((c .before .before .before .before .before .before .before .stage) .given .0 .0)) (ap (linesAnswer ((c .before .before .before .before .before .before .before .before .before .before .before .before .before .before .before .before .before .before .before .before .before .before .before .before .before .before .before .before .args) .text .now) ((c .before .before .before .before .before .before .before .before .before .before .before .before .before .before .before .read-lines) .last .1 .1 .1 .0) ((c .before .before .before .before .before .before .before .before .before .before .before .before .before .before .before .read-lines) .last .1 .1 .1 .1 .0) ((c .before .before .before .before .before .before .before .before .before .before .before .before .before .before .before .read-lines) .last .1 .1 .1 .1 .1 .0)) (sym ((c .before .before .before .before .before .before .before .stage) .given .1)) ∙ (c .before .before .before .before .before .before .before .before .before .before .before .before .before .before .before .read-lines) .ensures .0) ((c .before .x2) .given .0 .0) ((c .before .x2) .given .0 .1 .0)
-    (ap rulesAnswer (sym ((c .before .x2) .given .1)) ∙ (c .before .before .before .check-rules) .ensures ((c .before .before .before .before .before .before .before .before .before .before .before .before .before .before .before .before .before .before .before .before .before .before .before .before .before .before .before .before .args) .text .now))
+    let args′ = c .before .before .before .before .before .before .before .before .before .before .before .before .before .before
+    .before .before .before .before .before .before .before .before .before .before .before .before .before .before .args in
+    let text′ = args′ .text .now in
+    let if1′ = c .before .before .before .before .before .before .before .before .before .before .before .before .before .before
+    .before .before .before .before .before .before .before .before .before .if1 in
+    let read-lines′ = c .before .before .before .before .before .before .before .before .before .before .before .before .before
+    .before .before .read-lines in
+    let stage′ = c .before .before .before .before .before .before .before .stage in
+    let x2′ = c .before .x2 in
+    program-rules text′ (if1′ .left) (draftOf text′ (read-lines′ .last .1 .1 .1 .0) (read-lines′ .last .1 .1 .1 .1 .0)
+    (read-lines′ .last .1 .1 .1 .1 .1 .0) (stage′ .given .0 .0))
+    (ap (linesAnswer text′ (read-lines′ .last .1 .1 .1 .0) (read-lines′ .last .1 .1 .1 .1 .0)
+    (read-lines′ .last .1 .1 .1 .1 .1 .0)) (sym (stage′ .given .1)) ∙ read-lines′ .ensures .0) (x2′ .given .0 .0)
+    (x2′ .given .0 .1 .0)
+    (ap rulesAnswer (sym (x2′ .given .1)) ∙ (c .before .before .before .check-rules) .ensures text′)
 
 same-length-7 : tie.Need-same-length-7
 same-length-7 c = search needs
@@ -91,9 +122,22 @@ same-length-9 c = search needs
 returns-4 : tie.Need-returns-4
 unfolding programAnswer linesAnswer rulesAnswer draftOf readingOf readingFrom
 returns-4 c =
-    ap (readingWith (readingFrom (draftOf ((c .before .before .before .before .before .before .before .before .before .before .before .before .before .before .before .before .before .before .before .before .before .before .before .before .before .before .before .args) .text .now) ((c .before .before .before .before .before .before .before .before .before .before .before .before .before .before .read-lines) .last .1 .1 .1 .0) ((c .before .before .before .before .before .before .before .before .before .before .before .before .before .before .read-lines) .last .1 .1 .1 .1 .0) ((c .before .before .before .before .before .before .before .before .before .before .before .before .before .before .read-lines) .last .1 .1 .1 .1 .1 .0) ((c .before .before .before .before .before .before .stage) .given .0 .0)))) (sym (constants-alone ((c .before .before .before .before .before .before .before .before .before .before .before .before .before .before .before .before .before .before .before .before .before .before .before .before .before .before .before .args) .text .now) ((c .before .before .before .before .before .before .before .before .before .before .before .before .before .before .read-lines) .last .1 .1 .1 .1 .1 .0) (((c .before .before .before .before .before .before .stage) .given .0 .0) .constants)))
-    ∙ program-read ((c .before .before .before .before .before .before .before .before .before .before .before .before .before .before .before .before .before .before .before .before .before .before .before .before .before .before .before .args) .text .now) ((c .before .before .before .before .before .before .before .before .before .before .before .before .before .before .before .before .before .before .before .before .before .before .if1) .left) (draftOf ((c .before .before .before .before .before .before .before .before .before .before .before .before .before .before .before .before .before .before .before .before .before .before .before .before .before .before .before .args) .text .now) ((c .before .before .before .before .before .before .before .before .before .before .before .before .before .before .read-lines) .last .1 .1 .1 .0) ((c .before .before .before .before .before .before .before .before .before .before .before .before .before .before .read-lines) .last .1 .1 .1 .1 .0) ((c .before .before .before .before .before .before .before .before .before .before .before .before .before .before .read-lines) .last .1 .1 .1 .1 .1 .0) ((c .before .before .before .before .before .before .stage) .given .0 .0)) (ap (linesAnswer ((c .before .before .before .before .before .before .before .before .before .before .before .before .before .before .before .before .before .before .before .before .before .before .before .before .before .before .before .args) .text .now) ((c .before .before .before .before .before .before .before .before .before .before .before .before .before .before .read-lines) .last .1 .1 .1 .0) ((c .before .before .before .before .before .before .before .before .before .before .before .before .before .before .read-lines) .last .1 .1 .1 .1 .0) ((c .before .before .before .before .before .before .before .before .before .before .before .before .before .before .read-lines) .last .1 .1 .1 .1 .1 .0)) (sym ((c .before .before .before .before .before .before .stage) .given .1)) ∙ (c .before .before .before .before .before .before .before .before .before .before .before .before .before .before .read-lines) .ensures .0) 0
-    (ap rulesAnswer (sym ((c .enum-told) .given .1)) ∙ (c .before .before .check-rules) .ensures ((c .before .before .before .before .before .before .before .before .before .before .before .before .before .before .before .before .before .before .before .before .before .before .before .before .before .before .before .args) .text .now))
+    let args′ = c .before .before .before .before .before .before .before .before .before .before .before .before .before .before
+    .before .before .before .before .before .before .before .before .before .before .before .before .before .args in
+    let text′ = args′ .text .now in
+    let if1′ = c .before .before .before .before .before .before .before .before .before .before .before .before .before .before
+    .before .before .before .before .before .before .before .before .if1 in
+    let read-lines′ = c .before .before .before .before .before .before .before .before .before .before .before .before .before
+    .before .read-lines in
+    let stage′ = c .before .before .before .before .before .before .stage in
+    ap (readingWith (readingFrom (draftOf text′ (read-lines′ .last .1 .1 .1 .0) (read-lines′ .last .1 .1 .1 .1 .0)
+    (read-lines′ .last .1 .1 .1 .1 .1 .0) (stage′ .given .0 .0))))
+    (sym (constants-alone text′ (read-lines′ .last .1 .1 .1 .1 .1 .0) ((stage′ .given .0 .0) .constants)))
+    ∙ program-read text′ (if1′ .left) (draftOf text′ (read-lines′ .last .1 .1 .1 .0) (read-lines′ .last .1 .1 .1 .1 .0)
+    (read-lines′ .last .1 .1 .1 .1 .1 .0) (stage′ .given .0 .0))
+    (ap (linesAnswer text′ (read-lines′ .last .1 .1 .1 .0) (read-lines′ .last .1 .1 .1 .1 .0)
+    (read-lines′ .last .1 .1 .1 .1 .1 .0)) (sym (stage′ .given .1)) ∙ read-lines′ .ensures .0) 0
+    (ap rulesAnswer (sym ((c .enum-told) .given .1)) ∙ (c .before .before .check-rules) .ensures text′)
 
 pub read-program-spec : {M : Type 1} → statement M
 read-program-spec =
