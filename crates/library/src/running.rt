@@ -32,8 +32,8 @@ fn start_bound(bound: &mut [u16])
     }
 }
 
-// The listing of a final state whose variables are below v, or number 11.
-fn list_final<'a>(
+// The listing of a final state, or number 11; `numbers` has a cell for each of its variables.
+fn list_in<'a>(
     program: &'a [u8],
     goal: &'a [u8],
     symbols: &[u16],
@@ -41,22 +41,20 @@ fn list_final<'a>(
     letters: &[u8],
     bound: &[u16],
     cells: &[u16],
-    v: usize,
+    numbers: &mut [u16],
     failed: bool,
     counts: Counts,
     output: &mut [u8],
 ) -> RunReply
-    requires { ⌜ RunListable (now symbols) (now constants) (now letters) (now bound) (now cells)
-        v failed counts × (v ≤ 13338) ⌝ }
+    requires { ⌜ RunListable (now symbols) (now constants) (now letters) (now bound) (now cells) (length (now numbers)) failed counts ⌝ }
     ensures { λ r. ⌜ Replied (fitted goalText (length (now (output .entry)))
         (runBytes (tableNaming (now (program .entry)) (now (goal .entry)) (now (symbols .entry)) (now (constants .entry)) counts)
         (now (letters .entry)) failed 0 (now (bound .entry)) (now (cells .entry)) (counts .firings)))
         (now (output .entry)) (now (output .exit)) r ⌝ }
 {
-    let mut numbers = [0; 13338];
     match list_run(
         output,
-        &mut numbers[..v],
+        numbers,
         program,
         goal,
         symbols,
@@ -74,6 +72,58 @@ fn list_final<'a>(
         }),
         Listed::Written(n) => RunReply::Listed(n),
     }
+}
+
+// The same for a state whose variables are below v: most runs make few, and a small table is soon cleared.
+fn list_final<'a>(
+    program: &'a [u8],
+    goal: &'a [u8],
+    symbols: &[u16],
+    constants: &[u16],
+    letters: &[u8],
+    bound: &[u16],
+    cells: &[u16],
+    v: usize,
+    failed: bool,
+    counts: Counts,
+    output: &mut [u8],
+) -> RunReply
+    requires { ⌜ RunListable (now symbols) (now constants) (now letters) (now bound) (now cells) v failed counts × (v ≤ 13338) ⌝ }
+    ensures { λ r. ⌜ Replied (fitted goalText (length (now (output .entry)))
+        (runBytes (tableNaming (now (program .entry)) (now (goal .entry)) (now (symbols .entry)) (now (constants .entry)) counts)
+        (now (letters .entry)) failed 0 (now (bound .entry)) (now (cells .entry)) (counts .firings)))
+        (now (output .entry)) (now (output .exit)) r ⌝ }
+{
+    if v <= 256 {
+        let mut few = [0; 256];
+        return list_in(
+            program,
+            goal,
+            symbols,
+            constants,
+            letters,
+            bound,
+            cells,
+            &mut few[..v],
+            failed,
+            counts,
+            output,
+        );
+    }
+    let mut numbers = [0; 13338];
+    list_in(
+        program,
+        goal,
+        symbols,
+        constants,
+        letters,
+        bound,
+        cells,
+        &mut numbers[..v],
+        failed,
+        counts,
+        output,
+    )
 }
 
 // The run of a goal as read, from its tables.

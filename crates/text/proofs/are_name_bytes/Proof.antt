@@ -55,11 +55,11 @@ loop-again c =
     let loop-test′ = c .before .before .before .loop-test in
     let is-name-byte′ = c .before .is-name-byte in
     let if1′ = c .if1 in
-    let f′ = args′ .f .now in
-    ( omega arith, rw add-one (sym (every-step test f′ (loop′ .i) (loop-test′ .taken)
-    (sym (is-name-byte′ .ensures) ∙ not-false (is-name-byte′ .result) (if1′ .left))) ∙ loop′ .inv .1),
-
-)
+    let f′ = args′ .f .now in (
+      omega arith,
+      rw add-one (sym (every-step test f′ (loop′ .i) (loop-test′ .taken)
+          (sym (is-name-byte′ .ensures) ∙ not-false (is-name-byte′ .result) (if1′ .left))) ∙ loop′ .inv .1),
+    )
 
 returns-2 : tie.Need-returns-2 Inv-loop μ-loop
 returns-2 c =

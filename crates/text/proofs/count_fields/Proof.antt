@@ -41,9 +41,25 @@ loop-again c =
     let loop-test′ = c .before .before .loop-test in
     let if1′ = c .if1 in
     let line′ = args′ .line .now in
-    rw add-one (⊎-elim (λ w. (omega arith, omega arith, omega arith, omega (arith, count-comma line′ (loop′ .i)
-    (loop-test′ .taken) (w .0 .taken)))) (λ w. (omega arith, omega arith, omega arith, omega (arith, count-other line′ (loop′ .i)
-    (loop-test′ .taken) (w .0 .left)))) (if1′ .came))
+    rw add-one (⊎-elim (λ w. (
+      omega arith,
+      omega arith,
+      omega arith,
+      omega (
+        arith,
+        count-comma line′ (loop′ .i)
+            (loop-test′ .taken) (w .0 .taken),
+      ),
+    )) (λ w. (
+      omega arith,
+      omega arith,
+      omega arith,
+      omega (
+        arith,
+        count-other line′ (loop′ .i)
+            (loop-test′ .taken) (w .0 .left),
+      ),
+    )) (if1′ .came))
 
 returns : tie.Need-returns Inv-loop μ-loop
 returns c =

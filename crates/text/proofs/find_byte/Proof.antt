@@ -46,10 +46,11 @@ loop-again c =
     let loop-test′ = c .before .before .loop-test in
     let if1′ = c .if1 in
     let x′ = args′ .x in
-    let s′ = args′ .s .now in
-    ( omega arith, omega arith, rw add-one (omega (arith, before-step x′ s′ (loop′ .i) (loop-test′ .taken) (if1′ .left))),
-
-)
+    let s′ = args′ .s .now in (
+      omega arith,
+      omega arith,
+      rw add-one (omega (arith, before-step x′ s′ (loop′ .i) (loop-test′ .taken) (if1′ .left))),
+    )
 
 returns-2 : tie.Need-returns-2 Inv-loop μ-loop
 returns-2 c =

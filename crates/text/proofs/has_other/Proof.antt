@@ -59,12 +59,12 @@ loop-again c =
     let loop-test′ = c .before .before .before .loop-test in
     let class-of′ = c .before .class-of in
     let if1′ = c .if1 in
-    let f′ = args′ .f .now in
-    ( omega arith, rw add-one (sym (every-step test f′ (loop′ .i) (loop-test′ .taken)
-    (ap (λ (n : ℕ). not (eqb n 5)) (sym (class-of′ .ensures)) ∙ ap not (ne-eqb (class-of′ .result) 5 (if1′ .left)))) ∙
-    loop′ .inv .1),
-
-)
+    let f′ = args′ .f .now in (
+      omega arith,
+      rw add-one (sym (every-step test f′ (loop′ .i) (loop-test′ .taken)
+          (ap (λ (n : ℕ). not (eqb n 5)) (sym (class-of′ .ensures)) ∙ ap not (ne-eqb (class-of′ .result) 5 (if1′ .left)))) ∙
+          loop′ .inv .1),
+    )
 
 returns-2 : tie.Need-returns-2 Inv-loop μ-loop
 returns-2 c =

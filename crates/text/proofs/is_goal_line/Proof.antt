@@ -21,8 +21,13 @@ returns : tie.Need-returns
 returns c =
     let args′ = c .before .before .before .args in
     let at′ = args′ .at in
-    let s : List ℕ = args′ .s .now in sym (same-lengths (take 5 (drop at′ s)) goalLine (λ e. omega (arith, e, goal-length,
-    length-take 5 (drop at′ s), length-drop at′ s)))
+    let s : List ℕ = args′ .s .now in sym (same-lengths (take 5 (drop at′ s)) goalLine (λ e. omega (
+      arith,
+      e,
+      goal-length,
+      length-take 5 (drop at′ s),
+      length-drop at′ s,
+    )))
 
 add-end : tie.Need-add-end
 add-end c = search needs

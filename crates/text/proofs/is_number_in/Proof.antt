@@ -48,8 +48,12 @@ returns-3 c =
     let lo′ = args′ .lo in
     let hi′ = args′ .hi in
     let f′ = args′ .f .now in
-    rw ( in-range lo′ hi′ f′ (if1′ .left) (sym (is-short-number′ .ensures) ∙ not-false (is-short-number′ .result) (if2′ .left)), ←
-    value-of′ .ensures, lt-leb lo′ (value-of′ .result) (if3′ .taken), )
+    rw (
+      in-range lo′ hi′ f′ (if1′ .left) (sym (is-short-number′ .ensures) ∙ not-false (is-short-number′ .result) (if2′ .left)),
+      ←
+          value-of′ .ensures,
+      lt-leb lo′ (value-of′ .result) (if3′ .taken),
+    )
 
 returns-4 : tie.Need-returns-4
 unfolding between
@@ -63,8 +67,12 @@ returns-4 c =
     let lo′ = args′ .lo in
     let hi′ = args′ .hi in
     let f′ = args′ .f .now in
-    rw ( in-range lo′ hi′ f′ (if1′ .left) (sym (is-short-number′ .ensures) ∙ not-false (is-short-number′ .result) (if2′ .left)), ←
-    value-of′ .ensures, le-leb lo′ (value-of′ .result) (if3′ .left), )
+    rw (
+      in-range lo′ hi′ f′ (if1′ .left) (sym (is-short-number′ .ensures) ∙ not-false (is-short-number′ .result) (if2′ .left)),
+      ←
+          value-of′ .ensures,
+      le-leb lo′ (value-of′ .result) (if3′ .left),
+    )
 
 pub is-number-in-spec : {M : Type 1} → statement M
 is-number-in-spec =

@@ -49,11 +49,12 @@ loop-again c =
     let loop′ = c .before .before .before .before .loop in
     let if2′ = c .if2 in
     let a′ = args′ .a .now in
-    let b′ = args′ .b .now in
-    ( omega arith, omega arith, rw add-one (sym (same-step a′ b′ (loop′ .i) (omega arith) (omega arith) (if2′ .left)) ∙
-    loop′ .inv .2),
-
-)
+    let b′ = args′ .b .now in (
+      omega arith,
+      omega arith,
+      rw add-one (sym (same-step a′ b′ (loop′ .i) (omega arith) (omega arith) (if2′ .left)) ∙
+          loop′ .inv .2),
+    )
 
 returns-3 : tie.Need-returns-3 Inv-loop μ-loop
 returns-3 c =

@@ -46,10 +46,13 @@ returns c =
     let loop-test′ = c .before .before .before .loop-test in
     let if1′ = c .before .before .if1 in
     let s′ = args′ .s .now in
-    let found : sameBytes (take 5 (drop (loop′ .i) s′)) goalLine ≡ true = sym (is-goal-line′ .ensures) ∙ if2′ .taken in
-    ( loop′ .inv .1 ∙ parted-found s′ (loop′ .i) (loop′ .fresh) (loop-test′ .taken)
-    (ap (λ (t : Bool). t && sameBytes (take 5 (drop (loop′ .i) s′)) goalLine) (if1′ .taken) ∙ found), omega arith, omega
-    (arith, goal-room s′ (loop′ .i) found), )
+    let found : sameBytes (take 5 (drop (loop′ .i) s′)) goalLine ≡ true = sym (is-goal-line′ .ensures) ∙ if2′ .taken in (
+      loop′ .inv .1 ∙ parted-found s′ (loop′ .i) (loop′ .fresh) (loop-test′ .taken)
+          (ap (λ (t : Bool). t && sameBytes (take 5 (drop (loop′ .i) s′)) goalLine) (if1′ .taken) ∙ found),
+      omega arith,
+      omega
+          (arith, goal-room s′ (loop′ .i) found),
+    )
 
 shared-slice-read-fresh : tie.Need-shared-slice-read-fresh Inv-loop μ-loop
 shared-slice-read-fresh c = search needs

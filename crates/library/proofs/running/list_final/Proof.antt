@@ -1,70 +1,75 @@
--- `library::running::list_final` meets its contract. Assumes nothing.
-use Prim.Native.Nat.{ℕ}
-use mathlib.Core.Path.{sym, subst}
-use lib.Seq.{length-take-le}
+-- `library::running::list_final` meets its contract: either table has a cell for each variable. Assumes nothing.
 use borrow.Author.Needs.{needs}
+use Prim.Native.Nat.{ℕ, _≤_}
+use mathlib.Core.List.{List}
+use mathlib.Core.Bool.{Bool}
+use mathlib.Core.Path.{_≡_, sym, subst}
+use lib.ListN.{length, take}
+use lib.Seq.{length-take-le}
 use Rattle.listing.specs.Runs.{RunListable}
-use Rattle.library.proofs.ReplyLaws.{listed-short, listed-written}
+use Rattle.listing.specs.declared.Counts.{Counts}
 use Rattle.library.proofs.running.list_final.Statement.{statement}
 use Rattle.library.proofs.running.list_final.Tie as tie
 
-array-borrow-prefix-numbers : tie.Need-array-borrow-prefix-numbers
-array-borrow-prefix-numbers c = search needs
+-- the front of a table that is long enough has v cells
+front : (v : ℕ) (table : List ℕ) → v ≤ length table → v ≡ length (take v table)
+front v table h = sym (length-take-le v table h)
 
-slice-aggregate-list-run : tie.Need-slice-aggregate-list-run
-slice-aggregate-list-run c =
-    let start′ = c .before .before .before .before .before .before .before .before .before .before in
-    let args′ = start′ .args in
-    let pre′ = start′ .pre in
-    let v′ = args′ .v in
-    sym (length-take-le v′ _ (pre′ .1))
+-- so the state can be listed in it
+front-lists :
+    {symbols constants letters bound cells : List ℕ} {failed : Bool} {counts : Counts} (v : ℕ) (table : List ℕ)
+    → v ≤ length table → RunListable symbols constants letters bound cells v failed counts
+    → RunListable symbols constants letters bound cells (length (take v table)) failed counts
+front-lists {symbols} {constants} {letters} {bound} {cells} {failed} {counts} v table h l =
+    subst (λ (m : ℕ). RunListable symbols constants letters bound cells m failed counts) (front v table h) l
 
-list-run-requires : tie.Need-list-run-requires
-list-run-requires c κs =
-    let start′ = c .before .before .before .before .before .before .before .before .before .before in
-    let args′ = start′ .args in
-    let pre′ = start′ .pre in
-    let symbols′ = args′ .symbols .now in
-    let constants′ = args′ .constants .now in
-    let letters′ = args′ .letters .now in
-    let bound′ = args′ .bound .now in
-    let cells′ = args′ .cells .now in
-    let failed′ = args′ .failed in
-    let counts′ = args′ .counts in
-    let v′ = args′ .v in
-    subst (λ (m : ℕ). RunListable symbols′ constants′ letters′ bound′ cells′ m failed′ counts′)
-    (sym (length-take-le v′ _ (pre′ .1))) (pre′ .0)
+array-borrow-prefix-few : tie.Need-array-borrow-prefix-few
+array-borrow-prefix-few c = search needs
 
-enum-told : tie.Need-enum-told
-enum-told c = search needs
+slice-aggregate-list-in : tie.Need-slice-aggregate-list-in
+slice-aggregate-list-in c = front _ _ (c .before .if1 .taken)
 
-enum-known-n : tie.Need-enum-known-n
-enum-known-n c = search needs
+list-in-requires : tie.Need-list-in-requires
+list-in-requires c κs =
+    let start = c .before .before .before .before .before .before .before .before .before .before .before in
+    front-lists _ _ (c .before .before .if1 .taken) (start .pre .0)
 
 same-length : tie.Need-same-length
 same-length c = search needs
 
 returns : tie.Need-returns
-returns c = listed-short ((c .before .before .before .before .before .list-run) .ensures .0) ((c .enum-told) .given .1)
+returns c = search needs
+
+array-borrow-prefix-numbers : tie.Need-array-borrow-prefix-numbers
+array-borrow-prefix-numbers c = search needs
+
+slice-aggregate-list-in-2 : tie.Need-slice-aggregate-list-in-2
+slice-aggregate-list-in-2 c =
+    let start = c .before .before .before .before .before .before .before .before .before .before in
+    front _ _ (start .pre .1)
+
+list-in-requires-2 : tie.Need-list-in-requires-2
+list-in-requires-2 c κs =
+    let start = c .before .before .before .before .before .before .before .before .before .before .before in
+    front-lists _ _ (start .pre .1) (start .pre .0)
 
 same-length-2 : tie.Need-same-length-2
 same-length-2 c = search needs
 
 returns-2 : tie.Need-returns-2
-returns-2 c =
-    listed-written ((c .before .n) .given .0 .0) ((c .before .before .before .before .before .before .list-run) .ensures .0)
-    ((c .before .n) .given .1)
+returns-2 c = search needs
 
 pub list-final-spec : {M : Type 1} → statement M
 list-final-spec =
     tie.close
     (tie.spec
-    array-borrow-prefix-numbers
-    slice-aggregate-list-run
-    list-run-requires
-    enum-told
-    enum-known-n
+    array-borrow-prefix-few
+    slice-aggregate-list-in
+    list-in-requires
     same-length
     returns
+    array-borrow-prefix-numbers
+    slice-aggregate-list-in-2
+    list-in-requires-2
     same-length-2
     returns-2)

@@ -62,12 +62,14 @@ run-read-requires c κs =
     let read-goal′ = c .before .before .before .before .before .before .before .before .before .before .before .before .read-goal
     in
     let counts′ = c .before .before .before .before .before .before .counts in
-    let goal′ = args′ .goal .now in
-    (goal-ready pre′ goal′ (read-goal′ .last .1 .1 .1 .1 .0) (read-goal′ .last .1 .1 .1 .1 .1 .1 .0)
-    (read-goal′ .last .1 .1 .1 .1 .1 .1 .1 .0) (read-goal′ .ensures .0) (counts′ .given .1) (read-goal′ .ensures .1)
-    (omega (arith, pre′ .constants-size)) (omega arith) (omega arith), length-take-le (counts′ .given .0 .0 .letters) _
-    (few-letters pre′ goal′ (read-goal′ .last .1 .1 .1 .1 .0) (read-goal′ .last .1 .1 .1 .1 .1 .1 .0)
-    (read-goal′ .last .1 .1 .1 .1 .1 .1 .1 .0) (read-goal′ .ensures .0) (counts′ .given .1) (read-goal′ .ensures .1)))
+    let goal′ = args′ .goal .now in (
+      goal-ready pre′ goal′ (read-goal′ .last .1 .1 .1 .1 .0) (read-goal′ .last .1 .1 .1 .1 .1 .1 .0)
+          (read-goal′ .last .1 .1 .1 .1 .1 .1 .1 .0) (read-goal′ .ensures .0) (counts′ .given .1) (read-goal′ .ensures .1)
+          (omega (arith, pre′ .constants-size)) (omega arith) (omega arith),
+      length-take-le (counts′ .given .0 .0 .letters) _
+          (few-letters pre′ goal′ (read-goal′ .last .1 .1 .1 .1 .0) (read-goal′ .last .1 .1 .1 .1 .1 .1 .0)
+          (read-goal′ .last .1 .1 .1 .1 .1 .1 .1 .0) (read-goal′ .ensures .0) (counts′ .given .1) (read-goal′ .ensures .1)),
+    )
 
 same-length : tie.Need-same-length
 same-length c = search needs

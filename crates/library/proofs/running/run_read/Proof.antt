@@ -47,8 +47,11 @@ slice-aggregate-list-final c =
     let if1′ = c .before .before .before .if1 in
     let pre′ = c .before .before .before .before .before .before .before .before .before .before .before .before
     .before .before .before .before .before .before .before .before .before .before .before .before .before .pre in
-    sym (length-take-le (5 * normalise′ .result .count) _ (omega (arith, normalise′ .ensures .few (if1′ .taken),
-    pre′ .0 .cells-size)))
+    sym (length-take-le (5 * normalise′ .result .count) _ (omega (
+      arith,
+      normalise′ .ensures .few (if1′ .taken),
+      pre′ .0 .cells-size,
+    )))
 
 list-final-requires : tie.Need-list-final-requires
 list-final-requires c κs =
@@ -57,13 +60,13 @@ list-final-requires c κs =
     let start-bound′ = c .before .before .before .before .before .before .before .before .before .before .before .before
     .before .before .before .start-bound in
     let normalise′ = c .before .before .before .before .before .before .before .before .before .normalise in
-    let if1′ = c .before .before .before .before .if1 in
-    ( live-lists (pre′ .0) (start-bound′ .ensures ∙ ap (tabled (λ (i : ℕ). 256 + i)) (pre′ .1)) (normalise′ .ensures)
-    (if1′ .taken) (omega (arith, pre′ .1)) (omega (arith, pre′ .0 .cells-size)), few-numbers (pre′ .0)
-    (start-bound′ .ensures ∙ ap (tabled (λ (i : ℕ). 256 + i)) (pre′ .1)) (normalise′ .ensures) (if1′ .taken)
-    (omega (arith, pre′ .1)) (omega (arith, pre′ .0 .cells-size)),
-
-)
+    let if1′ = c .before .before .before .before .if1 in (
+      live-lists (pre′ .0) (start-bound′ .ensures ∙ ap (tabled (λ (i : ℕ). 256 + i)) (pre′ .1)) (normalise′ .ensures)
+          (if1′ .taken) (omega (arith, pre′ .1)) (omega (arith, pre′ .0 .cells-size)),
+      few-numbers (pre′ .0)
+          (start-bound′ .ensures ∙ ap (tabled (λ (i : ℕ). 256 + i)) (pre′ .1)) (normalise′ .ensures) (if1′ .taken)
+          (omega (arith, pre′ .1)) (omega (arith, pre′ .0 .cells-size)),
+    )
 
 same-length : tie.Need-same-length
 same-length c = search needs
@@ -95,9 +98,11 @@ list-final-requires-2 c κs =
     let start-bound′ = c .before .before .before .before .before .before .before .before .before .before .before .before
     .before .before .start-bound in
     let normalise′ = c .before .before .before .before .before .before .before .before .normalise in
-    let if1′ = c .before .before .before .if1 in
-    (failed-lists (pre′ .0) (start-bound′ .ensures ∙ ap (tabled (λ (i : ℕ). 256 + i)) (pre′ .1)) (normalise′ .ensures)
-    (if1′ .left) (omega (arith, pre′ .1)) _, omega arith)
+    let if1′ = c .before .before .before .if1 in (
+      failed-lists (pre′ .0) (start-bound′ .ensures ∙ ap (tabled (λ (i : ℕ). 256 + i)) (pre′ .1)) (normalise′ .ensures)
+          (if1′ .left) (omega (arith, pre′ .1)) _,
+      omega arith,
+    )
 
 same-length-4 : tie.Need-same-length-4
 same-length-4 c = search needs

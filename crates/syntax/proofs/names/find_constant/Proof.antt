@@ -23,10 +23,10 @@ returns c =
     let cells′ = args′ .cells .now in
     let name′ = args′ .name .now in
     let n′ = args′ .n in
-    let m′ = args′ .m in
-    ( constant-first first′ second′ cells′ name′ n′ m′ (find-name′ .result) (find-name′ .ensures .0) (if1′ .taken), omega arith,
-
-)
+    let m′ = args′ .m in (
+      constant-first first′ second′ cells′ name′ n′ m′ (find-name′ .result) (find-name′ .ensures .0) (if1′ .taken),
+      omega arith,
+    )
 
 mul-from : tie.Need-mul-from
 mul-from c = search needs
@@ -60,12 +60,12 @@ returns-2 c =
     let cells′ = args′ .cells .now in
     let name′ = args′ .name .now in
     let n′ = args′ .n in
-    let m′ = args′ .m in
-    ( constant-second first′ second′ cells′ name′ n′ m′ (find-name′ .result) (find-name2′ .result) _ (find-name′ .ensures .0)
-    (if1′ .left) (take-all (length cells′ - 2 * args′ .n) (drop (2 * args′ .n) cells′)
-    (omega (arith, length-drop (2 * args′ .n) cells′))) (find-name2′ .ensures .0), omega arith,
-
-)
+    let m′ = args′ .m in (
+      constant-second first′ second′ cells′ name′ n′ m′ (find-name′ .result) (find-name2′ .result) _ (find-name′ .ensures .0)
+          (if1′ .left) (take-all (length cells′ - 2 * args′ .n) (drop (2 * args′ .n) cells′)
+          (omega (arith, length-drop (2 * args′ .n) cells′))) (find-name2′ .ensures .0),
+      omega arith,
+    )
 
 pub find-constant-spec : {M : Type 1} → statement M
 find-constant-spec =

@@ -51,10 +51,10 @@ loop-again c =
     let if1′ = c .if1 in
     let letters′ = args′ .letters .now in
     let b′ = args′ .b in
-    let n′ = args′ .n in
-    ( omega arith, rw add-one (sym (letter-step letters′ b′ n′ (loop′ .i) (loop-test′ .taken) (if1′ .left)) ∙ loop′ .inv .1),
-
-)
+    let n′ = args′ .n in (
+      omega arith,
+      rw add-one (sym (letter-step letters′ b′ n′ (loop′ .i) (loop-test′ .taken) (if1′ .left)) ∙ loop′ .inv .1),
+    )
 
 returns-2 : tie.Need-returns-2 Inv-loop μ-loop
 returns-2 c =

@@ -112,12 +112,12 @@ returns c =
     let cells′ = args′ .cells .now in
     let name′ = args′ .name .now in
     let stride′ = args′ .stride in
-    let n′ = args′ .n in
-    ( sym (name-here text′ cells′ name′ stride′ n′ (loop′ .i) (loop′ .at) (wide′ .result) (wide2′ .result) (part-of′ .result .now)
-    (loop-test′ .taken) (loop′ .inv .1) (wide′ .ensures .0) (wide2′ .ensures .0) (part-of′ .ensures)
-    (sym (same-bytes′ .ensures) ∙ if1′ .taken)) ∙ loop′ .inv .2, omega arith,
-
-)
+    let n′ = args′ .n in (
+      sym (name-here text′ cells′ name′ stride′ n′ (loop′ .i) (loop′ .at) (wide′ .result) (wide2′ .result) (part-of′ .result .now)
+          (loop-test′ .taken) (loop′ .inv .1) (wide′ .ensures .0) (wide2′ .ensures .0) (part-of′ .ensures)
+          (sym (same-bytes′ .ensures) ∙ if1′ .taken)) ∙ loop′ .inv .2,
+      omega arith,
+    )
 
 add-i : tie.Need-add-i Inv-loop μ-loop
 add-i c = search needs
@@ -151,13 +151,14 @@ loop-again c =
     let text′ = args′ .text .now in
     let cells′ = args′ .cells .now in
     let name′ = args′ .name .now in
-    let n′ = args′ .n in
-    ( omega arith, rw (add-one (loop′ .i), mul-suc stride′ (loop′ .i)) (omega arith), rw add-one
-    (sym (name-step text′ cells′ name′ stride′ n′ (loop′ .i) (loop′ .at) (wide′ .result) (wide2′ .result) (part-of′ .result .now)
-    (loop-test′ .taken) (loop′ .inv .1) (wide′ .ensures .0) (wide2′ .ensures .0) (part-of′ .ensures)
-    (sym (same-bytes′ .ensures) ∙ if1′ .left)) ∙ loop′ .inv .2),
-
-)
+    let n′ = args′ .n in (
+      omega arith,
+      rw (add-one (loop′ .i), mul-suc stride′ (loop′ .i)) (omega arith),
+      rw add-one
+          (sym (name-step text′ cells′ name′ stride′ n′ (loop′ .i) (loop′ .at) (wide′ .result) (wide2′ .result) (part-of′ .result .now)
+          (loop-test′ .taken) (loop′ .inv .1) (wide′ .ensures .0) (wide2′ .ensures .0) (part-of′ .ensures)
+          (sym (same-bytes′ .ensures) ∙ if1′ .left)) ∙ loop′ .inv .2),
+    )
 
 returns-2 : tie.Need-returns-2 Inv-loop μ-loop
 returns-2 c =
@@ -168,8 +169,11 @@ returns-2 c =
     let name′ = args′ .name .now in
     let stride′ = args′ .stride in
     let n′ = args′ .n in
-    let e : loop′ .i ≡ args′ .n = omega arith in (sym (name-end text′ cells′ name′ stride′ n′) ∙ (rw e at (loop′ .inv .2)), omega
-    arith)
+    let e : loop′ .i ≡ args′ .n = omega arith in (
+      sym (name-end text′ cells′ name′ stride′ n′) ∙ (rw e at (loop′ .inv .2)),
+      omega
+          arith,
+    )
 
 pub find-name-spec : {M : Type 1} → statement M
 find-name-spec =
