@@ -33,8 +33,10 @@ check-listed s room r e l = rw e (go (decide (ltb room (length (checkListing r))
   where
     go :
         Or (ltb room (length (checkListing r)) ≡ true) (ltb room (length (checkListing r)) ≡ false)
-        → cond (ltb room (length (checkListing r))) (refusal 11 programText 0) (listing (checkListing r)) ≡ listing (checkListing r)
-    go (inl t) = absurd (let z : room < length (checkListing r) = leb→le (suc room) (length (checkListing r)) (true-T t) in omega arith)
+        → cond (ltb room (length (checkListing r))) (refusal 11 programText 0) (listing (checkListing r)) ≡ listing
+        (checkListing r)
+    go (inl t) = absurd (let z : room < length (checkListing r) = leb→le (suc room) (length (checkListing r)) (true-T t) in
+        omega arith)
     go (inr t) = rw t
 
 -- the first byte of a listing
@@ -48,12 +50,14 @@ unfolding fail pass verdictListing lineOf textOpened firstByte
 fail-no-pass r o one two n e = let z : _≡_ {A = ℕ} 85 67 = ap firstByte e in omega arith
 
 -- one verdict is not two
-verdict-one {ℓ} : {A : Type ℓ} {v : Verdict} {n : ℕ} {o : Overlap} {one two : Final} → v ≡ confluent n → v ≡ unjoined o one two → A
+verdict-one {ℓ} : {A : Type ℓ} {v : Verdict} {n : ℕ} {o : Overlap} {one two : Final} → v ≡ confluent n → v ≡ unjoined o one two
+    → A
 verdict-one e f = absurd (let z : _≡_ {A = ℕ} 0 1 = cc in omega arith)
 
 -- demand 3 on the reply, from demand 3 on the verdict
 demand-of-verdict :
-    (s : List ℕ) (room : ℕ) (r : Reading) → checkReply s room ≡ listing (checkListing r) → Demand3 (r .program) → Demand3On s room r
+    (s : List ℕ) (room : ℕ) (r : Reading) → checkReply s room ≡ listing (checkListing r) → Demand3 (r .program)
+    → Demand3On s room r
 unfolding checkListing pass fail verdictListing
 demand-of-verdict s room r e d = go (verdict (r .program)) refl
   where

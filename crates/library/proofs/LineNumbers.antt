@@ -44,7 +44,8 @@ either-andThen Q P R (refused number line) next h k = h
 either-andThen Q P R (accepted a) next h k = k a h
 
 either-refused :
-    {A : Type 0} (Q : ℕ → Type 0) (P : A → Type 0) (r : Answer A) {number line : ℕ} → Either Q P r → r ≡ refused number line → Q line
+    {A : Type 0} (Q : ℕ → Type 0) (P : A → Type 0) (r : Answer A) {number line : ℕ} → Either Q P r → r ≡ refused number line
+    → Q line
 either-refused Q P r h e = subst (Either Q P) e h
 
 -- a text has no more lines than bytes
@@ -74,7 +75,8 @@ module _ (m n : ℕ) (low : n ≤ m) where
   symbol-fine place fs d s =
       let name = fieldAt 1 fs in
       fine-refuseIf
-      (not (eqb (length fs) 4) || not (isName name) || not (isNumberIn 0 4 (fieldAt 2 fs)) || not (isNumberIn 1 31 (fieldAt 3 fs))) 4 _
+      (not (eqb (length fs) 4) || not (isName name) || not (isNumberIn 0 4 (fieldAt 2 fs)) || not
+      (isNumberIn 1 31 (fieldAt 3 fs))) 4 _
       (fine-refuseIf (isKnown name (map (λ s. s .name) (d .symbols))) 5 _
       (fine-refuseIf (leb maxSymbols (length (d .symbols))) 7 (accepted _) s))
 
@@ -96,15 +98,18 @@ module _ (m n : ℕ) (low : n ≤ m) where
       (fine-refuseIf (isUndeclared (d .symbols) fs) 6 _
       (fine-refuseIf (leb most count || ltb maxConstants (length constants)) 7 (accepted _) s))
 
-  equation-fine : (place : Place) (fs : List (List ℕ)) (d : Draft) → All (λ k. k ≤ m) (d .starts) → Fine (readEquation n place fs d)
+  equation-fine : (place : Place) (fs : List (List ℕ)) (d : Draft) → All (λ k. k ≤ m) (d .starts)
+      → Fine (readEquation n place fs d)
   unfolding readEquation withRule
   equation-fine place fs d s =
       let constants = constantsAfter (drop 1 fs) (d .constants) in
       fine-refuseIf (not (eqb (length fs) 3) || not (every isTerm (drop 1 fs))) 4 _
-      (fine-refuseIf (leb maxEquations (length (lastRule (d .rules) .equations)) || ltb maxConstants (length constants)) 7 (accepted _) s)
+      (fine-refuseIf (leb maxEquations (length (lastRule (d .rules) .equations)) || ltb maxConstants (length constants)) 7
+      (accepted _) s)
 
   form-fine :
-      (form : Form) (place : Place) (fs : List (List ℕ)) (d : Draft) → All (λ k. k ≤ m) (d .starts) → Fine (readForm form n place fs d)
+      (form : Form) (place : Place) (fs : List (List ℕ)) (d : Draft) → All (λ k. k ≤ m) (d .starts)
+      → Fine (readForm form n place fs d)
   unfolding readForm
   form-fine symbolForm place fs d s = symbol-fine place fs d s
   form-fine ruleForm place fs d s = rule-fine place fs d s
@@ -121,7 +126,8 @@ module _ (m n : ℕ) (low : n ≤ m) where
     where
       go :
           (o : Option Place)
-          → Fine (onward o (refused 3 n) (λ place. readForm (formOf (fieldAt 0 (fields (l .bytes)))) n place (fields (l .bytes)) d))
+          → Fine (onward o (refused 3 n)
+          (λ place. readForm (formOf (fieldAt 0 (fields (l .bytes)))) n place (fields (l .bytes)) d))
       go none = low
       go (some place) = form-fine (formOf (fieldAt 0 (fields (l .bytes)))) place (fields (l .bytes)) d s
 
@@ -170,7 +176,8 @@ goal-lines-fine symbols m n d (l ∷ ls) h =
     λ _. either-refuseIf _ _ (isConstraintFaulty (fields (l .bytes))) 4 n _ low
     λ _. either-refuseIf _ _ (isUndeclared symbols (fields (l .bytes))) 6 n _ low
     λ _. either-refuseIf _ _
-    (leb maxGoal (length (d .constraints)) || ltb maxConstants (length (constantsAfter (drop 2 (fields (l .bytes))) (d .constants)))) 7 n
+    (leb maxGoal (length (d .constraints)) || ltb maxConstants
+    (length (constantsAfter (drop 2 (fields (l .bytes))) (d .constants)))) 7 n
     _ low λ _. tt)
     (λ e _. goal-lines-fine symbols m (suc n) e ls (omega arith))
 

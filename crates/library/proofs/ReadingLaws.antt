@@ -36,13 +36,15 @@ module _ (program symbols rules constants : List ℕ) {reply : ProgramRead}
   -- a program that is refused
   pub program-refused :
       (goal : List ℕ) {output : List ℕ} (number line : ℕ) → reply ≡ program-read.Refused number line
-      → Replied (runReply program goal (length output)) output output (Refused (record { number = number; text = S; line = line }))
+      → Replied (runReply program goal (length output)) output output
+      (Refused (record { number = number; text = S; line = line }))
   unfolding programAnswer
   program-refused goal {output} number line h = refused-program program goal output number line (sym (rw h at e))
 
   -- a program as read
   pub program-ready :
-      (counts : Counts) → reply ≡ program-read.Accepted counts → length symbols ≡ 128 → length rules ≡ 2048 → length constants ≡ 128
+      (counts : Counts) → reply ≡ program-read.Accepted counts → length symbols ≡ 128 → length rules ≡ 2048
+      → length constants ≡ 128
       → GoalReady program symbols rules constants (counts .symbols) (counts .rules) (counts .constants)
   unfolding programAnswer readingOf programTable
   program-ready counts h s t u =
@@ -64,7 +66,8 @@ module _ {program symbols rules constants : List ℕ} {k n own : ℕ} (r : GoalR
       )
 
   -- there is room to read a goal
-  pub goal-room : {cells letters : List ℕ} → 320 ≤ length cells → length letters ≡ 26 → GoalRoom symbols k constants own cells letters
+  pub goal-room : {cells letters : List ℕ} → 320 ≤ length cells → length letters ≡ 26
+      → GoalRoom symbols k constants own cells letters
   goal-room c l =
       record {
         symbol-cells = r .first .symbols-size;
@@ -86,12 +89,14 @@ module _ {program symbols rules constants : List ℕ} {k n own : ℕ} (r : GoalR
     -- a goal that is refused
     pub goal-refused :
         {output : List ℕ} (number line : ℕ) → reply ≡ goal-read.Refused number line
-        → Replied (runReply program goal (length output)) output output (Refused (record { number = number; text = G; line = line }))
+        → Replied (runReply program goal (length output)) output output
+        (Refused (record { number = number; text = G; line = line }))
     unfolding goalAnswer
     goal-refused {output} number line h =
         refused-goal program goal output (r .p) number line (r .first .read) (sym (rw h at (e (r .p) reads-from)))
 
-    module _ {counts : GoalCounts} (h : reply ≡ goal-read.Accepted counts) (f : goalKeeps program symbols k own cells letters reply) where
+    module _ {counts : GoalCounts} (h : reply ≡ goal-read.Accepted counts)
+        (f : goalKeeps program symbols k own cells letters reply) where
       fits : GoalFits symbols k own cells letters counts
       fits = let (a, _) = rw h at f in a
 

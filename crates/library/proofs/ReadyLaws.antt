@@ -62,13 +62,15 @@ module _ {program symbols rules : List ℕ} {k n : ℕ} {p : Reading} (r : Progr
   pub few-symbols : k ≤ 32
   unfolding programTable symbolsOf
   few-symbols =
-      let e : length (p .program .symbols) ≡ k = ap (λ (q : Program). length (q .symbols)) (r .holds) ∙ tabled-length (symbolOf program symbols) k in
+      let e : length (p .program .symbols) ≡ k = ap (λ (q : Program). length (q .symbols)) (r .holds)
+      ∙ tabled-length (symbolOf program symbols) k in
       omega (arith, small .few-symbols)
 
   few-rules : n ≤ 32
   unfolding programTable rulesOf
   few-rules =
-      let e : length (p .program .rules) ≡ n = ap (λ (q : Program). length (q .rules)) (r .holds) ∙ tabled-length (ruleOf program rules) n in
+      let e : length (p .program .rules) ≡ n = ap (λ (q : Program). length (q .rules)) (r .holds)
+      ∙ tabled-length (ruleOf program rules) n in
       omega (arith, small .few-rules)
 
   -- a symbol's weight
@@ -78,7 +80,8 @@ module _ {program symbols rules : List ℕ} {k n : ℕ} {p : Reading} (r : Progr
       let all : All SymbolSmall (tabled (symbolOf program symbols) k) =
       subst (λ (q : Program). All SymbolSmall (q .symbols)) (r .holds) (small .symbols) in
       let at = all-at noSymbol i all (omega (arith, tabled-length (symbolOf program symbols) k)) in
-      let weighs : SymbolSmall (symbolOf program symbols i) = subst SymbolSmall (tabled-at (symbolOf program symbols) k i noSymbol h) at in
+      let weighs : SymbolSmall (symbolOf program symbols i) = subst SymbolSmall
+      (tabled-at (symbolOf program symbols) k i noSymbol h) at in
       weighs .heavy
 
   -- a rule is within the limits
@@ -110,11 +113,16 @@ module _ {program symbols rules : List ℕ} {k n : ℕ} {p : Reading} (r : Progr
   -- a rule's equations
   used :
       (i : ℕ) → i < n
-      → every (λ (e : Equation). isUsed (e .left) && isUsed (e .right)) (ruleOfRow [] (take 64 (drop (64 * i) rules)) .equations) ≡ true
+      → every (λ (e : Equation). isUsed (e .left) && isUsed (e .right)) (ruleOfRow [] (take 64 (drop (64 * i) rules)) .equations)
+      ≡ true
   unfolding ruleOf ruleOfRow
   used i h =
       all-every (λ (e : Equation). isUsed (e .left) && isUsed (e .right))
-      (all-mono (λ e o. rw (over-used (length (p .constants)) (e .left) (o .0), over-used (length (p .constants)) (e .right) (o .1)))
+      (all-mono (λ e o. rw (
+        over-used (length (p .constants)) (e .left) (o .0),
+        over-used (length (p .constants)) (e .right)
+            (o .1),
+      ))
       (small-rule i h .over .equations))
 
   -- the engine runs such a program
@@ -145,7 +153,8 @@ normalise-few (suc fuel) rs s f = go (normalise-few fuel rs) (advance rs s)
 
 -- the same listing, whatever the naming of equal things
 listing-same :
-    (p : Reading) (g : GoalReading) (naming : Naming) (letters : List (List ℕ)) (f : Final) → p .program .symbols ≡ naming .symbols
+    (p : Reading) (g : GoalReading) (naming : Naming) (letters : List (List ℕ)) (f : Final)
+    → p .program .symbols ≡ naming .symbols
     → g .constants ≡ naming .constants → g .letters ≡ letters → f ≡ run (p .program) (g .goal)
     → endListing naming letters f ≡ runListing p g
 unfolding runListing namingOf
@@ -174,7 +183,8 @@ module _ {program goal symbols rules constants letters cells : List ℕ} {z : Si
   unfolding constantsOf
   count-constants =
       ap length (r .spelled)
-      ∙ length-append (tabled (constantOf program constants) (z .own)) (tabled (λ i. constantOf goal constants (z .own + i)) (z .more))
+      ∙ length-append (tabled (constantOf program constants) (z .own))
+      (tabled (λ i. constantOf goal constants (z .own + i)) (z .more))
       ∙ rw (
         tabled-length (constantOf program constants) (z .own),
         tabled-length (λ i. constantOf goal constants (z .own + i)) (z .more),
@@ -203,7 +213,8 @@ module _ {program goal symbols rules constants letters cells : List ℕ} {z : Si
   unfolding programOf
   ready-starts =
       subst (λ (v : ℕ). Startable rules (z .rules) cells (z .constraints) v) variables
-      (goal-starts program symbols (z .symbols) rules (z .rules) (as-read (r .first)) (r .g .goal) is-goal cells (z .constraints) holds light
+      (goal-starts program symbols (z .symbols) rules (z .rules) (as-read (r .first)) (r .g .goal) is-goal cells (z .constraints)
+      holds light
       (omega (arith, variables, few-variables)) (omega (arith, r .cells-size)) (omega (arith, r .few)))
 
   -- the run's end is over the vocabulary of both texts
@@ -217,7 +228,8 @@ module _ {program goal symbols rules constants letters cells : List ℕ} {z : Si
   rules-over =
       all-mono (λ q s. record {
         body = all-mono (λ c. all-mono (term-more more-constants)) (s .over .body);
-        equations = all-mono (λ e o. (term-more more-constants (e .left) (o .0), term-more more-constants (e .right) (o .1))) (s .over .equations);
+        equations = all-mono (λ e o. (term-more more-constants (e .left) (o .0), term-more more-constants (e .right) (o .1)))
+            (s .over .equations);
       }) (read-small program (r .first .read) .rules)
 
   abbrev final : Final
@@ -227,7 +239,8 @@ module _ {program goal symbols rules constants letters cells : List ℕ} {z : Si
       SpokenState (r .p .program .symbols) vocabulary (r .g .goal .variables) (r .g .goal .variables + alphabet * final .firings)
       (final .state)
   spoken =
-      run-spoken (r .p .program) vocabulary (r .g .goal) (read-wellFormed program (r .first .read)) (goal-read .is-goal) rules-over
+      run-spoken (r .p .program) vocabulary (r .g .goal) (read-wellFormed program (r .first .read)) (goal-read .is-goal)
+      rules-over
       (goal-read .over)
 
   few-firings : final .firings ≤ 512
@@ -250,10 +263,12 @@ module _ {program goal symbols rules constants letters cells : List ℕ} {z : Si
     -- the end of the derivation is that of the definition
     pub ready-runs : record { state = stateOf alive number bound′ (take (5 * count) cells′); firings = firings } ≡ final
     ready-runs =
-        goal-runs program symbols (z .symbols) rules (z .rules) (as-read (r .first)) (r .g .goal) is-goal cells (z .constraints) holds
+        goal-runs program symbols (z .symbols) rules (z .rules) (as-read (r .first)) (r .g .goal) is-goal cells (z .constraints)
+        holds
         bound bound′ cells′ alive count number firings
         (ap (map cellTerm) start ∙ bound-start (z .variables) ∙ ap (tabled var) (sym variables))
-        (subst (λ (v : ℕ). Ended rules (z .rules) bound cells (z .constraints) v bound′ cells′ alive count number firings) (sym variables) e)
+        (subst (λ (v : ℕ). Ended rules (z .rules) bound cells (z .constraints) v bound′ cells′ alive count number firings)
+        (sym variables) e)
         ∙ ap (λ (q : Program). run q (r .g .goal)) (sym same-program)
 
     same-firings : firings ≡ final .firings
@@ -268,7 +283,8 @@ module _ {program goal symbols rules constants letters cells : List ℕ} {z : Si
       shown = take (5 * count) cells′
 
       live-spoken :
-          Spoken (r .p .program .symbols) vocabulary (r .g .goal .variables) (r .g .goal .variables + alphabet * final .firings) number
+          Spoken (r .p .program .symbols) vocabulary (r .g .goal .variables) (r .g .goal .variables + alphabet * final .firings)
+          number
           (map cellTerm bound′) (cellConstraints shown)
       unfolding stateOf
       live-spoken =
@@ -286,7 +302,8 @@ module _ {program goal symbols rules constants letters cells : List ℕ} {z : Si
 
       -- a term's cell
       cell-fits :
-          (x : ℕ) → TermOver vocabulary (cellTerm x) → TermBelow number (cellTerm x) → listing.TermCell (z .own + z .more) number x
+          (x : ℕ) → TermOver vocabulary (cellTerm x) → TermBelow number (cellTerm x)
+          → listing.TermCell (z .own + z .more) number x
       unfolding cellTerm
       cell-fits x over below = go (ltb x 256) refl over below
         where
@@ -361,7 +378,8 @@ module _ {program goal symbols rules constants letters cells : List ℕ} {z : Si
               lettered = omega (arith, few-variables, r .letters-size);
               bound-terms = bound-fits;
               size = shown-size;
-              rows = rows-fit (cellConstraints shown) (live-spoken .declared) (live-spoken .constraints) (live-spoken .scoped .constraints);
+              rows = rows-fit (cellConstraints shown) (live-spoken .declared) (live-spoken .constraints)
+                  (live-spoken .scoped .constraints);
               few = omega (arith, few-variables, e .few lives);
             };
           }
@@ -376,13 +394,15 @@ module _ {program goal symbols rules constants letters cells : List ℕ} {z : Si
           sym (listing-next naming letters false number bound′ shown firings)
           ∙ listing-same (r .p) (r .g) naming (lettersOf letters (length bound′))
           (record { state = live number (map cellTerm bound′) (cellConstraints shown); firings = firings })
-          (ap (λ (q : Program). q .symbols) (r .first .holds)) (r .spelled) (r .lettered ∙ ap (lettersOf letters) (sym bound-size))
+          (ap (λ (q : Program). q .symbols) (r .first .holds)) (r .spelled)
+          (r .lettered ∙ ap (lettersOf letters) (sym bound-size))
           (rw lives at ready-runs)
 
       -- and so is the reply
       pub live-replies :
           {before after : List ℕ} {reply : RunReply}
-          → Replied (fitted goalText (length before) (listing.runBytes (listing.tableNaming program goal symbols constants counts) letters false
+          → Replied (fitted goalText (length before)
+          (listing.runBytes (listing.tableNaming program goal symbols constants counts) letters false
           0 bound′ shown firings)) before after reply
           → Replied (runReply program goal (length before)) before after reply
       live-replies {before} {after} {reply} l =
@@ -407,18 +427,21 @@ module _ {program goal symbols rules constants letters cells : List ℕ} {z : Si
 
       failed-bytes :
           (shown : List ℕ)
-          → listing.runBytes (listing.tableNaming program goal symbols constants failed-counts) letters true 0 bound′ shown firings
+          → listing.runBytes (listing.tableNaming program goal symbols constants failed-counts) letters true 0 bound′ shown
+          firings
           ≡ runListing (r .p) (r .g)
       unfolding listing.runBytes listing.tableNaming listing.stateOf stateOf programTable
       failed-bytes shown =
           let naming = listing.tableNaming program goal symbols constants failed-counts in
           listing-same (r .p) (r .g) naming (lettersOf letters (length bound′)) (record { state = failed; firings = firings })
-          (ap (λ (q : Program). q .symbols) (r .first .holds)) (r .spelled) (r .lettered ∙ ap (lettersOf letters) (sym bound-size))
+          (ap (λ (q : Program). q .symbols) (r .first .holds)) (r .spelled)
+          (r .lettered ∙ ap (lettersOf letters) (sym bound-size))
           (rw fails at ready-runs)
 
       pub failed-replies :
           (shown : List ℕ) {before after : List ℕ} {reply : RunReply}
-          → Replied (fitted goalText (length before) (listing.runBytes (listing.tableNaming program goal symbols constants failed-counts)
+          → Replied (fitted goalText (length before)
+          (listing.runBytes (listing.tableNaming program goal symbols constants failed-counts)
           letters true 0 bound′ shown firings)) before after reply
           → Replied (runReply program goal (length before)) before after reply
       failed-replies shown {before} {after} {reply} l =

@@ -20,7 +20,8 @@ use Rattle.listing.specs.Runs.{listedIn, ListedAs}
 use Rattle.listing.specs.Runs as runs
 use Rattle.listing.specs.declared.Listed.{Listed}
 use Rattle.listing.specs.declared.Listed.the-variants.{TooShort, Written}
-use Rattle.library.specs.Replies.{Text, programText, goalText, Reply, refusal, listing, replyOf, fitted, runReply, outputAfter}
+use Rattle.library.specs.Replies.{Text, programText, goalText, Reply, refusal, listing, replyOf, fitted, runReply}
+use Rattle.library.specs.Replies.{outputAfter}
 use Rattle.library.specs.Answers.{textMeant, replyMeant, letterOf, answerOf, Replied, nameByte}
 use Rattle.library.specs.Answers.{answerNumber, textByte, replyNumber}
 use Rattle.library.specs.declared.TextName.{TextName}
@@ -52,7 +53,8 @@ listed-short {bytes} {before} {after} {reply} l e = go (ltb (length before) (len
   where
     go :
         (b : Bool) → TooShort ≡ cond b TooShort (Written (length bytes)) → after ≡ cond b before (laid bytes before)
-        → Replied (cond b (refusal 11 goalText 0) (listing bytes)) before after (Refused (record { number = 11; text = G; line = 0 }))
+        → Replied (cond b (refusal 11 goalText 0) (listing bytes)) before after
+        (Refused (record { number = 11; text = G; line = 0 }))
     go true a o = record { meant = refl; answer = refl; output = o }
     go false a o = absurd (let z : _≡_ {A = ℕ} 0 1 = cc in omega arith)
 
@@ -69,11 +71,17 @@ listed-written {bytes} {before} {after} {reply} n l e = go (ltb (length before) 
     go true a o = absurd (let z : _≡_ {A = ℕ} 0 1 = cc in omega arith)
     go false a o =
         let size : n ≡ length bytes = cc in
-        record { meant = rw (o, size) (ap listing (take-at bytes (drop (length bytes) before) (length bytes) refl)); answer = rw size; output = o }
+        record {
+          meant = rw (o, size) (ap listing (take-at bytes (drop (length bytes) before) (length bytes) refl));
+          answer = rw
+              size;
+          output = o;
+        }
 
 -- a listing lies inside the output
 pub listed-within :
-    {reply : Reply} {before after : List ℕ} {r : RunReply} (n : ℕ) → Replied reply before after r → r ≡ ListedTo n → n ≤ length after
+    {reply : Reply} {before after : List ℕ} {r : RunReply} (n : ℕ) → Replied reply before after r → r ≡ ListedTo n
+    → n ≤ length after
 unfolding answerOf outputAfter
 listed-within {reply} {before} {after} {r} n p e = go reply (sym e ∙ p .answer) (p .output)
   where

@@ -144,7 +144,8 @@ abbrev pub fireC : Rule → (C : Config) → List (Atom (C .Var)) → List (Atom
 fireC r C M L = record {
   Var = Or (C .Var) ℕ;
   face = map (sub old) (C .face);
-  eqs = equal (map (sub new) (flat (headsOf r))) (map (sub old) (flat M)) ++ (map (subEqn new) (eqsOf r) ++ map (subEqn old) (C .eqs));
+  eqs = equal (map (sub new) (flat (headsOf r))) (map (sub old) (flat M)) ++
+      (map (subEqn new) (eqsOf r) ++ map (subEqn old) (C .eqs));
   store = map (subAtom old) L ++ map (subAtom new) (bodyOf r);
 }
 
@@ -197,4 +198,5 @@ pub record Scoped (n : ℕ) (b : List Term) (cs : List Constraint) : Type 0 wher
 -- a state that represents a configuration: it has failed and the configuration is inconsistent, or they are equal
 pub data Rep : State → Config → Type 1 where
   hasFailed : {C : Config} → Inconsistent C → Rep T.failed C
-  isLive : {n : ℕ} {b : List Term} {cs : List Constraint} {C : Config} → Scoped n b cs → Iso (confOf b cs) C → Rep (T.live n b cs) C
+  isLive : {n : ℕ} {b : List Term} {cs : List Constraint} {C : Config} → Scoped n b cs → Iso (confOf b cs) C
+      → Rep (T.live n b cs) C

@@ -133,7 +133,8 @@ module _ (p : Program) (w : isWellFormed p ≡ true) (all : (o : Overlap) → Me
           subst (λ n. All (λ d. d ≤ n) shared) (pointwise-length (H .match .stand) ∙ short) (partners-bound ps qs) in
           let agreed = partners-agreed cs (F .match .stand) (H .match .stand) in
           let (o, e, (parts, same)) = overlap-exists first second shared θ once within m k agreed in
-          let listed = member-overlaps p i j ri qj l (member-pairings (record { long = long; within = within; pairs = pairs })) e in
+          let listed = member-overlaps p i j ri qj l (member-pairings (record { long = long; within = within; pairs = pairs })) e
+          in
           made-meet first second shared o parts listed θ same b cs M N rest m k long agreed
           (partners-whole cs ps qs (F .match .fresh) (H .match .fresh) (F .match .stand) (H .match .stand))
 

@@ -135,7 +135,8 @@ complete-at r n b cs M L letters scoped split f =
       ap (λ o. bind o (λ θ. some (fired r ps θ n b cs))) m,
       rep-iso (subst (λ N. Rep (fired r ps θ n b cs) (fireC r (confOf b cs) (map liftAtom N) (map liftAtom (without 0 ps cs))))
           (stands-same cs (F .fitting .stand) stand) (fire-represents r n b cs ps θ F letters))
-          (fire-rest r (confOf b cs) (map liftAtom M) (multiset-map liftAtom liftAtom (multiset-mono (λ c d e. ap liftAtom e) rest))),
+          (fire-rest r (confOf b cs) (map liftAtom M)
+          (multiset-map liftAtom liftAtom (multiset-mono (λ c d e. ap liftAtom e) rest))),
     )
 
 -- the list of atoms of a list of constraints, in two parts

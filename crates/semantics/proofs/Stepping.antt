@@ -11,7 +11,8 @@ use lib.Dec.{T, eqb, eqb→eq, eqb-refl}
 use Rattle.semantics.specs.Terms.{Rule}
 use Rattle.semantics.specs.Variants.{Pointwise, empty, each, SameMultiset}
 use Rattle.semantics.proofs.Configurations.{Or, inl, inr, Member, later, Tm, con, var, Atom, Eqn, sub, subAtom, flat}
-use Rattle.semantics.proofs.Configurations.{Eqv, same, flip, chain, Config, AtomRel, Core, Iso, headsOf, bodyOf, eqsOf, Fits}
+use Rattle.semantics.proofs.Configurations.{Eqv, same, flip, chain, Config, AtomRel, Core, Iso, headsOf, bodyOf, eqsOf}
+use Rattle.semantics.proofs.Configurations.{Fits}
 use Rattle.semantics.proofs.Configurations.{fireC, Step, step, Steps, stay, go}
 use Rattle.semantics.proofs.Multisets.{pointwise-trans, pointwise-mono, pointwise-member, pointwise-map-right}
 use Rattle.semantics.proofs.Multisets.{pointwise-refl, multiset-append, multiset-mono, multiset-pick, member-cons}

@@ -46,13 +46,14 @@ pub record RuleOver (P : ℕ → Type 0) (r : Rule) : Type 0 where
   pub equations : All (λ e. TermOver P (e .left) × TermOver P (e .right)) (r .equations)
 
 -- a live state of v goal variables over declared symbols, constants that have a property, and variables below its number
-pub record Spoken (symbols : List Symbol) (P : ℕ → Type 0) (v number next : ℕ) (b : List Term) (cs : List Constraint) : Type 0 where
-  pub numbered : next ≡ number
-  pub size : length b ≡ v
-  pub scoped : Scoped next b cs
-  pub bound : All (TermOver P) b
-  pub constraints : All (ConstraintOver P) cs
-  pub declared : All (λ c. isDeclared symbols c ≡ true) cs
+pub record Spoken (symbols : List Symbol) (P : ℕ → Type 0) (v number next : ℕ) (b : List Term) (cs : List Constraint) : Type 0
+  where
+    pub numbered : next ≡ number
+    pub size : length b ≡ v
+    pub scoped : Scoped next b cs
+    pub bound : All (TermOver P) b
+    pub constraints : All (ConstraintOver P) cs
+    pub declared : All (λ c. isDeclared symbols c ≡ true) cs
 
 -- a state that has failed, or is so
 abbrev pub SpokenState : List Symbol → (ℕ → Type 0) → ℕ → ℕ → State → Type 0
@@ -114,7 +115,8 @@ module _ (symbols : List Symbol) (P : ℕ → Type 0) (r : Rule) (ps : List ℕ)
 
   remaining-declared : All (λ c. isDeclared symbols c ≡ true) cs → All (λ c. isDeclared symbols c ≡ true) remaining
   remaining-declared d =
-      all-append (without-all 0 ps d) (all-map (mapTerms (instance next θ)) (all-mono (declared-map symbols (instance next θ)) body))
+      all-append (without-all 0 ps d)
+      (all-map (mapTerms (instance next θ)) (all-mono (declared-map symbols (instance next θ)) body))
 
   -- a firing keeps the vocabulary
   fired-spoken :
@@ -171,7 +173,8 @@ all-at (suc i) (also h more) e = all-at i more e
 
 -- so do firings one after the other
 pub reach-spoken :
-    (symbols : List Symbol) (P : ℕ → Type 0) (v : ℕ) {rs : List Rule} → All (λ r. isRuleOf symbols r ≡ true) rs → All (RuleOver P) rs
+    (symbols : List Symbol) (P : ℕ → Type 0) (v : ℕ) {rs : List Rule} → All (λ r. isRuleOf symbols r ≡ true) rs
+    → All (RuleOver P) rs
     → (number : ℕ) {n : ℕ} {s t : State} → SpokenState symbols P v number s → Reach rs n s t
     → SpokenState symbols P v (number + alphabet * n) t
 unfolding alphabet

@@ -8,7 +8,8 @@ use mathlib.Core.Bool.{Bool, true, false, cond}
 use mathlib.Core.List.{List, [], _∷_, _++_, map}
 use mathlib.Core.Option.{Option, none, some}
 use Rattle.text.specs.Lists.{onward, bind, has}
-use Rattle.semantics.specs.Terms.{Term, con, var, Constraint, Equation, Rule, State, failed, live, mapTerms, mapSides, alphabet}
+use Rattle.semantics.specs.Terms.{Term, con, var, Constraint, Equation, Rule, State, failed, live, mapTerms, mapSides}
+use Rattle.semantics.specs.Terms.{alphabet}
 use Rattle.semantics.specs.Matching.{Assignment, unassigned, matchAt}
 use Rattle.semantics.specs.Solving.{solve}
 

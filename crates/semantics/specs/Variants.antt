@@ -42,7 +42,8 @@ pub data Inserted {A : Type 0} (a : A) : List A → List A → Type 0 where
 pub data SameMultiset {A : Type 0} {B : Type 0} (R : A → B → Type 0) : List A → List B → Type 0 where
   done : SameMultiset R [] []
   put :
-      {a : A} {b : B} {l : List A} {m : List B} {n : List B} → R a b → Inserted b m n → SameMultiset R l m → SameMultiset R (a ∷ l) n
+      {a : A} {b : B} {l : List A} {m : List B} {n : List B} → R a b → Inserted b m n → SameMultiset R l m
+      → SameMultiset R (a ∷ l) n
 
 -- two states are equal: both failed; or one renaming makes equal what each goal variable became, and makes the constraints
 -- equal as multisets

@@ -26,11 +26,13 @@ use Rattle.semantics.proofs.MatchedTerms.{ConstraintBelow, below-mono}
 use Rattle.semantics.proofs.Listings.{all-every}
 use Rattle.semantics.proofs.Vocabulary.{ConstraintOver}
 use Rattle.syntax.specs.Answers.{accepted}
-use Rattle.syntax.specs.Forms.{formOf, fieldAt, constantsAfter, termOf, isConstraintFaulty, isUndeclared, symbolNumber, constraintOf}
+use Rattle.syntax.specs.Forms.{formOf, fieldAt, constantsAfter, termOf, isConstraintFaulty, isUndeclared, symbolNumber}
+use Rattle.syntax.specs.Forms.{constraintOf}
 use Rattle.syntax.specs.Programs.{Reading, maxText, maxConstants}
 use Rattle.syntax.specs.Goals.{GoalDraft, GoalReading, maxGoal, maxWeight, lettersAfter, readConstraintOfGoal, isGoalForm}
 use Rattle.syntax.specs.Goals.{readGoalLine, readGoalLines, readGoal}
-use Rattle.syntax.proofs.WellFormed.{Holds, holds-refuseIf, holds-andThen, holds-accepted, and-both, and-parts, or-neither, not-false}
+use Rattle.syntax.proofs.WellFormed.{Holds, holds-refuseIf, holds-andThen, holds-accepted, and-both, and-parts}
+use Rattle.syntax.proofs.WellFormed.{or-neither, not-false}
 use Rattle.syntax.proofs.Known.{grown, grown-front, grown-known, letters-grown}
 use Rattle.syntax.proofs.Vocabulary.{ConstantOf, constraints-more, constants-more, constraint-over}
 
@@ -46,7 +48,8 @@ place-split t i [] y = go (t y)
 place-split t i (x ∷ xs) y = go (place-split t (suc i) xs y) (t x)
   where
     go :
-        ltb (placeFrom t (suc i) (xs ++ (y ∷ []))) (suc i + suc (length xs)) ≡ (ltb (placeFrom t (suc i) xs) (suc i + length xs) || t y)
+        ltb (placeFrom t (suc i) (xs ++ (y ∷ []))) (suc i + suc (length xs)) ≡
+        (ltb (placeFrom t (suc i) xs) (suc i + length xs) || t y)
         → (b : Bool)
         → ltb (cond b i (placeFrom t (suc i) (xs ++ (y ∷ [])))) (i + suc (suc (length xs)))
         ≡ (ltb (cond b i (placeFrom t (suc i) xs)) (i + suc (length xs)) || t y)
@@ -56,7 +59,8 @@ place-split t i (x ∷ xs) y = go (place-split t (suc i) xs y) (t x)
         let b : i + suc (length xs) ≡ suc i + length xs = omega arith in
         rw (a, b) more
 
-known-split : (f : List ℕ) (names : List (List ℕ)) (g : List ℕ) → isKnown f (names ++ (g ∷ [])) ≡ (isKnown f names || sameBytes f g)
+known-split : (f : List ℕ) (names : List (List ℕ)) (g : List ℕ)
+    → isKnown f (names ++ (g ∷ [])) ≡ (isKnown f names || sameBytes f g)
 unfolding isKnown placeOf
 known-split f names g =
     let n : length (names ++ (g ∷ [])) ≡ suc (length names) = simp length-append (omega arith) in
@@ -96,7 +100,8 @@ present-adds (suc n) j names h =
     rw (known-split (letterField n) names (letterField j)) (go (eqb n j) refl (present-adds n j names h))
   where
     unchanged :
-        (k : Bool) → present n names + cond (ltb j n) 1 0 + cond (k || false) 1 0 ≡ present n names + cond k 1 0 + cond (ltb j n) 1 0
+        (k : Bool) → present n names + cond (ltb j n) 1 0 + cond (k || false) 1 0 ≡ present n names + cond k 1 0 + cond (ltb j n)
+        1 0
     unchanged true = omega arith
     unchanged false = omega arith
 
@@ -112,7 +117,8 @@ present-adds (suc n) j names h =
         rw (unknown, eq-eqb (65 + n) (65 + j) (omega arith), lt-ltb j (suc n) (omega arith)) (omega arith)
     go false e more =
         let apart = eqb-false n j e in
-        rw (ne-eqb (65 + n) (65 + j) (λ k. apart (omega arith)), next-test j n apart, more) (unchanged (isKnown (letterField n) names))
+        rw (ne-eqb (65 + n) (65 + j) (λ k. apart (omega arith)), next-test j n apart, more)
+        (unchanged (isKnown (letterField n) names))
 
 -- a letter's field
 variable-field : (f : List ℕ) → isVariable f ≡ true → (j : ℕ) × (j < 26) × (f ≡ letterField j)
@@ -148,7 +154,8 @@ letters-counted (f ∷ fs) names t h =
         let (j, low, same) = variable-field f v in
         let new : isKnown (letterField j) names ≡ false = subst (λ g. isKnown g names ≡ false) same e in
         let more : present 26 (names ++ (f ∷ [])) ≡ present 26 names + cond (ltb j 26) 1 0 =
-        subst (λ g. present 26 (names ++ (g ∷ [])) ≡ present 26 names + cond (ltb j 26) 1 0) (sym same) (present-adds 26 j names new) in
+        subst (λ g. present 26 (names ++ (g ∷ [])) ≡ present 26 names + cond (ltb j 26) 1 0) (sym same)
+        (present-adds 26 j names new) in
         let one : cond {A = ℕ} (ltb j 26) 1 0 ≡ 1 = rw (lt-ltb j 26 low) in
         simp length-append (omega (arith, more, one, h))
 
@@ -197,8 +204,10 @@ constraint-declared :
 unfolding isUndeclared isDeclared constraintOf
 constraint-declared symbols variable constants fs h =
     let n = symbolNumber symbols (fieldAt 1 fs) in
-    let (known, counted) = or-neither (not (ltb n (length symbols))) (not (eqb (length (drop 2 fs)) (symbolAt symbols n .arity))) h in
-    rw (length-map, not-false (ltb n (length symbols)) known) (not-false (eqb (length (drop 2 fs)) (symbolAt symbols n .arity)) counted)
+    let (known, counted) = or-neither (not (ltb n (length symbols))) (not (eqb (length (drop 2 fs)) (symbolAt symbols n .arity)))
+    h in
+    rw (length-map, not-false (ltb n (length symbols)) known)
+    (not-false (eqb (length (drop 2 fs)) (symbolAt symbols n .arity)) counted)
 
 -- a draft of a goal over a program, within the limits
 record GoalSmall (p : Reading) (d : GoalDraft) : Type 0 where
@@ -210,7 +219,8 @@ record GoalSmall (p : Reading) (d : GoalDraft) : Type 0 where
   below : All (ConstraintBelow (length (d .letters))) (d .constraints)
   over : All (ConstraintOver (ConstantOf (length (d .constants)))) (d .constraints)
 
-blank-goal : (p : Reading) → length (p .constants) ≤ 64 → GoalSmall p (record { constraints = []; letters = []; constants = p .constants })
+blank-goal : (p : Reading) → length (p .constants) ≤ 64
+    → GoalSmall p (record { constraints = []; letters = []; constants = p .constants })
 unfolding isKnown placeOf
 blank-goal p h =
     record {
@@ -261,7 +271,8 @@ constraint-goal p n fs d s =
     })
 
 line-goal :
-    (p : Reading) (n : ℕ) (l : Line) (d : GoalDraft) → GoalSmall p d → Holds (GoalSmall p) (readGoalLine (p .program .symbols) n l d)
+    (p : Reading) (n : ℕ) (l : Line) (d : GoalDraft) → GoalSmall p d
+    → Holds (GoalSmall p) (readGoalLine (p .program .symbols) n l d)
 unfolding readGoalLine
 line-goal p n l d s =
     holds-refuseIf (GoalSmall p) (lineIsFaulty l) 2 n _
@@ -290,21 +301,24 @@ pub record ReadGoal (p : Reading) (g : GoalReading) : Type 0 where
 
 -- tests of declared constraints over the letters, as one
 goal-tests :
-    (symbols : List Symbol) (n : ℕ) (cs : List Constraint) → All (λ c. isDeclared symbols c ≡ true) cs → All (ConstraintBelow n) cs
+    (symbols : List Symbol) (n : ℕ) (cs : List Constraint) → All (λ c. isDeclared symbols c ≡ true) cs
+    → All (ConstraintBelow n) cs
     → every (λ c. isDeclared symbols c && every (isBelow n) (c .terms)) cs ≡ true
 goal-tests symbols n [] C.none C.none = refl
 goal-tests symbols n (c ∷ cs) (also d ds) (also b bs) =
     and-both (and-both d (all-every (isBelow n) (all-mono (below-isBelow n) b))) (goal-tests symbols n cs ds bs)
 
 -- what reads as a goal over a program
-pub goal-small : (p : Reading) (s : List ℕ) {g : GoalReading} → length (p .constants) ≤ 64 → readGoal p s ≡ accepted g → ReadGoal p g
+pub goal-small : (p : Reading) (s : List ℕ) {g : GoalReading} → length (p .constants) ≤ 64 → readGoal p s ≡ accepted g
+    → ReadGoal p g
 unfolding readGoal isGoalOf maxWeight
 goal-small p s {g} h e =
     let symbols = p .program .symbols in
     let start : GoalDraft = record { constraints = []; letters = []; constants = p .constants } in
     holds-accepted (ReadGoal p) (readGoal p s)
     (holds-refuseIf (ReadGoal p) (ltb maxText (length s)) 1 0 _
-    λ _. holds-andThen (GoalSmall p) (ReadGoal p) (readGoalLines symbols 1 start (lines s)) _ (lines-goal p 1 start (lines s) (blank-goal p h))
+    λ _. holds-andThen (GoalSmall p) (ReadGoal p) (readGoalLines symbols 1 start (lines s)) _
+    (lines-goal p 1 start (lines s) (blank-goal p h))
     λ d _ t. holds-refuseIf (ReadGoal p) (ltb 512 (weight symbols (d .constraints))) 10 0 _
     λ light. record {
       is-goal = goal-tests symbols (length (d .letters)) (d .constraints) (t .declared) (t .below);

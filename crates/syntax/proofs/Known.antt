@@ -34,7 +34,8 @@ place-front t i (x ∷ xs) ys h = go (place-front t (suc i) xs ys) (t x) h
 
 -- what passes the test behind the others is found there, or before
 place-behind :
-    (t : List ℕ → Bool) (i : ℕ) (xs : List (List ℕ)) (y : List ℕ) → t y ≡ true → placeFrom t i (xs ++ (y ∷ [])) < i + suc (length xs)
+    (t : List ℕ → Bool) (i : ℕ) (xs : List (List ℕ)) (y : List ℕ) → t y ≡ true
+    → placeFrom t i (xs ++ (y ∷ [])) < i + suc (length xs)
 place-behind t i [] y e = rw e (omega arith)
 place-behind t i (x ∷ xs) y e = go (place-behind t (suc i) xs y e) (t x)
   where
@@ -70,7 +71,8 @@ grown pick [] names = names
 grown pick (f ∷ fs) names = grown pick fs (cond (pick f) (withName f names) names)
 
 -- the names before stay in front
-with-front : (b : Bool) (f : List ℕ) (names : List (List ℕ)) → (more : List (List ℕ)) × (cond b (withName f names) names ≡ names ++ more)
+with-front : (b : Bool) (f : List ℕ) (names : List (List ℕ))
+    → (more : List (List ℕ)) × (cond b (withName f names) names ≡ names ++ more)
 unfolding withName
 with-front false f names = ([], sym (append-nil names))
 with-front true f names = go (isKnown f names)
@@ -79,7 +81,8 @@ with-front true f names = go (isKnown f names)
     go true = ([], sym (append-nil names))
     go false = (f ∷ [], refl)
 
-pub grown-front : (pick : List ℕ → Bool) (fs names : List (List ℕ)) → (more : List (List ℕ)) × (grown pick fs names ≡ names ++ more)
+pub grown-front : (pick : List ℕ → Bool) (fs names : List (List ℕ))
+    → (more : List (List ℕ)) × (grown pick fs names ≡ names ++ more)
 grown-front pick [] names = ([], sym (append-nil names))
 grown-front pick (f ∷ fs) names =
     let (one, e) = with-front (pick f) f names in

@@ -87,7 +87,8 @@ module _ {ℓ} {A : Type ℓ} (test : A → Bool) where
       pick false p q h = h
 
   -- the place in two lists, one behind the other: in the first, or else in the second
-  pub place-first : (i : ℕ) (xs ys : List A) → placeFrom test i xs < i + length xs → placeFrom test i (xs ++ ys) ≡ placeFrom test i xs
+  pub place-first : (i : ℕ) (xs ys : List A) → placeFrom test i xs < i + length xs
+      → placeFrom test i (xs ++ ys) ≡ placeFrom test i xs
   place-first i [] ys h = absurd (omega arith)
   place-first i (x ∷ xs) ys h =
       pick (test x) (placeFrom test (suc i) xs) (placeFrom test (suc i) (xs ++ ys)) h (λ k. place-first (suc i) xs ys k)
@@ -101,9 +102,11 @@ module _ {ℓ} {A : Type ℓ} (test : A → Bool) where
   place-second i [] ys h = ap (λ (n : ℕ). placeFrom test n ys) (sym (add-zero i))
   place-second i (x ∷ xs) ys h =
       pick (test x) (placeFrom test (suc i) xs) (placeFrom test (suc i) (xs ++ ys)) h
-      (λ k. place-second (suc i) xs ys k ∙ ap (λ (n : ℕ). placeFrom test n ys) (let z : suc i + length xs ≡ i + suc (length xs) = omega arith in z))
+      (λ k. place-second (suc i) xs ys k
+      ∙ ap (λ (n : ℕ). placeFrom test n ys) (let z : suc i + length xs ≡ i + suc (length xs) = omega arith in z))
     where
-      pick : (t : Bool) (p q : ℕ) → i + suc (length xs) ≤ cond t i p → (suc i + length xs ≤ p → q ≡ placeFrom test (i + suc (length xs)) ys)
+      pick : (t : Bool) (p q : ℕ) → i + suc (length xs) ≤ cond t i p
+          → (suc i + length xs ≤ p → q ≡ placeFrom test (i + suc (length xs)) ys)
           → cond t i q ≡ placeFrom test (i + suc (length xs)) ys
       pick true p q k f = absurd (omega arith)
       pick false p q k f = f (omega arith)
@@ -178,16 +181,20 @@ module _ (text cells name : List ℕ) (k n : ℕ) where
   module _ (i at start len : ℕ) (found : List ℕ) (h : i < n) (p : at ≡ k * i) (q : start ≡ getD cells at 0)
       (r : len ≡ getD cells (at + 1) 0) (e : found ≡ part text start len) where
     found-is : found ≡ getD (namesOf text cells k n) i []
-    found-is = e ∙ ap₂ (part text) (q ∙ ap (λ (j : ℕ). getD cells j 0) p) (r ∙ ap (λ (j : ℕ). getD cells (j + 1) 0) p) ∙ sym (names-at i h)
+    found-is = e ∙ ap₂ (part text) (q ∙ ap (λ (j : ℕ). getD cells j 0) p) (r ∙ ap (λ (j : ℕ). getD cells (j + 1) 0) p)
+        ∙ sym (names-at i h)
 
     pub name-here : sameBytes name found ≡ true → placeFrom (sameBytes name) i (drop i (namesOf text cells k n)) ≡ i
     name-here t =
-        place-here (sameBytes name) [] (namesOf text cells k n) i (omega (arith, names-length)) (ap (sameBytes name) (sym found-is) ∙ t)
+        place-here (sameBytes name) [] (namesOf text cells k n) i (omega (arith, names-length))
+        (ap (sameBytes name) (sym found-is) ∙ t)
 
     pub name-step : sameBytes name found ≡ false
-        → placeFrom (sameBytes name) i (drop i (namesOf text cells k n)) ≡ placeFrom (sameBytes name) (suc i) (drop (suc i) (namesOf text cells k n))
+        → placeFrom (sameBytes name) i (drop i (namesOf text cells k n)) ≡ placeFrom (sameBytes name) (suc i)
+        (drop (suc i) (namesOf text cells k n))
     name-step t =
-        place-step (sameBytes name) [] (namesOf text cells k n) i (omega (arith, names-length)) (ap (sameBytes name) (sym found-is) ∙ t)
+        place-step (sameBytes name) [] (namesOf text cells k n) i (omega (arith, names-length))
+        (ap (sameBytes name) (sym found-is) ∙ t)
 
   pub name-end : placeFrom (sameBytes name) n (drop n (namesOf text cells k n)) ≡ n
   name-end = place-end (sameBytes name) (namesOf text cells k n) n (omega (arith, names-length))
@@ -198,17 +205,21 @@ pub constants-names : (first second cells : List ℕ) (n m : ℕ)
 unfolding constantsOf constantOf namesOf
 constants-names first second cells n m =
     ap (λ (l : List (List ℕ)). tabled (constantOf first cells) n ++ l)
-    (tabled-same (λ i. constantOf second cells (n + i)) (λ i. part second (getD (drop (2 * n) cells) (2 * i) 0) (getD (drop (2 * n) cells) (2 * i + 1) 0)) m
+    (tabled-same (λ i. constantOf second cells (n + i))
+    (λ i. part second (getD (drop (2 * n) cells) (2 * i) 0) (getD (drop (2 * n) cells) (2 * i + 1) 0)) m
     (λ i h. ap₂ (part second)
-    (ap (λ (j : ℕ). getD cells j 0) (let z : 2 * (n + i) ≡ 2 * n + 2 * i = omega arith in z) ∙ sym (getD-drop (2 * n) cells (2 * i) 0))
-    (ap (λ (j : ℕ). getD cells j 0) (let z : 2 * (n + i) + 1 ≡ 2 * n + (2 * i + 1) = omega arith in z) ∙ sym (getD-drop (2 * n) cells (2 * i + 1) 0))))
+    (ap (λ (j : ℕ). getD cells j 0) (let z : 2 * (n + i) ≡ 2 * n + 2 * i = omega arith in z)
+    ∙ sym (getD-drop (2 * n) cells (2 * i) 0))
+    (ap (λ (j : ℕ). getD cells j 0) (let z : 2 * (n + i) + 1 ≡ 2 * n + (2 * i + 1) = omega arith in z)
+    ∙ sym (getD-drop (2 * n) cells (2 * i + 1) 0))))
 
 module _ (first second cells : List ℕ) (n m : ℕ) where
   pub constants-length : length (constantsOf first second cells n m) ≡ n + m
   unfolding constantsOf
   constants-length =
       length-append (tabled (constantOf first cells) n) (tabled (λ i. constantOf second cells (n + i)) m)
-      ∙ ap₂ (λ (a b : ℕ). a + b) (tabled-length (constantOf first cells) n) (tabled-length (λ i. constantOf second cells (n + i)) m)
+      ∙ ap₂ (λ (a b : ℕ). a + b) (tabled-length (constantOf first cells) n)
+      (tabled-length (λ i. constantOf second cells (n + i)) m)
 
   pub constants-first : (i : ℕ) → i < n → getD (constantsOf first second cells n m) i [] ≡ constantOf first cells i
   unfolding constantsOf
@@ -229,13 +240,16 @@ module _ (first second cells : List ℕ) (n m : ℕ) where
 
 -- a constant's number among those of two texts: in the first table of names, or behind it in the second
 module _ (first second cells name : List ℕ) (n m : ℕ) where
-  pub constant-first : (k : ℕ) → k ≡ placeOf name (namesOf first cells 2 n) → k < n → k ≡ placeOf name (constantsOf first second cells n m)
+  pub constant-first : (k : ℕ) → k ≡ placeOf name (namesOf first cells 2 n) → k < n
+      → k ≡ placeOf name (constantsOf first second cells n m)
   constant-first k e h =
       e ∙ sym (ap (placeOf name) (constants-names first second cells n m)
-      ∙ name-first name (namesOf first cells 2 n) (namesOf second (drop (2 * n) cells) 2 m) (omega (arith, names-length first cells name 2 n)))
+      ∙ name-first name (namesOf first cells 2 n) (namesOf second (drop (2 * n) cells) 2 m)
+      (omega (arith, names-length first cells name 2 n)))
 
   pub constant-second : (k j : ℕ) (rest : List ℕ) → k ≡ placeOf name (namesOf first cells 2 n) → n ≤ k
-      → rest ≡ drop (2 * n) cells → j ≡ placeOf name (namesOf second rest 2 m) → n + j ≡ placeOf name (constantsOf first second cells n m)
+      → rest ≡ drop (2 * n) cells → j ≡ placeOf name (namesOf second rest 2 m)
+      → n + j ≡ placeOf name (constantsOf first second cells n m)
   constant-second k j rest e h r p =
       let a : List (List ℕ) = namesOf first cells 2 n in
       ap₂ (λ (x y : ℕ). x + y) (sym (names-length first cells name 2 n))

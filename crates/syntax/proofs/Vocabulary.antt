@@ -27,9 +27,11 @@ use Rattle.syntax.specs.Forms.{Form, symbolForm, ruleForm, headForm, bod
 use Rattle.syntax.specs.Forms.{Place, placeAfter, fieldAt, constantsAfter, firstConstant, termOf, letterNumber}
 use Rattle.syntax.specs.Forms.{isConstraintFaulty, isUndeclared, constraintOf}
 use Rattle.syntax.specs.Programs.{Draft, Reading, blank, onLast, lastRule, withHead, withBody, withEquation, withRule}
-use Rattle.syntax.specs.Programs.{readSymbol, readRule, readConstraint, readEquation, readForm, readLine, readLines, checkRules}
+use Rattle.syntax.specs.Programs.{readSymbol, readRule, readConstraint, readEquation, readForm, readLine, readLines}
+use Rattle.syntax.specs.Programs.{checkRules}
 use Rattle.syntax.specs.Programs.{readProgram, maxSymbols, maxRules, maxHeads, maxBody, maxEquations, maxConstants, maxText}
-use Rattle.syntax.proofs.WellFormed.{Holds, holds-refuseIf, holds-andThen, holds-accepted, and-parts, or-neither, not-false}
+use Rattle.syntax.proofs.WellFormed.{Holds, holds-refuseIf, holds-andThen, holds-accepted, and-parts, or-neither}
+use Rattle.syntax.proofs.WellFormed.{not-false}
 use Rattle.syntax.proofs.WellFormed.{length-onLast}
 use Rattle.syntax.proofs.Known.{grown, grown-front, grown-known, constants-grown}
 
@@ -112,7 +114,8 @@ constraint-over symbols variable fs before = all-map _ (fields-over variable (dr
 
 -- the last rule is changed, and the others stay
 all-onLast :
-    {P : Rule → Type 0} (f : Rule → Rule) (rs : List Rule) → (P (lastRule rs) → P (f (lastRule rs))) → All P rs → All P (onLast f rs)
+    {P : Rule → Type 0} (f : Rule → Rule) (rs : List Rule) → (P (lastRule rs) → P (f (lastRule rs))) → All P rs
+    → All P (onLast f rs)
 unfolding onLast lastRule
 all-onLast f [] k C.none = C.none
 all-onLast f (r ∷ []) k (also h C.none) = also (k h) C.none
@@ -270,7 +273,8 @@ equation-small n place fs d s =
       over = record { body = small .over .body; equations = all-append (small .over .equations) (also sides C.none) };
     })
 
-form-small : (form : Form) (n : ℕ) (place : Place) (fs : List (List ℕ)) (d : Draft) → Small d → Holds Small (readForm form n place fs d)
+form-small : (form : Form) (n : ℕ) (place : Place) (fs : List (List ℕ)) (d : Draft) → Small d
+    → Holds Small (readForm form n place fs d)
 unfolding readForm maxHeads maxBody
 form-small symbolForm n place fs d s = symbol-small n place fs d s
 form-small ruleForm n place fs d s = rule-small n place fs d s
@@ -284,18 +288,21 @@ form-small noForm n place fs d s = tt
 
 line-small : (n : ℕ) (l : Line) (d : Draft) → Small d → Holds Small (readLine n l d)
 unfolding readLine
-line-small n l d s = holds-refuseIf Small (lineIsFaulty l) 2 n _ λ _. go (placeAfter (formOf (fieldAt 0 (fields (l .bytes)))) (d .place))
+line-small n l d s = holds-refuseIf Small (lineIsFaulty l) 2 n _ λ _. go
+    (placeAfter (formOf (fieldAt 0 (fields (l .bytes)))) (d .place))
   where
     go :
         (o : Option Place)
-        → Holds Small (onward o (refused 3 n) (λ place. readForm (formOf (fieldAt 0 (fields (l .bytes)))) n place (fields (l .bytes)) d))
+        → Holds Small (onward o (refused 3 n)
+        (λ place. readForm (formOf (fieldAt 0 (fields (l .bytes)))) n place (fields (l .bytes)) d))
     go none = tt
     go (some place) = form-small (formOf (fieldAt 0 (fields (l .bytes)))) n place (fields (l .bytes)) d s
 
 lines-small : (n : ℕ) (d : Draft) (ls : List Line) → Small d → Holds Small (readLines n d ls)
 unfolding readLines
 lines-small n d [] s = s
-lines-small n d (l ∷ ls) s = holds-andThen Small Small (readLine n l d) _ (line-small n l d s) (λ e _ t. lines-small (suc n) e ls t)
+lines-small n d (l ∷ ls) s = holds-andThen Small Small (readLine n l d) _ (line-small n l d s)
+    (λ e _ t. lines-small (suc n) e ls t)
 
 -- whatever the answer
 holds-any : {A : Type 0} (r : Answer A) → Holds (λ _. Unit {0}) r

@@ -92,7 +92,8 @@ letter-below (b ∷ []) p =
 letter-below (b ∷ c ∷ s) p = true-false p refl
 
 -- a term field stands for a constant or a letter
-term-below : (constants : List (List ℕ)) (f : List ℕ) → isTerm f ≡ true → isBelow alphabet (termOf letterNumber constants f) ≡ true
+term-below : (constants : List (List ℕ)) (f : List ℕ) → isTerm f ≡ true
+    → isBelow alphabet (termOf letterNumber constants f) ≡ true
 unfolding isTerm termOf isBelow
 term-below constants f p = go _ (isName f) (isVariable f) p (letter-below f)
   where
@@ -192,7 +193,8 @@ symbol-place inBody after e = none-some refl e
 symbol-place inEquations after e = none-some refl e
 
 -- a rule's lines stand in a rule
-rule-place : (form : Form) (place after : Place) → placeAfter form place ≡ some after → (form ≡ symbolForm → ⊥) → after ≡ inSymbols → ⊥
+rule-place : (form : Form) (place after : Place) → placeAfter form place ≡ some after → (form ≡ symbolForm → ⊥)
+    → after ≡ inSymbols → ⊥
 unfolding placeAfter
 rule-place symbolForm place after e n k = n refl
 rule-place ruleForm place after e n k = let z : _≡_ {A = ℕ} 0 1 = cc in omega arith
@@ -220,10 +222,12 @@ symbol-sound n place fs d e k =
     holds-refuseIf Sound
     (not (eqb (length fs) 4) || not (isName name) || not (isNumberIn 0 4 (fieldAt 2 fs)) || not (isNumberIn 1 31 (fieldAt 3 fs)))
     4 n _ λ _. holds-refuseIf Sound (isKnown name (map (λ s. s .name) (d .symbols))) 5 n _
-    λ _. holds-refuseIf Sound (leb maxSymbols (length (d .symbols))) 7 n _ λ _. record { before = λ _. e; over = rw e refl; lined = k }
+    λ _. holds-refuseIf Sound (leb maxSymbols (length (d .symbols))) 7 n _ λ _. record
+    { before = λ _. e; over = rw e refl; lined = k }
 
 rule-sound :
-    (n : ℕ) (place : Place) (fs : List (List ℕ)) (d : Draft) → Sound d → (place ≡ inSymbols → ⊥) → Holds Sound (readRule n place fs d)
+    (n : ℕ) (place : Place) (fs : List (List ℕ)) (d : Draft) → Sound d → (place ≡ inSymbols → ⊥)
+    → Holds Sound (readRule n place fs d)
 unfolding readRule
 rule-sound n place fs d s o =
     let name = fieldAt 1 fs in
@@ -239,7 +243,8 @@ rule-sound n place fs d s o =
 constraint-sound :
     (n : ℕ) (place : Place) (count most : ℕ) (add : Constraint → Rule → Rule) (fs : List (List ℕ)) (d : Draft) → Sound d
     → (place ≡ inSymbols → ⊥)
-    → ((c : Constraint) → isOfRule (d .symbols) c ≡ true → (r : Rule) → isOver (d .symbols) r ≡ true → isOver (d .symbols) (add c r) ≡ true)
+    → ((c : Constraint) → isOfRule (d .symbols) c ≡ true → (r : Rule) → isOver (d .symbols) r ≡ true
+    → isOver (d .symbols) (add c r) ≡ true)
     → Holds Sound (readConstraint n place count most add fs d)
 unfolding readConstraint withRule
 constraint-sound n place count most add fs d s o k =
@@ -275,7 +280,8 @@ unfolding readEquation withRule
 equation-sound n place fs d s o =
     let constants = constantsAfter (drop 1 fs) (d .constants) in
     holds-refuseIf Sound (not (eqb (length fs) 3) || not (every isTerm (drop 1 fs))) 4 n _
-    λ a. holds-refuseIf Sound (leb maxEquations (length (lastRule (d .rules) .equations)) || ltb maxConstants (length constants)) 7 n _
+    λ a. holds-refuseIf Sound (leb maxEquations (length (lastRule (d .rules) .equations)) || ltb maxConstants (length constants))
+    7 n _
     λ _. (let h = or-neither (not (eqb (length fs) 3)) (not (every isTerm (drop 1 fs))) a in
     record {
       before = λ q. absurd (o q);
@@ -308,7 +314,8 @@ form-sound noForm n place fs d s e = tt
 
 line-sound : (n : ℕ) (l : Line) (d : Draft) → Sound d → Holds Sound (readLine n l d)
 unfolding readLine
-line-sound n l d s = holds-refuseIf Sound (lineIsFaulty l) 2 n _ λ _. go (placeAfter (formOf (fieldAt 0 (fields (l .bytes)))) (d .place)) refl
+line-sound n l d s = holds-refuseIf Sound (lineIsFaulty l) 2 n _ λ _. go
+    (placeAfter (formOf (fieldAt 0 (fields (l .bytes)))) (d .place)) refl
   where
     go :
         (o : Option Place) → placeAfter (formOf (fieldAt 0 (fields (l .bytes)))) (d .place) ≡ o

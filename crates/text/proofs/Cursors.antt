@@ -104,7 +104,8 @@ line-at s start end h e =
     let k : ℕ = before 10 (drop start s) in
     let fits : 0 < length (drop start s) = simp length-drop (omega arith) in
     let bytes-same : take k (drop start s) ≡ drop start (take end s) =
-    ap (λ (n : ℕ). take n (drop start s)) (let z : k ≡ end - start = omega arith in z) ∙ sym (drop-take start end s (omega arith)) in
+    ap (λ (n : ℕ). take n (drop start s)) (let z : k ≡ end - start = omega arith in z)
+    ∙ sym (drop-take start end s (omega arith)) in
     let ended-same : ltb k (length (drop start s)) ≡ ltb end (length s) =
     ltb-same k (length (drop start s)) end (length s)
     (λ q. omega (arith, length-drop start s, q)) (λ q. omega (arith, length-drop start s, q)) in
@@ -158,7 +159,8 @@ pub field-at : (l : List ℕ) (start end : ℕ) → start ≤ length l → end �
 field-at l start end h e =
     let k : ℕ = before 44 (drop start l) in
     let field-same : take k (drop start l) ≡ drop start (take end l) =
-    ap (λ (n : ℕ). take n (drop start l)) (let z : k ≡ end - start = omega arith in z) ∙ sym (drop-take start end l (omega arith)) in
+    ap (λ (n : ℕ). take n (drop start l)) (let z : k ≡ end - start = omega arith in z)
+    ∙ sym (drop-take start end l (omega arith)) in
     let rest-same : fieldsFrom (drop start l) (suc k) ≡ fieldsFrom l (suc end) =
     fields-shift start l (suc k) h ∙ ap (λ (n : ℕ). fieldsFrom l n) (let z : start + suc k ≡ suc end = omega arith in z) in
     fields-in l start h ∙ fields-split (drop start l) ∙ ap₂ (λ (x : List ℕ) (r : List (List ℕ)). x ∷ r) field-same rest-same
@@ -175,7 +177,8 @@ in-first-length b (f ∷ fs) h = refl
 pub count-comma : (s : List ℕ) (i : ℕ) → i < length s → getD s i 0 ≡ 44
     → length (fields (drop i s)) ≡ suc (length (fields (drop (suc i) s)))
 count-comma s i h e =
-    ap (λ (l : List ℕ). length (fields l)) (drop-cons s i 0 h) ∙ ap (λ (fs : List (List ℕ)). length fs) (fields-is (getD s i 0) (drop (suc i) s) e)
+    ap (λ (l : List ℕ). length (fields l)) (drop-cons s i 0 h)
+    ∙ ap (λ (fs : List (List ℕ)). length fs) (fields-is (getD s i 0) (drop (suc i) s) e)
 
 pub count-other : (s : List ℕ) (i : ℕ) → i < length s → (getD s i 0 ≡ 44 → ⊥)
     → length (fields (drop i s)) ≡ length (fields (drop (suc i) s))

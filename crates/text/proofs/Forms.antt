@@ -102,7 +102,8 @@ number-long [] h e = absurd (not-suc-le-zero h)
 number-long (b ∷ []) h e = absurd (omega arith)
 number-long (b ∷ c ∷ []) h e = absurd (omega arith)
 number-long (b ∷ c ∷ d ∷ s) h e =
-    let least : 49 ≤ b = leb-true 49 b (and-left (leb 49 b) (leb b 57) (and-left (leb 49 b && leb b 57) (every (between 48 57) (c ∷ d ∷ s)) e)) in
+    let least : 49 ≤ b = leb-true 49 b
+    (and-left (leb 49 b) (leb b 57) (and-left (leb 49 b && leb b 57) (every (between 48 57) (c ∷ d ∷ s)) e)) in
     omega (arith, least, value-grows (((0 * 10 + (b - 48)) * 10 + (c - 48)) * 10 + (d - 48)) s)
 
 module _ (lo hi : ℕ) (f : List ℕ) where
@@ -175,7 +176,8 @@ module _ (s : List ℕ) (i : ℕ) (fresh : Bool) where
   test = fresh && sameBytes (take 5 (drop i s)) goalLine
 
   pub parted-step : i < length s → test ≡ false
-      → behind (take i s) (partedFrom fresh (drop i s)) ≡ behind (take (suc i) s) (partedFrom (eqb (getD s i 0) 10) (drop (suc i) s))
+      → behind (take i s) (partedFrom fresh (drop i s)) ≡ behind (take (suc i) s)
+      (partedFrom (eqb (getD s i 0) 10) (drop (suc i) s))
   parted-step h e =
       let b : ℕ = getD s i 0 in
       let t : List ℕ = drop (suc i) s in

@@ -26,7 +26,8 @@ module _ (x : ℕ) where
   unfolding before
   before-here s i h e = rw (drop-cons s i 0 h, eq-eqb (getD s i 0) x e)
 
-  pub before-step : (s : List ℕ) (i : ℕ) → i < length s → (getD s i 0 ≡ x → ⊥) → before x (drop i s) ≡ suc (before x (drop (suc i) s))
+  pub before-step : (s : List ℕ) (i : ℕ) → i < length s → (getD s i 0 ≡ x → ⊥)
+      → before x (drop i s) ≡ suc (before x (drop (suc i) s))
   unfolding before
   before-step s i h e = rw (drop-cons s i 0 h, ne-eqb (getD s i 0) x e)
 
@@ -41,7 +42,8 @@ module _ (test : ℕ → Bool) where
   pub every-fails : (s : List ℕ) (i : ℕ) → i < length s → test (getD s i 0) ≡ false → every test (drop i s) ≡ false
   every-fails s i h e = rw (drop-cons s i 0 h, e)
 
-  pub every-step : (s : List ℕ) (i : ℕ) → i < length s → test (getD s i 0) ≡ true → every test (drop i s) ≡ every test (drop (suc i) s)
+  pub every-step : (s : List ℕ) (i : ℕ) → i < length s → test (getD s i 0) ≡ true
+      → every test (drop i s) ≡ every test (drop (suc i) s)
   every-step s i h e = rw (drop-cons s i 0 h, e)
 
   pub every-end : (s : List ℕ) (i : ℕ) → length s ≤ i → every test (drop i s) ≡ true

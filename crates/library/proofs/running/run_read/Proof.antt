@@ -6,7 +6,8 @@ use mathlib.Core.Path.{sym, ap, _∙_}
 use lib.Seq.{length-take-le}
 use borrow.Author.Needs.{needs}
 use Rattle.text.specs.Lists.{tabled}
-use Rattle.library.proofs.ReadyLaws.{few-variables, ready-starts, few-numbers, live-lists, live-replies, failed-lists, failed-replies}
+use Rattle.library.proofs.ReadyLaws.{few-variables, ready-starts, few-numbers, live-lists, live-replies, failed-lists}
+use Rattle.library.proofs.ReadyLaws.{failed-replies}
 use Rattle.library.proofs.running.run_read.Statement.{statement}
 use Rattle.library.proofs.running.run_read.Tie as tie
 

@@ -155,7 +155,8 @@ loop-again c =
       omega arith,
       rw (add-one (loop′ .i), mul-suc stride′ (loop′ .i)) (omega arith),
       rw add-one
-          (sym (name-step text′ cells′ name′ stride′ n′ (loop′ .i) (loop′ .at) (wide′ .result) (wide2′ .result) (part-of′ .result .now)
+          (sym (name-step text′ cells′ name′ stride′ n′ (loop′ .i) (loop′ .at) (wide′ .result) (wide2′ .result)
+          (part-of′ .result .now)
           (loop-test′ .taken) (loop′ .inv .1) (wide′ .ensures .0) (wide2′ .ensures .0) (part-of′ .ensures)
           (sym (same-bytes′ .ensures) ∙ if1′ .left)) ∙ loop′ .inv .2),
     )
