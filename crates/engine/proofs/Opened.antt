@@ -9,5 +9,6 @@ use Rattle.engine.specs.Runs.{weightBy, storeOf}
 
 -- a name to say on an `unfolding` line
 unfoldable pub opened : ℕ
-unfolding assigned fitOf opposed mayTerms mayFit rowConstraint swap clashes merge instanceCell movedRow isLettered foundOf isSide isLow choiceOf stateOf weightBy storeOf
+unfolding assigned fitOf opposed mayTerms mayFit rowConstraint swap clashes merge instanceCell movedRow
+    isLettered foundOf isSide isLow choiceOf stateOf weightBy storeOf
 opened = 0

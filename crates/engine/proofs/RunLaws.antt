@@ -148,11 +148,8 @@ module _ (rules : List ℕ) (n : ℕ) (bound cells : List ℕ) (m next : ℕ) wh
 
           module _ (y : f ≡ true) where
             -- fewer firings than the weight
-            pub running-more : firings < 512
-            running-more = omega (arith, weight-left, t .lighter y (s .weigh) (s .lowers))
-
-            pub running-number : number + 26 ≤ 65000
-            running-number = omega (arith, r .numbered, s .room, running-more)
+            pub running-less : 512 - (firings + 1) < 512 - firings
+            running-less = omega (arith, weight-left, t .lighter y (s .weigh) (s .lowers))
 
             before :
                 (text : List ℕ) (fuel : ℕ) → suc firings ≤ fuel

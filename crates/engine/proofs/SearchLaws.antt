@@ -102,163 +102,147 @@ five i = omega arith
 lent-size : (l : List ℕ) (i : ℕ) → 5 * i + 5 ≤ length l → length (lent l i) ≡ 5
 lent-size l i h = rw (five i) (length-take-le 5 (drop (5 * i) l) (omega (arith, length-drop (5 * i) l)))
 
--- what the search asks, by the number of heads that are placed
-pub record Placing (heads : List ℕ) (n h : ℕ) (cells : List ℕ) (m : ℕ) (chosen bindings : List ℕ) : Type 0 where
-  pub heads-size : length heads ≡ 5 * n
-  pub few : n ≤ 4
-  pub cells-size : length cells ≡ 5 * m
-  pub chosen-size : length chosen ≡ 4
-  pub bindings-size : length bindings ≡ 26
-  pub letters : every isLettered (cellConstraints (drop (5 * h) heads)) ≡ true
+module _ (n left : ℕ) where
+  -- the number of heads that are placed
+  abbrev h : ℕ
+  h = n - left
 
-pub placing :
-    (heads : List ℕ) (n left : ℕ) (cells : List ℕ) (m : ℕ) (chosen bindings : List ℕ)
-    → Seeking heads n left cells m chosen bindings → Placing heads n (n - left) cells m chosen bindings
-placing heads n left cells m chosen bindings s =
-    record {
-      heads-size = s .heads-size;
-      few = s .few;
-      cells-size = s .cells-size;
-      chosen-size = s .chosen-size;
-      bindings-size = s .bindings-size;
-      letters = s .letters;
-    }
-
-module _ (heads : List ℕ) (n h : ℕ) (cells : List ℕ) (m : ℕ) (chosen bindings : List ℕ)
-    (s : Placing heads n h cells m chosen bindings) where
-  -- all heads have their positions
-  pub seek-done : h ≡ n → Located true n chosen bindings (answer heads h cells chosen bindings)
-  unfolding find foundOf cellConstraints
-  seek-done e =
-      record {
-        same = rw (drop-of-length-le heads {i = 5 * h} (omega (arith, s .heads-size)), e);
-        positions-size = s .chosen-size;
-        bindings-size = s .bindings-size;
-      }
-
-  module _ (l : h < n) where
-    heads-here : cellConstraints (drop (5 * h) heads) ≡ headAt heads h ∷ cellConstraints (drop (5 * suc h) heads)
-    heads-here = constraints-at heads h (omega (arith, s .heads-size))
-
-    -- the head's variables are letters, and so are those of the heads behind it
-    pub seek-letters : every (isBelow alphabet) (headAt heads h .terms) ≡ true
-    unfolding isLettered
-    seek-letters =
-        every-first isLettered (headAt heads h) (cellConstraints (drop (5 * suc h) heads)) (rw heads-here at (s .letters))
-
-    seek-later : every isLettered (cellConstraints (drop (5 * suc h) heads)) ≡ true
-    seek-later =
-        every-rest isLettered (headAt heads h) (cellConstraints (drop (5 * suc h) heads)) (rw heads-here at (s .letters))
-
-    -- what the next head's search asks
-    pub seek-next :
-        (q : ℕ) (b : List ℕ) (left : ℕ) → left ≤ n → n - left ≡ suc h → length b ≡ 26
-        → Seeking heads n left cells m (set chosen h q) b
-    seek-next q b left t e k =
+  module _ (heads cells : List ℕ) (m : ℕ) (chosen bindings : List ℕ) (s : Seeking heads n left cells m chosen bindings) where
+    -- all heads have their positions
+    pub seek-done : left ≡ 0 → Located true n chosen bindings (answer heads h cells chosen bindings)
+    unfolding find foundOf cellConstraints
+    seek-done z =
+        let e : h ≡ n = omega arith in
         record {
-          heads-size = s .heads-size;
-          few = s .few;
-          there = t;
-          cells-size = s .cells-size;
-          chosen-size = length-set chosen h q ∙ s .chosen-size;
-          bindings-size = k;
-          letters = rw e seek-later;
+          same = rw (drop-of-length-le heads {i = 5 * h} (omega (arith, s .heads-size)), e);
+          positions-size = s .chosen-size;
+          bindings-size = s .bindings-size;
         }
 
-    -- the search tries the constraints one after the other
-    pub seek-start : Sought heads h cells m chosen bindings 0
-    unfolding find
-    seek-start = record { within = omega arith; same = rw heads-here }
+    module _ (l : left ≡ 0 → ⊥) where
+      below : h < n
+      below = omega (arith, s .there)
 
-    module _ (p : ℕ) (w : Sought heads h cells m chosen bindings p) where
-      -- no position is left
-      pub seek-none : m ≤ p → Located false n chosen bindings (answer heads h cells chosen bindings)
-      unfolding firstIn foundOf cellConstraints
-      seek-none k =
+      heads-here : cellConstraints (drop (5 * h) heads) ≡ headAt heads h ∷ cellConstraints (drop (5 * suc h) heads)
+      heads-here = constraints-at heads h (omega (arith, s .heads-size, below))
+
+      -- the head's variables are letters, and so are those of the heads behind it
+      letters-here : every (isBelow alphabet) (headAt heads h .terms) ≡ true
+      unfolding isLettered
+      letters-here =
+          every-first isLettered (headAt heads h) (cellConstraints (drop (5 * suc h) heads)) (rw heads-here at (s .letters))
+
+      letters-later : every isLettered (cellConstraints (drop (5 * suc h) heads)) ≡ true
+      letters-later =
+          every-rest isLettered (headAt heads h) (cellConstraints (drop (5 * suc h) heads)) (rw heads-here at (s .letters))
+
+      -- one head more is placed
+      further : n - (left - 1) ≡ suc h
+      further = omega (arith, s .there)
+
+      -- what the next head's search asks
+      pub seek-next : (q : ℕ) (b : List ℕ) → length b ≡ 26 → Seeking heads n (left - 1) cells m (set chosen h q) b
+      seek-next q b k =
           record {
-            same = rw (drop-of-length-le cells {i = 5 * p} (omega (arith, s .cells-size))) at (w .same);
-            positions-size = s .chosen-size;
-            bindings-size = s .bindings-size;
+            heads-size = s .heads-size;
+            few = s .few;
+            there = omega (arith, s .there);
+            cells-size = s .cells-size;
+            chosen-size = length-set chosen h q ∙ s .chosen-size;
+            bindings-size = k;
+            letters = rw further letters-later;
           }
 
-      module _ (k : p < m) where
-        abbrev this : Constraint
-        this = rowConstraint (take 5 (drop (5 * p) cells))
+      -- the search tries the constraints one after the other
+      pub seek-start : Sought heads h cells m chosen bindings 0
+      unfolding find
+      seek-start = record { within = omega arith; same = rw heads-here }
 
-        split :
-            orElse (attempt heads h cells chosen bindings p this)
-            (firstIn (suc p) (cellConstraints (drop (5 * suc p) cells)) (attempt heads h cells chosen bindings))
-            ≡ answer heads h cells chosen bindings
-        unfolding firstIn
-        split = rw (constraints-at cells p (omega (arith, s .cells-size))) at (w .same)
+      module _ (p : ℕ) (w : Sought heads h cells m chosen bindings p) where
+        -- no position is left
+        pub seek-none : m ≤ p → Located false n chosen bindings (answer heads h cells chosen bindings)
+        unfolding firstIn foundOf cellConstraints
+        seek-none k =
+            record {
+              same = rw (drop-of-length-le cells {i = 5 * p} (omega (arith, s .cells-size))) at (w .same);
+              positions-size = s .chosen-size;
+              bindings-size = s .bindings-size;
+            }
 
-        -- the position does not help
-        skip : attempt heads h cells chosen bindings p this ≡ none → Sought heads h cells m chosen bindings (p + 1)
-        skip e = rw (add-one p) (record { within = k; same = rw e at split })
+        module _ (k : p < m) where
+          abbrev this : Constraint
+          this = rowConstraint (take 5 (drop (5 * p) cells))
 
-        -- the head does not fit the constraint there
-        pub seek-unfit :
-            mayFit bindings (lent heads h) (lent cells p) ≡ false
-            → Sought heads h cells m chosen bindings (p + 1)
-        seek-unfit e =
-            let none-here : matchConstraint (headAt heads h) this (assigned bindings) ≡ none =
-            rw (five h, five p) at (may-not (lent heads h) (lent cells p) bindings e) in
-            skip (rw none-here (cond-none (has p (take h chosen))))
+          split :
+              orElse (attempt heads h cells chosen bindings p this)
+              (firstIn (suc p) (cellConstraints (drop (5 * suc p) cells)) (attempt heads h cells chosen bindings))
+              ≡ answer heads h cells chosen bindings
+          unfolding firstIn
+          split = rw (constraints-at cells p (omega (arith, s .cells-size))) at (w .same)
 
-        -- what the match there asks
-        pub seek-rows :
-            (Rows (lent heads h) (lent cells p) bindings) × (h ≤ 4) × (length chosen ≡ 4)
-        seek-rows = (
-          record {
-            head-size = lent-size heads h (omega (arith, s .heads-size));
-            constraint-size = lent-size cells p (omega (arith, s .cells-size));
-            bindings-size = s .bindings-size;
-            letters = rw (five h) seek-letters;
-          },
-          omega (arith, s .few),
-          s .chosen-size,
-        )
+          -- the position does not help
+          skip : attempt heads h cells chosen bindings p this ≡ none → Sought heads h cells m chosen bindings (p + 1)
+          skip e = rw (add-one p) (record { within = k; same = rw e at split })
 
-        module _ (f : Bool) (b : List ℕ)
-            (given : Matched f b (cond (has p (take h chosen)) none
-            (matchConstraint (rowConstraint (lent heads h)) (rowConstraint (lent cells p)) (assigned bindings)))) where
-          t : Matched f b (cond (has p (take h chosen)) none (matchConstraint (headAt heads h) this (assigned bindings)))
-          t = rw (five h, five p) at given
+          -- the head does not fit the constraint there
+          pub seek-unfit :
+              (f : Bool) → f ≡ mayFit bindings (lent heads h) (lent cells p) → f ≡ false
+              → Sought heads h cells m chosen bindings (p + 1)
+          seek-unfit f g e =
+              let none-here : matchConstraint (headAt heads h) this (assigned bindings) ≡ none =
+              rw (five h, five p) at (may-not (lent heads h) (lent cells p) bindings (sym g ∙ e)) in
+              skip (rw none-here (cond-none (has p (take h chosen))))
 
-          fitting :
-              attempt heads h cells chosen bindings p this
-              ≡ bind (cond (has p (take h chosen)) none (matchConstraint (headAt heads h) this (assigned bindings)))
-              (find (cellConstraints (drop (5 * suc h) heads)) (cellConstraints cells) (take h chosen ++ (p ∷ [])))
-          fitting = cond-bind (has p (take h chosen)) (matchConstraint (headAt heads h) this (assigned bindings)) _
+          -- what the match there asks
+          pub seek-rows : Rows (lent heads h) (lent cells p) bindings
+          seek-rows =
+              record {
+                head-size = lent-size heads h (omega (arith, s .heads-size, below));
+                constraint-size = lent-size cells p (omega (arith, s .cells-size));
+                bindings-size = s .bindings-size;
+                letters = rw (five h) letters-here;
+              }
 
-          -- the head does not fit there
-          pub seek-misfit : f ≡ false → Sought heads h cells m chosen bindings (p + 1)
-          unfolding fitOf
-          seek-misfit z =
-              skip (fitting ∙ rw (← t .same, z))
+          module _ (f : Bool) (b : List ℕ)
+              (given : Matched f b (cond (has p (take h chosen)) none
+              (matchConstraint (rowConstraint (lent heads h)) (rowConstraint (lent cells p)) (assigned bindings)))) where
+            t : Matched f b (cond (has p (take h chosen)) none (matchConstraint (headAt heads h) this (assigned bindings)))
+            t = rw (five h, five p) at given
 
-          tried : f ≡ true → attempt heads h cells chosen bindings p this ≡ answer heads (suc h) cells (set chosen h p) b
-          unfolding fitOf
-          tried z =
-              fitting
-              ∙ rw (← t .same, z, take-suc-set chosen h p (omega (arith, s .chosen-size, s .few)))
+            fitting :
+                attempt heads h cells chosen bindings p this
+                ≡ bind (cond (has p (take h chosen)) none (matchConstraint (headAt heads h) this (assigned bindings)))
+                (find (cellConstraints (drop (5 * suc h) heads)) (cellConstraints cells) (take h chosen ++ (p ∷ [])))
+            fitting = cond-bind (has p (take h chosen)) (matchConstraint (headAt heads h) this (assigned bindings)) _
 
-          module _ (z : f ≡ true) (g : Bool) (ps b′ : List ℕ) (next : ℕ)
-              (given-later : Located g n ps b′ (answer heads next cells (set chosen h p) b)) (e : next ≡ suc h) where
-            u : Located g n ps b′ (answer heads (suc h) cells (set chosen h p) b)
-            u = rw e at given-later
+            -- the head does not fit there
+            pub seek-misfit : f ≡ false → Sought heads h cells m chosen bindings (p + 1)
+            unfolding fitOf
+            seek-misfit z = skip (fitting ∙ rw (← t .same, z))
 
-            -- the later heads find no positions
-            pub seek-dead : g ≡ false → Sought heads h cells m chosen bindings (p + 1)
-            unfolding foundOf
-            seek-dead y = skip (tried z ∙ rw (← u .same, y))
+            tried :
+                f ≡ true → attempt heads h cells chosen bindings p this ≡ answer heads (suc h) cells (set chosen h p) b
+            unfolding fitOf
+            tried z =
+                fitting
+                ∙ rw (← t .same, z, take-suc-set chosen h p (omega (arith, s .chosen-size, s .few, below)))
 
-            -- they do
-            pub seek-found : g ≡ true → Located g n ps b′ (answer heads h cells chosen bindings)
-            unfolding foundOf
-            seek-found y =
-                record {
-                  same = rw y (rw (tried z, ← u .same, y) at split);
-                  positions-size = u .positions-size;
-                  bindings-size = u .bindings-size;
-                }
+            module _ (z : f ≡ true) (g : Bool) (ps b′ : List ℕ)
+                (later : Located g n ps b′ (answer heads (n - (left - 1)) cells (set chosen h p) b)) where
+              u : Located g n ps b′ (answer heads (suc h) cells (set chosen h p) b)
+              u = rw further at later
+
+              -- the later heads find no positions
+              pub seek-dead : g ≡ false → Sought heads h cells m chosen bindings (p + 1)
+              unfolding foundOf
+              seek-dead y = skip (tried z ∙ rw (← u .same, y))
+
+              -- they do
+              pub seek-found : g ≡ true → Located g n ps b′ (answer heads h cells chosen bindings)
+              unfolding foundOf
+              seek-found y =
+                  record {
+                    same = rw y (rw (tried z, ← u .same, y) at split);
+                    positions-size = u .positions-size;
+                    bindings-size = u .bindings-size;
+                  }

@@ -42,7 +42,7 @@ unfolding settle
 settled none n k b b′ cells cs e = let z : _≡_ {A = ℕ} 0 1 = cc in absurd (omega arith)
 settled (some σ) n k b b′ cells cs e = record { solution = σ; same = cc }
 
-module _ (rules : List ℕ) (n : ℕ) (bound cells : List ℕ) (m next : ℕ) (s : Live rules n cells m next) where
+module _ (rules : List ℕ) (n : ℕ) (cells : List ℕ) (m next : ℕ) (s : Live rules n cells m next) where
   -- the constraints that the choice is lent
   pub step-lent : 5 * m ≡ length (take (5 * m) cells)
   step-lent = sym (length-take-le (5 * m) cells (omega (arith, s .space)))
@@ -54,9 +54,9 @@ module _ (rules : List ℕ) (n : ℕ) (bound cells : List ℕ) (m next : ℕ) (s
 
   module _ (f : Bool) (i : ℕ) (ps b : List ℕ) (chosen : Chosen rules n (take (5 * m) cells) f i ps b) where
     -- no rule fits
-    pub step-rests : f ≡ false → Stepped rules n bound cells m next bound cells false true m
+    pub step-rests : (bound : List ℕ) → f ≡ false → Stepped rules n bound cells m next bound cells false true m
     unfolding choiceOf foundOf advance storeOf
-    step-rests z =
+    step-rests bound z =
         record {
           rests = λ y. (refl, refl, λ text. rw (← chosen .same text, z));
           moves = λ y. no-way y;
@@ -82,7 +82,7 @@ module _ (rules : List ℕ) (n : ℕ) (bound cells : List ℕ) (m next : ℕ) (s
             low = s .low;
           }
 
-      module _ (bound′ cells′ : List ℕ) (alive : Bool) (count : ℕ)
+      module _ (bound bound′ cells′ : List ℕ) (alive : Bool) (count : ℕ)
           (given : Fired (lentRow rules i) ps b next bound cells m bound′ cells′ alive count) where
         abbrev row : List ℕ
         row = take 64 (drop (64 * i) rules)

@@ -1,14 +1,13 @@
 -- `normalise` meets its contract: the state so far has the end of the state at the start. A weighing bounds the firings.
 -- Assumes nothing.
 use Prim.Native.Nat.{_-_}
-use native.Mathlib.Omega.{arith}
-use mathlib.Core.Path.{_∙_}
+use borrow.Author.Needs.{needs}
 use borrow.Author.Tests.{not-true, not-false}
-use Rattle.engine.proofs.RunLaws.{Running, running-start, running-failed, running-live, running-rests, running-more}
-use Rattle.engine.proofs.RunLaws.{running-number, running-next}
+use native.Mathlib.Omega.{arith}
+use Rattle.engine.proofs.RunLaws.{Running, running-start, running-failed, running-live, running-rests, running-less}
+use Rattle.engine.proofs.RunLaws.{running-next}
 use Rattle.engine.proofs.derivation.normalise.Statement.{statement}
 use Rattle.engine.proofs.derivation.normalise.Tie as tie
-use Rattle.engine.proofs.derivation.advance.Reads as advance-reads
 
 abbrev Inv-loop : tie.InvT-loop
 Inv-loop rules n bound₀ cells₀ m next alive₀ count₀ number₀ firings₀ bound cells alive count number firings = Running rules n
@@ -18,126 +17,46 @@ abbrev μ-loop : tie.MeasureT-loop
 μ-loop rules n bound₀ cells₀ m next alive₀ count₀ number₀ firings₀ bound cells alive count number firings = 512 - firings
 
 loop-holds : tie.Need-loop-holds Inv-loop μ-loop
-loop-holds c =
-    let args′ = c .before .before .before .args in
-    let pre′ = c .before .before .before .pre in
-    running-start (args′ .rules .now) (args′ .n) (args′ .bound .now) (args′ .cells .now) (args′ .m) (args′ .next) pre′
+loop-holds c = search (needs, running-start)
 
 advance-requires : tie.Need-advance-requires Inv-loop μ-loop
-advance-requires c κs =
-    let args′ = c .before .before .before .before .before .before .before .args in
-    let pre′ = c .before .before .before .before .before .before .before .pre in
-    let loop′ = c .before .before .before .loop in
-    let loop-test′ = c .before .before .loop-test in
-    running-live (args′ .rules .now) (args′ .n) (args′ .bound .now) (args′ .cells .now) (args′ .m)
-    (args′ .next) pre′ _ _ _ _ _ _ (loop′ .inv) (loop-test′ .taken)
+advance-requires c κs = search (needs, running-live)
 
 same-length : tie.Need-same-length Inv-loop μ-loop
-same-length c =
-    let advance′ = c .before .before .before .before .before .before .advance in
-    let loop′ = c .before .before .before .before .before .before .before .before .before .before .loop in
-    advance′ .kept .1 .1 .0 ∙ loop′ .inv .bound-size
+same-length c = omega arith
 
 same-length-2 : tie.Need-same-length-2 Inv-loop μ-loop
-same-length-2 c =
-    let advance′ = c .before .before .before .before .before .before .advance in
-    let loop′ = c .before .before .before .before .before .before .before .before .before .before .loop in
-    advance′ .kept .1 .1 .1 .0 ∙ loop′ .inv .cells-size
+same-length-2 c = omega arith
 
 returns : tie.Need-returns Inv-loop μ-loop
 returns c =
-    let args′ = c .before .before .before .before .before .before .before .before .before .before .before .before .before
-    .before .args in
-    let pre′ = c .before .before .before .before .before .before .before .before .before .before .before .before .before .before
-    .pre in
-    let loop′ = c .before .before .before .before .before .before .before .before .before .before .loop in
-    let loop-test′ = c .before .before .before .before .before .before .before .before .before .loop-test in
-    let advance′ = c .before .before .before .before .before .before .advance in
-    let if1′ = c .if1 in
-    running-rests (args′ .rules .now) (args′ .n) (args′ .bound .now) (args′ .cells .now) (args′ .m)
-    (args′ .next) pre′ _ _ _ _ _ _ (loop′ .inv) (loop-test′ .taken) _ _ _ _ _ (advance′ .ensures) (not-true _ (if1′ .taken))
+    let called = c .before .before .before .before .before .before in
+    let turn = called .before .before .before in
+    let start = turn .before .before .before .before .before in
+    running-rests _ _ _ _ _ _ (start .pre) _ _ _ _ _ _ (turn .before .loop .inv) (turn .loop-test .taken) _ _ _ _ _
+    (called .advance .ensures) (not-true _ (c .if1 .taken))
+
+-- a firing more stays below the weight's bound
+loop-less : tie.Need-loop-less Inv-loop μ-loop
+loop-less c = search (needs, running-less, not-false)
 
 add-number : tie.Need-add-number Inv-loop μ-loop
-add-number c =
-    let args′ = c .before .before .before .before .before .before .before .before .before .before .before .before .before
-    .before .args in
-    let pre′ = c .before .before .before .before .before .before .before .before .before .before .before .before .before .before
-    .pre in
-    let loop′ = c .before .before .before .before .before .before .before .before .before .before .loop in
-    let loop-test′ = c .before .before .before .before .before .before .before .before .before .loop-test in
-    let advance′ = c .before .before .before .before .before .before .advance in
-    let if1′ = c .if1 in
-    omega (
-      arith,
-      running-number (args′ .rules .now) (args′ .n) (args′ .bound .now) (args′ .cells .now) (args′ .m)
-          (args′ .next) pre′ _ _ _ _ _ _ (loop′ .inv) (loop-test′ .taken) _ _ _ _ _ (advance′ .ensures) (not-false _
-          (if1′ .left)),
-    )
+add-number c = omega (arith, loop-less c)
 
 add-firings : tie.Need-add-firings Inv-loop μ-loop
-add-firings c =
-    let args′ = c .before .before .before .before .before .before .before .before .before .before .before .before .before
-    .before .args in
-    let pre′ = c .before .before .before .before .before .before .before .before .before .before .before .before .before .before
-    .pre in
-    let loop′ = c .before .before .before .before .before .before .before .before .before .before .loop in
-    let loop-test′ = c .before .before .before .before .before .before .before .before .before .loop-test in
-    let advance′ = c .before .before .before .before .before .before .advance in
-    let if1′ = c .if1 in
-    omega (
-      arith,
-      running-more (args′ .rules .now) (args′ .n) (args′ .bound .now) (args′ .cells .now) (args′ .m)
-          (args′ .next) pre′ _ _ _ _ _ _ (loop′ .inv) (loop-test′ .taken) _ _ _ _ _ (advance′ .ensures) (not-false _
-          (if1′ .left)),
-    )
-
-loop-less : tie.Need-loop-less Inv-loop μ-loop
-loop-less c =
-    let args′ = c .before .before .before .before .before .before .before .before .before .before .before .before .before
-    .before .args in
-    let pre′ = c .before .before .before .before .before .before .before .before .before .before .before .before .before .before
-    .pre in
-    let loop′ = c .before .before .before .before .before .before .before .before .before .before .loop in
-    let loop-test′ = c .before .before .before .before .before .before .before .before .before .loop-test in
-    let advance′ = c .before .before .before .before .before .before .advance in
-    let if1′ = c .if1 in
-    omega (
-      arith,
-      running-more (args′ .rules .now) (args′ .n) (args′ .bound .now) (args′ .cells .now) (args′ .m)
-          (args′ .next) pre′ _ _ _ _ _ _ (loop′ .inv) (loop-test′ .taken) _ _ _ _ _ (advance′ .ensures) (not-false _
-          (if1′ .left)),
-    )
+add-firings c = omega (arith, loop-less c)
 
 loop-again : tie.Need-loop-again Inv-loop μ-loop
-loop-again c =
-    let args′ = c .before .before .before .before .before .before .before .before .before .before .before .before .before
-    .before .args in
-    let pre′ = c .before .before .before .before .before .before .before .before .before .before .before .before .before .before
-    .pre in
-    let loop′ = c .before .before .before .before .before .before .before .before .before .before .loop in
-    let loop-test′ = c .before .before .before .before .before .before .before .before .before .loop-test in
-    let advance′ = c .before .before .before .before .before .before .advance in
-    let if1′ = c .if1 in
-    running-next (args′ .rules .now) (args′ .n) (args′ .bound .now) (args′ .cells .now) (args′ .m)
-    (args′ .next) pre′ _ _ _ _ _ _ (loop′ .inv) (loop-test′ .taken) _ _ _ _ _ (advance′ .ensures) (not-false _ (if1′ .left))
-    (advance′ .kept .1 .1 .0) (advance′ .kept .1 .1 .1 .0)
+loop-again c = search (needs, running-next, not-false)
 
 same-length-3 : tie.Need-same-length-3 Inv-loop μ-loop
-same-length-3 c =
-    (c .before .loop) .inv .bound-size
+same-length-3 c = search needs
 
 same-length-4 : tie.Need-same-length-4 Inv-loop μ-loop
-same-length-4 c =
-    (c .before .loop) .inv .cells-size
+same-length-4 c = search needs
 
 returns-2 : tie.Need-returns-2 Inv-loop μ-loop
-returns-2 c =
-    let args′ = c .before .before .before .before .before .args in
-    let pre′ = c .before .before .before .before .before .pre in
-    let loop′ = c .before .loop in
-    let loop-test′ = c .loop-test in
-    running-failed (args′ .rules .now) (args′ .n) (args′ .bound .now) (args′ .cells .now) (args′ .m)
-    (args′ .next) pre′ _ _ _ _ _ _ (loop′ .inv) (loop-test′ .left)
+returns-2 c = search (needs, running-failed)
 
 pub normalise-spec : {M : Type 1} → statement M
 normalise-spec =
