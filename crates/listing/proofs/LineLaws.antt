@@ -57,6 +57,16 @@ pub head-size : (word : List ℕ) (f : ℕ) → length (headBytes word f) ≡ (l
 unfolding headBytes
 head-size word f = omega (arith, length-append word (decimal f ++ (10 ∷ [])), length-append (decimal f) (10 ∷ []))
 
+-- an output with the first bytes of an A line, and of an S line; the word of a first line
+abbrev pub three : List ℕ → ℕ → List ℕ
+three o letter = set (set (set o 0 65) 1 44) 2 letter
+
+abbrev pub two : List ℕ → List ℕ
+two o = set (set o 0 83) 1 44
+
+abbrev pub end-word : List ℕ
+end-word = 69 ∷ 78 ∷ 68 ∷ 44 ∷ []
+
 -- a first line, written into an output o that has room for it: its word, the number, the line feed
 module _ (word : List ℕ) (f : ℕ) (o : List ℕ) (fits : length (headBytes word f) ≤ length o) where
   pub word-room : length word ≤ length o
@@ -91,7 +101,7 @@ module _ (spelled : ℕ → List ℕ) (numbers : List ℕ) (letter x : ℕ) (o :
     pub bound-three : 3 ≤ length o
     bound-three = omega (arith, bound-size (termBytes spelled numbers) letter x)
 
-    bound-left : Placed (boundBytes (termBytes spelled numbers) letter x) o (set (set (set o 0 65) 1 44) 2 letter) 3
+    bound-left : Placed (boundBytes (termBytes spelled numbers) letter x) o (three o letter) 3
         ((44 ∷ termBytes spelled numbers x) ++ (10 ∷ []))
     unfolding boundBytes
     bound-left =
@@ -100,24 +110,24 @@ module _ (spelled : ℕ → List ℕ) (numbers : List ℕ) (letter x : ℕ) (o :
         (placed-byte 44 (letter ∷ rest)
         (placed-byte 65 (44 ∷ letter ∷ rest) (placed-start (65 ∷ 44 ∷ letter ∷ rest) o) fits) fits) fits
 
-    pub term-room : length (44 ∷ termBytes spelled numbers x) ≤ length (from 3 (set (set (set o 0 65) 1 44) 2 letter))
+    pub term-room : length (44 ∷ termBytes spelled numbers x) ≤ length (from 3 (three o letter))
     term-room = lent-room (44 ∷ termBytes spelled numbers x) (10 ∷ []) bound-left fits
 
     -- d is the output behind the three bytes when the field is written
-    term-placed : {d : List ℕ} {n : ℕ} → Put (44 ∷ termBytes spelled numbers x) (from 3 (set (set (set o 0 65) 1 44) 2 letter)) d n
-        → Placed (boundBytes (termBytes spelled numbers) letter x) o (back 3 (set (set (set o 0 65) 1 44) 2 letter) d) (3 + n)
+    term-placed : {d : List ℕ} {n : ℕ} → Put (44 ∷ termBytes spelled numbers x) (from 3 (three o letter)) d n
+        → Placed (boundBytes (termBytes spelled numbers) letter x) o (back 3 (three o letter) d) (3 + n)
         (10 ∷ [])
     term-placed w = lent-part (44 ∷ termBytes spelled numbers x) (10 ∷ []) bound-left w
 
     pub bound-feed : {d : List ℕ} {n : ℕ}
-        → Put (44 ∷ termBytes spelled numbers x) (from 3 (set (set (set o 0 65) 1 44) 2 letter)) d n
-        → 3 + n < length (back 3 (set (set (set o 0 65) 1 44) 2 letter) d)
+        → Put (44 ∷ termBytes spelled numbers x) (from 3 (three o letter)) d n
+        → 3 + n < length (back 3 (three o letter) d)
     bound-feed w = last-inside (term-placed w) fits
 
     pub bound-put : {d : List ℕ} {n : ℕ}
-        → Put (44 ∷ termBytes spelled numbers x) (from 3 (set (set (set o 0 65) 1 44) 2 letter)) d n
+        → Put (44 ∷ termBytes spelled numbers x) (from 3 (three o letter)) d n
         → Put (boundBytes (termBytes spelled numbers) letter x) o
-        (set (back 3 (set (set (set o 0 65) 1 44) 2 letter) d) (3 + n) 10) ((3 + n) + 1)
+        (set (back 3 (three o letter) d) (3 + n) 10) ((3 + n) + 1)
     bound-put w = placed-last 10 refl (term-placed w) fits
 
 -- an S line, written into an output o that has room for it: two bytes, its name s, its fields
@@ -125,34 +135,34 @@ module _ (named term : ℕ → List ℕ) (row o : List ℕ) (fits : length (rowB
   pub row-two : 2 ≤ length o
   row-two = omega (arith, row-size named term row)
 
-  row-left : Placed (rowBytes named term row) o (set (set o 0 83) 1 44) 2 (named (getD row 0 0) ++ fieldBytes term (drop 1 row))
+  row-left : Placed (rowBytes named term row) o (two o) 2 (named (getD row 0 0) ++ fieldBytes term (drop 1 row))
   unfolding rowBytes
   row-left =
       let line = named (getD row 0 0) ++ fieldBytes term (drop 1 row) in
       placed-byte 44 line (placed-byte 83 (44 ∷ line) (placed-start (83 ∷ 44 ∷ line) o) fits) fits
 
-  pub name-room : (s : List ℕ) → s ≡ named (getD row 0 0) → length s ≤ length (from 2 (set (set o 0 83) 1 44))
+  pub name-room : (s : List ℕ) → s ≡ named (getD row 0 0) → length s ≤ length (from 2 (two o))
   name-room s e = rw e (lent-room (named (getD row 0 0)) (fieldBytes term (drop 1 row)) row-left fits)
 
   -- d is the output behind the two bytes when the name is written
-  name-placed : {s d : List ℕ} {n : ℕ} → s ≡ named (getD row 0 0) → Put s (from 2 (set (set o 0 83) 1 44)) d n
-      → Placed (rowBytes named term row) o (back 2 (set (set o 0 83) 1 44) d) (2 + n) (fieldBytes term (from 1 row))
+  name-placed : {s d : List ℕ} {n : ℕ} → s ≡ named (getD row 0 0) → Put s (from 2 (two o)) d n
+      → Placed (rowBytes named term row) o (back 2 (two o) d) (2 + n) (fieldBytes term (from 1 row))
   name-placed e w =
       rw (from-drop 1 row) (lent-part (named (getD row 0 0)) (fieldBytes term (drop 1 row)) row-left (put-is e w))
 
   pub fields-inside : (s : List ℕ) {d : List ℕ} {n : ℕ} → s ≡ named (getD row 0 0)
-      → Put s (from 2 (set (set o 0 83) 1 44)) d n → 2 + n ≤ length (back 2 (set (set o 0 83) 1 44) d)
+      → Put s (from 2 (two o)) d n → 2 + n ≤ length (back 2 (two o) d)
   fields-inside s e w = placed-inside (name-placed e w) fits
 
   pub fields-room : (s : List ℕ) {d : List ℕ} {n : ℕ} → s ≡ named (getD row 0 0)
-      → Put s (from 2 (set (set o 0 83) 1 44)) d n
-      → length (fieldBytes term (from 1 row)) ≤ length (from (2 + n) (back 2 (set (set o 0 83) 1 44) d))
+      → Put s (from 2 (two o)) d n
+      → length (fieldBytes term (from 1 row)) ≤ length (from (2 + n) (back 2 (two o) d))
   fields-room s e w = lent-room-last (fieldBytes term (from 1 row)) (name-placed e w) fits
 
   pub row-put : (s : List ℕ) {d d' : List ℕ} {n n' : ℕ} → s ≡ named (getD row 0 0)
-      → Put s (from 2 (set (set o 0 83) 1 44)) d n
-      → Put (fieldBytes term (from 1 row)) (from (2 + n) (back 2 (set (set o 0 83) 1 44) d)) d' n'
-      → Put (rowBytes named term row) o (back (2 + n) (back 2 (set (set o 0 83) 1 44) d) d') ((2 + n) + n')
+      → Put s (from 2 (two o)) d n
+      → Put (fieldBytes term (from 1 row)) (from (2 + n) (back 2 (two o) d)) d' n'
+      → Put (rowBytes named term row) o (back (2 + n) (back 2 (two o) d) d') ((2 + n) + n')
   row-put s e w v = lent-last (fieldBytes term (from 1 row)) (name-placed e w) v
 
 -- the A lines from place i on: one more, and none behind the last
@@ -220,16 +230,16 @@ module _ (term : ℕ → List ℕ) (letters bound : List ℕ) (i : ℕ) {o a : L
         → length (boundBytes term v x) ≤ length (from e a)
     bound-room v x h k q r =
         rw (q, r)
-        (lent-room (boundBytes term (getD letters i 0) (getD bound i 0)) (boundsBytes term (drop (i + 1) letters) (drop (i + 1) bound))
-        (bound-more h k) fits)
+        (lent-room (boundBytes term (getD letters i 0) (getD bound i 0))
+        (boundsBytes term (drop (i + 1) letters) (drop (i + 1) bound)) (bound-more h k) fits)
 
     pub bound-placed : {d : List ℕ} {n : ℕ} → i < length bound → length bound ≤ length letters
         → Put (boundBytes term (getD letters i 0) (getD bound i 0)) (from e a) d n
         → Placed (boundsBytes term letters bound) o (back e a d) (e + n)
         (boundsBytes term (drop (i + 1) letters) (drop (i + 1) bound))
     bound-placed h k w =
-        lent-part (boundBytes term (getD letters i 0) (getD bound i 0)) (boundsBytes term (drop (i + 1) letters) (drop (i + 1) bound))
-        (bound-more h k) w
+        lent-part (boundBytes term (getD letters i 0) (getD bound i 0))
+        (boundsBytes term (drop (i + 1) letters) (drop (i + 1) bound)) (bound-more h k) w
 
 -- constraint i's five cells, as they are lent, can be shown
 pub row-shown : {symbols constants cells : List ℕ} {v m : ℕ} (i : ℕ) → RowsShown symbols constants v cells m → i < m
@@ -273,8 +283,8 @@ unfolding endBytes
 end-size named term f letters bound cells =
     omega (
       arith,
-      head-size (69 ∷ 78 ∷ 68 ∷ 44 ∷ []) f,
-      length-append (headBytes (69 ∷ 78 ∷ 68 ∷ 44 ∷ []) f) (boundsBytes term letters bound ++ rowsBytes
+      head-size (end-word) f,
+      length-append (headBytes (end-word) f) (boundsBytes term letters bound ++ rowsBytes
           (rowBytes named term) cells),
       length-append (boundsBytes term letters bound) (rowsBytes (rowBytes named term) cells),
     )
@@ -283,40 +293,40 @@ end-size named term f letters bound cells =
 module _ (named term : ℕ → List ℕ) (f : ℕ) (letters bound cells o : List ℕ)
     (fits : length (endBytes named term f letters bound cells) ≤ length o)
   where
-    pub head-room : length (headBytes (69 ∷ 78 ∷ 68 ∷ 44 ∷ []) f) ≤ length o
-    head-room = omega (arith, head-size (69 ∷ 78 ∷ 68 ∷ 44 ∷ []) f, end-size named term f letters bound cells)
+    pub head-room : length (headBytes (end-word) f) ≤ length o
+    head-room = omega (arith, head-size (end-word) f, end-size named term f letters bound cells)
 
-    head-placed : {a : List ℕ} {e : ℕ} → Put (headBytes (69 ∷ 78 ∷ 68 ∷ 44 ∷ []) f) o a e
+    head-placed : {a : List ℕ} {e : ℕ} → Put (headBytes (end-word) f) o a e
         → Placed (endBytes named term f letters bound cells) o a e
         (boundsBytes term letters bound ++ rowsBytes (rowBytes named term) cells)
     unfolding endBytes
     head-placed w = put-placed (boundsBytes term letters bound ++ rowsBytes (rowBytes named term) cells) w
 
-    pub bounds-inside : {a : List ℕ} {e : ℕ} → Put (headBytes (69 ∷ 78 ∷ 68 ∷ 44 ∷ []) f) o a e → e ≤ length a
+    pub bounds-inside : {a : List ℕ} {e : ℕ} → Put (headBytes (end-word) f) o a e → e ≤ length a
     bounds-inside w = placed-inside (head-placed w) fits
 
-    pub bounds-room : {a : List ℕ} {e : ℕ} → Put (headBytes (69 ∷ 78 ∷ 68 ∷ 44 ∷ []) f) o a e
+    pub bounds-room : {a : List ℕ} {e : ℕ} → Put (headBytes (end-word) f) o a e
         → length (boundsBytes term letters bound) ≤ length (from e a)
     bounds-room w =
         lent-room (boundsBytes term letters bound) (rowsBytes (rowBytes named term) cells) (head-placed w) fits
 
     -- d is the output behind the first line when the A lines are written
-    bounds-placed : {a d : List ℕ} {e n : ℕ} → Put (headBytes (69 ∷ 78 ∷ 68 ∷ 44 ∷ []) f) o a e
+    bounds-placed : {a d : List ℕ} {e n : ℕ} → Put (headBytes (end-word) f) o a e
         → Put (boundsBytes term letters bound) (from e a) d n
         → Placed (endBytes named term f letters bound cells) o (back e a d) (e + n) (rowsBytes (rowBytes named term) cells)
     bounds-placed w v =
         lent-part (boundsBytes term letters bound) (rowsBytes (rowBytes named term) cells) (head-placed w) v
 
-    pub rows-inside : {a d : List ℕ} {e n : ℕ} → Put (headBytes (69 ∷ 78 ∷ 68 ∷ 44 ∷ []) f) o a e
+    pub rows-inside : {a d : List ℕ} {e n : ℕ} → Put (headBytes (end-word) f) o a e
         → Put (boundsBytes term letters bound) (from e a) d n → e + n ≤ length (back e a d)
     rows-inside w v = placed-inside (bounds-placed w v) fits
 
-    pub rows-room : {a d : List ℕ} {e n : ℕ} → Put (headBytes (69 ∷ 78 ∷ 68 ∷ 44 ∷ []) f) o a e
+    pub rows-room : {a d : List ℕ} {e n : ℕ} → Put (headBytes (end-word) f) o a e
         → Put (boundsBytes term letters bound) (from e a) d n
         → length (rowsBytes (rowBytes named term) cells) ≤ length (from (e + n) (back e a d))
     rows-room w v = lent-room-last (rowsBytes (rowBytes named term) cells) (bounds-placed w v) fits
 
-    pub end-put : {a d d' : List ℕ} {e n n' : ℕ} → Put (headBytes (69 ∷ 78 ∷ 68 ∷ 44 ∷ []) f) o a e
+    pub end-put : {a d d' : List ℕ} {e n n' : ℕ} → Put (headBytes (end-word) f) o a e
         → Put (boundsBytes term letters bound) (from e a) d n
         → Put (rowsBytes (rowBytes named term) cells) (from (e + n) (back e a d)) d' n'
         → Put (endBytes named term f letters bound cells) o (back (e + n) (back e a d) d') ((e + n) + n')

@@ -6,15 +6,15 @@
 --   constant-put, variable-put          a comma and a term, written
 --   stopped-put, ended-put, field-placed      the line feed behind the fields, or one more field, written
 -- Assumes nothing.
-use mathlib.Core.Path.{_≡_, refl, sym, ap, _∙_, subst}
+use mathlib.Core.Path.{_≡_, refl, sym, ap, _∙_}
 use mathlib.Core.Bool.{Bool, true, false, cond}
-use mathlib.Core.List.{List, [], _∷_, _++_, append-assoc}
+use mathlib.Core.List.{List, [], _∷_, _++_}
 use Prim.Native.Nat.{ℕ, suc, _+_, _-_, _*_, _≤_, _<_}
 use native.Mathlib.Omega.{arith}
 use native.Mathlib.Numerals.{add-one}
 use lib.Dec.{ltb, eqb}
-use lib.ListN.{length, drop, getD, set, length-take, length-set, length-append, length-drop, drop-of-length-le}
-use lib.Seq.{drop-cons, drop-nil, length-take-le}
+use lib.ListN.{length, drop, getD, set, length-take, length-append, drop-of-length-le}
+use lib.Seq.{drop-cons}
 use borrow.Author.Tests.{lt-ltb, le-ltb, eq-eqb, ne-eqb, eqb-true, eqb-false}
 use Rattle.syntax.specs.Tables.{part, constantOf, spelledAs}
 use Rattle.listing.specs.Listing.{decimal}

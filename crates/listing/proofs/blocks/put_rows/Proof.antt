@@ -2,7 +2,7 @@
 use Prim.Native.Nat.{_-_, _*_, _≤_}
 use native.Mathlib.Omega.{arith}
 use borrow.Author.Needs.{needs}
-use lib.ListN.{length, drop}
+use lib.ListN.{drop}
 use Rattle.syntax.specs.Tables.{spelledAs}
 use Rattle.listing.specs.Pieces.{namedAs, termBytes, rowBytes, rowsBytes}
 use Rattle.listing.proofs.Laying.{Placed, placed-start, placed-length, placed-inside}
