@@ -3,25 +3,25 @@
 --   shown-term, shown-fields      a term, and the fields of cells
 --   shown-bounds, shown-rows      the A lines and the S lines
 -- Assumes nothing.
-use mathlib.Core.Path.{_≡_, refl, sym, ap, _∙_, subst}
-use mathlib.Core.Bool.{Bool, true, false, cond, _&&_}
-use mathlib.Core.List.{List, [], _∷_, _++_, map, append-assoc}
+use mathlib.Core.Path.{_≡_, refl, sym, ap, _∙_}
+use mathlib.Core.Bool.{Bool, true, false, cond}
+use mathlib.Core.List.{List, [], _∷_, _++_, map}
 use Prim.Native.Nat.{ℕ, zero, suc, _+_, _-_, _*_, _≤_, _<_}
 use native.Mathlib.Omega.{arith}
 use lib.Dec.{ltb, eqb}
 use lib.ListN.{length, take, drop, getD, length-append, List·getD-append}
 use lib.Seq.{getD-at, getD-append-add, take-suc}
-use borrow.Author.Tests.{lt-ltb, le-ltb, ltb-true, ltb-false, eqb-true, eqb-false}
+use borrow.Author.Tests.{ltb-true, ltb-false, eqb-true, eqb-false}
 use Rattle.text.specs.Bytes.{ascii}
-use Rattle.text.specs.Lists.{has, every, placeFrom, tabled, gather}
-use Rattle.semantics.specs.Terms.{Term, con, var, Constraint, Symbol, symbolAt, noSymbol}
+use Rattle.text.specs.Lists.{has, every, tabled}
+use Rattle.semantics.specs.Terms.{Constraint, Symbol, symbolAt, noSymbol}
 use Rattle.syntax.specs.Forms.{firstConstant}
 use Rattle.syntax.specs.Tables.{cellTerm, cellTerms, cellConstraints, symbolOf, symbolsOf, constantOf, constantsOf, lettersOf}
 use Rattle.syntax.specs.Tables.{spelledAs}
 use Rattle.listing.specs.Listing.{decimal, fieldsBehind, lineOf, Naming, termShown, constraintShown, constraintLines}
 use Rattle.listing.specs.Listing.{unbound, boundLines}
 use Rattle.listing.specs.Pieces.{namedAs, termBytes, fieldBytes, boundBytes, rowBytes, boundsBytes, rowsBytes}
-use Rattle.listing.specs.Numbers.{Numbering, numberIn}
+use Rattle.listing.specs.Numbers.{Numbering}
 use Rattle.listing.specs.Runs.{TermCell, isTermOf, isConstraintOf}
 use Rattle.listing.proofs.TermLaws.{term-constant, term-variable}
 use Rattle.listing.proofs.LineLaws.{rows-more, rows-end}
@@ -132,7 +132,8 @@ module _ (naming : Naming) (order numbers : List ℕ) (count s k : ℕ) (named s
           ≡ cond b (10 ∷ []) (44 ∷ (termBytes spelled numbers x ++ fieldBytes (termBytes spelled numbers) xs))
       go true known h again = refl
       go false known h again =
-          let terms = and-true (isTermOf k (length numbers) (cellTerm x)) (every (isTermOf k (length numbers)) (cellTerms xs)) known in
+          let fits = isTermOf k (length numbers) in
+          let terms = and-true (fits (cellTerm x)) (every fits (cellTerms xs)) known in
           let parts = and-true (varIn order (cellTerm x)) (every (varIn order) (cellTerms xs)) h in
           ap (λ (l : List ℕ). 44 ∷ (l ++ fieldsBehind (map (termShown naming (unbound order)) (cellTerms xs))))
           (shown-term x (term-cell k (length numbers) x (terms .0)) (parts .0))

@@ -10,7 +10,7 @@ use mathlib.Core.List.{List, [], _∷_, _++_, append-assoc, append-nil}
 use Prim.Native.Nat.{ℕ, suc, _+_, _-_, _≤_, _<_}
 use native.Mathlib.Omega.{arith}
 use native.Mathlib.Numerals.{add-one}
-use lib.ListN.{length, take, drop, getD, set, length-append, length-drop, length-set, drop-of-length-le}
+use lib.ListN.{length, take, drop, getD, set, length-append, length-drop, drop-of-length-le}
 use lib.Seq.{take-at, drop-at, set-at, drop-cons, drop-drop, take-suc, take-add, length-take-le, append-snoc, take-length}
 use lib.Seq.{take-all, take-append-seam}
 use Rattle.listing.specs.Pieces.{laid, Put}
@@ -65,6 +65,10 @@ pub placed-length : {whole o a rest : List ℕ} {e : ℕ} → Placed whole o a e
 placed-length {whole} {o} {a} {rest} {e} p h =
     let h' : e ≤ length whole = p .below in
     ap length (p .placed) ∙ laid-length (take e whole) o (omega (arith, length-take-le e whole h'))
+
+-- what is placed ends inside the output
+pub placed-inside : {whole o a rest : List ℕ} {e : ℕ} → Placed whole o a e rest → length whole ≤ length o → e ≤ length a
+placed-inside {whole} {o} {a} {rest} {e} p h = omega (arith, placed-length p h, p .below)
 
 -- the output behind what is placed holds the rest
 pub placed-room : {whole o a rest : List ℕ} {e : ℕ} → Placed whole o a e rest → length whole ≤ length o
@@ -170,3 +174,12 @@ put-placed {s} {o} {a} {n} rest w =
       left = drop-at s rest n (sym (w .counted));
       below = omega (arith, w .counted, length-append s rest);
     }
+
+-- the last byte of a whole, written
+pub placed-last : {whole o a rest : List ℕ} {e : ℕ} (b : ℕ) → rest ≡ b ∷ [] → Placed whole o a e rest → length whole ≤ length o
+    → Put whole o (set a e b) (e + 1)
+placed-last b q p h = placed-all (placed-byte b [] (placed-is q p) h)
+
+-- it has its place in the output
+pub last-inside : {whole o a : List ℕ} {e b : ℕ} → Placed whole o a e (b ∷ []) → length whole ≤ length o → e < length a
+last-inside p h = omega (arith, placed-count p, placed-length p h)

@@ -9,8 +9,7 @@ use mathlib.Core.List.{List, [], _∷_, _++_}
 use Prim.Native.Nat.{ℕ, suc, _+_, _-_, _*_, _≤_, _<_}
 use native.Mathlib.Omega.{arith}
 use native.Mathlib.Numerals.{add-one}
-use native.Mathlib.Decide.{ℕ-discrete}
-use lib.Dec.{ltb, eqb}
+use lib.Dec.{eqb}
 use lib.ListN.{length, take, drop, getD, set, length-append, length-set, length-take, length-drop, drop-of-length-le}
 use lib.Seq.{getD-set-same, getD-set-other, drop-cons, drop-drop}
 use borrow.Author.Tests.{lt-ltb, le-ltb, eq-eqb, ne-eqb, eqb-true, eqb-false}
@@ -18,7 +17,7 @@ use Rattle.text.specs.Lists.{has, placeFrom}
 use Rattle.semantics.specs.Terms.{Term, con, var, Constraint}
 use Rattle.semantics.specs.Overlaps.{appearingIn, appearing}
 use Rattle.syntax.specs.Tables.{cellTerm, cellTerms, cellConstraints}
-use Rattle.listing.specs.Numbers.{numberIn, Numbering, Renumbered, RowsRenumbered, Within}
+use Rattle.listing.specs.Numbers.{numberIn, Numbering, Renumbered}
 
 -- a cell below 256 is a constant, any other a variable
 pub cell-constant : (x : ℕ) → x < 256 → cellTerm x ≡ con x

@@ -12,5 +12,7 @@ use Rattle.listing.specs.Runs.{isTermOf, isConstraintOf}
 
 -- a name to say on an `unfolding` line
 unfoldable pub opened : ℕ
-unfolding decimalFrom decimal fieldsBehind lineOf termShown constraintShown constraintLines unbound overlapVariable boundLines stateListing endListing pairLines verdictListing laid namedAs termBytes fieldBytes boundBytes rowBytes headBytes boundsBytes rowsBytes endBytes numberIn numbersOf tableNaming stateOf runBytes listedIn outputAfter numbersAfter isTermOf isConstraintOf
+unfolding decimalFrom decimal fieldsBehind lineOf termShown constraintShown constraintLines unbound overlapVariable boundLines
+    stateListing endListing pairLines verdictListing laid namedAs termBytes fieldBytes boundBytes rowBytes headBytes boundsBytes
+    rowsBytes endBytes numberIn numbersOf tableNaming stateOf runBytes listedIn outputAfter numbersAfter isTermOf isConstraintOf
 opened = 0

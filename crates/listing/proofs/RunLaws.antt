@@ -5,24 +5,24 @@
 --   listed-short, listed-written                            the reply and the output
 -- Assumes nothing.
 use mathlib.Core.Path.{_≡_, refl, sym, ap, _∙_, subst}
-use mathlib.Core.Bool.{Bool, true, false, cond}
+use mathlib.Core.Bool.{Bool, true, false}
 use mathlib.Core.List.{List, [], _∷_, _++_, map}
 use Prim.Native.Nat.{ℕ, suc, _+_, _*_, _≤_, _<_}
 use native.Mathlib.Omega.{arith}
-use lib.Dec.{ltb, eqb}
+use lib.Dec.{ltb}
 use lib.ListN.{length, take, drop, getD, length-drop, length-take}
 use lib.Seq.{ext-getD}
 use borrow.Author.Tests.{lt-ltb, le-ltb, ltb-true, ltb-false, ne-eqb}
 use Rattle.text.specs.Bytes.{ascii}
 use Rattle.text.specs.Lists.{every, tabled}
-use Rattle.semantics.specs.Terms.{Term, Constraint, State}
+use Rattle.semantics.specs.Terms.{Term}
 use Rattle.semantics.specs.Overlaps.{appearingIn, appearing}
 use Rattle.syntax.specs.Tables.{cellTerm, cellTerms, cellConstraints, lettersOf, spelledAs}
 use Rattle.listing.specs.Listing.{decimal, fieldsBehind, lineOf, Naming, unbound, boundLines, constraintLines}
 use Rattle.listing.specs.Listing.{stateListing, endListing}
-use Rattle.listing.specs.Pieces.{laid, namedAs, termBytes, headBytes, boundsBytes, rowBytes, rowsBytes}
+use Rattle.listing.specs.Pieces.{namedAs, termBytes, headBytes, boundsBytes, rowBytes, rowsBytes}
 use Rattle.listing.specs.Pieces.{endBytes, Put}
-use Rattle.listing.specs.Pieces.{Spelt, Shown, AllShown, Named, RowShown, BoundShown, RowsShown}
+use Rattle.listing.specs.Pieces.{Spelt, Shown, RowShown, BoundShown, RowsShown}
 use Rattle.listing.specs.Numbers.{numberIn, numbersOf, Numbering, Within, RowsWithin}
 use Rattle.listing.specs.Runs.{tableNaming, stateOf, runBytes, listedIn, outputAfter, numbersAfter, ListedAs, TermCell}
 use Rattle.listing.specs.Runs.{Listable}

@@ -45,7 +45,8 @@ terms-cell k v [] known i h front some = absurd (omega arith)
 terms-cell k v (x ∷ xs) known zero h front some =
     let first : 0 < x = some in
     let used : x ≡ 0 → ⊥ = λ e. omega arith in
-    term-cell k v x (and-true (isTermOf k v (cellTerm x)) (every (isTermOf k v) (cellTerms xs)) (rw (ne-eqb x 0 used) at known) .0)
+    let parts = and-true (isTermOf k v (cellTerm x)) (every (isTermOf k v) (cellTerms xs)) (rw (ne-eqb x 0 used) at known) in
+    term-cell k v x (parts .0)
 terms-cell k v (x ∷ xs) known (suc i) h front some =
     let first : 0 < x = front 0 (omega arith) in
     let used : x ≡ 0 → ⊥ = λ e. omega arith in
@@ -68,14 +69,14 @@ rows-from s k v cells m (suc i) e h known =
 -- the constraint at position i
 pub row-listed : (s k v : ℕ) (cells : List ℕ) (m i : ℕ) → length cells ≡ 5 * m → i < m
     → every (isConstraintOf s k v) (cellConstraints cells) ≡ true
-    → (getD (take 5 (drop (5 * i) cells)) 0 0 < s) × (every (isTermOf k v) (cellTerms (drop 1 (take 5 (drop (5 * i) cells)))) ≡ true)
+    → (getD (take 5 (drop (5 * i) cells)) 0 0 < s)
+    × (every (isTermOf k v) (cellTerms (drop 1 (take 5 (drop (5 * i) cells)))) ≡ true)
 unfolding isConstraintOf
 row-listed s k v cells m i e h known =
     let row = take 5 (drop (5 * i) cells) in
     let front = rows-from s k v cells m i e (omega arith) known in
     let more = constraints-more cells i (omega arith) in
-    let listed =
-    and-true (isConstraintOf s k v (rowConstraint row)) (every (isConstraintOf s k v) (cellConstraints (drop (5 * (i + 1)) cells)))
-    (rw more at front) .0 in
+    let rest = every (isConstraintOf s k v) (cellConstraints (drop (5 * (i + 1)) cells)) in
+    let listed = and-true (isConstraintOf s k v (rowConstraint row)) rest (rw more at front) .0 in
     let parts = and-true (ltb (getD row 0 0) s) (every (isTermOf k v) (cellTerms (drop 1 row))) listed in
     (ltb-true (getD row 0 0) s (parts .0), parts .1)

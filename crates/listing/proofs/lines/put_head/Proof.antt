@@ -1,107 +1,42 @@
--- `listing::lines::put_head` meets its contract. Assumes nothing.
-use mathlib.Core.List.{[], _∷_, _++_}
-use Prim.Native.Nat.{_+_}
+-- `listing::lines::put_head` meets its contract: the word, the number behind it, the line feed. Assumes nothing.
 use native.Mathlib.Omega.{arith}
-use lib.ListN.{length-append}
-use Rattle.listing.specs.Listing.{decimal}
-use Rattle.listing.specs.Pieces.{headBytes}
-use Rattle.listing.proofs.Laying.{put-placed, placed-byte, placed-all, placed-count, placed-length, lent-part, lent-room}
+use borrow.Author.Needs.{needs}
+use Rattle.listing.proofs.Laying.{put-length}
+use Rattle.listing.proofs.LineLaws.{word-room, number-inside, number-room, head-feed, head-put}
 use Rattle.listing.proofs.lines.put_head.Statement.{statement}
 use Rattle.listing.proofs.lines.put_head.Tie as tie
 
 copy-requires : tie.Need-copy-requires
-unfolding headBytes
-copy-requires c κs =
-    let start = c .before .before .before in
-    let rest = decimal (start .args .firings) ++ (10 ∷ []) in
-    omega (arith, (start .pre), length-append (start .args .word .now) rest)
+copy-requires c κs = search (needs, word-room)
 
 sub-put-decimal : tie.Need-sub-put-decimal
-unfolding headBytes
-sub-put-decimal c =
-    let at-copy = c .before .before in
-    let start = at-copy .before .before .before .before in
-    let rest = decimal (start .args .firings) ++ (10 ∷ []) in
-    let one = put-placed rest (at-copy .copy .ensures) in
-    omega (arith, placed-count one, placed-length one (start .pre), (start .pre))
+sub-put-decimal c = search (needs, number-inside)
 
 part-put-decimal-start : tie.Need-part-put-decimal-start
-unfolding headBytes
-part-put-decimal-start c =
-    let at-copy = c .before .before in
-    let start = at-copy .before .before .before .before in
-    let rest = decimal (start .args .firings) ++ (10 ∷ []) in
-    let one = put-placed rest (at-copy .copy .ensures) in
-    omega (arith, placed-count one, placed-length one (start .pre), (start .pre))
+part-put-decimal-start c = omega (arith, sub-put-decimal c)
 
 part-put-decimal-end : tie.Need-part-put-decimal-end
 part-put-decimal-end c = omega arith
 
 put-decimal-requires : tie.Need-put-decimal-requires
-unfolding headBytes
-put-decimal-requires c κs =
-    let at-copy = c .before .before .before in
-    let start = at-copy .before .before .before .before in
-    let rest = decimal (start .args .firings) ++ (10 ∷ []) in
-    let one = put-placed rest (at-copy .copy .ensures) in
-    lent-room (decimal (start .args .firings)) (10 ∷ []) one (start .pre)
-
-add-end : tie.Need-add-end
-unfolding headBytes
-add-end c =
-    let at-put-decimal = c .before .before in
-    let at-copy = at-put-decimal .before .before .before .before in
-    let start = at-copy .before .before .before .before in
-    let rest = decimal (start .args .firings) ++ (10 ∷ []) in
-    let one = put-placed rest (at-copy .copy .ensures) in
-    let two = lent-part (decimal (start .args .firings)) (10 ∷ []) one (at-put-decimal .put-decimal .ensures) in
-    omega (arith, placed-count two, (start .pre))
-
-slice-write-out : tie.Need-slice-write-out
-unfolding headBytes
-slice-write-out c =
-    let at-put-decimal = c .before .before in
-    let at-copy = at-put-decimal .before .before .before .before in
-    let start = at-copy .before .before .before .before in
-    let rest = decimal (start .args .firings) ++ (10 ∷ []) in
-    let one = put-placed rest (at-copy .copy .ensures) in
-    let two = lent-part (decimal (start .args .firings)) (10 ∷ []) one (at-put-decimal .put-decimal .ensures) in
-    omega (arith, placed-count two, placed-length two (start .pre), (start .pre))
-
-add-result : tie.Need-add-result
-unfolding headBytes
-add-result c =
-    let at-put-decimal = c .before .before in
-    let at-copy = at-put-decimal .before .before .before .before in
-    let start = at-copy .before .before .before .before in
-    let rest = decimal (start .args .firings) ++ (10 ∷ []) in
-    let one = put-placed rest (at-copy .copy .ensures) in
-    let two = lent-part (decimal (start .args .firings)) (10 ∷ []) one (at-put-decimal .put-decimal .ensures) in
-    omega (arith, placed-count two, (start .pre))
-
-same-length : tie.Need-same-length
-unfolding headBytes
-same-length c =
-    let at-put-decimal = c .before .before in
-    let at-copy = at-put-decimal .before .before .before .before in
-    let start = at-copy .before .before .before .before in
-    let rest = decimal (start .args .firings) ++ (10 ∷ []) in
-    let one = put-placed rest (at-copy .copy .ensures) in
-    let two = lent-part (decimal (start .args .firings)) (10 ∷ []) one (at-put-decimal .put-decimal .ensures) in
-    let all = placed-byte 10 [] two (start .pre) in
-    placed-length all (start .pre)
+put-decimal-requires c κs = search (needs, number-room)
 
 returns : tie.Need-returns
-unfolding headBytes
-returns c =
-    let at-put-decimal = c .before .before in
-    let at-copy = at-put-decimal .before .before .before .before in
-    let start = at-copy .before .before .before .before in
-    let rest = decimal (start .args .firings) ++ (10 ∷ []) in
-    let one = put-placed rest (at-copy .copy .ensures) in
-    let two = lent-part (decimal (start .args .firings)) (10 ∷ []) one (at-put-decimal .put-decimal .ensures) in
-    let all = placed-byte 10 [] two (start .pre) in
-    placed-all all
+returns c = search (needs, head-put)
+
+add-end : tie.Need-add-end
+add-end c =
+    omega (arith, returns c .counted, c .before .before .before .before .before .before .before .before .before .before .pre)
+
+slice-write-out : tie.Need-slice-write-out
+slice-write-out c = search (needs, head-feed)
+
+add-result : tie.Need-add-result
+add-result c =
+    omega (arith, returns c .counted, c .before .before .before .before .before .before .before .before .before .before .pre)
+
+same-length : tie.Need-same-length
+same-length c = put-length (returns c) (c .before .before .before .before .before .before .before .before .before .before .pre)
 
 pub put-head-spec : {M : Type 1} → statement M
 put-head-spec =

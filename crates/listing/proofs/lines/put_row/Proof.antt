@@ -1,32 +1,28 @@
--- `listing::lines::put_row` meets its contract. Assumes nothing.
-use mathlib.Core.Path.{ap}
+-- `listing::lines::put_row` meets its contract: two bytes, the name behind them, the fields behind it. Assumes nothing.
+use Prim.Native.Nat.{_≤_}
 use native.Mathlib.Omega.{arith}
-use lib.ListN.{length-set, getD, drop}
-use Rattle.syntax.specs.Tables.{spelledAs}
-use Rattle.listing.specs.Pieces.{termBytes, namedAs, fieldBytes}
-use Rattle.listing.proofs.Laying.{placed-count, placed-length, lent-part, lent-room, lent-room-last, lent-last, put-is}
-use Rattle.listing.proofs.Laying.{put-length, from-drop}
-use Rattle.listing.proofs.LineLaws.{row-start, row-size, shown-from}
+use borrow.Author.Needs.{needs}
+use lib.ListN.{length, length-set}
+use Rattle.listing.proofs.Laying.{put-length}
+use Rattle.listing.proofs.LineLaws.{row-two, name-room, fields-inside, fields-room, row-put, shown-from}
 use Rattle.listing.proofs.lines.put_row.Statement.{statement}
 use Rattle.listing.proofs.lines.put_row.Tie as tie
 
+-- the function's entry
+abbrev start : tie.After-slice-known3 → tie.Start
+start c =
+    let at-name = c .before .before .before .before .before .before .before .before .before in
+    at-name .before .before .before .before .before .before .before .before .before
+
+-- the output has room for the first two bytes
+two : (s : tie.Start) → 2 ≤ length (s .args .out .now)
+two s = search (needs, row-two)
+
 slice-write-out : tie.Need-slice-write-out
-slice-write-out c =
-    let start = c .before .before .before .before .before .before .before in
-    let spelled = spelledAs (start .args .program .now) (start .args .goal .now) (start .args .constants .now) (start .args .n) in
-    let term = termBytes spelled (start .args .numbers .now) in
-    let named = namedAs (start .args .program .now) (start .args .symbols .now) in
-    let row = start .args .row .now in
-    omega (arith, start .pre .1, row-size named term row)
+slice-write-out c = omega (arith, two (c .before .before .before .before .before .before .before))
 
 slice-write-out-2 : tie.Need-slice-write-out-2
-slice-write-out-2 c =
-    let start = c .before .before .before .before .before .before .before in
-    let spelled = spelledAs (start .args .program .now) (start .args .goal .now) (start .args .constants .now) (start .args .n) in
-    let term = termBytes spelled (start .args .numbers .now) in
-    let named = namedAs (start .args .program .now) (start .args .symbols .now) in
-    let row = start .args .row .now in
-    simp length-set (omega (arith, start .pre .1, row-size named term row))
+slice-write-out-2 c = simp length-set (omega (arith, two (c .before .before .before .before .before .before .before)))
 
 shared-slice-read-name : tie.Need-shared-slice-read-name
 shared-slice-read-name c = omega arith
@@ -35,68 +31,26 @@ name-requires : tie.Need-name-requires
 name-requires c κs = omega arith
 
 sub-copy : tie.Need-sub-copy
-sub-copy c =
-    let start = c .before .before .before .before .before .before .before .before .before in
-    let spelled = spelledAs (start .args .program .now) (start .args .goal .now) (start .args .constants .now) (start .args .n) in
-    let term = termBytes spelled (start .args .numbers .now) in
-    let named = namedAs (start .args .program .now) (start .args .symbols .now) in
-    let row = start .args .row .now in
-    simp length-set (omega (arith, start .pre .1, row-size named term row))
+sub-copy c = simp length-set (omega (arith, two (c .before .before .before .before .before .before .before .before .before)))
 
 part-copy-start : tie.Need-part-copy-start
 part-copy-start c =
-    let start = c .before .before .before .before .before .before .before .before .before in
-    let spelled = spelledAs (start .args .program .now) (start .args .goal .now) (start .args .constants .now) (start .args .n) in
-    let term = termBytes spelled (start .args .numbers .now) in
-    let named = namedAs (start .args .program .now) (start .args .symbols .now) in
-    let row = start .args .row .now in
-    simp length-set (omega (arith, start .pre .1, row-size named term row))
+    simp length-set (omega (arith, two (c .before .before .before .before .before .before .before .before .before)))
 
 part-copy-end : tie.Need-part-copy-end
 part-copy-end c = omega arith
 
 copy-requires : tie.Need-copy-requires
-copy-requires c κs =
-    let at-name = c .before in
-    let start = at-name .before .before .before .before .before .before .before .before .before in
-    let spelled = spelledAs (start .args .program .now) (start .args .goal .now) (start .args .constants .now) (start .args .n) in
-    let term = termBytes spelled (start .args .numbers .now) in
-    let named = namedAs (start .args .program .now) (start .args .symbols .now) in
-    let row = start .args .row .now in
-    let symbol = named (getD row 0 0) in
-    let one = row-start named term row (start .args .out .now) (start .pre .1) in
-    rw (at-name .name .ensures) (lent-room symbol (fieldBytes term (drop 1 row)) one (start .pre .1))
+copy-requires c κs = search (needs, name-room)
 
 add-end : tie.Need-add-end
 add-end c = omega arith
 
 sub-put-fields : tie.Need-sub-put-fields
-sub-put-fields c =
-    let at-copy = c .before .before in
-    let at-name = at-copy .before .before in
-    let start = at-name .before .before .before .before .before .before .before .before .before in
-    let spelled = spelledAs (start .args .program .now) (start .args .goal .now) (start .args .constants .now) (start .args .n) in
-    let term = termBytes spelled (start .args .numbers .now) in
-    let named = namedAs (start .args .program .now) (start .args .symbols .now) in
-    let row = start .args .row .now in
-    let symbol = named (getD row 0 0) in
-    let one = row-start named term row (start .args .out .now) (start .pre .1) in
-    let two = lent-part symbol (fieldBytes term (drop 1 row)) one (put-is (at-name .name .ensures) (at-copy .copy .ensures)) in
-    omega (arith, placed-count two, placed-length two (start .pre .1), start .pre .1)
+sub-put-fields c = search (needs, fields-inside)
 
 part-put-fields-start : tie.Need-part-put-fields-start
-part-put-fields-start c =
-    let at-copy = c .before .before in
-    let at-name = at-copy .before .before in
-    let start = at-name .before .before .before .before .before .before .before .before .before in
-    let spelled = spelledAs (start .args .program .now) (start .args .goal .now) (start .args .constants .now) (start .args .n) in
-    let term = termBytes spelled (start .args .numbers .now) in
-    let named = namedAs (start .args .program .now) (start .args .symbols .now) in
-    let row = start .args .row .now in
-    let symbol = named (getD row 0 0) in
-    let one = row-start named term row (start .args .out .now) (start .pre .1) in
-    let two = lent-part symbol (fieldBytes term (drop 1 row)) one (put-is (at-name .name .ensures) (at-copy .copy .ensures)) in
-    omega (arith, placed-count two, placed-length two (start .pre .1), start .pre .1)
+part-put-fields-start c = omega (arith, sub-put-fields c)
 
 part-put-fields-end : tie.Need-part-put-fields-end
 part-put-fields-end c = omega arith
@@ -112,70 +66,20 @@ part-put-fields-end-2 c = omega arith
 
 put-fields-requires : tie.Need-put-fields-requires
 put-fields-requires c κs =
-    let at-copy = c .before .before .before .before in
-    let at-name = at-copy .before .before in
-    let start = at-name .before .before .before .before .before .before .before .before .before in
-    let spelled = spelledAs (start .args .program .now) (start .args .goal .now) (start .args .constants .now) (start .args .n) in
-    let term = termBytes spelled (start .args .numbers .now) in
-    let named = namedAs (start .args .program .now) (start .args .symbols .now) in
-    let row = start .args .row .now in
-    let symbol = named (getD row 0 0) in
-    let one = row-start named term row (start .args .out .now) (start .pre .1) in
-    let two = lent-part symbol (fieldBytes term (drop 1 row)) one (put-is (at-name .name .ensures) (at-copy .copy .ensures)) in (
-      shown-from row (start .pre .0 .terms),
-      rw (from-drop 1 row) (lent-room-last (fieldBytes term (drop 1 row)) two (start .pre .1)),
+    let at-name = c .before .before .before .before .before .before in
+    let entry = at-name .before .before .before .before .before .before .before .before .before in (
+      search (needs, shown-from),
+      search (fields-room, entry .pre .1, at-name .name .ensures, c .before .before .before .before .copy .ensures),
     )
 
+returns : tie.Need-returns
+returns c = search (needs, row-put)
+
 add-result : tie.Need-add-result
-add-result c =
-    let at-put-fields = c .before .before in
-    let at-copy = at-put-fields .before .before .before .before .before in
-    let at-name = at-copy .before .before in
-    let start = at-name .before .before .before .before .before .before .before .before .before in
-    let spelled = spelledAs (start .args .program .now) (start .args .goal .now) (start .args .constants .now) (start .args .n) in
-    let term = termBytes spelled (start .args .numbers .now) in
-    let named = namedAs (start .args .program .now) (start .args .symbols .now) in
-    let row = start .args .row .now in
-    let symbol = named (getD row 0 0) in
-    let one = row-start named term row (start .args .out .now) (start .pre .1) in
-    let two = lent-part symbol (fieldBytes term (drop 1 row)) one (put-is (at-name .name .ensures) (at-copy .copy .ensures)) in
-    let all = lent-last (fieldBytes term (drop 1 row)) two (put-is (ap (fieldBytes term) (from-drop 1 row))
-    (at-put-fields .put-fields .ensures)) in
-    omega (arith, all .counted, start .pre .1)
+add-result c = omega (arith, returns c .counted, start c .pre .1)
 
 same-length : tie.Need-same-length
-same-length c =
-    let at-put-fields = c .before .before in
-    let at-copy = at-put-fields .before .before .before .before .before in
-    let at-name = at-copy .before .before in
-    let start = at-name .before .before .before .before .before .before .before .before .before in
-    let spelled = spelledAs (start .args .program .now) (start .args .goal .now) (start .args .constants .now) (start .args .n) in
-    let term = termBytes spelled (start .args .numbers .now) in
-    let named = namedAs (start .args .program .now) (start .args .symbols .now) in
-    let row = start .args .row .now in
-    let symbol = named (getD row 0 0) in
-    let one = row-start named term row (start .args .out .now) (start .pre .1) in
-    let two = lent-part symbol (fieldBytes term (drop 1 row)) one (put-is (at-name .name .ensures) (at-copy .copy .ensures)) in
-    let all = lent-last (fieldBytes term (drop 1 row)) two (put-is (ap (fieldBytes term) (from-drop 1 row))
-    (at-put-fields .put-fields .ensures)) in
-    put-length all (start .pre .1)
-
-returns : tie.Need-returns
-returns c =
-    let at-put-fields = c .before .before in
-    let at-copy = at-put-fields .before .before .before .before .before in
-    let at-name = at-copy .before .before in
-    let start = at-name .before .before .before .before .before .before .before .before .before in
-    let spelled = spelledAs (start .args .program .now) (start .args .goal .now) (start .args .constants .now) (start .args .n) in
-    let term = termBytes spelled (start .args .numbers .now) in
-    let named = namedAs (start .args .program .now) (start .args .symbols .now) in
-    let row = start .args .row .now in
-    let symbol = named (getD row 0 0) in
-    let one = row-start named term row (start .args .out .now) (start .pre .1) in
-    let two = lent-part symbol (fieldBytes term (drop 1 row)) one (put-is (at-name .name .ensures) (at-copy .copy .ensures)) in
-    let all = lent-last (fieldBytes term (drop 1 row)) two (put-is (ap (fieldBytes term) (from-drop 1 row))
-    (at-put-fields .put-fields .ensures)) in
-    all
+same-length c = put-length (returns c) (start c .pre .1)
 
 pub put-row-spec : {M : Type 1} → statement M
 put-row-spec =

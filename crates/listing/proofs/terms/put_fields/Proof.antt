@@ -1,14 +1,12 @@
 -- `listing::terms::put_fields` meets its contract: the fields up to i are placed, the others are left. Assumes nothing.
-use mathlib.Core.List.{[], _∷_}
-use Prim.Native.Nat.{ℕ, suc, _-_, _≤_, _<_}
+use Prim.Native.Nat.{ℕ, _-_, _≤_, _<_}
 use native.Mathlib.Omega.{arith}
-use native.Mathlib.Numerals.{add-one}
+use borrow.Author.Needs.{needs}
 use lib.ListN.{length, getD, drop}
 use Rattle.syntax.specs.Tables.{spelledAs}
 use Rattle.listing.specs.Pieces.{termBytes, fieldBytes}
-use Rattle.listing.proofs.Laying.{Placed, placed-start, placed-is, placed-byte, placed-all, placed-length}
-use Rattle.listing.proofs.Laying.{placed-count, lent-part, lent-room}
-use Rattle.listing.proofs.TermLaws.{fields-more, fields-stop, fields-end, front-more}
+use Rattle.listing.proofs.Laying.{Placed, placed-start, placed-inside, put-length}
+use Rattle.listing.proofs.TermLaws.{stopped-put, ended-put, feed-inside, field-room, shown-at, field-placed, front-more}
 use Rattle.listing.proofs.terms.put_fields.Statement.{statement}
 use Rattle.listing.proofs.terms.put_fields.Tie as tie
 
@@ -32,106 +30,38 @@ shared-slice-read-x : tie.Need-shared-slice-read-x Inv-loop μ-loop
 shared-slice-read-x c = omega arith
 
 slice-write-out : tie.Need-slice-write-out Inv-loop μ-loop
-slice-write-out c =
-    let at-loop-test = c .before .before in
-    let at-loop = at-loop-test .before in
-    let start = at-loop .before .before .before .before .before .before .before in
-    let spelled = spelledAs (start .args .program .now) (start .args .goal .now) (start .args .constants .now) (start .args .n) in
-    let term = termBytes spelled (start .args .numbers .now) in
-    let stop = placed-is (fields-stop term (start .args .cells .now) (at-loop .loop .i) (at-loop-test .loop-test .taken)
-    (c .if1 .taken)) (at-loop .loop .inv .1) in
-    omega (arith, placed-count stop, placed-length stop (start .pre .1), start .pre .1)
+slice-write-out c = search (needs, feed-inside)
+
+returns : tie.Need-returns Inv-loop μ-loop
+returns c = search (needs, stopped-put)
 
 add-result : tie.Need-add-result Inv-loop μ-loop
 add-result c =
-    let at-loop-test = c .before .before in
-    let at-loop = at-loop-test .before in
-    let start = at-loop .before .before .before .before .before .before .before in
-    let spelled = spelledAs (start .args .program .now) (start .args .goal .now) (start .args .constants .now) (start .args .n) in
-    let term = termBytes spelled (start .args .numbers .now) in
-    let stop = placed-is (fields-stop term (start .args .cells .now) (at-loop .loop .i) (at-loop-test .loop-test .taken)
-    (c .if1 .taken)) (at-loop .loop .inv .1) in
-    omega (arith, placed-count stop, start .pre .1)
+    omega (arith, returns c .counted, c .before .before .before .before .before .before .before .before .before .before .pre .1)
 
 same-length : tie.Need-same-length Inv-loop μ-loop
-same-length c =
-    let at-loop-test = c .before .before in
-    let at-loop = at-loop-test .before in
-    let start = at-loop .before .before .before .before .before .before .before in
-    let spelled = spelledAs (start .args .program .now) (start .args .goal .now) (start .args .constants .now) (start .args .n) in
-    let term = termBytes spelled (start .args .numbers .now) in
-    let stop = placed-is (fields-stop term (start .args .cells .now) (at-loop .loop .i) (at-loop-test .loop-test .taken)
-    (c .if1 .taken)) (at-loop .loop .inv .1) in
-    placed-length (placed-byte 10 [] stop (start .pre .1)) (start .pre .1)
-
-returns : tie.Need-returns Inv-loop μ-loop
-returns c =
-    let at-loop-test = c .before .before in
-    let at-loop = at-loop-test .before in
-    let start = at-loop .before .before .before .before .before .before .before in
-    let spelled = spelledAs (start .args .program .now) (start .args .goal .now) (start .args .constants .now) (start .args .n) in
-    let term = termBytes spelled (start .args .numbers .now) in
-    let stop = placed-is (fields-stop term (start .args .cells .now) (at-loop .loop .i) (at-loop-test .loop-test .taken)
-    (c .if1 .taken)) (at-loop .loop .inv .1) in
-    placed-all (placed-byte 10 [] stop (start .pre .1))
+same-length c = put-length (returns c) (c .before .before .before .before .before .before .before .before .before .before .pre .1)
 
 sub-put-field : tie.Need-sub-put-field Inv-loop μ-loop
-sub-put-field c =
-    let at-loop-test = c .before .before in
-    let at-loop = at-loop-test .before in
-    let start = at-loop .before .before .before .before .before .before .before in
-    let spelled = spelledAs (start .args .program .now) (start .args .goal .now) (start .args .constants .now) (start .args .n) in
-    let term = termBytes spelled (start .args .numbers .now) in
-    let more = placed-is (fields-more term (start .args .cells .now) (at-loop .loop .i) (at-loop-test .loop-test .taken)
-    (c .if1 .left)) (at-loop .loop .inv .1) in
-    omega (arith, placed-count more, placed-length more (start .pre .1), start .pre .1)
+sub-put-field c = search (needs, placed-inside)
 
 part-put-field-start : tie.Need-part-put-field-start Inv-loop μ-loop
-part-put-field-start c =
-    let at-loop-test = c .before .before in
-    let at-loop = at-loop-test .before in
-    let start = at-loop .before .before .before .before .before .before .before in
-    let spelled = spelledAs (start .args .program .now) (start .args .goal .now) (start .args .constants .now) (start .args .n) in
-    let term = termBytes spelled (start .args .numbers .now) in
-    let more = placed-is (fields-more term (start .args .cells .now) (at-loop .loop .i) (at-loop-test .loop-test .taken)
-    (c .if1 .left)) (at-loop .loop .inv .1) in
-    omega (arith, placed-count more, placed-length more (start .pre .1), start .pre .1)
+part-put-field-start c = omega (arith, sub-put-field c)
 
 part-put-field-end : tie.Need-part-put-field-end Inv-loop μ-loop
 part-put-field-end c = omega arith
 
 put-field-requires : tie.Need-put-field-requires Inv-loop μ-loop
-put-field-requires c κs =
-    let at-if1 = c .before in
-    let at-loop-test = at-if1 .before .before in
-    let at-loop = at-loop-test .before in
-    let start = at-loop .before .before .before .before .before .before .before in
-    let spelled = spelledAs (start .args .program .now) (start .args .goal .now) (start .args .constants .now) (start .args .n) in
-    let term = termBytes spelled (start .args .numbers .now) in
-    let x = getD (start .args .cells .now) (at-loop .loop .i) 0 in
-    let rest = fieldBytes term (drop (suc (at-loop .loop .i)) (start .args .cells .now)) in
-    let more = placed-is (fields-more term (start .args .cells .now) (at-loop .loop .i) (at-loop-test .loop-test .taken)
-    (at-if1 .if1 .left)) (at-loop .loop .inv .1) in (
-      start .pre .0 .each (at-loop .loop .i) (at-loop-test .loop-test .taken) (at-loop .loop .inv .2)
-          (omega (arith, at-if1 .if1 .left)),
-      lent-room
-          (44 ∷ term x) rest more (start .pre .1),
-    )
+put-field-requires c κs = (search (needs, shown-at), search (needs, field-room))
+
+loop-again : tie.Need-loop-again Inv-loop μ-loop
+loop-again c = (omega arith, search (needs, field-placed), search (needs, front-more))
 
 add-end : tie.Need-add-end Inv-loop μ-loop
 add-end c =
-    let at-put-field = c .before .before in
-    let at-if1 = at-put-field .before .before in
-    let at-loop-test = at-if1 .before .before in
-    let at-loop = at-loop-test .before in
+    let at-loop = c .before .before .before .before .before .before .before in
     let start = at-loop .before .before .before .before .before .before .before in
-    let spelled = spelledAs (start .args .program .now) (start .args .goal .now) (start .args .constants .now) (start .args .n) in
-    let term = termBytes spelled (start .args .numbers .now) in
-    let x = getD (start .args .cells .now) (at-loop .loop .i) 0 in
-    let rest = fieldBytes term (drop (suc (at-loop .loop .i)) (start .args .cells .now)) in
-    let more = placed-is (fields-more term (start .args .cells .now) (at-loop .loop .i) (at-loop-test .loop-test .taken)
-    (at-if1 .if1 .left)) (at-loop .loop .inv .1) in
-    omega (arith, placed-count (lent-part (44 ∷ term x) rest more (at-put-field .put-field .ensures)), start .pre .1)
+    omega (arith, loop-again c .1 .below, start .pre .1)
 
 add-i : tie.Need-add-i Inv-loop μ-loop
 add-i c = omega arith
@@ -139,63 +69,17 @@ add-i c = omega arith
 loop-less : tie.Need-loop-less Inv-loop μ-loop
 loop-less c = omega arith
 
-loop-again : tie.Need-loop-again Inv-loop μ-loop
-loop-again c =
-    let at-put-field = c .before .before in
-    let at-if1 = at-put-field .before .before in
-    let at-loop-test = at-if1 .before .before in
-    let at-loop = at-loop-test .before in
-    let start = at-loop .before .before .before .before .before .before .before in
-    let spelled = spelledAs (start .args .program .now) (start .args .goal .now) (start .args .constants .now) (start .args .n) in
-    let term = termBytes spelled (start .args .numbers .now) in
-    let x = getD (start .args .cells .now) (at-loop .loop .i) 0 in
-    let rest = fieldBytes term (drop (suc (at-loop .loop .i)) (start .args .cells .now)) in
-    let more = placed-is (fields-more term (start .args .cells .now) (at-loop .loop .i) (at-loop-test .loop-test .taken)
-    (at-if1 .if1 .left)) (at-loop .loop .inv .1) in (
-      omega arith,
-      rw (add-one (at-loop .loop .i)) (lent-part (44 ∷ term x) rest more (at-put-field .put-field .ensures)),
-      front-more (start .args .cells .now) (at-loop .loop .i) (at-if1 .if1 .left) (at-loop .loop .inv .2),
-    )
-
 slice-write-out-2 : tie.Need-slice-write-out-2 Inv-loop μ-loop
-slice-write-out-2 c =
-    let at-loop = c .before in
-    let start = at-loop .before .before .before .before .before .before .before in
-    let spelled = spelledAs (start .args .program .now) (start .args .goal .now) (start .args .constants .now) (start .args .n) in
-    let term = termBytes spelled (start .args .numbers .now) in
-    let done = placed-is (fields-end term (start .args .cells .now) (at-loop .loop .i) (c .loop-test .left))
-    (at-loop .loop .inv .1) in
-    omega (arith, placed-count done, placed-length done (start .pre .1), start .pre .1)
-
-add-result-2 : tie.Need-add-result-2 Inv-loop μ-loop
-add-result-2 c =
-    let at-loop = c .before in
-    let start = at-loop .before .before .before .before .before .before .before in
-    let spelled = spelledAs (start .args .program .now) (start .args .goal .now) (start .args .constants .now) (start .args .n) in
-    let term = termBytes spelled (start .args .numbers .now) in
-    let done = placed-is (fields-end term (start .args .cells .now) (at-loop .loop .i) (c .loop-test .left))
-    (at-loop .loop .inv .1) in
-    omega (arith, placed-count done, start .pre .1)
-
-same-length-2 : tie.Need-same-length-2 Inv-loop μ-loop
-same-length-2 c =
-    let at-loop = c .before in
-    let start = at-loop .before .before .before .before .before .before .before in
-    let spelled = spelledAs (start .args .program .now) (start .args .goal .now) (start .args .constants .now) (start .args .n) in
-    let term = termBytes spelled (start .args .numbers .now) in
-    let done = placed-is (fields-end term (start .args .cells .now) (at-loop .loop .i) (c .loop-test .left))
-    (at-loop .loop .inv .1) in
-    placed-length (placed-byte 10 [] done (start .pre .1)) (start .pre .1)
+slice-write-out-2 c = search (needs, feed-inside)
 
 returns-2 : tie.Need-returns-2 Inv-loop μ-loop
-returns-2 c =
-    let at-loop = c .before in
-    let start = at-loop .before .before .before .before .before .before .before in
-    let spelled = spelledAs (start .args .program .now) (start .args .goal .now) (start .args .constants .now) (start .args .n) in
-    let term = termBytes spelled (start .args .numbers .now) in
-    let done = placed-is (fields-end term (start .args .cells .now) (at-loop .loop .i) (c .loop-test .left))
-    (at-loop .loop .inv .1) in
-    placed-all (placed-byte 10 [] done (start .pre .1))
+returns-2 c = search (needs, ended-put)
+
+add-result-2 : tie.Need-add-result-2 Inv-loop μ-loop
+add-result-2 c = omega (arith, returns-2 c .counted, c .before .before .before .before .before .before .before .before .pre .1)
+
+same-length-2 : tie.Need-same-length-2 Inv-loop μ-loop
+same-length-2 c = put-length (returns-2 c) (c .before .before .before .before .before .before .before .before .pre .1)
 
 pub put-fields-spec : {M : Type 1} → statement M
 put-fields-spec =
