@@ -17,7 +17,7 @@ abbrev μ-loop : tie.MeasureT-loop
 μ-loop rules n bound₀ cells₀ m next alive₀ count₀ number₀ firings₀ bound cells alive count number firings = 512 - firings
 
 loop-holds : tie.Need-loop-holds Inv-loop μ-loop
-loop-holds c = search (needs, running-start)
+loop-holds c = running-start _ _ _ _ _ _ (c .before .before .before .pre)
 
 advance-requires : tie.Need-advance-requires Inv-loop μ-loop
 advance-requires c κs = search (needs, running-live)

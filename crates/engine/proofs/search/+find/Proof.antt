@@ -40,7 +40,7 @@ module _ (t : ℕ) where
   returns c = search (needs, seek-done)
 
   loop-holds : lts.Need-loop-holds (calls t) (Pre t) find.Post Inv μ
-  loop-holds c = search (needs, seek-start)
+  loop-holds c = seek-start _ _ _ _ _ _ _ (c .before .before .before .before .pre .1) (c .before .if1 .left)
 
   may-fit-requires : lts.Need-may-fit-requires (calls t) (Pre t) find.Post Inv μ
   may-fit-requires c κs = search (needs, seek-rows)
