@@ -2,7 +2,6 @@
 use mathlib.Core.Path.{_≡_}
 use Prim.Native.Nat.{_+_, _-_, _*_, _≤_}
 use native.Mathlib.Omega.{arith}
-use borrow.Author.Needs.{needs}
 use lib.ListN.{length, drop}
 use Rattle.syntax.specs.Tables.{spelledAs}
 use Rattle.listing.specs.Pieces.{termBytes, boundsBytes}
@@ -55,10 +54,10 @@ loop-less c = omega arith
 loop-again : tie.Need-loop-again Inv-loop μ-loop
 loop-again c =
     let few = c .before .before .before .before .loop .inv .1 in
-    (omega arith, omega (arith, c .bound-length .ensures .few, few), search (needs, bounds-count))
+    (omega arith, omega (arith, c .bound-length .ensures .few, few), search bounds-count)
 
 returns : tie.Need-returns Inv-loop μ-loop
-returns c = record { counted = search (needs, bounds-all); few = omega (arith, c .before .loop .inv .1, c .before .loop .inv .0) }
+returns c = record { counted = search bounds-all; few = omega (arith, c .before .loop .inv .1, c .before .loop .inv .0) }
 
 pub bounds-length-spec : {M : Type 1} → statement M
 bounds-length-spec =

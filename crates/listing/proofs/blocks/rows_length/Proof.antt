@@ -2,7 +2,6 @@
 use mathlib.Core.Path.{_≡_}
 use Prim.Native.Nat.{_+_, _-_, _*_, _≤_}
 use native.Mathlib.Omega.{arith}
-use borrow.Author.Needs.{needs}
 use lib.ListN.{length, drop}
 use Rattle.syntax.specs.Tables.{spelledAs}
 use Rattle.listing.specs.Pieces.{namedAs, termBytes, rowBytes, rowsBytes}
@@ -61,10 +60,10 @@ loop-less c = omega arith
 
 loop-again : tie.Need-loop-again Inv-loop μ-loop
 loop-again c =
-    (omega arith, omega (arith, c .row-length .ensures .few, c .before .before .before .loop .inv .1), search (needs, rows-count))
+    (omega arith, omega (arith, c .row-length .ensures .few, c .before .before .before .loop .inv .1), search rows-count)
 
 returns : tie.Need-returns Inv-loop μ-loop
-returns c = record { counted = search (needs, rows-all); few = omega (arith, c .before .loop .inv .1, c .before .loop .inv .0) }
+returns c = record { counted = search rows-all; few = omega (arith, c .before .loop .inv .1, c .before .loop .inv .0) }
 
 pub rows-length-spec : {M : Type 1} → statement M
 rows-length-spec =

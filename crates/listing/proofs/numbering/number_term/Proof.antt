@@ -12,7 +12,7 @@ inside : (c : tie.After-wide) → c .wide .result - 256 < length (c .before .bef
 inside c = omega (arith, c .before .before .before .pre .0 (c .before .if1 .left), c .wide .ensures .0)
 
 returns : tie.Need-returns
-returns c = search (needs, numbered-constant)
+returns c = search numbered-constant
 
 wide-requires : tie.Need-wide-requires
 wide-requires c κs = tt
@@ -45,10 +45,10 @@ same-length : tie.Need-same-length
 same-length c = search needs
 
 returns-2 : tie.Need-returns-2
-returns-2 c = search (needs, numbered-new, inside (c .before .before))
+returns-2 c = search (numbered-new, inside (c .before .before))
 
 returns-3 : tie.Need-returns-3
-returns-3 c = search (needs, numbered-old, inside (c .before .before))
+returns-3 c = search (numbered-old, inside (c .before .before))
 
 pub number-term-spec : {M : Type 1} → statement M
 number-term-spec =

@@ -2,7 +2,6 @@
 use mathlib.Core.Path.{_≡_, refl}
 use Prim.Native.Nat.{ℕ, _+_, _-_, _*_, _≤_, _<_}
 use native.Mathlib.Omega.{arith}
-use borrow.Author.Needs.{needs}
 use lib.ListN.{length, drop, getD}
 use Rattle.syntax.specs.Tables.{spelledAs}
 use Rattle.listing.specs.Pieces.{termBytes, fieldBytes}
@@ -34,12 +33,12 @@ returns c =
     let at-loop = c .before .before .before in
     let start = at-loop .before .before .before .before .before .before in
     record {
-      counted = search (needs, stopped-count);
+      counted = search stopped-count;
       few = omega (arith, at-loop .loop .inv .1, at-loop .loop .inv .0, start .pre .1);
     }
 
 term-length-requires : tie.Need-term-length-requires Inv-loop μ-loop
-term-length-requires c κs = search (needs, shown-at)
+term-length-requires c κs = search shown-at
 
 add-size : tie.Need-add-size Inv-loop μ-loop
 add-size c = omega (arith, c .term-length .ensures .few)
@@ -60,15 +59,15 @@ loop-again : tie.Need-loop-again Inv-loop μ-loop
 loop-again c = (
   omega arith,
   omega (arith, c .term-length .ensures .few, c .before .before .before .before .loop .inv .1),
-  search (needs, fields-count),
-  search (needs, front-more),
+  search fields-count,
+  search front-more,
 )
 
 returns-2 : tie.Need-returns-2 Inv-loop μ-loop
 returns-2 c =
     let start = c .before .before .before .before .before .before .before in
     record {
-      counted = search (needs, ended-count);
+      counted = search ended-count;
       few = omega (arith, c .before .loop .inv .1, c .before .loop .inv .0, start .pre .1);
     }
 
