@@ -1,9 +1,11 @@
 -- Laws of `laid`: bytes put into the front of an output, one behind the other.
 --   laid-byte, copied-more      one byte more
 --   Placed                      how far the bytes of a whole are placed, and what is left of them
---   placed-start, placed-byte, placed-part, placed-all      from nothing, by a byte, by a part written from the end on, to the
--- whole
---   placed-room, placed-fits, placed-length                 the rest of the output holds the rest of the bytes
+--   placed-start, placed-byte, placed-part, placed-all      from nothing, by a byte, by a part written behind, to the whole
+--   placed-room, placed-inside, placed-length               the rest of the output holds the rest of the bytes
+--   lent-room, lent-part, lent-last                         the same for the part of an output from e on, as it is lent
+--   put-length, put-is, put-placed                          bytes that were put
+--   placed-last, last-inside                                the last byte of a whole, and its place
 -- Assumes nothing.
 use mathlib.Core.Path.{_≡_, refl, sym, ap, _∙_, subst}
 use mathlib.Core.List.{List, [], _∷_, _++_, append-assoc, append-nil}

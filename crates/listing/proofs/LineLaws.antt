@@ -1,10 +1,12 @@
 -- Laws of lines as bytes.
 --   name-part, name-few                 a symbol's name is a part of the program's text
---   bound-start                         an A line's first bytes, written
---   row-put, end-put                    an S line and a whole listing, written part by part
---   shown-from                          the terms of a row, as they are lent
---   bound-size, row-size                the length of a line from that of its parts
+--   shown-from, row-shown               the terms of a row and a row's cells, as they are lent
+--   bound-size, row-size, head-size, end-size      the length of a line, and of all, from that of the parts
+--   head-put, bound-put, row-put        a line written part by part, with the room for each part
 --   bounds-more, bounds-end, rows-more, rows-end      the lines from place i on
+--   bounds-put, bound-placed, rows-put, row-placed    the lines written up to place i
+--   bounds-all, bounds-count, rows-all, rows-count    the lines counted up to place i
+--   end-put                             a whole listing, written part by part
 -- Assumes nothing.
 use mathlib.Core.Path.{_≡_, refl, sym, ap, _∙_, subst}
 use mathlib.Core.List.{List, [], _∷_, _++_}
@@ -274,6 +276,40 @@ module _ (named term : ℕ → List ℕ) (cells : List ℕ) (i m : ℕ) {o a : L
     row-placed h w =
         lent-part (rowBytes named term (take ((5 * i + 5) - 5 * i) (drop (5 * i) cells)))
         (rowsBytes (rowBytes named term) (drop (5 * (i + 1)) cells)) (row-more h) w
+
+-- the A lines before place i counted: size
+module _ (term : ℕ → List ℕ) (letters bound : List ℕ) (i size : ℕ)
+    (sum : size + length (boundsBytes term (drop i letters) (drop i bound)) ≡ length (boundsBytes term letters bound))
+  where
+    pub bounds-all : length bound ≤ i → size ≡ length (boundsBytes term letters bound)
+    bounds-all h = omega (arith, ap length (bounds-end term letters bound i h))
+
+    pub bounds-count : (more : ℕ) → i < length bound → length bound ≤ length letters
+        → more ≡ length (boundBytes term (getD letters i 0) (getD bound i 0))
+        → (size + more) + length (boundsBytes term (drop (i + 1) letters) (drop (i + 1) bound))
+        ≡ length (boundsBytes term letters bound)
+    bounds-count more h k e =
+        let rest = boundsBytes term (drop (suc i) letters) (drop (suc i) bound) in
+        let sizes = length-append (boundBytes term (getD letters i 0) (getD bound i 0)) rest in
+        rw (add-one i) (omega (arith, ap length (bounds-more term letters bound i h k)))
+
+-- the S lines of m constraints before place i counted: size
+module _ (named term : ℕ → List ℕ) (cells : List ℕ) (i m size : ℕ)
+    (sum : size + length (rowsBytes (rowBytes named term) (drop (5 * i) cells)) ≡ length (rowsBytes (rowBytes named term) cells))
+    (five : length cells ≡ 5 * m)
+  where
+    pub rows-all : m ≤ i → size ≡ length (rowsBytes (rowBytes named term) cells)
+    rows-all h = omega (arith, ap length (rows-end (rowBytes named term) cells (5 * i) (omega arith)))
+
+    pub rows-count : (more : ℕ) → i < m
+        → more ≡ length (rowBytes named term (take ((5 * i + 5) - 5 * i) (drop (5 * i) cells)))
+        → (size + more) + length (rowsBytes (rowBytes named term) (drop (5 * (i + 1)) cells))
+        ≡ length (rowsBytes (rowBytes named term) cells)
+    rows-count more h e =
+        let row = rowBytes named term (take 5 (drop (5 * i) cells)) in
+        let sizes = length-append row (rowsBytes (rowBytes named term) (drop (5 * (i + 1)) cells)) in
+        let same = ap (λ (l : List ℕ). length (rowBytes named term l)) (row-cut cells i) in
+        omega (arith, ap length (rows-more (rowBytes named term) cells i (omega arith)))
 
 -- the length of the whole listing
 pub end-size : (named term : ℕ → List ℕ) (f : ℕ) (letters bound cells : List ℕ)

@@ -5,6 +5,8 @@
 --   front-more                          one more cell before the first 0
 --   constant-put, variable-put          a comma and a term, written
 --   stopped-put, ended-put, field-placed      the line feed behind the fields, or one more field, written
+--   shown-at                            a cell before the first 0 can be shown
+--   stopped-count, ended-count, fields-count  the fields counted up to place i
 -- Assumes nothing.
 use mathlib.Core.Path.{_≡_, refl, sym, ap, _∙_}
 use mathlib.Core.Bool.{Bool, true, false, cond}
@@ -156,13 +158,19 @@ pub shown-at : {constants cells : List ℕ} {v : ℕ} (i x : ℕ) → AllShown c
     → ((j : ℕ) → j < i → 0 < getD cells j 0) → (x ≡ 0 → ⊥) → x ≡ getD cells i 0 → Shown constants v x
 shown-at i x s h front some e = rw e (s .each i h front (omega arith))
 
--- one more field counted
-pub fields-count : (term : ℕ → List ℕ) (cells : List ℕ) (i size more : ℕ) → i < length cells → (getD cells i 0 ≡ 0 → ⊥)
-    → more ≡ length (term (getD cells i 0)) → size + length (fieldBytes term (drop i cells)) ≡ 1 + length (fieldBytes term cells)
-    → (size + (1 + more)) + length (fieldBytes term (drop (suc i) cells)) ≡ 1 + length (fieldBytes term cells)
-fields-count term cells i size more h k e sum =
-    omega (
-      arith,
-      ap length (fields-more term cells i h k),
-      length-append (44 ∷ term (getD cells i 0)) (fieldBytes term (drop (suc i) cells)),
-    )
+-- the fields before place i counted, with the line feed: size
+module _ (term : ℕ → List ℕ) (cells : List ℕ) (i size : ℕ)
+    (sum : size + length (fieldBytes term (drop i cells)) ≡ 1 + length (fieldBytes term cells))
+  where
+    pub stopped-count : i < length cells → getD cells i 0 ≡ 0 → size ≡ length (fieldBytes term cells)
+    stopped-count h k = omega (arith, ap length (fields-stop term cells i h k))
+
+    pub ended-count : length cells ≤ i → size ≡ length (fieldBytes term cells)
+    ended-count h = omega (arith, ap length (fields-end term cells i h))
+
+    -- one more
+    pub fields-count : (more : ℕ) → i < length cells → (getD cells i 0 ≡ 0 → ⊥) → more ≡ length (term (getD cells i 0))
+        → (size + (1 + more)) + length (fieldBytes term (drop (i + 1) cells)) ≡ 1 + length (fieldBytes term cells)
+    fields-count more h k e =
+        let sizes = length-append (44 ∷ term (getD cells i 0)) (fieldBytes term (drop (suc i) cells)) in
+        rw (add-one i) (omega (arith, ap length (fields-more term cells i h k)))

@@ -1,12 +1,11 @@
 -- `listing::blocks::bounds_length` meets its contract: what is counted and what is left make up the whole. Assumes nothing.
-use mathlib.Core.Path.{_≡_, ap}
-use Prim.Native.Nat.{suc, _+_, _-_, _*_, _≤_}
+use mathlib.Core.Path.{_≡_}
+use Prim.Native.Nat.{_+_, _-_, _*_, _≤_}
 use native.Mathlib.Omega.{arith}
-use native.Mathlib.Numerals.{add-one}
-use lib.ListN.{length, getD, drop, length-append}
+use lib.ListN.{length, drop}
 use Rattle.syntax.specs.Tables.{spelledAs}
-use Rattle.listing.specs.Pieces.{termBytes, boundBytes, boundsBytes}
-use Rattle.listing.proofs.LineLaws.{bounds-more, bounds-end}
+use Rattle.listing.specs.Pieces.{termBytes, boundsBytes}
+use Rattle.listing.proofs.LineLaws.{bounds-all, bounds-count}
 use Rattle.listing.proofs.blocks.bounds_length.Statement.{statement}
 use Rattle.listing.proofs.blocks.bounds_length.Tie as tie
 
@@ -28,9 +27,7 @@ shared-slice-read-bound-length c =
     omega (arith, start .pre .lettered)
 
 mul-bound-length : tie.Need-mul-bound-length Inv-loop μ-loop
-mul-bound-length c =
-    let start = c .before .before .before .before .before .before .before .before .before in
-    omega (arith, start .pre .few)
+mul-bound-length c = omega (arith, c .before .before .before .before .before .before .before .before .before .pre .few)
 
 shared-slice-read-bound-length-2 : tie.Need-shared-slice-read-bound-length-2 Inv-loop μ-loop
 shared-slice-read-bound-length-2 c = omega arith
@@ -56,32 +53,11 @@ loop-less c = omega arith
 
 loop-again : tie.Need-loop-again Inv-loop μ-loop
 loop-again c =
-    let at-loop-test = c .before .before .before in
-    let at-loop = at-loop-test .before in
-    let start = at-loop .before .before .before .before .before .before .before in
-    let spelled = spelledAs (start .args .program .now) (start .args .goal .now) (start .args .constants .now) (start .args .n) in
-    let term = termBytes spelled (start .args .numbers .now) in
-    let more = bounds-more term (start .args .letters .now) (start .args .bound .now) (at-loop .loop .i)
-    (at-loop-test .loop-test .taken) (start .pre .lettered) in
-    let sum = length-append (boundBytes term (getD (start .args .letters .now) (at-loop .loop .i) 0)
-    (getD (start .args .bound .now) (at-loop .loop .i) 0))
-    (boundsBytes term (drop (suc (at-loop .loop .i)) (start .args .letters .now))
-    (drop (suc (at-loop .loop .i)) (start .args .bound .now))) in (
-      omega arith,
-      omega (arith, c .bound-length .ensures .few, at-loop .loop .inv .1),
-      rw (add-one (at-loop .loop .i))
-          (omega (arith, ap length more, sum, c .bound-length .ensures .counted, at-loop .loop .inv .2)),
-    )
+    let few = c .before .before .before .before .loop .inv .1 in
+    (omega arith, omega (arith, c .bound-length .ensures .few, few), search bounds-count)
 
 returns : tie.Need-returns Inv-loop μ-loop
-returns c =
-    let at-loop = c .before in
-    let start = at-loop .before .before .before .before .before .before .before in
-    let spelled = spelledAs (start .args .program .now) (start .args .goal .now) (start .args .constants .now) (start .args .n) in
-    let term = termBytes spelled (start .args .numbers .now) in
-    let done = ap length (bounds-end term (start .args .letters .now) (start .args .bound .now) (at-loop .loop .i)
-    (c .loop-test .left)) in
-    record { counted = omega (arith, at-loop .loop .inv .2); few = omega (arith, at-loop .loop .inv .1, at-loop .loop .inv .0) }
+returns c = record { counted = search bounds-all; few = omega (arith, c .before .loop .inv .1, c .before .loop .inv .0) }
 
 pub bounds-length-spec : {M : Type 1} → statement M
 bounds-length-spec =

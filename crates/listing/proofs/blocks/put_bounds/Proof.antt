@@ -1,7 +1,6 @@
 -- `listing::blocks::put_bounds` meets its contract: the lines up to i are placed, the others are left. Assumes nothing.
 use Prim.Native.Nat.{_-_, _≤_}
 use native.Mathlib.Omega.{arith}
-use borrow.Author.Needs.{needs}
 use lib.ListN.{length, drop}
 use Rattle.syntax.specs.Tables.{spelledAs}
 use Rattle.listing.specs.Pieces.{termBytes, boundsBytes}
@@ -52,7 +51,7 @@ put-bound-requires c κs =
     )
 
 loop-again : tie.Need-loop-again Inv-loop μ-loop
-loop-again c = (omega arith, search (needs, bound-placed))
+loop-again c = (omega arith, search bound-placed)
 
 add-end : tie.Need-add-end Inv-loop μ-loop
 add-end c =
@@ -71,7 +70,7 @@ same-length c =
     placed-length (c .before .loop .inv .1) (c .before .before .before .before .before .before .before .before .before .pre .1)
 
 returns : tie.Need-returns Inv-loop μ-loop
-returns c = search (needs, bounds-put)
+returns c = search bounds-put
 
 pub put-bounds-spec : {M : Type 1} → statement M
 put-bounds-spec =

@@ -1,7 +1,6 @@
 -- `listing::blocks::put_rows` meets its contract: the lines up to i are placed, the others are left. Assumes nothing.
 use Prim.Native.Nat.{_-_, _*_, _≤_}
 use native.Mathlib.Omega.{arith}
-use borrow.Author.Needs.{needs}
 use lib.ListN.{drop}
 use Rattle.syntax.specs.Tables.{spelledAs}
 use Rattle.listing.specs.Pieces.{namedAs, termBytes, rowBytes, rowsBytes}
@@ -61,7 +60,7 @@ put-row-requires c κs =
     )
 
 loop-again : tie.Need-loop-again Inv-loop μ-loop
-loop-again c = (omega arith, search (needs, row-placed))
+loop-again c = (omega arith, search row-placed)
 
 add-end : tie.Need-add-end Inv-loop μ-loop
 add-end c =
@@ -83,7 +82,7 @@ same-length c =
     placed-length (c .before .loop .inv .1) (c .before .before .before .before .before .before .before .before .before .pre .1)
 
 returns : tie.Need-returns Inv-loop μ-loop
-returns c = search (needs, rows-put)
+returns c = search rows-put
 
 pub put-rows-spec : {M : Type 1} → statement M
 put-rows-spec =

@@ -1,12 +1,11 @@
 -- `listing::blocks::rows_length` meets its contract: what is counted and what is left make up the whole. Assumes nothing.
-use mathlib.Core.Path.{_≡_, ap, sym, subst}
-use mathlib.Core.List.{List}
-use Prim.Native.Nat.{ℕ, _+_, _-_, _*_, _≤_}
+use mathlib.Core.Path.{_≡_}
+use Prim.Native.Nat.{_+_, _-_, _*_, _≤_}
 use native.Mathlib.Omega.{arith}
-use lib.ListN.{length, take, drop, length-append}
+use lib.ListN.{length, drop}
 use Rattle.syntax.specs.Tables.{spelledAs}
-use Rattle.listing.specs.Pieces.{namedAs, termBytes, rowBytes, rowsBytes, RowShown}
-use Rattle.listing.proofs.LineLaws.{row-cut, rows-more, rows-end}
+use Rattle.listing.specs.Pieces.{namedAs, termBytes, rowBytes, rowsBytes}
+use Rattle.listing.proofs.LineLaws.{row-shown, rows-all, rows-count}
 use Rattle.listing.proofs.blocks.rows_length.Statement.{statement}
 use Rattle.listing.proofs.blocks.rows_length.Tie as tie
 
@@ -25,19 +24,13 @@ loop-holds : tie.Need-loop-holds Inv-loop μ-loop
 loop-holds c = (omega arith, omega arith, omega arith)
 
 mul-a : tie.Need-mul-a Inv-loop μ-loop
-mul-a c =
-    let start = c .before .before .before .before .before .before .before .before in
-    omega (arith, start .pre .few)
+mul-a c = omega (arith, c .before .before .before .before .before .before .before .before .pre .few)
 
 add-e : tie.Need-add-e Inv-loop μ-loop
-add-e c =
-    let start = c .before .before .before .before .before .before .before .before in
-    omega (arith, start .pre .few)
+add-e c = omega (arith, c .before .before .before .before .before .before .before .before .pre .few)
 
 mul-row-length : tie.Need-mul-row-length Inv-loop μ-loop
-mul-row-length c =
-    let start = c .before .before .before .before .before .before .before .before in
-    omega (arith, start .pre .few)
+mul-row-length c = omega (arith, c .before .before .before .before .before .before .before .before .pre .few)
 
 sub-row-length : tie.Need-sub-row-length Inv-loop μ-loop
 sub-row-length c = omega arith
@@ -46,19 +39,12 @@ part-row-length-start : tie.Need-part-row-length-start Inv-loop μ-loop
 part-row-length-start c = omega arith
 
 part-row-length-end : tie.Need-part-row-length-end Inv-loop μ-loop
-part-row-length-end c =
-    let start = c .before .before .before .before .before .before .before .before in
-    omega (arith, start .pre .size)
+part-row-length-end c = omega (arith, c .before .before .before .before .before .before .before .before .pre .size)
 
 row-length-requires : tie.Need-row-length-requires Inv-loop μ-loop
 row-length-requires c κs =
-    let at-loop-test = c .before in
-    let at-loop = at-loop-test .before in
-    let start = at-loop .before .before .before .before .before .before .before in
-    let cut = row-cut (start .args .cells .now) (at-loop .loop .i) in
-    subst
-    (λ (l : List ℕ). RowShown (start .args .symbols .now) (start .args .constants .now) (length (start .args .numbers .now)) l)
-    (sym cut) (start .pre .rows (at-loop .loop .i) (at-loop-test .loop-test .taken))
+    let start = c .before .before .before .before .before .before .before .before .before in
+    row-shown (c .before .before .loop .i) (start .pre) (c .before .loop-test .taken)
 
 add-size : tie.Need-add-size Inv-loop μ-loop
 add-size c =
@@ -67,40 +53,17 @@ add-size c =
     omega (arith, c .row-length .ensures .few, at-loop .loop .inv .1, start .pre .few)
 
 add-i : tie.Need-add-i Inv-loop μ-loop
-add-i c =
-    let start = c .before .before .before .before .before .before .before .before .before .before in
-    omega (arith, start .pre .few)
+add-i c = omega (arith, c .before .before .before .before .before .before .before .before .before .before .pre .few)
 
 loop-less : tie.Need-loop-less Inv-loop μ-loop
 loop-less c = omega arith
 
 loop-again : tie.Need-loop-again Inv-loop μ-loop
 loop-again c =
-    let at-loop = c .before .before .before in
-    let start = at-loop .before .before .before .before .before .before .before in
-    let spelled = spelledAs (start .args .program .now) (start .args .goal .now) (start .args .constants .now) (start .args .n) in
-    let term = termBytes spelled (start .args .numbers .now) in
-    let line = rowBytes (namedAs (start .args .program .now) (start .args .symbols .now)) term in
-    let cut = row-cut (start .args .cells .now) (at-loop .loop .i) in
-    let more = rows-more line (start .args .cells .now) (at-loop .loop .i) (omega (arith, start .pre .size)) in
-    let sum = length-append (line (take 5 (drop (5 * (at-loop .loop .i)) (start .args .cells .now))))
-    (rowsBytes line (drop (5 * (at-loop .loop .i + 1)) (start .args .cells .now))) in
-    let new = ap (λ (l : List ℕ). length (line l)) cut in (
-      omega arith,
-      omega (arith, c .row-length .ensures .few, at-loop .loop .inv .1),
-      omega (arith, ap length more, sum, c .row-length .ensures .counted, at-loop .loop .inv .2),
-    )
+    (omega arith, omega (arith, c .row-length .ensures .few, c .before .before .before .loop .inv .1), search rows-count)
 
 returns : tie.Need-returns Inv-loop μ-loop
-returns c =
-    let at-loop = c .before in
-    let start = at-loop .before .before .before .before .before .before .before in
-    let spelled = spelledAs (start .args .program .now) (start .args .goal .now) (start .args .constants .now) (start .args .n) in
-    let term = termBytes spelled (start .args .numbers .now) in
-    let line = rowBytes (namedAs (start .args .program .now) (start .args .symbols .now)) term in
-    let done = ap length (rows-end line (start .args .cells .now) (5 * (at-loop .loop .i))
-    (omega (arith, start .pre .size, c .loop-test .left))) in
-    record { counted = omega (arith, at-loop .loop .inv .2); few = omega (arith, at-loop .loop .inv .1, at-loop .loop .inv .0) }
+returns c = record { counted = search rows-all; few = omega (arith, c .before .loop .inv .1, c .before .loop .inv .0) }
 
 pub rows-length-spec : {M : Type 1} → statement M
 rows-length-spec =

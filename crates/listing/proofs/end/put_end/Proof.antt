@@ -1,6 +1,5 @@
 -- `listing::end::put_end` meets its contract: the first line, the A lines behind it, the S lines behind them. Assumes nothing.
 use native.Mathlib.Omega.{arith}
-use borrow.Author.Needs.{needs}
 use Rattle.listing.proofs.LineLaws.{head-room, bounds-inside, bounds-room, rows-inside, rows-room, end-put}
 use Rattle.listing.proofs.end.put_end.Statement.{statement}
 use Rattle.listing.proofs.end.put_end.Tie as tie
@@ -9,10 +8,10 @@ slice-aggregate-put-head : tie.Need-slice-aggregate-put-head
 slice-aggregate-put-head c = omega arith
 
 put-head-requires : tie.Need-put-head-requires
-put-head-requires c κs = search (needs, head-room)
+put-head-requires c κs = search head-room
 
 sub-put-bounds : tie.Need-sub-put-bounds
-sub-put-bounds c = search (needs, bounds-inside)
+sub-put-bounds c = search bounds-inside
 
 part-put-bounds-start : tie.Need-part-put-bounds-start
 part-put-bounds-start c = omega (arith, sub-put-bounds c)
@@ -21,10 +20,10 @@ part-put-bounds-end : tie.Need-part-put-bounds-end
 part-put-bounds-end c = omega arith
 
 put-bounds-requires : tie.Need-put-bounds-requires
-put-bounds-requires c κs = search (needs, bounds-room)
+put-bounds-requires c κs = search bounds-room
 
 sub-put-rows : tie.Need-sub-put-rows
-sub-put-rows c = search (needs, rows-inside)
+sub-put-rows c = search rows-inside
 
 add-end : tie.Need-add-end
 add-end c = omega (arith, sub-put-rows c)
@@ -36,10 +35,10 @@ part-put-rows-end : tie.Need-part-put-rows-end
 part-put-rows-end c = omega arith
 
 put-rows-requires : tie.Need-put-rows-requires
-put-rows-requires c κs = search (needs, rows-room)
+put-rows-requires c κs = search rows-room
 
 returns : tie.Need-returns
-returns c = search (needs, end-put)
+returns c = search end-put
 
 add-result : tie.Need-add-result
 add-result c =

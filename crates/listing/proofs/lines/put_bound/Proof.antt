@@ -1,7 +1,6 @@
 -- `listing::lines::put_bound` meets its contract: three bytes, the field behind them, the line feed. Assumes nothing.
 use Prim.Native.Nat.{_≤_}
 use native.Mathlib.Omega.{arith}
-use borrow.Author.Needs.{needs}
 use lib.ListN.{length, length-set}
 use Rattle.listing.proofs.Laying.{put-length}
 use Rattle.listing.proofs.LineLaws.{bound-three, term-room, bound-feed, bound-put}
@@ -10,7 +9,7 @@ use Rattle.listing.proofs.lines.put_bound.Tie as tie
 
 -- the output has room for the first three bytes
 three : (s : tie.Start) → 3 ≤ length (s .args .out .now)
-three s = search (needs, bound-three)
+three s = search bound-three
 
 slice-write-out : tie.Need-slice-write-out
 slice-write-out c = omega (arith, three (c .before .before .before .before .before))
@@ -31,10 +30,10 @@ part-put-field-end : tie.Need-part-put-field-end
 part-put-field-end c = omega arith
 
 put-field-requires : tie.Need-put-field-requires
-put-field-requires c κs = (c .before .before .before .before .before .before .pre .0, search (needs, term-room))
+put-field-requires c κs = (c .before .before .before .before .before .before .pre .0, search term-room)
 
 returns : tie.Need-returns
-returns c = search (needs, bound-put)
+returns c = search bound-put
 
 add-end : tie.Need-add-end
 add-end c = omega (arith, returns c .counted, c .before .before .before .before .before .before .before .before .before .pre .1)

@@ -1,7 +1,6 @@
 -- `listing::lines::put_row` meets its contract: two bytes, the name behind them, the fields behind it. Assumes nothing.
 use Prim.Native.Nat.{_≤_}
 use native.Mathlib.Omega.{arith}
-use borrow.Author.Needs.{needs}
 use lib.ListN.{length, length-set}
 use Rattle.listing.proofs.Laying.{put-length}
 use Rattle.listing.proofs.LineLaws.{row-two, name-room, fields-inside, fields-room, row-put, shown-from}
@@ -16,7 +15,7 @@ start c =
 
 -- the output has room for the first two bytes
 two : (s : tie.Start) → 2 ≤ length (s .args .out .now)
-two s = search (needs, row-two)
+two s = search row-two
 
 slice-write-out : tie.Need-slice-write-out
 slice-write-out c = omega (arith, two (c .before .before .before .before .before .before .before))
@@ -41,13 +40,13 @@ part-copy-end : tie.Need-part-copy-end
 part-copy-end c = omega arith
 
 copy-requires : tie.Need-copy-requires
-copy-requires c κs = search (needs, name-room)
+copy-requires c κs = search name-room
 
 add-end : tie.Need-add-end
 add-end c = omega arith
 
 sub-put-fields : tie.Need-sub-put-fields
-sub-put-fields c = search (needs, fields-inside)
+sub-put-fields c = search fields-inside
 
 part-put-fields-start : tie.Need-part-put-fields-start
 part-put-fields-start c = omega (arith, sub-put-fields c)
@@ -68,12 +67,12 @@ put-fields-requires : tie.Need-put-fields-requires
 put-fields-requires c κs =
     let at-name = c .before .before .before .before .before .before in
     let entry = at-name .before .before .before .before .before .before .before .before .before in (
-      search (needs, shown-from),
+      search shown-from,
       search (fields-room, entry .pre .1, at-name .name .ensures, c .before .before .before .before .copy .ensures),
     )
 
 returns : tie.Need-returns
-returns c = search (needs, row-put)
+returns c = search row-put
 
 add-result : tie.Need-add-result
 add-result c = omega (arith, returns c .counted, start c .pre .1)

@@ -1,12 +1,11 @@
 -- `listing::terms::fields_length` meets its contract: what is counted and what is left make up the whole. Assumes nothing.
-use mathlib.Core.Path.{_≡_, refl, ap}
+use mathlib.Core.Path.{_≡_, refl}
 use Prim.Native.Nat.{ℕ, _+_, _-_, _*_, _≤_, _<_}
 use native.Mathlib.Omega.{arith}
-use native.Mathlib.Numerals.{add-one}
 use lib.ListN.{length, drop, getD}
 use Rattle.syntax.specs.Tables.{spelledAs}
 use Rattle.listing.specs.Pieces.{termBytes, fieldBytes}
-use Rattle.listing.proofs.TermLaws.{fields-stop, fields-end, fields-count, front-more}
+use Rattle.listing.proofs.TermLaws.{stopped-count, ended-count, fields-count, shown-at, front-more}
 use Rattle.listing.proofs.terms.fields_length.Statement.{statement}
 use Rattle.listing.proofs.terms.fields_length.Tie as tie
 
@@ -31,25 +30,15 @@ shared-slice-read-x c = omega arith
 
 returns : tie.Need-returns Inv-loop μ-loop
 returns c =
-    let at-loop-test = c .before .before in
-    let at-loop = at-loop-test .before in
+    let at-loop = c .before .before .before in
     let start = at-loop .before .before .before .before .before .before in
-    let spelled = spelledAs (start .args .program .now) (start .args .goal .now) (start .args .constants .now) (start .args .n) in
-    let term = termBytes spelled (start .args .numbers .now) in
-    let z = ap length (fields-stop term (start .args .cells .now) (at-loop .loop .i) (at-loop-test .loop-test .taken)
-    (c .if1 .taken)) in
     record {
-      counted = omega (arith, at-loop .loop .inv .2);
-      few = omega
-          (arith, at-loop .loop .inv .1, at-loop .loop .inv .0, start .pre .1);
+      counted = search stopped-count;
+      few = omega (arith, at-loop .loop .inv .1, at-loop .loop .inv .0, start .pre .1);
     }
 
 term-length-requires : tie.Need-term-length-requires Inv-loop μ-loop
-term-length-requires c κs =
-    let at-loop-test = c .before .before in
-    let at-loop = at-loop-test .before in
-    let start = at-loop .before .before .before .before .before .before in
-    start .pre .0 .each (at-loop .loop .i) (at-loop-test .loop-test .taken) (at-loop .loop .inv .3) (omega (arith, c .if1 .left))
+term-length-requires c κs = search shown-at
 
 add-size : tie.Need-add-size Inv-loop μ-loop
 add-size c = omega (arith, c .term-length .ensures .few)
@@ -67,33 +56,19 @@ loop-less : tie.Need-loop-less Inv-loop μ-loop
 loop-less c = omega arith
 
 loop-again : tie.Need-loop-again Inv-loop μ-loop
-loop-again c =
-    let at-if1 = c .before in
-    let at-loop-test = at-if1 .before .before in
-    let at-loop = at-loop-test .before in
-    let start = at-loop .before .before .before .before .before .before in
-    let spelled = spelledAs (start .args .program .now) (start .args .goal .now) (start .args .constants .now) (start .args .n) in
-    let term = termBytes spelled (start .args .numbers .now) in (
-      omega arith,
-      omega (arith, c .term-length .ensures .few, at-loop .loop .inv .1),
-      rw (add-one (at-loop .loop .i))
-          (fields-count term (start .args .cells .now) (at-loop .loop .i) (at-loop .loop .size) (c .term-length .result)
-          (at-loop-test .loop-test .taken) (at-if1 .if1 .left)
-          (c .term-length .ensures .counted) (at-loop .loop .inv .2)),
-      front-more (start .args .cells .now) (at-loop .loop .i) (at-if1 .if1 .left) (at-loop .loop .inv .3),
-    )
+loop-again c = (
+  omega arith,
+  omega (arith, c .term-length .ensures .few, c .before .before .before .before .loop .inv .1),
+  search fields-count,
+  search front-more,
+)
 
 returns-2 : tie.Need-returns-2 Inv-loop μ-loop
 returns-2 c =
-    let at-loop = c .before in
-    let start = at-loop .before .before .before .before .before .before in
-    let spelled = spelledAs (start .args .program .now) (start .args .goal .now) (start .args .constants .now) (start .args .n) in
-    let term = termBytes spelled (start .args .numbers .now) in
-    let z = ap length (fields-end term (start .args .cells .now) (at-loop .loop .i) (c .loop-test .left)) in
+    let start = c .before .before .before .before .before .before .before in
     record {
-      counted = omega (arith, at-loop .loop .inv .2);
-      few = omega
-          (arith, at-loop .loop .inv .1, at-loop .loop .inv .0, start .pre .1);
+      counted = search ended-count;
+      few = omega (arith, c .before .loop .inv .1, c .before .loop .inv .0, start .pre .1);
     }
 
 pub fields-length-spec : {M : Type 1} → statement M

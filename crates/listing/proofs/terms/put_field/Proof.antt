@@ -1,6 +1,5 @@
 -- `listing::terms::put_field` meets its contract. Assumes nothing.
 use native.Mathlib.Omega.{arith}
-use borrow.Author.Needs.{needs}
 use lib.ListN.{length-set}
 use Rattle.listing.proofs.Laying.{put-length}
 use Rattle.listing.proofs.TermLaws.{constant-room, constant-put, variable-two, variable-room, variable-put}
@@ -23,20 +22,20 @@ part-copy-end : tie.Need-part-copy-end
 part-copy-end c = omega arith
 
 copy-requires : tie.Need-copy-requires
-copy-requires c κs = search (needs, constant-room)
+copy-requires c κs = search constant-room
 
 add-result : tie.Need-add-result
 add-result c = omega arith
 
 returns : tie.Need-returns
-returns c = search (needs, constant-put)
+returns c = search constant-put
 
 same-length : tie.Need-same-length
 same-length c =
     put-length (returns c) (c .before .before .before .before .before .before .before .before .before .before .before .pre .1)
 
 slice-write-out-2 : tie.Need-slice-write-out-2
-slice-write-out-2 c = search (needs, variable-two)
+slice-write-out-2 c = search (variable-two, length-set)
 
 wide-requires : tie.Need-wide-requires
 wide-requires c κs = tt
@@ -45,7 +44,7 @@ sub-y : tie.Need-sub-y
 sub-y c = omega arith
 
 sub-put-decimal : tie.Need-sub-put-decimal
-sub-put-decimal c = search (needs, variable-two)
+sub-put-decimal c = search (variable-two, length-set)
 
 part-put-decimal-start : tie.Need-part-put-decimal-start
 part-put-decimal-start c = omega (arith, sub-put-decimal c)
@@ -65,10 +64,10 @@ wide-requires-2 : tie.Need-wide-requires-2
 wide-requires-2 c κs = tt
 
 put-decimal-requires : tie.Need-put-decimal-requires
-put-decimal-requires c κs = search (needs, variable-room)
+put-decimal-requires c κs = search variable-room
 
 returns-2 : tie.Need-returns-2
-returns-2 c = search (needs, variable-put)
+returns-2 c = search variable-put
 
 add-result-2 : tie.Need-add-result-2
 add-result-2 c =

@@ -1,7 +1,6 @@
 -- `listing::terms::put_fields` meets its contract: the fields up to i are placed, the others are left. Assumes nothing.
 use Prim.Native.Nat.{ℕ, _-_, _≤_, _<_}
 use native.Mathlib.Omega.{arith}
-use borrow.Author.Needs.{needs}
 use lib.ListN.{length, getD, drop}
 use Rattle.syntax.specs.Tables.{spelledAs}
 use Rattle.listing.specs.Pieces.{termBytes, fieldBytes}
@@ -30,10 +29,10 @@ shared-slice-read-x : tie.Need-shared-slice-read-x Inv-loop μ-loop
 shared-slice-read-x c = omega arith
 
 slice-write-out : tie.Need-slice-write-out Inv-loop μ-loop
-slice-write-out c = search (needs, feed-inside)
+slice-write-out c = search feed-inside
 
 returns : tie.Need-returns Inv-loop μ-loop
-returns c = search (needs, stopped-put)
+returns c = search stopped-put
 
 add-result : tie.Need-add-result Inv-loop μ-loop
 add-result c =
@@ -43,7 +42,7 @@ same-length : tie.Need-same-length Inv-loop μ-loop
 same-length c = put-length (returns c) (c .before .before .before .before .before .before .before .before .before .before .pre .1)
 
 sub-put-field : tie.Need-sub-put-field Inv-loop μ-loop
-sub-put-field c = search (needs, placed-inside)
+sub-put-field c = search placed-inside
 
 part-put-field-start : tie.Need-part-put-field-start Inv-loop μ-loop
 part-put-field-start c = omega (arith, sub-put-field c)
@@ -52,10 +51,10 @@ part-put-field-end : tie.Need-part-put-field-end Inv-loop μ-loop
 part-put-field-end c = omega arith
 
 put-field-requires : tie.Need-put-field-requires Inv-loop μ-loop
-put-field-requires c κs = (search (needs, shown-at), search (needs, field-room))
+put-field-requires c κs = (search shown-at, search field-room)
 
 loop-again : tie.Need-loop-again Inv-loop μ-loop
-loop-again c = (omega arith, search (needs, field-placed), search (needs, front-more))
+loop-again c = (omega arith, search field-placed, search front-more)
 
 add-end : tie.Need-add-end Inv-loop μ-loop
 add-end c =
@@ -70,10 +69,10 @@ loop-less : tie.Need-loop-less Inv-loop μ-loop
 loop-less c = omega arith
 
 slice-write-out-2 : tie.Need-slice-write-out-2 Inv-loop μ-loop
-slice-write-out-2 c = search (needs, feed-inside)
+slice-write-out-2 c = search feed-inside
 
 returns-2 : tie.Need-returns-2 Inv-loop μ-loop
-returns-2 c = search (needs, ended-put)
+returns-2 c = search ended-put
 
 add-result-2 : tie.Need-add-result-2 Inv-loop μ-loop
 add-result-2 c = omega (arith, returns-2 c .counted, c .before .before .before .before .before .before .before .before .pre .1)
