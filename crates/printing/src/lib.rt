@@ -1,45 +1,62 @@
-// What the programs print on standard output: the reply to an input. The replies themselves are proved in `library`.
+// What the programs print, as bytes in a lent output: the reply to an input, and a refusal.
+// The programs do no more than write them.
 use library::RunReply;
 use library::TextName;
 use library::run;
+use listing::lines::put_head;
+use listing::writing::copy;
+use listing::writing::put_decimal;
 use text::split_goal;
+ghost use mathlib.Core.List.{[], _∷_, _++_};
+ghost use mathlib.Core.Path.{_≡_};
+ghost use Prim.Native.Nat.{_≤_, _<_};
+ghost use lib.ListN.{length, take};
+ghost use Rattle.text.specs.Bytes.{ascii};
+ghost use Rattle.listing.specs.Listing.{decimal};
+ghost use Rattle.listing.specs.Pieces.{headBytes, Put};
+ghost use Rattle.library.specs.Replies.{refusal, printed, runReply, ample, sheetrun};
+ghost use Rattle.library.specs.Answers.{textMeant};
 
-// The byte of a text's letter.
-fn letter(text: TextName) -> u8 {
-    match text {
-        TextName::S => b'S',
-        TextName::G => b'G',
-    }
+// The line of a refusal, from the bytes `,S,` or `,G,` that name its text.
+fn put_line(out: &mut [u8], number: usize, named: &[u8], line: usize) -> usize
+    requires { ⌜ (length (now out) ≡ 32768) × (length (now named) ≤ 3) × (number < 65536) × (line < 65536) ⌝ }
+    ensures { λ r. ⌜ Put (ascii "REFUSED," ++ (decimal number ++ headBytes (now (named .entry)) line))
+        (now (out .entry)) (now (out .exit)) r ⌝ }
+{
+    let at = copy(out, b"REFUSED,");
+    let end = at + put_decimal(&mut out[at..], number);
+    end + put_head(&mut out[end..], named, line)
 }
 
-// `REFUSED,number,text,line`, with a line feed behind it.
-pub fn print_refusal(number: u8, text: u8, line: u16) {
-    io::write_all(1, b"REFUSED,");
-    io::print_decimal(1, number as u64);
-    let middle = [44, text, 44];
-    io::write_all(1, &middle);
-    io::print_decimal(1, line as u64);
-    io::write_all(1, b"\n");
+// `REFUSED,number,text,line` with its line feed, into the front of an output; answers how many bytes.
+pub fn put_refusal(out: &mut [u8; 32768], number: u8, text: TextName, line: u16) -> usize
+    ensures { λ r. ⌜ (take r (now (out .exit)) ≡ printed (refusal number (textMeant text) line)) × (r ≤ length (now (out .exit))) ⌝ }
+{
+    match text {
+        TextName::S => put_line(out, number as usize, b",S,", line as usize),
+        TextName::G => put_line(out, number as usize, b",G,", line as usize),
+    }
 }
 
 // The reply to a goal over a program.
-fn print_reply<'a>(program: &'a [u8], goal: &'a [u8]) {
-    let mut output = [0u8; 32768];
-    match run(program, goal, &mut output) {
+fn put_reply<'a>(program: &'a [u8], goal: &'a [u8], out: &mut [u8; 32768]) -> usize
+    ensures { λ r. ⌜ (take r (now (out .exit)) ≡ printed (runReply (now (program .entry)) (now (goal .entry)) ample)) × (r ≤ length (now (out .exit))) ⌝ }
+{
+    match run(program, goal, out) {
         RunReply::Refused(refusal) => {
             let text = refusal.text;
-            print_refusal(refusal.number, letter(text), refusal.line)
+            put_refusal(out, refusal.number, text, refusal.line)
         }
-        RunReply::Listed(n) => {
-            io::write_all(1, &output[..n]);
-        }
+        RunReply::Listed(n) => n,
     }
 }
 
-// The reply to an input: a program, then optionally the line `GOAL` and a goal.
-pub fn print_run(input: &[u8]) {
+// All that `sheetrun` prints on an input, into the front of an output; answers how many bytes.
+pub fn put_run(input: &[u8], out: &mut [u8; 32768]) -> usize
+    ensures { λ r. ⌜ (take r (now (out .exit)) ≡ sheetrun (now (input .entry))) × (r ≤ length (now (out .exit))) ⌝ }
+{
     let split = split_goal(input);
     let end = split.end;
     let start = split.start;
-    print_reply(&input[..end], &input[start..])
+    put_reply(&input[..end], &input[start..], out)
 }

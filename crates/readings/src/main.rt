@@ -5,10 +5,19 @@ mod sweep;
 
 use goals::GoalRead;
 use goals::read_goal;
-use printing::print_refusal;
+use library::TextName;
+use printing::put_refusal;
 use programs::ProgramRead;
 use programs::read_program;
+use sweep::swept;
 ghost use Rattle.library.specs.Stages.{GoalReady};
+
+// Writes a refusal.
+fn refuse(number: u8, text: TextName, line: u16) {
+    let mut out = [0u8; 32768];
+    let n = put_refusal(&mut out, number, text, line);
+    io::write_all(1, &out[..n]);
+}
 
 // The goal over a program as read, in its tables.
 fn read_the_goal(
@@ -35,7 +44,7 @@ fn read_the_goal(
         &mut cells,
         &mut letters,
     ) {
-        GoalRead::Refused(number, line) => print_refusal(number, b'G', line),
+        GoalRead::Refused(number, line) => refuse(number, TextName::G, line),
         GoalRead::Accepted(_) => {
             io::write_all(1, b"READ\n");
         }
@@ -48,7 +57,7 @@ fn read_parts(program: &[u8], goal: &[u8]) {
     let mut rules = [0; 2048];
     let mut constants = [0; 128];
     match read_program(program, &mut symbols, &mut rules, &mut constants) {
-        ProgramRead::Refused(number, line) => print_refusal(number, b'S', line),
+        ProgramRead::Refused(number, line) => refuse(number, TextName::S, line),
         ProgramRead::Accepted(counts) => {
             let k = counts.symbols;
             let n = counts.rules;
@@ -97,6 +106,31 @@ fn read_argument(i: usize) {
     read_file(&path[..length], first == b'r')
 }
 
+// The digit of a text swept, printed.
+fn print_digit(i: usize, b: u8) {
+    let digits = [swept(i, b)];
+    io::write_all(1, &digits);
+}
+
+// All bytes at place i.
+fn sweep_place(i: usize) {
+    let mut b: usize = 0;
+    while b < 256 {
+        print_digit(i, b as u8);
+        b += 1;
+    }
+    io::write_all(1, b"\n");
+}
+
+// All places of both texts.
+fn sweep_all() {
+    let mut i = 0;
+    while i < 42 {
+        sweep_place(i);
+        i += 1;
+    }
+}
+
 fn main() {
     let count = os::arg_count();
     let mut i = 1;
@@ -104,5 +138,5 @@ fn main() {
         read_argument(i);
         i += 1;
     }
-    sweep::sweep_all();
+    sweep_all();
 }

@@ -1,12 +1,14 @@
-// Each of the 256 bytes at each place of a short program and of a short goal, and the number that each of these texts meets: a line of
-// 256 digits for each place, 0 where the text is read.
+// A short program and a short goal with any byte at any place, and the number that each of these texts meets: 0 where it is read.
 use goals::GoalRead;
 use goals::read_goal;
 use programs::ProgramRead;
 use programs::read_program;
+ghost use Prim.Native.Nat.{_≤_};
 
 // The digit of a number below 10.
-fn digit(number: u8) -> u8 {
+fn digit(number: u8) -> u8
+    ensures { λ r. ⌜ r ≤ 63 ⌝ }
+{
     if number < 10 {
         return 48 + number;
     }
@@ -14,7 +16,9 @@ fn digit(number: u8) -> u8 {
 }
 
 // What a program meets.
-fn program_digit(text: &[u8; 26]) -> u8 {
+fn program_digit(text: &[u8; 26]) -> u8
+    ensures { λ r. ⌜ r ≤ 63 ⌝ }
+{
     let mut symbols = [0; 128];
     let mut rules = [0; 2048];
     let mut constants = [0; 128];
@@ -25,7 +29,9 @@ fn program_digit(text: &[u8; 26]) -> u8 {
 }
 
 // What a goal meets over a program with one symbol `p` of two terms.
-fn goal_digit(text: &[u8; 16]) -> u8 {
+fn goal_digit(text: &[u8; 16]) -> u8
+    ensures { λ r. ⌜ r ≤ 63 ⌝ }
+{
     let mut symbols = [0; 128];
     symbols[0] = 2;
     symbols[1] = 1;
@@ -50,7 +56,9 @@ fn goal_digit(text: &[u8; 16]) -> u8 {
 }
 
 // What the program meets that has byte b at place i.
-fn swept_program(i: usize, b: u8) -> u8 {
+fn swept_program(i: usize, b: u8) -> u8
+    ensures { λ r. ⌜ r ≤ 63 ⌝ }
+{
     let mut text = *b"K,p,2,1\nR,r\nH,p,X,a\nE,X,b\n";
     if i < 26 {
         text[i] = b;
@@ -59,7 +67,9 @@ fn swept_program(i: usize, b: u8) -> u8 {
 }
 
 // What the goal meets that has byte b at place i.
-fn swept_goal(i: usize, b: u8) -> u8 {
+fn swept_goal(i: usize, b: u8) -> u8
+    ensures { λ r. ⌜ r ≤ 63 ⌝ }
+{
     let mut text = *b"G,p,A,a\nG,p,b,A\n";
     if i < 16 {
         text[i] = b;
@@ -68,34 +78,11 @@ fn swept_goal(i: usize, b: u8) -> u8 {
 }
 
 // The digit of place i and byte b: the first 26 places are the program's, and the others the goal's.
-fn swept(i: usize, b: u8) -> u8 {
+pub fn swept(i: usize, b: u8) -> u8
+    ensures { λ r. ⌜ r ≤ 63 ⌝ }
+{
     if i < 26 {
         return swept_program(i, b);
     }
     swept_goal(i - 26, b)
-}
-
-// The same, printed.
-fn print_digit(i: usize, b: u8) {
-    let digits = [swept(i, b)];
-    io::write_all(1, &digits);
-}
-
-// All bytes at place i.
-fn sweep_place(i: usize) {
-    let mut b: usize = 0;
-    while b < 256 {
-        print_digit(i, b as u8);
-        b += 1;
-    }
-    io::write_all(1, b"\n");
-}
-
-// All places of both texts.
-pub fn sweep_all() {
-    let mut i = 0;
-    while i < 42 {
-        sweep_place(i);
-        i += 1;
-    }
 }

@@ -1,5 +1,12 @@
 // `rehearsal`: prints the reply of `sheetrun` to each input that an argument names, behind a line with its name.
 
+// Writes what is printed on an input.
+fn answer(input: &[u8]) {
+    let mut out = [0u8; 32768];
+    let n = printing::put_run(input, &mut out);
+    io::write_all(1, &out[..n]);
+}
+
 // The reply to the input of a file.
 fn rehearse(path: &[u8]) {
     let fd = os::open_read(path);
@@ -10,7 +17,7 @@ fn rehearse(path: &[u8]) {
     let mut input = [0u8; 40000];
     let n = io::read_full(fd, &mut input);
     libc::close(fd);
-    printing::print_run(&input[..n])
+    answer(&input[..n])
 }
 
 // The reply to the input that argument i names.

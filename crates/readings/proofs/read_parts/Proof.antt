@@ -19,8 +19,8 @@ read-program-requires c κs = search needs
 enum-known-number : tie.Need-enum-known-number
 enum-known-number c = search needs
 
-print-refusal-requires : tie.Need-print-refusal-requires
-print-refusal-requires c κs = search needs
+refuse-requires : tie.Need-refuse-requires
+refuse-requires c κs = search needs
 
 enum-known-counts : tie.Need-enum-known-counts
 enum-known-counts c = search needs
@@ -52,7 +52,7 @@ read-parts-spec =
     slice-aggregate-read-program-3
     read-program-requires
     enum-known-number
-    print-refusal-requires
+    refuse-requires
     enum-known-counts
     slice-aggregate-read-the-goal
     slice-aggregate-read-the-goal-2

@@ -16,8 +16,8 @@ read-goal-requires c κs = search (needs, goal-room)
 enum-known-number : tie.Need-enum-known-number
 enum-known-number c = search needs
 
-print-refusal-requires : tie.Need-print-refusal-requires
-print-refusal-requires c κs = search needs
+refuse-requires : tie.Need-refuse-requires
+refuse-requires c κs = search needs
 
 enum-told : tie.Need-enum-told
 enum-told c = search needs
@@ -48,7 +48,7 @@ read-the-goal-spec =
     slice-aggregate-read-goal-2
     read-goal-requires
     enum-known-number
-    print-refusal-requires
+    refuse-requires
     enum-told
     slice-aggregate-write-all
     write-all-requires

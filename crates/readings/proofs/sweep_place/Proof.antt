@@ -1,9 +1,9 @@
--- `readings::sweep::sweep_place` meets its contract. Assumes nothing.
+-- `readings::sweep_place` meets its contract. Assumes nothing.
 use borrow.Author.Needs.{needs}
 use Prim.Native.Nat.{_-_, _≤_}
 use native.Mathlib.Omega.{arith}
-use Rattle.readings.proofs.sweep.sweep_place.Statement.{statement}
-use Rattle.readings.proofs.sweep.sweep_place.Tie as tie
+use Rattle.readings.proofs.sweep_place.Statement.{statement}
+use Rattle.readings.proofs.sweep_place.Tie as tie
 
 abbrev Inv-loop : tie.InvT-loop
 Inv-loop i b₀ t3 b = b ≤ 256

@@ -1,9 +1,9 @@
--- `readings::sweep::sweep_all` meets its contract. Assumes nothing.
+-- `readings::sweep_all` meets its contract. Assumes nothing.
 use borrow.Author.Needs.{needs}
 use Prim.Native.Nat.{_-_, _≤_}
 use native.Mathlib.Omega.{arith}
-use Rattle.readings.proofs.sweep.sweep_all.Statement.{statement}
-use Rattle.readings.proofs.sweep.sweep_all.Tie as tie
+use Rattle.readings.proofs.sweep_all.Statement.{statement}
+use Rattle.readings.proofs.sweep_all.Tie as tie
 
 abbrev Inv-loop : tie.InvT-loop
 Inv-loop i₀ i = i ≤ 42

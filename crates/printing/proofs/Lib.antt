@@ -1,0 +1,2 @@
+-- Laws of what is printed. Assumes nothing.
+pub mod PrintLaws

@@ -1,0 +1,26 @@
+-- `rehearsal::answer` meets its contract: what is put lies inside the output. Assumes nothing.
+use borrow.Author.Needs.{needs}
+use mathlib.Core.Path.{sym}
+use lib.Seq.{length-take-le}
+use Rattle.rehearsal.proofs.answer.Statement.{statement}
+use Rattle.rehearsal.proofs.answer.Tie as tie
+
+put-run-requires : tie.Need-put-run-requires
+put-run-requires c κs = search needs
+
+array-share-prefix-out : tie.Need-array-share-prefix-out
+array-share-prefix-out c = c .put-run .ensures .1
+
+slice-aggregate-write-all : tie.Need-slice-aggregate-write-all
+slice-aggregate-write-all c = sym (length-take-le _ _ (c .before .put-run .ensures .1))
+
+write-all-requires : tie.Need-write-all-requires
+write-all-requires c κs = search needs
+
+returns : tie.Need-returns
+returns c = search needs
+
+pub answer-spec : {M : Type 1} → statement M
+answer-spec =
+    tie.close
+    (tie.spec put-run-requires array-share-prefix-out slice-aggregate-write-all write-all-requires returns)
