@@ -7,7 +7,7 @@ use listing::lines::put_head;
 use listing::writing::copy;
 use listing::writing::put_decimal;
 use text::split_goal;
-ghost use mathlib.Core.List.{[], _∷_, _++_};
+ghost use mathlib.Core.List.{_++_};
 ghost use mathlib.Core.Path.{_≡_};
 ghost use Prim.Native.Nat.{_≤_, _<_};
 ghost use lib.ListN.{length, take};
@@ -30,7 +30,8 @@ fn put_line(out: &mut [u8], number: usize, named: &[u8], line: usize) -> usize
 
 // `REFUSED,number,text,line` with its line feed, into the front of an output; answers how many bytes.
 pub fn put_refusal(out: &mut [u8; 32768], number: u8, text: TextName, line: u16) -> usize
-    ensures { λ r. ⌜ (take r (now (out .exit)) ≡ printed (refusal number (textMeant text) line)) × (r ≤ length (now (out .exit))) ⌝ }
+    ensures { λ r. ⌜ (take r (now (out .exit)) ≡ printed (refusal number (textMeant text) line))
+        × (r ≤ length (now (out .exit))) ⌝ }
 {
     match text {
         TextName::S => put_line(out, number as usize, b",S,", line as usize),
@@ -40,7 +41,8 @@ pub fn put_refusal(out: &mut [u8; 32768], number: u8, text: TextName, line: u16)
 
 // The reply to a goal over a program.
 fn put_reply<'a>(program: &'a [u8], goal: &'a [u8], out: &mut [u8; 32768]) -> usize
-    ensures { λ r. ⌜ (take r (now (out .exit)) ≡ printed (runReply (now (program .entry)) (now (goal .entry)) ample)) × (r ≤ length (now (out .exit))) ⌝ }
+    ensures { λ r. ⌜ (take r (now (out .exit)) ≡ printed (runReply (now (program .entry)) (now (goal .entry)) ample))
+        × (r ≤ length (now (out .exit))) ⌝ }
 {
     match run(program, goal, out) {
         RunReply::Refused(refusal) => {

@@ -1,13 +1,16 @@
 // A short program and a short goal with any byte at any place, and the number that each of these texts meets: 0 where it is read.
-use goals::GoalRead;
-use goals::read_goal;
-use programs::ProgramRead;
-use programs::read_program;
-ghost use Prim.Native.Nat.{_≤_};
+use library::RunReply;
+use library::run;
+ghost use mathlib.Core.List.{[]};
+ghost use mathlib.Core.Path.{_≡_};
+ghost use Prim.Native.Nat.{_<_};
+ghost use lib.ListN.{set};
+ghost use Rattle.library.specs.Replies.{runReply, ample};
+ghost use Rattle.readings.specs.Sweep.{numberDigit, digitOf, sweptProgram, sweptGoal, goalProgram, sweptDigit};
 
 // The digit of a number below 10.
 fn digit(number: u8) -> u8
-    ensures { λ r. ⌜ r ≤ 63 ⌝ }
+    ensures { λ r. ⌜ r ≡ numberDigit number ⌝ }
 {
     if number < 10 {
         return 48 + number;
@@ -15,74 +18,46 @@ fn digit(number: u8) -> u8
     b'?'
 }
 
-// What a program meets.
-fn program_digit(text: &[u8; 26]) -> u8
-    ensures { λ r. ⌜ r ≤ 63 ⌝ }
+// What a program and a goal over it meet.
+fn met<'a>(program: &'a [u8], goal: &'a [u8]) -> u8
+    ensures { λ r. ⌜ r ≡ digitOf (runReply (now (program .entry)) (now (goal .entry)) ample) ⌝ }
 {
-    let mut symbols = [0; 128];
-    let mut rules = [0; 2048];
-    let mut constants = [0; 128];
-    match read_program(text, &mut symbols, &mut rules, &mut constants) {
-        ProgramRead::Refused(number, _) => digit(number),
-        ProgramRead::Accepted(_) => 48,
-    }
-}
-
-// What a goal meets over a program with one symbol `p` of two terms.
-fn goal_digit(text: &[u8; 16]) -> u8
-    ensures { λ r. ⌜ r ≤ 63 ⌝ }
-{
-    let mut symbols = [0; 128];
-    symbols[0] = 2;
-    symbols[1] = 1;
-    symbols[2] = 2;
-    symbols[3] = 1;
-    let mut constants = [0; 128];
-    let mut cells = [0; 320];
-    let mut letters = [0; 26];
-    match read_goal(
-        b"K,p,2,1\n",
-        text,
-        &symbols,
-        1,
-        &mut constants,
-        0,
-        &mut cells,
-        &mut letters,
-    ) {
-        GoalRead::Refused(number, _) => digit(number),
-        GoalRead::Accepted(_) => 48,
+    let mut output = [0u8; 32768];
+    match run(program, goal, &mut output) {
+        RunReply::Refused(refusal) => digit(refusal.number),
+        RunReply::Listed(_) => b'0',
     }
 }
 
 // What the program meets that has byte b at place i.
 fn swept_program(i: usize, b: u8) -> u8
-    ensures { λ r. ⌜ r ≤ 63 ⌝ }
+    requires { ⌜ i < 26 ⌝ }
+    ensures { λ r. ⌜ r ≡ digitOf (runReply (set sweptProgram i b) [] ample) ⌝ }
 {
     let mut text = *b"K,p,2,1\nR,r\nH,p,X,a\nE,X,b\n";
-    if i < 26 {
-        text[i] = b;
-    }
-    program_digit(&text)
+    text[i] = b;
+    met(&text, b"")
 }
 
 // What the goal meets that has byte b at place i.
 fn swept_goal(i: usize, b: u8) -> u8
-    ensures { λ r. ⌜ r ≤ 63 ⌝ }
+    requires { ⌜ i < 16 ⌝ }
+    ensures { λ r. ⌜ r ≡ digitOf (runReply goalProgram (set sweptGoal i b) ample) ⌝ }
 {
     let mut text = *b"G,p,A,a\nG,p,b,A\n";
-    if i < 16 {
-        text[i] = b;
-    }
-    goal_digit(&text)
+    text[i] = b;
+    met(b"K,p,2,1\n", &text)
 }
 
-// The digit of place i and byte b: the first 26 places are the program's, and the others the goal's.
+// The digit of place i and byte b: the first 26 places are the program's, the next 16 the goal's, and there are no others.
 pub fn swept(i: usize, b: u8) -> u8
-    ensures { λ r. ⌜ r ≤ 63 ⌝ }
+    ensures { λ r. ⌜ r ≡ sweptDigit i b ⌝ }
 {
     if i < 26 {
         return swept_program(i, b);
     }
-    swept_goal(i - 26, b)
+    if i < 42 {
+        return swept_goal(i - 26, b);
+    }
+    b'?'
 }
