@@ -56,7 +56,13 @@ same-length : tie.Need-same-length
 same-length c = search needs
 
 returns : tie.Need-returns
-returns c = (λ symbols constants. search (rule-repeated, name (c .before .before .before .before .before)), λ d. omega arith)
+returns c =
+    let p = c .before .before .before .before .before in
+    let start = entry p in (
+      rule-repeated (start .args .text .now) (start .args .rules .now) (start .args .stage) (start .args .place)
+          (start .args .number) (start .args .at) (start .args .end) _ _ _ (name p) (c .before .find-name .ensures .0) (c .if1 .taken),
+      λ d. omega arith,
+    )
 
 same-length-2 : tie.Need-same-length-2
 same-length-2 c = search needs
