@@ -10,8 +10,9 @@ use mathlib.Core.Logic.{_⊎_, ⊎-elim}
 use mathlib.Core.Bool.{true, false}
 use mathlib.Core.List.{List, [], _∷_, _++_, map, append-nil}
 use mathlib.Core.Option.{none, some}
-use Prim.Native.Nat.{ℕ, suc, _*_, _≤_, _<_}
+use Prim.Native.Nat.{ℕ, suc, _+_, _*_, _≤_, _<_}
 use native.Mathlib.Decide.{decLt}
+use native.Mathlib.Numerals.{add-one}
 use native.Mathlib.Omega.{arith}
 use borrow.Author.Tests.{lt-ltb, le-ltb, le-leb, lt-leb}
 use lib.Dec.{ltb}
@@ -20,11 +21,11 @@ use lib.Seq.{length-take-le}
 use Rattle.text.specs.Lists.{placeOf, tabled}
 use Rattle.text.specs.Lines.{Line, lines, lineIsFaulty}
 use Rattle.text.specs.Fields.{fields}
-use Rattle.text.specs.Places.{fieldsFrom, lineAt}
+use Rattle.text.specs.Places.{before, fieldsFrom, lineAt}
 use Rattle.text.proofs.Forms.{faulty-empty}
-use Rattle.text.proofs.Cursors.{fields-in}
+use Rattle.text.proofs.Cursors.{line-at, fields-in}
 use Rattle.semantics.specs.Terms.{Constraint, Symbol, weight}
-use Rattle.syntax.specs.Answers.{refused, accepted}
+use Rattle.syntax.specs.Answers.{Answer, refused, accepted}
 use Rattle.syntax.specs.Forms.{formOf, fieldAt, constantsAfter, termOf, isConstraintFaulty, isUndeclared, symbolNumber}
 use Rattle.syntax.specs.Forms.{constraintOf}
 use Rattle.syntax.specs.Programs.{maxText, maxConstants, Reading}
@@ -138,39 +139,33 @@ module _ (program goal constants : List ℕ) (n : ℕ) (cells letters symbols : 
 -- the tables behind a G line that is not refused
 module _ (program goal constants : List ℕ) (n : ℕ) (cells letters symbols : List ℕ) (k at end s from : ℕ)
     (h : HeadAt (symbolsOf program symbols k) (take end goal) at k s from) (counts : GoalCounts)
-    (constants′ cells′ letters′ : List ℕ) (m more v : ℕ)
+    (constants′ cells′ letters′ : List ℕ) (more v : ℕ)
     (r : some (constantsOf program goal constants′ n more)
     ≡ roomy (constantsAfter (fieldsFrom (take end goal) from) (constantsOf program goal constants n (counts .constants))))
     (l : lettersOf letters′ v ≡ lettersAfter (fieldsFrom (take end goal) from) (lettersOf letters (counts .letters)))
     (d : Stored (termOf (λ f. placeOf f (lettersOf letters′ v)) (constantsOf program goal constants′ n more))
-    (fieldsFrom (take end goal) from) s m
+    (fieldsFrom (take end goal) from) s (counts .constraints)
     cells cells′)
-    (e : m ≡ counts .constraints) (few : m < 64) (room : 320 ≤ length cells) where
-  abbrev next : GoalCounts
-  next = record { constraints = suc m; letters = v; constants = more }
+    (few : counts .constraints < 64) (room : 320 ≤ length cells) where
+  abbrev m : ℕ
+  m = counts .constraints
 
-  held : length (cellConstraints (take (5 * counts .constraints) cells)) ≡ m
-  held =
-      ap (λ (j : ℕ). length (cellConstraints (take (5 * j) cells))) (sym e)
-      ∙ constraints-length m (take (5 * m) cells) (length-take-le (5 * m) cells (omega arith))
+  abbrev next : GoalCounts
+  next = record { constraints = m + 1; letters = v; constants = more }
+
+  held : length (cellConstraints (take (5 * m) cells)) ≡ m
+  held = constraints-length m (take (5 * m) cells) (length-take-le (5 * m) cells (omega arith))
 
   pub next-is : (i : ℕ) → goalLineAnswer program goal constants′ n cells′ letters′ i (Next next)
       ≡ readConstraintOfGoal (symbolsOf program symbols k) i (fieldsFrom (take end goal) at)
       (goalDraftOf program goal constants n cells letters counts)
   unfolding goalLineAnswer goalDraftOf
   next-is i =
-      ap (λ (x : List Constraint). accepted (record {
+      rw (add-one m) (ap (λ (x : List Constraint). accepted (record {
         constraints = x;
         letters = lettersOf letters′ v;
         constants = constantsOf program goal constants′ n more;
-      }))
-      (d .held ∙ ap (λ (j : ℕ). cellConstraints
-      (take (5 * j) cells) ++ (record {
-        symbol = s;
-        terms =
-            map (termOf (λ f. placeOf f (lettersOf letters′ v)) (constantsOf program goal constants′ n more))
-            (fieldsFrom (take end goal) from);
-      } ∷ [])) e)
+      })) (d .held))
       ∙ constraint-next (symbolsOf program symbols k) i (fieldsFrom (take end goal) at)
       (goalDraftOf program goal constants n cells letters counts) (fieldsFrom (take end goal) from) (h .fine) (h .known)
       (omega (arith, held)) (h .others) (lettersOf letters′ v) (constantsOf program goal constants′ n more) l r s (h .number)
@@ -233,21 +228,25 @@ line-some s at end h k e = elim (decLt at end) [
       absurd (let z : _≡_ {A = ℕ} 0 1 = cc (e, faulty-empty (drop at (take end s)) (ltb end (length s)) none) in omega arith)
 ]
 
--- the lines from one on
-module _ (symbols : List Symbol) (i : ℕ) (d : GoalDraft) (l : Line) (all ls : List Line) (q : all ≡ l ∷ ls) where
-  pub lines-refused : (x : ℕ) → refused x i ≡ readGoalLine symbols i l d → refused x i ≡ readGoalLines symbols i d all
-  unfolding readGoalLines
-  lines-refused x e = rw (q, ← e)
+-- the lines from a place on, which answer for all
+module _ (symbols : List Symbol) (i : ℕ) (d : GoalDraft) (s : List ℕ) (at : ℕ) (all : Answer GoalDraft)
+    (k : readGoalLines symbols i d (lines (drop at s)) ≡ all) where
+  pub lines-end : length s ≤ at → accepted d ≡ all
+  unfolding readGoalLines lines
+  lines-end h = let z : readGoalLines symbols i d (lines (drop at s)) ≡ accepted d = rw (drop-of-length-le s {i = at} h) in sym z ∙ k
 
-  pub lines-next : (f : GoalDraft) → accepted f ≡ readGoalLine symbols i l d
-      → readGoalLines symbols i d all ≡ readGoalLines symbols (suc i) f ls
-  unfolding readGoalLines
-  lines-next f e = rw (q, ← e)
+  module _ (end : ℕ) (h : at < length s) (e : end ≡ at + before 10 (drop at s)) where
+    pub lines-refused : (x : ℕ) → refused x i ≡ readGoalLine symbols i (lineAt s at end) d → refused x i ≡ all
+    unfolding readGoalLines
+    lines-refused x q =
+        let z : readGoalLines symbols i d (lines (drop at s)) ≡ refused x i = rw (line-at s at end h e, ← q) in sym z ∙ k
 
-pub lines-end : (symbols : List Symbol) (i : ℕ) (d : GoalDraft) (s : List ℕ) (at : ℕ) → length s ≤ at
-    → readGoalLines symbols i d (lines (drop at s)) ≡ accepted d
-unfolding readGoalLines lines
-lines-end symbols i d s at h = rw (drop-of-length-le s {i = at} h)
+    pub lines-next : (f : GoalDraft) → accepted f ≡ readGoalLine symbols i (lineAt s at end) d
+        → readGoalLines symbols (suc i) f (lines (drop (suc end) s)) ≡ all
+    unfolding readGoalLines
+    lines-next f q =
+        let z : readGoalLines symbols i d (lines (drop at s)) ≡ readGoalLines symbols (suc i) f (lines (drop (suc end) s)) =
+        rw (line-at s at end h e, ← q) in sym z ∙ k
 
 -- before the first line
 pub start-fits : (symbols : List ℕ) (k n : ℕ) (cells letters : List ℕ) → n ≤ 64
@@ -265,11 +264,13 @@ start-fits symbols k n cells letters h =
       rows = λ j z. absurd (omega (arith, z));
     }
 
-pub start-draft : (program goal constants : List ℕ) (n : ℕ) (cells letters : List ℕ)
-    → goalDraftOf program goal constants n cells letters (record { constraints = 0; letters = 0; constants = 0 })
-    ≡ record { constraints = []; letters = []; constants = constantsOf program goal constants n 0 }
+pub start-read : (symbols : List Symbol) (program goal constants : List ℕ) (n : ℕ) (cells letters : List ℕ)
+    → readGoalLines symbols 1
+    (goalDraftOf program goal constants n cells letters (record { constraints = 0; letters = 0; constants = 0 })) (lines goal)
+    ≡ readGoalLines symbols 1 (record { constraints = []; letters = []; constants = constantsOf program goal constants n 0 })
+    (lines goal)
 unfolding goalDraftOf cellConstraints lettersOf
-start-draft program goal constants n cells letters = refl
+start-read symbols program goal constants n cells letters = refl
 
 -- the room in the tables stays
 pub room-kept : (symbols : List ℕ) (k : ℕ) (constants : List ℕ) (n : ℕ) (cells letters constants′ cells′ letters′ : List ℕ)
