@@ -7,19 +7,19 @@
 -- Assumes nothing.
 use mathlib.Core.Path.{_≡_, refl, sym, ap, ap₂, _∙_}
 use mathlib.Core.Logic.{_⊎_, ⊎-elim}
-use mathlib.Core.Bool.{true, false}
+use mathlib.Core.Bool.{Bool, true, false, not}
 use mathlib.Core.List.{List, [], _∷_, _++_, map, append-nil}
 use mathlib.Core.Option.{none, some}
 use Prim.Native.Nat.{ℕ, suc, _+_, _*_, _≤_, _<_}
 use native.Mathlib.Decide.{decLt}
 use native.Mathlib.Numerals.{add-one}
 use native.Mathlib.Omega.{arith}
-use borrow.Author.Tests.{lt-ltb, le-ltb, le-leb, lt-leb}
+use borrow.Author.Tests.{not-true, not-false, lt-ltb, le-ltb, le-leb, lt-leb}
 use lib.Dec.{ltb}
 use lib.ListN.{length, take, drop, length-drop, drop-of-length-le}
 use lib.Seq.{length-take-le}
 use Rattle.text.specs.Lists.{placeOf, tabled}
-use Rattle.text.specs.Lines.{Line, lines, lineIsFaulty}
+use Rattle.text.specs.Lines.{lines, lineIsFaulty}
 use Rattle.text.specs.Fields.{fields}
 use Rattle.text.specs.Places.{before, fieldsFrom, lineAt}
 use Rattle.text.proofs.Forms.{faulty-empty}
@@ -196,27 +196,30 @@ module _ (program goal constants : List ℕ) (n : ℕ) (cells letters symbols : 
         ];
       }
 
--- a line
-module _ (symbols : List Symbol) (i : ℕ) (l : Line) (d : GoalDraft) where
-  pub line-faulty : lineIsFaulty l ≡ true → refused 2 i ≡ readGoalLine symbols i l d
+-- a line, by the tests that decide it
+module _ (symbols : List Symbol) (i : ℕ) (d : GoalDraft) (s : List ℕ) (at end : ℕ) (t : Bool)
+    (n : t ≡ lineIsFaulty (lineAt s at end)) where
+  pub line-faulty : t ≡ true → refused 2 i ≡ readGoalLine symbols i (lineAt s at end) d
   unfolding readGoalLine
-  line-faulty e = rw e
+  line-faulty x = rw (sym n ∙ x)
 
-  pub line-other : lineIsFaulty l ≡ false → isGoalForm (formOf (fieldAt 0 (fields (l .bytes)))) ≡ false
-      → refused 3 i ≡ readGoalLine symbols i l d
-  unfolding readGoalLine
-  line-other e p = rw (e, p)
+  module _ (x : t ≡ false) (h : at ≤ end) (k : end ≤ length s) (u : Bool)
+      (v : u ≡ isGoalForm (formOf (fieldAt 0 (fieldsFrom (take end s) at)))) where
+    fields-are : fieldsFrom (take end s) at ≡ fields (lineAt s at end .bytes)
+    unfolding lineAt
+    fields-are = fields-in (take end s) at (omega (arith, length-take-le end s k))
 
-  pub line-goal : lineIsFaulty l ≡ false → isGoalForm (formOf (fieldAt 0 (fields (l .bytes)))) ≡ true
-      → readConstraintOfGoal symbols i (fields (l .bytes)) d ≡ readGoalLine symbols i l d
-  unfolding readGoalLine
-  line-goal e p = rw (e, p)
+    form-is : isGoalForm (formOf (fieldAt 0 (fields (lineAt s at end .bytes)))) ≡ u
+    form-is = ap (λ (fs : List (List ℕ)). isGoalForm (formOf (fieldAt 0 fs))) (sym fields-are) ∙ sym v
 
--- the fields of a line as it stands in the text
-pub fields-of : (s : List ℕ) (at end : ℕ) → at ≤ end → end ≤ length s
-    → fieldsFrom (take end s) at ≡ fields (lineAt s at end .bytes)
-unfolding lineAt
-fields-of s at end h k = fields-in (take end s) at (omega (arith, length-take-le end s k))
+    pub line-other : not u ≡ true → refused 3 i ≡ readGoalLine symbols i (lineAt s at end) d
+    unfolding readGoalLine
+    line-other y = rw (sym n ∙ x, form-is, not-true u y)
+
+    pub line-goal : (a : Answer GoalDraft) → not u ≡ false
+        → a ≡ readConstraintOfGoal symbols i (fieldsFrom (take end s) at) d → a ≡ readGoalLine symbols i (lineAt s at end) d
+    unfolding readGoalLine
+    line-goal a y e = rw (sym n ∙ x, form-is, not-false u y, ← fields-are) e
 
 -- a line that is not faulty has a byte
 pub line-some : (s : List ℕ) (at end : ℕ) → at ≤ end → end ≤ length s → lineIsFaulty (lineAt s at end) ≡ false → at < end
