@@ -45,7 +45,14 @@ same-length-2 c = search needs
 
 returns-3 : tie.Need-returns-3
 unfolding addedOf
-returns-3 c = search after-full
+returns-3 c =
+    let named = c .before .before .before .before in
+    let start = named .before .before .before .before .before .before .before in
+    let args = start .args in
+    let found = c .before .before .find-constant .ensures in
+    after-full (args .first .now) (args .second .now) (args .cells .now) (args .n) (args .m) (args .start) (args .end) _
+    (named .before .is-name .ensures) (start .pre .1) (start .pre .5) (named .if1 .left) _ (found .0) (c .before .if2 .left) (found .1)
+    (c .if3 .taken)
 
 cast-cells : tie.Need-cast-cells
 cast-cells c = search needs
