@@ -2,7 +2,7 @@
 --   constraint-..     a G line: refused by 4, 6 or 7, or a constraint more
 --   next-is, next-fits    the tables behind a G line that is not refused
 --   line-..           a line: refused by 2 or 3, or a G line
---   lines-..          the lines from one on
+--   lines-..          the lines from a place on
 --   goal-..           a goal's text: refused by 1 or 10, or accepted
 -- Assumes nothing.
 use mathlib.Core.Path.{_≡_, refl, sym, ap, ap₂, _∙_}

@@ -2,6 +2,7 @@
 --   after-none, after-known, after-full, after-new    the constants after one field, as the code goes by cases
 --   added-fits                                         constants in a table that do not pass the limit are at most 64
 --   added-grows                                        the constants after more fields are not fewer
+--   added-step, added-full, added-end                  the constants after the fields of a line from a place on
 -- Assumes nothing.
 use mathlib.Core.Path.{_≡_, refl, sym, ap, ap₂, _∙_}
 use mathlib.Core.Bool.{Bool, true, false, not, cond}

@@ -127,7 +127,7 @@ module _ (s : List ℕ) (start n : ℕ) (d : Draft) (all : Answer Draft) (k : re
   module _ (end : ℕ) (h : start < length s) (e : end ≡ start + before 10 (drop start s)) where
     unrolled : andThen (readLine n (lineAt s start end) d) (λ x. readLines (suc n) x (lines (drop (suc end) s))) ≡ all
     unfolding readLines
-    unrolled = let z : readLines n d (lines (drop start s)) 
+    unrolled = let z : readLines n d (lines (drop start s))
         ≡ andThen (readLine n (lineAt s start end) d) (λ x. readLines (suc n) x (lines (drop (suc end) s))) =
         rw (line-at s start end h e) in sym z ∙ k
 

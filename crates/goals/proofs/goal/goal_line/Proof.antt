@@ -56,8 +56,16 @@ returns-3 c =
     let fine = goal .before .before .before in
     let pre = fine .before .before .before .before .before .before .before .before .before .pre in
     let line = c .before .before .before .before .before .before .goal-constraint .ensures in (
-      (λ i. search (line-goal, line .0 i, fine .before .is-faulty-line .ensures, fine .if1 .left, pre .1, pre .2,
-          goal .before .is-goal .ensures, goal .if2 .left)),
+      (λ i. search (
+        line-goal,
+        line .0 i,
+        fine .before .is-faulty-line .ensures,
+        fine .if1 .left,
+        pre .1,
+        pre .2,
+        goal .before .is-goal .ensures,
+        goal .if2 .left,
+      )),
       line .1,
     )
 

@@ -28,7 +28,7 @@ place-after-spec =
     (λ c. rw (c .before .enum-told4 .given .1, c .if3 .taken))
     (λ c. rw (c .before .before .enum-told4 .given .1, c .if4 .taken))
     (λ c. rw (c .before .before .enum-told4 .given .1)
-        (sym (place-body (c .before .before .before .before .args .place) (c .before .if3 .left) (c .if4 .left))))
+    (sym (place-body (c .before .before .before .before .args .place) (c .before .if3 .left) (c .if4 .left))))
     (λ c. rw (c .before .enum-told5 .given .1, c .if5 .taken))
     (λ c. rw (c .before .enum-told5 .given .1) (sym (place-equation (c .before .before .before .args .place) (c .if5 .left))))
     (λ c. rw (c .enum-told6 .given .1))

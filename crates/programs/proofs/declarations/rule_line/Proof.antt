@@ -92,11 +92,10 @@ add-t21 : tie.Need-add-t21
 add-t21 c = search needs
 
 returns-3 : tie.Need-returns-3
-returns-3 c =
-    (
-      (λ symbols constants. search (rule-faulty, rw (c .enum-told .given .1) at (c .before .before .rule-form .ensures))),
-      λ d. omega arith,
-    )
+returns-3 c = (
+  (λ symbols constants. search (rule-faulty, rw (c .enum-told .given .1) at (c .before .before .rule-form .ensures))),
+  λ d. omega arith,
+)
 
 same-length-3 : tie.Need-same-length-3
 same-length-3 c = search needs

@@ -120,11 +120,10 @@ add-t26 : tie.Need-add-t26
 add-t26 c = search needs
 
 returns-3 : tie.Need-returns-3
-returns-3 c =
-    (
-      (λ n rules constants. search (symbol-faulty, rw (c .enum-told .given .1) at (c .before .before .symbol-form .ensures))),
-      λ rules d. omega arith,
-    )
+returns-3 c = (
+  (λ n rules constants. search (symbol-faulty, rw (c .enum-told .given .1) at (c .before .before .symbol-form .ensures))),
+  λ rules d. omega arith,
+)
 
 same-length-3 : tie.Need-same-length-3
 same-length-3 c = search needs
