@@ -236,7 +236,8 @@ module _ (symbols : List Symbol) (i : ℕ) (d : GoalDraft) (s : List ℕ) (at : 
     (k : readGoalLines symbols i d (lines (drop at s)) ≡ all) where
   pub lines-end : length s ≤ at → accepted d ≡ all
   unfolding readGoalLines lines
-  lines-end h = let z : readGoalLines symbols i d (lines (drop at s)) ≡ accepted d = rw (drop-of-length-le s {i = at} h) in sym z ∙ k
+  lines-end h =
+      let z : readGoalLines symbols i d (lines (drop at s)) ≡ accepted d = rw (drop-of-length-le s {i = at} h) in sym z ∙ k
 
   module _ (end : ℕ) (h : at < length s) (e : end ≡ at + before 10 (drop at s)) where
     pub lines-refused : (x : ℕ) → refused x i ≡ readGoalLine symbols i (lineAt s at end) d → refused x i ≡ all

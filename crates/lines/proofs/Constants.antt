@@ -191,7 +191,8 @@ module _ (second : List ℕ) (start end : ℕ) (cs : List (List ℕ)) (all : Opt
     pub added-step : (ds : List (List ℕ)) → some ds ≡ roomy one
         → roomy (constantsAfter (fieldsFrom (take end second) (suc stop)) ds) ≡ all
     added-step ds q =
-        ap (λ (w : List (List ℕ)). roomy (constantsAfter (fieldsFrom (take end second) (suc stop)) w)) (sym (roomy-is one ds q .0))
+        ap (λ (w : List (List ℕ)). roomy (constantsAfter (fieldsFrom (take end second) (suc stop)) w))
+        (sym (roomy-is one ds q .0))
         ∙ unrolled
 
     pub added-full : none ≡ roomy one → none ≡ all

@@ -140,8 +140,10 @@ module _ (text symbols : List ℕ) (s : Stage) (place at end : ℕ) where
           named,
           part-in-line text start stop end (f .starts)
               (omega (arith, f .nexts, f .lasts, f .stops, length-take-le end text ends)),
-          y ∙ ap valueOf (sym (f .arity ∙ field-part (take end text) stop (stop + 1) next (add-one stop) (omega (arith, f .nexts)))),
-          z ∙ ap valueOf (sym (f .weight ∙ field-part (take end text) next (next + 1) last (add-one next) (omega (arith, f .lasts)))),
+          y ∙ ap valueOf (sym (f .arity
+              ∙ field-part (take end text) stop (stop + 1) next (add-one stop) (omega (arith, f .nexts)))),
+          z ∙ ap valueOf (sym (f .weight
+              ∙ field-part (take end text) next (next + 1) last (add-one next) (omega (arith, f .lasts)))),
         )
 
 -- row i of a table of 64 cells each

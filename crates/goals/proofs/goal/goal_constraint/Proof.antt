@@ -23,7 +23,8 @@ entry p = p .before .before .before .before .before .before .before .before .bef
 abbrev line : tie.After-s → List ℕ
 line p = take (entry p .args .end) (entry p .args .goal .now)
 
-head : (p : tie.After-s) → HeadAt (symbolsOf (entry p .args .program .now) (entry p .args .symbols .now) (entry p .args .k)) (line p)
+head : (p : tie.After-s) → HeadAt (symbolsOf (entry p .args .program .now) (entry p .args .symbols .now) (entry p .args .k))
+    (line p)
     (entry p .args .at) (entry p .args .k) (p .s .given .0 .0) (p .s .given .0 .1 .0)
 head p = rw (p .s .given .1) at (p .before .before .constraint-head .ensures)
 
@@ -35,7 +36,8 @@ abbrev at-head : tie.After-more → tie.After-s
 at-head q = q .before .before .before .before .before .before .before .before
 
 known : (q : tie.After-more) → some (constantsOf (entry (at-head q) .args .program .now) (entry (at-head q) .args .goal .now)
-    (q .before .before .before .before .add-constants .last .1 .1 .1 .1 .1 .0) (entry (at-head q) .args .n) (q .more .given .0 .0))
+    (q .before .before .before .before .add-constants .last .1 .1 .1 .1 .1 .0) (entry (at-head q) .args .n)
+    (q .more .given .0 .0))
     ≡ roomy (constantsAfter (fieldsFrom (line (at-head q)) (at-head q .s .given .0 .1 .0))
     (constantsOf (entry (at-head q) .args .program .now) (entry (at-head q) .args .goal .now)
     (entry (at-head q) .args .constants .now) (entry (at-head q) .args .n) (entry (at-head q) .args .counts .constants)))
@@ -109,7 +111,9 @@ add-t37 : tie.Need-add-t37
 add-t37 c = search needs
 
 returns-2 : tie.Need-returns-2
-returns-2 c = (λ i. search (refuses-head, rw (c .before .x .given .1) at (c .before .before .before .constraint-head .ensures)), omega arith)
+returns-2 c =
+    let refused = rw (c .before .x .given .1) at (c .before .before .before .constraint-head .ensures) in
+    (λ i. search (refuses-head, refused), omega arith)
 
 same-length : tie.Need-same-length
 same-length c = search needs

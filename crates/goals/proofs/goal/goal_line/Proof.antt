@@ -35,8 +35,9 @@ unfolding goalLineAnswer
 returns-2 c =
     let fine = c .before .before .before in
     let pre = fine .before .before .before .before .before .before .before .before .before .pre in
+    let read = fine .before .is-faulty-line .ensures in
     let tests = c .before .is-goal .ensures in
-    (λ i. search (line-other, fine .before .is-faulty-line .ensures, fine .if1 .left, pre .1, pre .2, tests, c .if2 .taken), omega arith)
+    (λ i. search (line-other, read, fine .if1 .left, pre .1, pre .2, tests, c .if2 .taken), omega arith)
 
 goal-constraint-requires : tie.Need-goal-constraint-requires
 goal-constraint-requires c κs = search needs
@@ -55,19 +56,10 @@ returns-3 c =
     let goal = c .before .before .before .before .before .before .before .before .before .before in
     let fine = goal .before .before .before in
     let pre = fine .before .before .before .before .before .before .before .before .before .pre in
-    let line = c .before .before .before .before .before .before .goal-constraint .ensures in (
-      (λ i. search (
-        line-goal,
-        line .0 i,
-        fine .before .is-faulty-line .ensures,
-        fine .if1 .left,
-        pre .1,
-        pre .2,
-        goal .before .is-goal .ensures,
-        goal .if2 .left,
-      )),
-      line .1,
-    )
+    let read = fine .before .is-faulty-line .ensures in
+    let tests = goal .before .is-goal .ensures in
+    let line = c .before .before .before .before .before .before .goal-constraint .ensures in
+    (λ i. search (line-goal, line .0 i, read, fine .if1 .left, pre .1, pre .2, tests, goal .if2 .left), line .1)
 
 pub goal-line-spec : {M : Type 1} → statement M
 goal-line-spec =

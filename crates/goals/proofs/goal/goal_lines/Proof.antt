@@ -41,7 +41,8 @@ goal-line-requires : tie.Need-goal-line-requires Inv-loop μ-loop
 goal-line-requires c κs =
     let line = c .before .before .before in
     let loop = line .before .before .loop in
-    let pre = line .before .before .before .before .before .before .before .before .before .before .pre in (pre .0, line .line-end .ensures .1, line .line-end .ensures .2, pre .1, loop .inv .0, loop .inv .4)
+    let pre = line .before .before .before .before .before .before .before .before .before .before .pre in
+    (pre .0, line .line-end .ensures .1, line .line-end .ensures .2, pre .1, loop .inv .0, loop .inv .4)
 
 enum-known-x : tie.Need-enum-known-x Inv-loop μ-loop
 enum-known-x c = search needs

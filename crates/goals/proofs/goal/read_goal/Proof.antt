@@ -21,7 +21,8 @@ lines-fit : (symbols : List ℕ) (k n : ℕ) (cells letters : List ℕ) (r : Goa
     → goalLinesFit symbols k n cells letters r → GoalFits symbols k n cells letters s
 lines-fit symbols k n cells letters r s q f = rw q at f
 
-lines-are : (program goal constants : List ℕ) (n : ℕ) (cells letters : List ℕ) (r : GoalRead) (s : GoalCounts) (a : Answer GoalDraft)
+lines-are : (program goal constants : List ℕ) (n : ℕ) (cells letters : List ℕ) (r : GoalRead) (s : GoalCounts)
+    (a : Answer GoalDraft)
     → r ≡ Accepted s → goalLinesAnswer program goal constants n cells letters r ≡ a
     → accepted (goalDraftOf program goal constants n cells letters s) ≡ a
 unfolding goalLinesAnswer
@@ -99,7 +100,8 @@ returns-2 c =
     let args = entry lines .args in
     let known = lines-are _ _ _ _ (cells q) _ _ _ _ (q .counts .given .1) (lines .goal-lines .ensures .0) in
     let short = lines .before .before .before .before .before .before .if1 .left in (
-      λ p t. goal-overweight (args .program .now) (args .goal .now) (args .constants .now) (args .n) (args .symbols .now) (args .k)
+      λ p t. goal-overweight (args .program .now) (args .goal .now) (args .constants .now) (args .n) (args .symbols .now)
+          (args .k)
           p t (omega (arith, short)) _ (cells q) _ (q .counts .given .0 .0) known
           (omega (arith, c .before .weight-of .ensures (args .program .now), c .if2 .taken)),
       omega arith,

@@ -51,8 +51,8 @@ returns-3 c =
     let args = start .args in
     let found = c .before .before .find-constant .ensures in
     after-full (args .first .now) (args .second .now) (args .cells .now) (args .n) (args .m) (args .start) (args .end) _
-    (named .before .is-name .ensures) (start .pre .1) (start .pre .5) (named .if1 .left) _ (found .0) (c .before .if2 .left) (found .1)
-    (c .if3 .taken)
+    (named .before .is-name .ensures) (start .pre .1) (start .pre .5) (named .if1 .left) _ (found .0) (c .before .if2 .left)
+    (found .1) (c .if3 .taken)
 
 cast-cells : tie.Need-cast-cells
 cast-cells c = search needs

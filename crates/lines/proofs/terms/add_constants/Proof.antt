@@ -61,7 +61,8 @@ enum-known-k c = search needs
 
 add-start : tie.Need-add-start Inv-loop μ-loop
 add-start c =
-    let start = c .before .before .before .before .before .before .before .before .before .before .before .before .before .before .before in
+    let start =
+    c .before .before .before .before .before .before .before .before .before .before .before .before .before .before .before in
     let ends = c .before .before .before .before .before .before .before .field-end .ensures in
     let sized = length-take-le (start .args .end) (start .args .second .now) (start .pre .2) in
     record { fits = omega (arith, ends .2, sized, start .pre .2, start .pre .3) }

@@ -56,7 +56,8 @@ slice-aggregate-line c =
     sym (length-take-le (start .args .end) (start .args .second .now) (start .pre .6))
 
 loop-holds : tie.Need-loop-holds Inv-loop μ-loop
-loop-holds c = let pre = c .before .before .before .before .before .before .pre in (omega arith, pre .8, filled-start _ _ (pre .7))
+loop-holds c =
+    let pre = c .before .before .before .before .before .before .pre in (omega arith, pre .8, filled-start _ _ (pre .7))
 
 field-end-requires : tie.Need-field-end-requires Inv-loop μ-loop
 field-end-requires c κs =
@@ -113,7 +114,8 @@ returns c =
     let start = c .before .before .before .before .before .before .before .before in
     let loop = c .before .loop in
     let sized = length-take-le (start .args .end) (start .args .second .now) (start .pre .6) in
-    let out = fields-out (take (start .args .end) (start .args .second .now)) (loop .start) (omega (arith, sized, c .loop-test .left)) in
+    let out =
+    fields-out (take (start .args .end) (start .args .second .now)) (loop .start) (omega (arith, sized, c .loop-test .left)) in
     (search (filled-end, loop .inv .2, out), loop .inv .2 .sized)
 
 pub terms-of-spec : {M : Type 1} → statement M

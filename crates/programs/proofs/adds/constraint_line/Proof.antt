@@ -87,7 +87,8 @@ returns c =
     let read = c .before .before .before .before .before in
     let args = entry read .args in
     let pre = entry read .pre in (
-      λ n. constraint-refused (args .text .now) (args .symbols .now) (args .rules .now) (args .constants .now) (args .stage) (args .place) _
+      λ n. constraint-refused (args .text .now) (args .symbols .now) (args .rules .now) (args .constants .now) (args .stage)
+          (args .place) _
           (pre .6) (pre .8) (pre .9) (args .part) _ (pre .10) (read .before .before .wide .ensures .0) n _
           (rw (c .before .x .given .1) at (read .read-terms .ensures .0 n)),
       omega arith,

@@ -84,7 +84,8 @@ returns c =
     let p = c .before .before .before .before in
     let args = entry p .args in
     let pre = entry p .pre in (
-      λ n. sides-full (args .text .now) (args .symbols .now) (args .rules .now) (args .constants .now) (args .stage) (args .place) _
+      λ n. sides-full (args .text .now) (args .symbols .now) (args .rules .now) (args .constants .now) (args .stage)
+          (args .place) _
           (pre .6) (pre .8) (pre .9) _ (c .before .wide .ensures .0) _ _ _ refl (sides p) n (c .if1 .taken),
       omega arith,
     )
@@ -137,7 +138,8 @@ add-add-cells c =
 add-add-cells-2 : tie.Need-add-add-cells-2
 add-add-cells-2 c =
     let pre = entry (at-form (c .before .before .before .before)) .pre in
-    let room = c .before .before .before .before .before .before .before .before .before .before .if1 .left in record { fits = omega (arith, room, pre .8 .few-rules, pre .9) }
+    let room = c .before .before .before .before .before .before .before .before .before .before .if1 .left in
+    record { fits = omega (arith, room, pre .8 .few-rules, pre .9) }
 
 slice-aggregate-add-cells : tie.Need-slice-aggregate-add-cells
 slice-aggregate-add-cells c = search needs
@@ -153,7 +155,8 @@ add-cells-requires c κs =
 
 returns-2 : tie.Need-returns-2
 unfolding lineAnswer
-returns-2 c = (λ n. search (sides-faulty, rw (c .enum-told .given .1) at (c .before .before .equation-form .ensures)), omega arith)
+returns-2 c =
+    (λ n. search (sides-faulty, rw (c .enum-told .given .1) at (c .before .before .equation-form .ensures)), omega arith)
 
 same-length : tie.Need-same-length
 same-length c = search needs
@@ -182,9 +185,9 @@ returns-4 c =
     let pre = entry p .pre in
     let few = q .before .before .before .before .before .before in
     let terms = c .before .before .before .before .before .terms-of .ensures in
-    sides-next (args .text .now) (args .symbols .now) (args .rules .now) (args .constants .now) (args .stage) (args .place) _ (pre .6)
-    (pre .8) (pre .9) _ (few .before .wide .ensures .0) _ _ _ refl (sides p) _ _ _ _ _ (few .if1 .left) (pre .1) (terms .1) (known q)
-    (terms .0) (c .before .before .add-cells .ensures)
+    sides-next (args .text .now) (args .symbols .now) (args .rules .now) (args .constants .now) (args .stage) (args .place) _
+    (pre .6) (pre .8) (pre .9) _ (few .before .wide .ensures .0) _ _ _ refl (sides p) _ _ _ _ _ (few .if1 .left) (pre .1)
+    (terms .1) (known q) (terms .0) (c .before .before .add-cells .ensures)
 
 pub equation-line-spec : {M : Type 1} → statement M
 equation-line-spec =

@@ -123,7 +123,9 @@ array-read-t38 c = search needs
 
 returns-2 : tie.Need-returns-2
 unfolding termsAnswer
-returns-2 c = (λ n. search (line-refused, rw (c .before .x .given .1) at (c .before .before .before .constraint-head .ensures)), omega arith)
+returns-2 c =
+    let refused = rw (c .before .x .given .1) at (c .before .before .before .constraint-head .ensures) in
+    (λ n. search (line-refused, refused), omega arith)
 
 same-length : tie.Need-same-length
 same-length c = search needs

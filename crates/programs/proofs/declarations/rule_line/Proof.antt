@@ -22,7 +22,8 @@ name s = rw (s .start .given .1) at (s .before .before .rule-form .ensures)
 bounded : (s : tie.After-start) → s .start .given .0 .1 .0 ≤ 16384
 bounded s =
     let start = entry s in
-    omega (arith, name s .stops, start .pre .2, start .pre .3, length-take-le (start .args .end) (start .args .text .now) (start .pre .2))
+    let sized = length-take-le (start .args .end) (start .args .text .now) (start .pre .2) in
+    omega (arith, name s .stops, start .pre .2, start .pre .3, sized)
 
 slice-aggregate-line : tie.Need-slice-aggregate-line
 slice-aggregate-line c =
@@ -60,7 +61,8 @@ returns c =
     let p = c .before .before .before .before .before in
     let start = entry p in (
       rule-repeated (start .args .text .now) (start .args .rules .now) (start .args .stage) (start .args .place)
-          (start .args .number) (start .args .at) (start .args .end) _ _ _ (name p) (c .before .find-name .ensures .0) (c .if1 .taken),
+          (start .args .number) (start .args .at) (start .args .end) _ _ _ (name p) (c .before .find-name .ensures .0)
+          (c .if1 .taken),
       λ d. omega arith,
     )
 
@@ -68,16 +70,19 @@ same-length-2 : tie.Need-same-length-2
 same-length-2 c = search needs
 
 returns-2 : tie.Need-returns-2
-returns-2 c = (λ symbols constants. search (rule-full, name (c .before .before .before .before .before .before)), λ d. omega arith)
+returns-2 c =
+    (λ symbols constants. search (rule-full, name (c .before .before .before .before .before .before)), λ d. omega arith)
 
 cast-t25 : tie.Need-cast-t25
-cast-t25 c = let s = c .before .before .before .before .before .before in record { fits = omega (arith, name s .starts, bounded s) }
+cast-t25 c =
+    let s = c .before .before .before .before .before .before in record { fits = omega (arith, name s .starts, bounded s) }
 
 sub-t21 : tie.Need-sub-t21
 sub-t21 c = name (c .before .before .before .before .before .before) .starts
 
 cast-t26 : tie.Need-cast-t26
-cast-t26 c = let s = c .before .before .before .before .before .before in record { fits = omega (arith, name s .starts, bounded s) }
+cast-t26 c =
+    let s = c .before .before .before .before .before .before in record { fits = omega (arith, name s .starts, bounded s) }
 
 mul-write-cells : tie.Need-mul-write-cells
 mul-write-cells c = search needs

@@ -82,7 +82,8 @@ module _ (line : List ℕ) (at count end : ℕ) (n : count ≡ length (fieldsFro
               ∙ ap (λ (fs : List (List ℕ)). name ∷ fs) (behind line (stop + 1) next third-in q
               ∙ ap (λ (fs : List (List ℕ)). arity ∷ fs) (behind line (next + 1) last fourth-in r)))
 
-          tests : isSymbolFaulty (fieldsFrom line at) ≡ (not (isName name) || not (isNumberIn 0 4 arity) || not (isNumberIn 1 31 weight))
+          tests : isSymbolFaulty (fieldsFrom line at)
+              ≡ (not (isName name) || not (isNumberIn 0 4 arity) || not (isNumberIn 1 31 weight))
           tests = symbol-shape _ _ _ _ _ _ shape (sym n ∙ four)
 
           module _ (named : Bool) (t : named ≡ isName name) where
@@ -114,11 +115,13 @@ module _ (line : List ℕ) (at count end : ℕ) (n : count ≡ length (fieldsFro
                       stops = w;
                       short-arity = omega (
                         arith,
-                        short-part line (stop + 1) next (omega (arith, q)) (omega (arith, fourth-in)) (in-short 0 4 arity (omega arith) (sym u ∙ not-false counted y)),
+                        short-part line (stop + 1) next (omega (arith, q)) (omega (arith, fourth-in))
+                            (in-short 0 4 arity (omega arith) (sym u ∙ not-false counted y)),
                       );
                       short-weight = omega (
                         arith,
-                        short-part line (next + 1) last (omega (arith, r)) w (in-short 1 31 weight (omega arith) (sym v ∙ not-false weighed z)),
+                        short-part line (next + 1) last (omega (arith, r)) w
+                            (in-short 1 31 weight (omega arith) (sym v ∙ not-false weighed z)),
                       );
                     }
 
@@ -205,7 +208,8 @@ returns-5 c =
     let end = stop .before in
     let all = end .before .before in
     found _ _ _ _ (all .count-fields .ensures) (all .before .before .before .pre .1) (end .before .if1 .left)
-    (end .field-end .ensures .0) _ (stop .field-end2 .ensures .0) _ (next .field-end3 .ensures .0) _ (last .field-end4 .ensures .0)
+    (end .field-end .ensures .0) _ (stop .field-end2 .ensures .0) _ (next .field-end3 .ensures .0) _
+    (last .field-end4 .ensures .0)
     _ (named .is-name .ensures) (counted .before .before .if2 .left) _ (counted .is-number-in .ensures)
     (weighed .before .before .if3 .left) _ (weighed .is-number-in2 .ensures) (c .if4 .left) (last .field-end4 .ensures .2)
 

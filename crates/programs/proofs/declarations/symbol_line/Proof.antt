@@ -22,7 +22,8 @@ fields s = rw (s .start .given .1) at (s .before .before .symbol-form .ensures)
 bounded : (s : tie.After-start) → s .start .given .0 .1 .1 .1 .0 ≤ 16384
 bounded s =
     let start = entry s in
-    omega (arith, fields s .stops, start .pre .2, start .pre .3, length-take-le (start .args .end) (start .args .text .now) (start .pre .2))
+    let sized = length-take-le (start .args .end) (start .args .text .now) (start .pre .2) in
+    omega (arith, fields s .stops, start .pre .2, start .pre .3, sized)
 
 slice-aggregate-line : tie.Need-slice-aggregate-line
 slice-aggregate-line c =
@@ -56,19 +57,25 @@ same-length : tie.Need-same-length
 same-length c = search needs
 
 returns : tie.Need-returns
-returns c = (λ n rules constants. search (symbol-repeated, fields (c .before .before .before .before .before)), λ rules d. omega arith)
+returns c =
+    (λ n rules constants. search (symbol-repeated, fields (c .before .before .before .before .before)), λ rules d. omega arith)
 
 same-length-2 : tie.Need-same-length-2
 same-length-2 c = search needs
 
 returns-2 : tie.Need-returns-2
-returns-2 c = (λ n rules constants. search (symbol-full, fields (c .before .before .before .before .before .before)), λ rules d. omega arith)
+returns-2 c =
+    let f = fields (c .before .before .before .before .before .before) in
+    (λ n rules constants. search (symbol-full, f), λ rules d. omega arith)
 
 add-second : tie.Need-add-second
-add-second c = let s = c .before .before .before .before .before .before in record { fits = omega (arith, fields s .nexts, fields s .lasts, bounded s) }
+add-second c =
+    let s = c .before .before .before .before .before .before in
+    record { fits = omega (arith, fields s .nexts, fields s .lasts, bounded s) }
 
 add-third : tie.Need-add-third
-add-third c = let s = c .before .before .before .before .before .before in record { fits = omega (arith, fields s .lasts, bounded s) }
+add-third c =
+    let s = c .before .before .before .before .before .before in record { fits = omega (arith, fields s .lasts, bounded s) }
 
 sub-value-of : tie.Need-sub-value-of
 sub-value-of c = omega (arith, fields (c .before .before .before .before .before .before) .nexts)

@@ -20,7 +20,8 @@ unfolding formMeant
 symbol-line-requires c κs =
     let start = c .before .before .before .before .before .before .before .before .before in
     let pre = start .pre in
-    let form = ap (λ (f : LineForm). placeAfter (formMeant f) (placeMeant (start .args .stage .place))) (c .before .enum-told .given .1) in
+    let form =
+    ap (λ (f : LineForm). placeAfter (formMeant f) (placeMeant (start .args .stage .place))) (c .before .enum-told .given .1) in
     (pre .0, pre .2, pre .3, pre .4, pre .5, pre .8 .few-symbols, first-place _ _ (pre .10 ∙ form) (pre .9))
 
 enum-told-2 : tie.Need-enum-told-2
@@ -56,7 +57,8 @@ equation-line-requires : tie.Need-equation-line-requires
 unfolding formMeant placeAfter
 equation-line-requires c κs =
     let pre = c .before .before .before .before .before .before .before .before .before .before .before .pre in
-    let started = pre .8 .begun (begun _ Equation _ _ refl (pre .10) (c .before .before .before .enum-told5 .given .1) (pre .9)) in
+    let started =
+    pre .8 .begun (begun _ Equation _ _ refl (pre .10) (c .before .before .before .enum-told5 .given .1) (pre .9)) in
     search (needs, started)
 
 enum-told-6 : tie.Need-enum-told-6

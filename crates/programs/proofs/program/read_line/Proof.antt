@@ -26,7 +26,8 @@ unfolding lineAnswer
 returns c = (search (line-faulty, sym (c .before .is-faulty-line .ensures) ∙ c .if1 .taken), omega arith)
 
 slice-aggregate-line : tie.Need-slice-aggregate-line
-slice-aggregate-line c = let start = entry (c .before) in sym (length-take-le (start .args .end) (start .args .text .now) (start .pre .3))
+slice-aggregate-line c =
+    let start = entry (c .before) in sym (length-take-le (start .args .end) (start .args .text .now) (start .pre .3))
 
 form-at-requires : tie.Need-form-at-requires
 form-at-requires c κs =
@@ -66,7 +67,9 @@ returns-3 c =
     let p = c .before .before .before .before .before .before .before .before .before .before .before .before .before .before in
     let form = c .before .before .before .before .before .before .read-form .ensures in
     let placed = c .before .before .before .before .before .before .before .before .before .before in
-    (form .0 ∙ search (line-formed, fine p, entry p .pre .2, entry p .pre .3, placed .before .place-after .ensures, placed .if2 .left), form .1)
+    let pre = entry p .pre in
+    let place = placed .before .place-after .ensures in
+    (form .0 ∙ search (line-formed, fine p, pre .2, pre .3, place, placed .if2 .left), form .1)
 
 pub read-line-spec : {M : Type 1} → statement M
 read-line-spec =

@@ -74,7 +74,9 @@ returns c =
     let read = c .before .before .before .before .before .before .before .before .before in
     let line = read .before .before .before .before in
     let refused = rw (c .before .x .given .1) at (read .read-line .ensures .0) in
-    (search (lines-refused, refused, line .before .before .loop .inv .6, line .before .loop-test .taken, line .line-end .ensures .0), omega arith)
+    let loop = line .before in
+    let ends = line .line-end .ensures in
+    (search (lines-refused, refused, loop .before .loop .inv .6, loop .loop-test .taken, ends .0), omega arith)
 
 enum-known-next : tie.Need-enum-known-next Inv-loop μ-loop
 enum-known-next c = search needs
