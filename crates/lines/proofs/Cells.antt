@@ -1,7 +1,8 @@
 -- Laws of the terms of a line, and of their cells.
 --   line-field           the field of a line that starts at a place, in the text
 --   cell-constant, cell-variable    the cell of a term
---   cells-..             the cells of the terms passed, and 0 behind them
+--   cells-.., filled-..  the cells of the terms passed, and 0 behind them
+--   terms-..             whether the fields of a line from a place on are terms
 -- Assumes nothing.
 use mathlib.Core.Path.{_≡_, refl, sym, ap, ap₂, _∙_}
 use mathlib.Core.Bool.{Bool, true, false, not, _&&_, _||_}
