@@ -2,29 +2,30 @@
 --   constraint-..     a G line: refused by 4, 6 or 7, or a constraint more
 --   next-is, next-fits    the tables behind a G line that is not refused
 --   line-..           a line: refused by 2 or 3, or a G line
---   lines-..          the lines from one on
+--   lines-..          the lines from a place on
 --   goal-..           a goal's text: refused by 1 or 10, or accepted
 -- Assumes nothing.
 use mathlib.Core.Path.{_≡_, refl, sym, ap, ap₂, _∙_}
 use mathlib.Core.Logic.{_⊎_, ⊎-elim}
-use mathlib.Core.Bool.{true, false}
+use mathlib.Core.Bool.{Bool, true, false, not}
 use mathlib.Core.List.{List, [], _∷_, _++_, map, append-nil}
 use mathlib.Core.Option.{none, some}
-use Prim.Native.Nat.{ℕ, suc, _+_, _-_, _*_, _≤_, _<_}
+use Prim.Native.Nat.{ℕ, suc, _+_, _*_, _≤_, _<_}
 use native.Mathlib.Decide.{decLt}
+use native.Mathlib.Numerals.{add-one}
 use native.Mathlib.Omega.{arith}
-use borrow.Author.Tests.{lt-ltb, le-ltb, le-leb, lt-leb}
+use borrow.Author.Tests.{not-true, not-false, lt-ltb, le-ltb, le-leb, lt-leb}
 use lib.Dec.{ltb}
 use lib.ListN.{length, take, drop, length-drop, drop-of-length-le}
 use lib.Seq.{length-take-le}
 use Rattle.text.specs.Lists.{placeOf, tabled}
-use Rattle.text.specs.Lines.{Line, lines, lineIsFaulty}
+use Rattle.text.specs.Lines.{lines, lineIsFaulty}
 use Rattle.text.specs.Fields.{fields}
-use Rattle.text.specs.Places.{fieldsFrom, lineAt}
+use Rattle.text.specs.Places.{before, fieldsFrom, lineAt}
 use Rattle.text.proofs.Forms.{faulty-empty}
-use Rattle.text.proofs.Cursors.{fields-in}
+use Rattle.text.proofs.Cursors.{line-at, fields-in}
 use Rattle.semantics.specs.Terms.{Constraint, Symbol, weight}
-use Rattle.syntax.specs.Answers.{refused, accepted}
+use Rattle.syntax.specs.Answers.{Answer, refused, accepted}
 use Rattle.syntax.specs.Forms.{formOf, fieldAt, constantsAfter, termOf, isConstraintFaulty, isUndeclared, symbolNumber}
 use Rattle.syntax.specs.Forms.{constraintOf}
 use Rattle.syntax.specs.Programs.{maxText, maxConstants, Reading}
@@ -138,39 +139,33 @@ module _ (program goal constants : List ℕ) (n : ℕ) (cells letters symbols : 
 -- the tables behind a G line that is not refused
 module _ (program goal constants : List ℕ) (n : ℕ) (cells letters symbols : List ℕ) (k at end s from : ℕ)
     (h : HeadAt (symbolsOf program symbols k) (take end goal) at k s from) (counts : GoalCounts)
-    (constants′ cells′ letters′ : List ℕ) (m more v : ℕ)
+    (constants′ cells′ letters′ : List ℕ) (more v : ℕ)
     (r : some (constantsOf program goal constants′ n more)
     ≡ roomy (constantsAfter (fieldsFrom (take end goal) from) (constantsOf program goal constants n (counts .constants))))
     (l : lettersOf letters′ v ≡ lettersAfter (fieldsFrom (take end goal) from) (lettersOf letters (counts .letters)))
     (d : Stored (termOf (λ f. placeOf f (lettersOf letters′ v)) (constantsOf program goal constants′ n more))
-    (fieldsFrom (take end goal) from) s m
+    (fieldsFrom (take end goal) from) s (counts .constraints)
     cells cells′)
-    (e : m ≡ counts .constraints) (few : m < 64) (room : 320 ≤ length cells) where
-  abbrev next : GoalCounts
-  next = record { constraints = suc m; letters = v; constants = more }
+    (few : counts .constraints < 64) (room : 320 ≤ length cells) where
+  abbrev m : ℕ
+  m = counts .constraints
 
-  held : length (cellConstraints (take (5 * counts .constraints) cells)) ≡ m
-  held =
-      ap (λ (j : ℕ). length (cellConstraints (take (5 * j) cells))) (sym e)
-      ∙ constraints-length m (take (5 * m) cells) (length-take-le (5 * m) cells (omega arith))
+  abbrev next : GoalCounts
+  next = record { constraints = m + 1; letters = v; constants = more }
+
+  held : length (cellConstraints (take (5 * m) cells)) ≡ m
+  held = constraints-length m (take (5 * m) cells) (length-take-le (5 * m) cells (omega arith))
 
   pub next-is : (i : ℕ) → goalLineAnswer program goal constants′ n cells′ letters′ i (Next next)
       ≡ readConstraintOfGoal (symbolsOf program symbols k) i (fieldsFrom (take end goal) at)
       (goalDraftOf program goal constants n cells letters counts)
   unfolding goalLineAnswer goalDraftOf
   next-is i =
-      ap (λ (x : List Constraint). accepted (record {
+      rw (add-one m) (ap (λ (x : List Constraint). accepted (record {
         constraints = x;
         letters = lettersOf letters′ v;
         constants = constantsOf program goal constants′ n more;
-      }))
-      (d .held ∙ ap (λ (j : ℕ). cellConstraints
-      (take (5 * j) cells) ++ (record {
-        symbol = s;
-        terms =
-            map (termOf (λ f. placeOf f (lettersOf letters′ v)) (constantsOf program goal constants′ n more))
-            (fieldsFrom (take end goal) from);
-      } ∷ [])) e)
+      })) (d .held))
       ∙ constraint-next (symbolsOf program symbols k) i (fieldsFrom (take end goal) at)
       (goalDraftOf program goal constants n cells letters counts) (fieldsFrom (take end goal) from) (h .fine) (h .known)
       (omega (arith, held)) (h .others) (lettersOf letters′ v) (constantsOf program goal constants′ n more) l r s (h .number)
@@ -201,27 +196,30 @@ module _ (program goal constants : List ℕ) (n : ℕ) (cells letters symbols : 
         ];
       }
 
--- a line
-module _ (symbols : List Symbol) (i : ℕ) (l : Line) (d : GoalDraft) where
-  pub line-faulty : lineIsFaulty l ≡ true → refused 2 i ≡ readGoalLine symbols i l d
+-- a line, by the tests that decide it
+module _ (symbols : List Symbol) (i : ℕ) (d : GoalDraft) (s : List ℕ) (at end : ℕ) (t : Bool)
+    (n : t ≡ lineIsFaulty (lineAt s at end)) where
+  pub line-faulty : t ≡ true → refused 2 i ≡ readGoalLine symbols i (lineAt s at end) d
   unfolding readGoalLine
-  line-faulty e = rw e
+  line-faulty x = rw (sym n ∙ x)
 
-  pub line-other : lineIsFaulty l ≡ false → isGoalForm (formOf (fieldAt 0 (fields (l .bytes)))) ≡ false
-      → refused 3 i ≡ readGoalLine symbols i l d
-  unfolding readGoalLine
-  line-other e p = rw (e, p)
+  module _ (x : t ≡ false) (h : at ≤ end) (k : end ≤ length s) (u : Bool)
+      (v : u ≡ isGoalForm (formOf (fieldAt 0 (fieldsFrom (take end s) at)))) where
+    fields-are : fieldsFrom (take end s) at ≡ fields (lineAt s at end .bytes)
+    unfolding lineAt
+    fields-are = fields-in (take end s) at (omega (arith, length-take-le end s k))
 
-  pub line-goal : lineIsFaulty l ≡ false → isGoalForm (formOf (fieldAt 0 (fields (l .bytes)))) ≡ true
-      → readConstraintOfGoal symbols i (fields (l .bytes)) d ≡ readGoalLine symbols i l d
-  unfolding readGoalLine
-  line-goal e p = rw (e, p)
+    form-is : isGoalForm (formOf (fieldAt 0 (fields (lineAt s at end .bytes)))) ≡ u
+    form-is = ap (λ (fs : List (List ℕ)). isGoalForm (formOf (fieldAt 0 fs))) (sym fields-are) ∙ sym v
 
--- the fields of a line as it stands in the text
-pub fields-of : (s : List ℕ) (at end : ℕ) → at ≤ end → end ≤ length s
-    → fieldsFrom (take end s) at ≡ fields (lineAt s at end .bytes)
-unfolding lineAt
-fields-of s at end h k = fields-in (take end s) at (omega (arith, length-take-le end s k))
+    pub line-other : not u ≡ true → refused 3 i ≡ readGoalLine symbols i (lineAt s at end) d
+    unfolding readGoalLine
+    line-other y = rw (sym n ∙ x, form-is, not-true u y)
+
+    pub line-goal : (a : Answer GoalDraft) → not u ≡ false
+        → a ≡ readConstraintOfGoal symbols i (fieldsFrom (take end s) at) d → a ≡ readGoalLine symbols i (lineAt s at end) d
+    unfolding readGoalLine
+    line-goal a y e = rw (sym n ∙ x, form-is, not-false u y, ← fields-are) e
 
 -- a line that is not faulty has a byte
 pub line-some : (s : List ℕ) (at end : ℕ) → at ≤ end → end ≤ length s → lineIsFaulty (lineAt s at end) ≡ false → at < end
@@ -233,21 +231,26 @@ line-some s at end h k e = elim (decLt at end) [
       absurd (let z : _≡_ {A = ℕ} 0 1 = cc (e, faulty-empty (drop at (take end s)) (ltb end (length s)) none) in omega arith)
 ]
 
--- the lines from one on
-module _ (symbols : List Symbol) (i : ℕ) (d : GoalDraft) (l : Line) (all ls : List Line) (q : all ≡ l ∷ ls) where
-  pub lines-refused : (x : ℕ) → refused x i ≡ readGoalLine symbols i l d → refused x i ≡ readGoalLines symbols i d all
-  unfolding readGoalLines
-  lines-refused x e = rw (q, ← e)
+-- the lines from a place on, which answer for all
+module _ (symbols : List Symbol) (i : ℕ) (d : GoalDraft) (s : List ℕ) (at : ℕ) (all : Answer GoalDraft)
+    (k : readGoalLines symbols i d (lines (drop at s)) ≡ all) where
+  pub lines-end : length s ≤ at → accepted d ≡ all
+  unfolding readGoalLines lines
+  lines-end h =
+      let z : readGoalLines symbols i d (lines (drop at s)) ≡ accepted d = rw (drop-of-length-le s {i = at} h) in sym z ∙ k
 
-  pub lines-next : (f : GoalDraft) → accepted f ≡ readGoalLine symbols i l d
-      → readGoalLines symbols i d all ≡ readGoalLines symbols (suc i) f ls
-  unfolding readGoalLines
-  lines-next f e = rw (q, ← e)
+  module _ (end : ℕ) (h : at < length s) (e : end ≡ at + before 10 (drop at s)) where
+    pub lines-refused : (x : ℕ) → refused x i ≡ readGoalLine symbols i (lineAt s at end) d → refused x i ≡ all
+    unfolding readGoalLines
+    lines-refused x q =
+        let z : readGoalLines symbols i d (lines (drop at s)) ≡ refused x i = rw (line-at s at end h e, ← q) in sym z ∙ k
 
-pub lines-end : (symbols : List Symbol) (i : ℕ) (d : GoalDraft) (s : List ℕ) (at : ℕ) → length s ≤ at
-    → readGoalLines symbols i d (lines (drop at s)) ≡ accepted d
-unfolding readGoalLines lines
-lines-end symbols i d s at h = rw (drop-of-length-le s {i = at} h)
+    pub lines-next : (f : GoalDraft) → accepted f ≡ readGoalLine symbols i (lineAt s at end) d
+        → readGoalLines symbols (suc i) f (lines (drop (suc end) s)) ≡ all
+    unfolding readGoalLines
+    lines-next f q =
+        let z : readGoalLines symbols i d (lines (drop at s)) ≡ readGoalLines symbols (suc i) f (lines (drop (suc end) s)) =
+        rw (line-at s at end h e, ← q) in sym z ∙ k
 
 -- before the first line
 pub start-fits : (symbols : List ℕ) (k n : ℕ) (cells letters : List ℕ) → n ≤ 64
@@ -265,11 +268,13 @@ start-fits symbols k n cells letters h =
       rows = λ j z. absurd (omega (arith, z));
     }
 
-pub start-draft : (program goal constants : List ℕ) (n : ℕ) (cells letters : List ℕ)
-    → goalDraftOf program goal constants n cells letters (record { constraints = 0; letters = 0; constants = 0 })
-    ≡ record { constraints = []; letters = []; constants = constantsOf program goal constants n 0 }
+pub start-read : (symbols : List Symbol) (program goal constants : List ℕ) (n : ℕ) (cells letters : List ℕ)
+    → readGoalLines symbols 1
+    (goalDraftOf program goal constants n cells letters (record { constraints = 0; letters = 0; constants = 0 })) (lines goal)
+    ≡ readGoalLines symbols 1 (record { constraints = []; letters = []; constants = constantsOf program goal constants n 0 })
+    (lines goal)
 unfolding goalDraftOf cellConstraints lettersOf
-start-draft program goal constants n cells letters = refl
+start-read symbols program goal constants n cells letters = refl
 
 -- the room in the tables stays
 pub room-kept : (symbols : List ℕ) (k : ℕ) (constants : List ℕ) (n : ℕ) (cells letters constants′ cells′ letters′ : List ℕ)

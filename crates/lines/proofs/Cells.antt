@@ -1,21 +1,22 @@
 -- Laws of the terms of a line, and of their cells.
 --   line-field           the field of a line that starts at a place, in the text
 --   cell-constant, cell-variable    the cell of a term
---   cells-..             the cells of the terms passed, and 0 behind them
+--   cells-.., filled-..  the cells of the terms passed, and 0 behind them
+--   terms-..             whether the fields of a line from a place on are terms
 -- Assumes nothing.
 use mathlib.Core.Path.{_≡_, refl, sym, ap, ap₂, _∙_}
 use mathlib.Core.Bool.{Bool, true, false, not, _&&_, _||_}
 use mathlib.Core.List.{List, [], _∷_, _++_, append-assoc, map}
 use Prim.Native.Nat.{ℕ, zero, suc, _+_, _-_, _≤_, _<_}
 use native.Mathlib.Omega.{arith}
-use borrow.Author.Tests.{lt-ltb, le-ltb, ne-eqb, eq-eqb}
+use borrow.Author.Tests.{not-true, not-false, lt-ltb, le-ltb, ne-eqb, eq-eqb}
 use lib.Dec.{eqb}
 use lib.ListN.{length, take, drop, getD, set, length-set, length-take, take-append-drop}
 use lib.Seq.{take-take, length-take-le, take-suc-set, getD-set-other, getD-drop}
 use Rattle.text.specs.Lists.{every, placeOf}
 use Rattle.text.specs.Fields.{isName, isVariable, isTerm}
 use Rattle.text.specs.Places.{before, fieldsFrom}
-use Rattle.text.proofs.Cursors.{field-at, drop-take}
+use Rattle.text.proofs.Cursors.{field-at, fields-out, drop-take}
 use Rattle.semantics.specs.Terms.{Term, var}
 use Rattle.syntax.specs.Forms.{termOf, firstConstant}
 use Rattle.syntax.specs.Tables.{cellTerm, cellTerms, part}
@@ -50,17 +51,16 @@ one-list [] h = absurd (omega arith)
 one-list (b ∷ []) h = refl
 one-list (b ∷ c ∷ s) h = absurd (omega arith)
 
-pub cell-constant : (variable : List ℕ → ℕ) (cs : List (List ℕ)) (f : List ℕ) (k : ℕ) → isName f ≡ true → k ≡ placeOf f cs
-    → k ≤ 64
-    → cellTerm (32 + k) ≡ termOf variable cs f
-unfolding cellTerm termOf firstConstant
-cell-constant variable cs f k n e h = rw (n, ← e, lt-ltb (32 + k) 256 (omega arith))
+module _ (variable : List ℕ → ℕ) (cs : List (List ℕ)) (f : List ℕ) (t : Bool) (n : t ≡ isName f) (k : ℕ) where
+  pub cell-constant : (l : ℕ) → t ≡ true → k ≡ placeOf f cs → k ≤ l → l ≤ 64 → cellTerm (32 + k) ≡ termOf variable cs f
+  unfolding cellTerm termOf firstConstant
+  cell-constant l x e h g = rw (sym n ∙ x, ← e, lt-ltb (32 + k) 256 (omega arith))
 
-pub cell-variable : (variable : List ℕ → ℕ) (cs : List (List ℕ)) (f : List ℕ) (k : ℕ) → isName f ≡ false → k ≡ variable f
-    → cellTerm (256 + k) ≡ termOf variable cs f
-unfolding cellTerm termOf
-cell-variable variable cs f k n e =
-    rw (n, ← e, le-ltb (256 + k) 256 (omega arith)) (ap var (let z : 256 + k - 256 ≡ k = omega arith in z))
+  pub cell-variable : t ≡ false → isTerm f ≡ true → k ≡ variable (getD f 0 0 ∷ []) → cellTerm (256 + k) ≡ termOf variable cs f
+  unfolding cellTerm termOf
+  cell-variable x w e =
+      rw (sym n ∙ x, le-ltb (256 + k) 256 (omega arith))
+      (ap var (let z : 256 + k - 256 ≡ k = omega arith in z ∙ e ∙ ap variable (sym (one-list f (letter-one f (sym n ∙ x) w)))))
 
 -- cells that hold terms: none is 0
 abbrev pub used : ℕ → Bool
@@ -146,21 +146,33 @@ filled-start term fs h =
     zeros (suc (suc (suc (suc i)))) = refl
 
 -- all fields are terms, one field on
-module _ (f : List ℕ) (all fs : List (List ℕ)) (q : all ≡ f ∷ fs) where
-  pub terms-fail : isTerm f ≡ false → every isTerm all ≡ false
-  terms-fail e = rw (q, e)
-
-  pub terms-step : isTerm f ≡ true → every isTerm all ≡ every isTerm fs
-  terms-step e = rw (q, e)
-
-  pub terms-both : every isTerm all ≡ true → (isTerm f ≡ true) × (every isTerm fs ≡ true)
-  terms-both e = and-both (isTerm f) (every isTerm fs) (sym (ap (every isTerm) q) ∙ e)
+pub terms-both : (f : List ℕ) (all fs : List (List ℕ)) → all ≡ f ∷ fs → every isTerm all ≡ true
+    → (isTerm f ≡ true) × (every isTerm fs ≡ true)
+terms-both f all fs q e = and-both (isTerm f) (every isTerm fs) (sym (ap (every isTerm) q) ∙ e)
 
 -- the field that starts at a place of a line, as the code cuts it out
 pub field-cut : (l : List ℕ) (start stop : ℕ) → start ≤ length l → stop ≡ start + before 44 (drop start l)
     → fieldsFrom l start ≡ take (stop - start) (drop start l) ∷ fieldsFrom l (suc stop)
 field-cut l start stop h e =
     field-at l start stop h e ∙ ap (λ (f : List ℕ). f ∷ fieldsFrom l (suc stop)) (drop-take start stop l (omega arith))
+
+-- whether the fields of a line from a place on are terms, which answers for all
+module _ (line : List ℕ) (start : ℕ) (all : Bool) (r : every isTerm (fieldsFrom line start) ≡ all) where
+  pub terms-out : length line < start → true ≡ all
+  terms-out h = sym (ap (every isTerm) (fields-out line start h)) ∙ r
+
+  module _ (stop : ℕ) (e : stop ≡ start + before 44 (drop start line)) (h : start ≤ length line) (t : Bool)
+      (u : t ≡ isTerm (take (stop - start) (drop start line))) where
+    split : (t && every isTerm (fieldsFrom line (suc stop))) ≡ all
+    split =
+        ap (λ (b : Bool). b && every isTerm (fieldsFrom line (suc stop))) u
+        ∙ sym (ap (every isTerm) (field-cut line start stop h e)) ∙ r
+
+    pub terms-fail : not t ≡ true → false ≡ all
+    terms-fail x = ap (λ (b : Bool). b && every isTerm (fieldsFrom line (suc stop))) (sym (not-true t x)) ∙ split
+
+    pub terms-step : not t ≡ false → every isTerm (fieldsFrom line (suc stop)) ≡ all
+    terms-step x = ap (λ (b : Bool). b && every isTerm (fieldsFrom line (suc stop))) (sym (not-false t x)) ∙ split
 
 -- a field of a line as a part of the text, and by its start
 pub part-in-line : (s : List ℕ) (start stop end : ℕ) → start ≤ stop → stop ≤ end

@@ -2,24 +2,29 @@
 --   after-none, after-known, after-full, after-new    the constants after one field, as the code goes by cases
 --   added-fits                                         constants in a table that do not pass the limit are at most 64
 --   added-grows                                        the constants after more fields are not fewer
+--   added-step, added-full, added-end                  the constants after the fields of a line from a place on
 -- Assumes nothing.
 use mathlib.Core.Path.{_≡_, refl, sym, ap, ap₂, _∙_}
-use mathlib.Core.Bool.{Bool, true, false, cond}
+use mathlib.Core.Bool.{Bool, true, false, not, cond}
 use mathlib.Core.List.{List, [], _∷_, _++_, append-assoc}
-use mathlib.Core.Option.{none, some}
+use mathlib.Core.Option.{Option, none, some}
 use Prim.Native.Nat.{ℕ, suc, _+_, _-_, _*_, _≤_, _<_}
+use native.Mathlib.Numerals.{add-one}
 use native.Mathlib.Omega.{arith}
-use borrow.Author.Tests.{lt-ltb, le-ltb, ltb-true, ltb-false}
+use borrow.Author.Tests.{not-true, not-false, lt-ltb, le-ltb, ltb-true, ltb-false}
 use lib.Dec.{ltb}
-use lib.ListN.{length, getD, set, length-append, length-set}
-use lib.Seq.{getD-set-same, getD-set-other}
+use lib.ListN.{length, take, drop, getD, set, length-append, length-set}
+use lib.Seq.{length-take-le, getD-set-same, getD-set-other}
 use Rattle.text.specs.Lists.{placeOf, isKnown, withName, tabled}
 use Rattle.text.specs.Fields.{isName}
+use Rattle.text.specs.Places.{before, fieldsFrom}
+use Rattle.text.proofs.Cursors.{drop-take, fields-out}
 use Rattle.syntax.specs.Forms.{constantsAfter}
 use Rattle.syntax.specs.Programs.{maxConstants}
 use Rattle.syntax.specs.Tables.{part, constantOf, constantsOf}
 use Rattle.lines.specs.Read.{roomy}
 use Rattle.syntax.proofs.Tabled.{tabled-same, constants-length}
+use Rattle.lines.proofs.Cells.{line-field}
 
 pub roomy-some : (cs : List (List ℕ)) → length cs ≤ 64 → roomy cs ≡ some cs
 unfolding roomy maxConstants
@@ -71,38 +76,56 @@ module _ (first second cells : List ℕ) (n m : ℕ) where
         (ap (constantOf second stored) (sym e) ∙ newest second))
         ∙ sym (append-assoc a b (part second start len ∷ []))
 
-  module _ (f : List ℕ) (fits : n + m ≤ 64) where
+  -- the constants after the field from `start` up to `end`, where t says whether it is a name
+  module _ (start end : ℕ) (t : Bool) (e : t ≡ isName (take (end - start) (drop start second))) (ends : start ≤ end)
+      (fits : n + m ≤ 64) where
+    abbrev f : List ℕ
+    f = drop start (take end second)
+
     abbrev cs : List (List ℕ)
     cs = constantsOf first second cells n m
 
     abbrev after : List (List ℕ)
     after = cond (isName f) (withName f cs) cs
 
+    cut : f ≡ take (end - start) (drop start second)
+    cut = drop-take start end second ends
+
     sized : length cs ≡ n + m
     sized = constants-length first second cells n m
 
-    pub after-none : isName f ≡ false → some cs ≡ roomy after
-    after-none e = rw e (sym (roomy-some cs (omega (arith, sized))))
+    pub after-none : not t ≡ true → some cs ≡ roomy after
+    after-none x = rw (ap isName cut ∙ sym e ∙ not-true t x) (sym (roomy-some cs (omega (arith, sized))))
 
-    pub after-known : (k : ℕ) → isName f ≡ true → k ≡ placeOf f cs → k < n + m → some cs ≡ roomy after
-    unfolding withName isKnown
-    after-known k e p h = rw (e, ← p, lt-ltb k (length cs) (omega (arith, sized))) (sym (roomy-some cs (omega (arith, sized))))
+    module _ (x : not t ≡ false) (k : ℕ) (q : k ≡ placeOf (take (end - start) (drop start second)) cs) where
+      named : isName f ≡ true
+      named = ap isName cut ∙ sym e ∙ not-false t x
 
-    longer : (k : ℕ) → isName f ≡ true → k ≡ placeOf f cs → n + m ≤ k → after ≡ cs ++ (f ∷ [])
-    unfolding withName isKnown
-    longer k e p h = rw (e, ← p, le-ltb k (length cs) (omega (arith, sized)))
+      placed : k ≡ placeOf f cs
+      placed = q ∙ ap (λ (g : List ℕ). placeOf g cs) (sym cut)
 
-    pub after-full : (k : ℕ) → isName f ≡ true → k ≡ placeOf f cs → n + m ≤ k → k ≤ n + m → 64 ≤ k → none ≡ roomy after
-    after-full k e p h g l =
-        sym (ap roomy (longer k e p h) ∙ roomy-none (cs ++ (f ∷ [])) (omega (arith, sized, length-append cs (f ∷ []))))
+      pub after-known : k < n + m → some cs ≡ roomy after
+      unfolding withName isKnown
+      after-known h =
+          rw (named, ← placed, lt-ltb k (length cs) (omega (arith, sized))) (sym (roomy-some cs (omega (arith, sized))))
 
-    pub after-new : (k start len : ℕ) → isName f ≡ true → k ≡ placeOf f cs → n + m ≤ k → k ≤ n + m → k < 64
-        → length cells ≡ 128 → f ≡ part second start len
-        → some (constantsOf first second (set (set cells (2 * k) start) (2 * k + 1) len) n (suc m)) ≡ roomy after
-    after-new k start len e p h g l room q =
-        let same : k ≡ n + m = omega arith in
-        ap some (constants-more k start len same (omega arith) ∙ ap (λ (x : List ℕ). cs ++ (x ∷ [])) (sym q))
-        ∙ sym (ap roomy (longer k e p h) ∙ roomy-some (cs ++ (f ∷ [])) (omega (arith, sized, length-append cs (f ∷ []))))
+      longer : n + m ≤ k → after ≡ cs ++ (f ∷ [])
+      unfolding withName isKnown
+      longer h = rw (named, ← placed, le-ltb k (length cs) (omega (arith, sized)))
+
+      module _ (h : n + m ≤ k) (g : k ≤ n + m) where
+        pub after-full : 64 ≤ k → none ≡ roomy after
+        after-full l =
+            sym (ap roomy (longer h) ∙ roomy-none (cs ++ (f ∷ [])) (omega (arith, sized, length-append cs (f ∷ []))))
+
+        pub after-new : k < 64 → length cells ≡ 128
+            → some (constantsOf first second (set (set cells (2 * k) start) (2 * k + 1) (end - start)) n (m + 1)) ≡ roomy after
+        unfolding part
+        after-new l room =
+            let same : k ≡ n + m = omega arith in
+            rw (add-one m) (ap some (constants-more k start (end - start) same (omega arith)
+            ∙ ap (λ (w : List ℕ). cs ++ (w ∷ [])) (sym cut))
+            ∙ sym (ap roomy (longer h) ∙ roomy-some (cs ++ (f ∷ [])) (omega (arith, sized, length-append cs (f ∷ [])))))
 
 -- what a limit says of the constants
 pub roomy-is : (cs ds : List (List ℕ)) → some ds ≡ roomy cs → (cs ≡ ds) × (length cs ≤ 64)
@@ -149,22 +172,41 @@ added-grows [] cs = omega arith
 added-grows (f ∷ fs) cs =
     omega (arith, one-grows f cs, added-grows fs (cond (isName f) (withName f cs) cs))
 
--- the constants after a line, one field on
-module _ (f : List ℕ) (all fs : List (List ℕ)) (cs : List (List ℕ)) (q : all ≡ f ∷ fs) where
-  unfold-one : constantsAfter all cs ≡ constantsAfter fs (cond (isName f) (withName f cs) cs)
-  unfolding constantsAfter
-  unfold-one = rw q
+-- the constants after the fields of a line from a place on, which answer for all
+module _ (second : List ℕ) (start end : ℕ) (cs : List (List ℕ)) (all : Option (List (List ℕ)))
+    (r : roomy (constantsAfter (fieldsFrom (take end second) start) cs) ≡ all) (inside : end ≤ length second) where
+  module _ (stop : ℕ) (h : start ≤ end) (e : stop ≡ start + before 44 (drop start (take end second)))
+      (l : stop ≤ length (take end second)) where
+    abbrev field : List ℕ
+    field = drop start (take stop second)
 
-  pub added-step : (ds : List (List ℕ)) → some ds ≡ roomy (cond (isName f) (withName f cs) cs)
-      → roomy (constantsAfter all cs) ≡ roomy (constantsAfter fs ds)
-  added-step ds e =
-      ap roomy (unfold-one ∙ ap (constantsAfter fs) (roomy-is (cond (isName f) (withName f cs) cs) ds e .0))
+    abbrev one : List (List ℕ)
+    one = cond (isName field) (withName field cs) cs
 
-  pub added-full : none ≡ roomy (cond (isName f) (withName f cs) cs) → none ≡ roomy (constantsAfter all cs)
-  added-full e =
-      let ds : List (List ℕ) = cond (isName f) (withName f cs) cs in
-      sym (ap roomy unfold-one ∙ roomy-none (constantsAfter fs ds) (omega (arith, roomy-not ds e, added-grows fs ds)))
+    unrolled : roomy (constantsAfter (fieldsFrom (take end second) (suc stop)) one) ≡ all
+    unfolding constantsAfter
+    unrolled =
+        sym (ap (λ (fs : List (List ℕ)). roomy (constantsAfter fs cs)) (line-field second start stop end h inside e l)) ∙ r
 
-pub added-end : (all : List (List ℕ)) (cs : List (List ℕ)) → all ≡ [] → length cs ≤ 64 → some cs ≡ roomy (constantsAfter all cs)
+    pub added-step : (ds : List (List ℕ)) → some ds ≡ roomy one
+        → roomy (constantsAfter (fieldsFrom (take end second) (suc stop)) ds) ≡ all
+    added-step ds q =
+        ap (λ (w : List (List ℕ)). roomy (constantsAfter (fieldsFrom (take end second) (suc stop)) w))
+        (sym (roomy-is one ds q .0))
+        ∙ unrolled
+
+    pub added-full : none ≡ roomy one → none ≡ all
+    added-full q =
+        let rest : List (List ℕ) = fieldsFrom (take end second) (suc stop) in
+        sym (roomy-none (constantsAfter rest one) (omega (arith, roomy-not one q, added-grows rest one))) ∙ unrolled
+
+pub added-end : (first second cells : List ℕ) (n m start end : ℕ) (all : Option (List (List ℕ)))
+    → roomy (constantsAfter (fieldsFrom (take end second) start) (constantsOf first second cells n m)) ≡ all
+    → end ≤ length second → end < start → n + m ≤ 64 → some (constantsOf first second cells n m) ≡ all
 unfolding constantsAfter
-added-end all cs q h = rw q (sym (roomy-some cs h))
+added-end first second cells n m start end all r inside h k =
+    let cs : List (List ℕ) = constantsOf first second cells n m in
+    let out : fieldsFrom (take end second) start ≡ [] =
+    fields-out (take end second) start (omega (arith, length-take-le end second inside)) in
+    sym (ap (λ (fs : List (List ℕ)). roomy (constantsAfter fs cs)) out
+    ∙ roomy-some cs (omega (arith, constants-length first second cells n m))) ∙ r

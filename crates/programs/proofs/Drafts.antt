@@ -3,28 +3,33 @@
 --   rules-more, rule-..         an R line
 -- Assumes nothing.
 use mathlib.Core.Path.{_≡_, sym, ap, ap₂, _∙_}
-use mathlib.Core.Bool.{true, false}
+use mathlib.Core.Bool.{true}
 use mathlib.Core.List.{List, [], _∷_, _++_, map}
 use Prim.Native.Nat.{ℕ, suc, _+_, _-_, _*_, _≤_, _<_}
 use native.Mathlib.Nat.{add-zero}
+use native.Mathlib.Numerals.{add-one}
 use native.Mathlib.Omega.{arith}
 use borrow.Author.Tests.{lt-ltb, le-ltb, le-leb, lt-leb}
 use lib.Dec.{ltb}
 use lib.ListN.{length, take, drop, getD, length-map}
-use lib.Seq.{paste, getD-take, getD-drop}
+use lib.Seq.{paste, getD-take, getD-drop, length-take-le}
 use Rattle.text.specs.Lists.{placeOf, isKnown, tabled}
 use Rattle.text.specs.Fields.{valueOf}
+use Rattle.text.specs.Places.{fieldsFrom}
+use Rattle.text.proofs.Cursors.{drop-take}
+use Rattle.lines.proofs.Cells.{part-in-line, field-part, part-short}
 use Rattle.text.proofs.Laws.{tabled-length}
 use Rattle.semantics.specs.Terms.{Symbol, Rule}
 use Rattle.programs.specs.declared.Stage.{Stage}
-use Rattle.syntax.specs.Answers.{refused, accepted}
 use Rattle.syntax.specs.Forms.{fieldAt}
-use Rattle.syntax.specs.Programs.{Draft, maxSymbols, maxRules, readSymbol, readRule}
+use Rattle.syntax.specs.Programs.{maxSymbols, maxRules, readSymbol, readRule}
 use Rattle.syntax.specs.Tables.{part, symbolOf, symbolsOf, ruleOfRow, ruleOf, rulesOf, startsOf, cellConstraints}
 use Rattle.syntax.specs.Tables.{cellEquations}
 use Rattle.syntax.specs.Tables.{namesOf}
 use Rattle.lines.specs.Read.{placeMeant, isSymbolFaulty, isRuleFaulty}
-use Rattle.programs.specs.Read.{draftOf}
+use Rattle.programs.specs.Read.{draftOf, lineAnswer, SymbolAt, RuleAt, Sound}
+use Rattle.programs.specs.declared.LineRead.{LineRead}
+use Rattle.programs.specs.declared.LineRead.the-variants.{Refused, Next}
 use Rattle.syntax.proofs.Tabled.{tabled-same, map-tabled}
 use Rattle.programs.proofs.Pasted.{cut-before, at-before, at-in}
 
@@ -75,49 +80,70 @@ symbols-count : (text cells : List ℕ) (n : ℕ) → length (symbolsOf text cel
 unfolding symbolsOf
 symbols-count text cells n = tabled-length (symbolOf text cells) n
 
+-- the numbers of a K line have at most two digits
+pub arity-short : {line : List ℕ} {at start stop next last : ℕ} → SymbolAt line at start stop next last
+    → length (take (next - (stop + 1)) (drop (stop + 1) line)) ≤ 2
+arity-short {line} {stop = stop} {next = next} f = part-short line (stop + 1) next (omega (arith, f .short-arity))
+
+pub weight-short : {line : List ℕ} {at start stop next last : ℕ} → SymbolAt line at start stop next last
+    → length (take (last - (next + 1)) (drop (next + 1) line)) ≤ 2
+weight-short {line} {next = next} {last = last} f = part-short line (next + 1) last (omega (arith, f .short-weight))
+
 -- a K line, by the tests that decide it
-module _ (text symbols rules constants : List ℕ) (s : Stage) (place n : ℕ) (fs : List (List ℕ)) where
-  abbrev d : Draft
-  d = draftOf text symbols rules constants s
+module _ (text symbols : List ℕ) (s : Stage) (place at end : ℕ) where
+  abbrev SymbolIs : List ℕ → LineRead → Type 0
+  SymbolIs after r = (n : ℕ) (rules constants : List ℕ) → lineAnswer text after rules constants n r
+      ≡ readSymbol n (placeMeant place) (fieldsFrom (take end text) at) (draftOf text symbols rules constants s)
 
-  pub symbol-faulty : isSymbolFaulty fs ≡ true → refused 4 n ≡ readSymbol n (placeMeant place) fs d
-  unfolding readSymbol isSymbolFaulty
-  symbol-faulty e = rw e
+  pub symbol-faulty : isSymbolFaulty (fieldsFrom (take end text) at) ≡ true → SymbolIs symbols (Refused 4)
+  unfolding readSymbol isSymbolFaulty lineAnswer
+  symbol-faulty e n rules constants = rw e
 
-  module _ (k : ℕ) (name : List ℕ) (e : isSymbolFaulty fs ≡ false) (p : fieldAt 1 fs ≡ name)
-      (q : k ≡ placeOf name (namesOf text symbols 4 (s .symbols))) where
-    known : isKnown (fieldAt 1 fs) (map (λ t. t .name) (symbolsOf text symbols (s .symbols))) ≡ ltb k (s .symbols)
+  module _ (start stop next last k : ℕ) (f : SymbolAt (take end text) at start stop next last)
+      (q : k ≡ placeOf (take (stop - start) (drop start (take end text))) (namesOf text symbols 4 (s .symbols))) where
+    named : fieldAt 1 (fieldsFrom (take end text) at) ≡ take (stop - start) (drop start (take end text))
+    named = f .name ∙ drop-take start stop (take end text) (f .starts)
+
+    known : isKnown (fieldAt 1 (fieldsFrom (take end text) at)) (map (λ t. t .name) (symbolsOf text symbols (s .symbols)))
+        ≡ ltb k (s .symbols)
     known =
-        ap (λ (f : List ℕ). isKnown f (map (λ t. t .name) (symbolsOf text symbols (s .symbols)))) p
-        ∙ symbols-known text symbols name (s .symbols) k q
+        ap (λ (g : List ℕ). isKnown g (map (λ t. t .name) (symbolsOf text symbols (s .symbols)))) named
+        ∙ symbols-known text symbols _ (s .symbols) k q
 
-    pub symbol-repeated : k < s .symbols → refused 5 n ≡ readSymbol n (placeMeant place) fs d
-    unfolding readSymbol isSymbolFaulty draftOf
-    symbol-repeated h = rw (e, known, lt-ltb k (s .symbols) h)
+    pub symbol-repeated : k < s .symbols → SymbolIs symbols (Refused 5)
+    unfolding readSymbol isSymbolFaulty draftOf lineAnswer
+    symbol-repeated h n rules constants = rw (f .fine, known, lt-ltb k (s .symbols) h)
 
-    pub symbol-full : s .symbols ≤ k → 32 ≤ s .symbols → refused 7 n ≡ readSymbol n (placeMeant place) fs d
-    unfolding readSymbol isSymbolFaulty draftOf maxSymbols
-    symbol-full h g =
-        rw (e, known, le-ltb k (s .symbols) h, symbols-count text symbols (s .symbols), le-leb 32 (s .symbols) g)
+    pub symbol-full : s .symbols ≤ k → 32 ≤ s .symbols → SymbolIs symbols (Refused 7)
+    unfolding readSymbol isSymbolFaulty draftOf maxSymbols lineAnswer
+    symbol-full h g n rules constants =
+        rw (f .fine, known, le-ltb k (s .symbols) h, symbols-count text symbols (s .symbols), le-leb 32 (s .symbols) g)
 
-    pub symbol-new : (a l r w : ℕ) → s .symbols ≤ k → s .symbols < 32 → length symbols ≡ 128
-        → name ≡ part text a l → r ≡ valueOf (fieldAt 2 fs) → w ≡ valueOf (fieldAt 3 fs)
-        → accepted (draftOf text (paste symbols (4 * s .symbols) (a ∷ l ∷ r ∷ w ∷ []) 4) rules constants
-        (record { place = place; symbols = suc (s .symbols); rules = s .rules; constants = s .constants }))
-        ≡ readSymbol n (placeMeant place) fs d
-    unfolding readSymbol isSymbolFaulty draftOf maxSymbols
-    symbol-new a l r w h g room x y z =
+    pub symbol-new : (after : List ℕ) (r w : ℕ) → end ≤ length text → length symbols ≡ 128
+        → s .symbols ≤ k → s .symbols < 32
+        → r ≡ valueOf (take (next - (stop + 1)) (drop (stop + 1) (take end text)))
+        → w ≡ valueOf (take (last - (next + 1)) (drop (next + 1) (take end text)))
+        → after ≡ paste symbols (4 * s .symbols) (start ∷ (stop - start) ∷ r ∷ w ∷ []) 4
+        → SymbolIs after
+        (Next (record { place = place; symbols = s .symbols + 1; rules = s .rules; constants = s .constants }))
+    unfolding readSymbol isSymbolFaulty draftOf maxSymbols lineAnswer
+    symbol-new after r w ends room h g y z v n rules constants =
         rw (
-          e,
+          v,
+          add-one (s .symbols),
+          f .fine,
           known,
           le-ltb k (s .symbols) h,
           symbols-count text symbols (s .symbols),
           lt-leb 32 (s .symbols) g,
-          symbols-more text symbols (s .symbols) a l r w (omega arith),
-          p,
-          x,
-          y,
-          z,
+          symbols-more text symbols (s .symbols) start (stop - start) r w (omega arith),
+          named,
+          part-in-line text start stop end (f .starts)
+              (omega (arith, f .nexts, f .lasts, f .stops, length-take-le end text ends)),
+          y ∙ ap valueOf (sym (f .arity
+              ∙ field-part (take end text) stop (stop + 1) next (add-one stop) (omega (arith, f .nexts)))),
+          z ∙ ap valueOf (sym (f .weight
+              ∙ field-part (take end text) next (next + 1) last (add-one next) (omega (arith, f .lasts)))),
         )
 
 -- row i of a table of 64 cells each
@@ -203,43 +229,65 @@ module _ (text cells : List ℕ) (n a l b : ℕ) (room : 64 * n + 64 ≤ length 
   fresh-sides = rule-inside 5 (omega arith)
 
 -- an R line, by the tests that decide it
-module _ (text symbols rules constants : List ℕ) (s : Stage) (place n : ℕ) (fs : List (List ℕ)) where
-  abbrev e : Draft
-  e = draftOf text symbols rules constants s
+module _ (text rules : List ℕ) (s : Stage) (place n at end : ℕ) where
+  abbrev RuleIs : List ℕ → LineRead → Type 0
+  RuleIs after r = (symbols constants : List ℕ) → lineAnswer text symbols after constants n r
+      ≡ readRule n (placeMeant place) (fieldsFrom (take end text) at) (draftOf text symbols rules constants s)
 
-  pub rule-faulty : isRuleFaulty fs ≡ true → refused 4 n ≡ readRule n (placeMeant place) fs e
-  unfolding readRule isRuleFaulty
-  rule-faulty h = rw h
+  pub rule-faulty : isRuleFaulty (fieldsFrom (take end text) at) ≡ true → RuleIs rules (Refused 4)
+  unfolding readRule isRuleFaulty lineAnswer
+  rule-faulty e symbols constants = rw e
 
-  module _ (k : ℕ) (name : List ℕ) (g : isRuleFaulty fs ≡ false) (p : fieldAt 1 fs ≡ name)
-      (q : k ≡ placeOf name (namesOf text rules 64 (s .rules))) where
-    rule-known : isKnown (fieldAt 1 fs) (map (λ r. r .name) (rulesOf text rules (s .rules))) ≡ ltb k (s .rules)
+  module _ (start stop k : ℕ) (f : RuleAt (take end text) at start stop)
+      (q : k ≡ placeOf (take (stop - start) (drop start (take end text))) (namesOf text rules 64 (s .rules))) where
+    rule-named : fieldAt 1 (fieldsFrom (take end text) at) ≡ take (stop - start) (drop start (take end text))
+    rule-named = f .name ∙ drop-take start stop (take end text) (f .starts)
+
+    rule-known : isKnown (fieldAt 1 (fieldsFrom (take end text) at)) (map (λ r. r .name) (rulesOf text rules (s .rules)))
+        ≡ ltb k (s .rules)
     rule-known =
-        ap (λ (f : List ℕ). isKnown f (map (λ r. r .name) (rulesOf text rules (s .rules)))) p
-        ∙ rules-known text rules name (s .rules) k q
+        ap (λ (g : List ℕ). isKnown g (map (λ r. r .name) (rulesOf text rules (s .rules)))) rule-named
+        ∙ rules-known text rules _ (s .rules) k q
 
-    pub rule-repeated : k < s .rules → refused 5 n ≡ readRule n (placeMeant place) fs e
-    unfolding readRule isRuleFaulty draftOf
-    rule-repeated h = rw (g, rule-known, lt-ltb k (s .rules) h)
+    pub rule-repeated : k < s .rules → RuleIs rules (Refused 5)
+    unfolding readRule isRuleFaulty draftOf lineAnswer
+    rule-repeated h symbols constants = rw (f .fine, rule-known, lt-ltb k (s .rules) h)
 
-    pub rule-full : s .rules ≤ k → 32 ≤ s .rules → refused 7 n ≡ readRule n (placeMeant place) fs e
-    unfolding readRule isRuleFaulty draftOf maxRules
-    rule-full h i = rw (g, rule-known, le-ltb k (s .rules) h, rules-count text rules (s .rules), le-leb 32 (s .rules) i)
+    pub rule-full : s .rules ≤ k → 32 ≤ s .rules → RuleIs rules (Refused 7)
+    unfolding readRule isRuleFaulty draftOf maxRules lineAnswer
+    rule-full h i symbols constants =
+        rw (f .fine, rule-known, le-ltb k (s .rules) h, rules-count text rules (s .rules), le-leb 32 (s .rules) i)
 
-    pub rule-new : (a l : ℕ) → s .rules ≤ k → s .rules < 32 → length rules ≡ 2048 → name ≡ part text a l
-        → accepted (draftOf text symbols (paste rules (64 * s .rules) (a ∷ l ∷ n ∷ 0 ∷ 0 ∷ 0 ∷ []) 6) constants
-        (record { place = place; symbols = s .symbols; rules = suc (s .rules); constants = s .constants }))
-        ≡ readRule n (placeMeant place) fs e
-    unfolding readRule isRuleFaulty draftOf maxRules
-    rule-new a l h i room x =
-        rw (
-          g,
-          rule-known,
-          le-ltb k (s .rules) h,
-          rules-count text rules (s .rules),
-          lt-leb 32 (s .rules) i,
-          rules-more text rules (s .rules) a l n (omega arith),
-          starts-more text rules (s .rules) a l n (omega arith),
-          p,
-          x,
-        )
+    module _ (after : List ℕ) (i : s .rules < 32) (room : length rules ≡ 2048)
+        (v : after ≡ paste rules (64 * s .rules) (start ∷ (stop - start) ∷ n ∷ 0 ∷ 0 ∷ 0 ∷ []) 6) where
+      pub rule-new : s .rules ≤ k → end ≤ length text → RuleIs after
+          (Next (record { place = place; symbols = s .symbols; rules = s .rules + 1; constants = s .constants }))
+      unfolding readRule isRuleFaulty draftOf maxRules lineAnswer
+      rule-new h ends symbols constants =
+          rw (
+            v,
+            add-one (s .rules),
+            f .fine,
+            rule-known,
+            le-ltb k (s .rules) h,
+            rules-count text rules (s .rules),
+            lt-leb 32 (s .rules) i,
+            rules-more text rules (s .rules) start (stop - start) n (omega arith),
+            starts-more text rules (s .rules) start (stop - start) n (omega arith),
+            rule-named,
+            part-in-line text start stop end (f .starts) (omega (arith, f .stops, length-take-le end text ends)),
+          )
+
+      pub rule-sound : Sound rules s
+          → Sound after (record { place = place; symbols = s .symbols; rules = s .rules + 1; constants = s .constants })
+      rule-sound d =
+          let last : s .rules + 1 - 1 ≡ s .rules = omega arith in
+          rw v (record {
+            few-symbols = d .few-symbols;
+            few-rules = omega (arith, i);
+            few-constants = d .few-constants;
+            begun = λ h. omega arith;
+            few-heads = λ h. rw last (omega (arith, fresh-heads text rules (s .rules) start (stop - start) n (omega arith)));
+            few-body = λ h. rw last (omega (arith, fresh-body text rules (s .rules) start (stop - start) n (omega arith)));
+            few-sides = λ h. rw last (omega (arith, fresh-sides text rules (s .rules) start (stop - start) n (omega arith)));
+          })

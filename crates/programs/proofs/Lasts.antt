@@ -223,10 +223,6 @@ module _ (text symbols rules constants : List ℕ) (s : Stage) (place : ℕ) (fs
     others : drop 1 fs ≡ fieldsFrom line start
     others = ap (λ (l : List (List ℕ)). drop 1 l) r ∙ g .others
 
-    pub sides-fit : h < 4 → (64 * i + (56 + 2 * h) + 2 ≤ length rules) × (64 * i + 5 < 64 * i + (56 + 2 * h))
-        × (getD rules (64 * i + 5) 0 < 65535)
-    sides-fit k = (omega (arith, room), omega arith, omega (arith, e))
-
     pub sides-full : (n : ℕ) → 4 ≤ h → refused 7 n ≡ readForm equationForm n (placeMeant place) fs d
     unfolding readForm readEquation isEquationFaulty draftOf maxEquations
     sides-full n k = rw (fine, sides-count, le-leb 4 h k)

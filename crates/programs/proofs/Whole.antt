@@ -8,7 +8,7 @@ use mathlib.Core.Path.{_≡_, refl, sym, ap, ap₂, _∙_}
 use mathlib.Core.Bool.{Bool, true, false, cond}
 use mathlib.Core.List.{List}
 use mathlib.Core.Option.{Option, none, some}
-use Prim.Native.Nat.{ℕ, zero, suc, _+_, _-_, _≤_, _<_}
+use Prim.Native.Nat.{ℕ, zero, suc, _+_, _≤_, _<_}
 use native.Mathlib.Nat.{zero-add}
 use native.Mathlib.Decide.{decLt}
 use native.Mathlib.Omega.{arith}
@@ -118,26 +118,26 @@ begun form f p zero x e g h =
     absurd (let y : _≡_ {A = ℕ} 0 1 = cc in omega arith)
 begun form f p (suc q) x e g h = omega arith
 
--- the lines from a place on
-module _ (s : List ℕ) (start end n : ℕ) (d : Draft) (h : start < length s) (e : end ≡ start + before 10 (drop start s)) where
-  unrolled : readLines n d (lines (drop start s))
-      ≡ andThen (readLine n (lineAt s start end) d) (λ x. readLines (suc n) x (lines (drop (suc end) s)))
-  unfolding readLines
-  unrolled = rw (line-at s start end h e)
+-- the lines from a place on, which answer for all
+module _ (s : List ℕ) (start n : ℕ) (d : Draft) (all : Answer Draft) (k : readLines n d (lines (drop start s)) ≡ all) where
+  pub lines-end : length s ≤ start → accepted d ≡ all
+  unfolding readLines lines
+  lines-end h = let z : accepted d ≡ readLines n d (lines (drop start s)) = rw (drop-of-length-le s h) in z ∙ k
 
-  pub lines-refused : (x m : ℕ) → refused x m ≡ readLine n (lineAt s start end) d
-      → refused x m ≡ readLines n d (lines (drop start s))
-  lines-refused x m q =
-      ap (λ (a : Answer Draft). andThen a (λ y. readLines (suc n) y (lines (drop (suc end) s)))) q ∙ sym unrolled
+  module _ (end : ℕ) (h : start < length s) (e : end ≡ start + before 10 (drop start s)) where
+    unrolled : andThen (readLine n (lineAt s start end) d) (λ x. readLines (suc n) x (lines (drop (suc end) s))) ≡ all
+    unfolding readLines
+    unrolled = let z : readLines n d (lines (drop start s))
+        ≡ andThen (readLine n (lineAt s start end) d) (λ x. readLines (suc n) x (lines (drop (suc end) s))) =
+        rw (line-at s start end h e) in sym z ∙ k
 
-  pub lines-next : (x : Draft) → accepted x ≡ readLine n (lineAt s start end) d
-      → readLines (suc n) x (lines (drop (suc end) s)) ≡ readLines n d (lines (drop start s))
-  lines-next x q =
-      ap (λ (a : Answer Draft). andThen a (λ y. readLines (suc n) y (lines (drop (suc end) s)))) q ∙ sym unrolled
+    pub lines-refused : (x m : ℕ) → refused x m ≡ readLine n (lineAt s start end) d → refused x m ≡ all
+    lines-refused x m q =
+        ap (λ (a : Answer Draft). andThen a (λ y. readLines (suc n) y (lines (drop (suc end) s)))) q ∙ unrolled
 
-pub lines-end : (s : List ℕ) (start n : ℕ) (d : Draft) → length s ≤ start → accepted d ≡ readLines n d (lines (drop start s))
-unfolding readLines lines
-lines-end s start n d h = rw (drop-of-length-le s h)
+    pub lines-next : (x : Draft) → accepted x ≡ readLine n (lineAt s start end) d
+        → readLines (suc n) x (lines (drop (suc end) s)) ≡ all
+    lines-next x q = ap (λ (a : Answer Draft). andThen a (λ y. readLines (suc n) y (lines (drop (suc end) s)))) q ∙ unrolled
 
 -- the program that a draft holds
 unfoldable pub readingFrom : Draft → Reading

@@ -1,79 +1,35 @@
 -- `goals::goal::is_goal` meets its contract: the form by its first field. Assumes nothing.
 use borrow.Author.Needs.{needs}
-use mathlib.Core.Path.{sym, ap, _∙_}
+use mathlib.Core.Path.{_≡_, sym, ap, _∙_}
+use Rattle.lines.specs.declared.LineForm.{LineForm}
+use Rattle.syntax.specs.Forms.{Form}
 use Rattle.syntax.specs.Goals.{isGoalForm}
 use Rattle.lines.specs.Read.{formMeant}
 use Rattle.goals.proofs.goal.is_goal.Statement.{statement}
 use Rattle.goals.proofs.goal.is_goal.Tie as tie
 
-form-at-requires : tie.Need-form-at-requires
-form-at-requires c κs = search needs
+-- the answer by the form that the match tells
+told : (form f : LineForm) (g : Form) → form ≡ f → formMeant form ≡ g → isGoalForm (formMeant f) ≡ isGoalForm g
+told form f g q e = ap isGoalForm (sym (ap formMeant q) ∙ e)
 
-enum-told : tie.Need-enum-told
-enum-told c = search needs
-
-enum-told-2 : tie.Need-enum-told-2
-enum-told-2 c = search needs
-
-enum-told-3 : tie.Need-enum-told-3
-enum-told-3 c = search needs
-
-enum-told-4 : tie.Need-enum-told-4
-enum-told-4 c = search needs
-
-enum-told-5 : tie.Need-enum-told-5
-enum-told-5 c = search needs
-
-enum-told-6 : tie.Need-enum-told-6
-enum-told-6 c = search needs
-
-enum-told-7 : tie.Need-enum-told-7
-enum-told-7 c = search needs
-
-returns : tie.Need-returns
-unfolding isGoalForm formMeant
-returns c = ap isGoalForm (sym (ap formMeant ((c .enum-told) .given .1)) ∙ (c .before .before .form-at) .ensures)
-
-returns-2 : tie.Need-returns-2
-unfolding isGoalForm formMeant
-returns-2 c = ap isGoalForm (sym (ap formMeant ((c .enum-told2) .given .1)) ∙ (c .before .before .form-at) .ensures)
-
-returns-3 : tie.Need-returns-3
-unfolding isGoalForm formMeant
-returns-3 c = ap isGoalForm (sym (ap formMeant ((c .enum-told3) .given .1)) ∙ (c .before .before .form-at) .ensures)
-
-returns-4 : tie.Need-returns-4
-unfolding isGoalForm formMeant
-returns-4 c = ap isGoalForm (sym (ap formMeant ((c .enum-told4) .given .1)) ∙ (c .before .before .form-at) .ensures)
-
-returns-5 : tie.Need-returns-5
-unfolding isGoalForm formMeant
-returns-5 c = ap isGoalForm (sym (ap formMeant ((c .enum-told5) .given .1)) ∙ (c .before .before .form-at) .ensures)
-
-returns-6 : tie.Need-returns-6
-unfolding isGoalForm formMeant
-returns-6 c = ap isGoalForm (sym (ap formMeant ((c .enum-told6) .given .1)) ∙ (c .before .before .form-at) .ensures)
-
-returns-7 : tie.Need-returns-7
-unfolding isGoalForm formMeant
-returns-7 c = ap isGoalForm (sym (ap formMeant ((c .enum-told7) .given .1)) ∙ (c .before .before .form-at) .ensures)
-
+-- the form is read, the match tells it, and each arm answers
 pub is-goal-spec : {M : Type 1} → statement M
+unfolding isGoalForm formMeant
 is-goal-spec =
     tie.close
     (tie.spec
-    form-at-requires
-    enum-told
-    enum-told-2
-    enum-told-3
-    enum-told-4
-    enum-told-5
-    enum-told-6
-    enum-told-7
-    returns
-    returns-2
-    returns-3
-    returns-4
-    returns-5
-    returns-6
-    returns-7)
+    (λ c κs. search needs)
+    (λ c. search needs)
+    (λ c. search needs)
+    (λ c. search needs)
+    (λ c. search needs)
+    (λ c. search needs)
+    (λ c. search needs)
+    (λ c. search needs)
+    (λ c. told _ _ _ (c .enum-told .given .1) (c .before .before .form-at .ensures))
+    (λ c. told _ _ _ (c .enum-told2 .given .1) (c .before .before .form-at .ensures))
+    (λ c. told _ _ _ (c .enum-told3 .given .1) (c .before .before .form-at .ensures))
+    (λ c. told _ _ _ (c .enum-told4 .given .1) (c .before .before .form-at .ensures))
+    (λ c. told _ _ _ (c .enum-told5 .given .1) (c .before .before .form-at .ensures))
+    (λ c. told _ _ _ (c .enum-told6 .given .1) (c .before .before .form-at .ensures))
+    (λ c. told _ _ _ (c .enum-told7 .given .1) (c .before .before .form-at .ensures)))

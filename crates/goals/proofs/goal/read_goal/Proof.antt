@@ -1,23 +1,54 @@
 -- `goals::goal::read_goal` meets its contract: what its lines say, and the weight. Assumes nothing.
 use borrow.Author.Needs.{needs}
-use mathlib.Core.Path.{sym, ap, _∙_}
-use Prim.Native.Nat.{_*_}
+use mathlib.Core.Path.{_≡_, sym}
+use mathlib.Core.List.{List}
+use Prim.Native.Nat.{ℕ, _*_, _≤_}
 use native.Mathlib.Omega.{arith}
+use lib.ListN.{length}
 use lib.Seq.{length-take-le}
-use Rattle.goals.specs.ReadGoal.{GoalFits, goalLinesAnswer, goalAnswer}
+use Rattle.syntax.specs.Answers.{Answer, accepted}
+use Rattle.syntax.specs.Goals.{GoalDraft}
+use Rattle.goals.specs.declared.goal.GoalCounts.{GoalCounts}
+use Rattle.goals.specs.declared.goal.GoalRead.{GoalRead}
+use Rattle.goals.specs.declared.goal.GoalRead.the-variants.{Accepted}
+use Rattle.goals.specs.ReadGoal.{GoalFits, goalDraftOf, goalLinesFit, goalLinesAnswer, goalAnswer}
 use Rattle.goals.proofs.GoalSteps.{goal-long, goal-refused, goal-overweight, goal-accepted}
 use Rattle.goals.proofs.goal.read_goal.Statement.{statement}
 use Rattle.goals.proofs.goal.read_goal.Tie as tie
 
+-- lines that are not refused
+lines-fit : (symbols : List ℕ) (k n : ℕ) (cells letters : List ℕ) (r : GoalRead) (s : GoalCounts) → r ≡ Accepted s
+    → goalLinesFit symbols k n cells letters r → GoalFits symbols k n cells letters s
+lines-fit symbols k n cells letters r s q f = rw q at f
+
+lines-are : (program goal constants : List ℕ) (n : ℕ) (cells letters : List ℕ) (r : GoalRead) (s : GoalCounts)
+    (a : Answer GoalDraft)
+    → r ≡ Accepted s → goalLinesAnswer program goal constants n cells letters r ≡ a
+    → accepted (goalDraftOf program goal constants n cells letters s) ≡ a
+unfolding goalLinesAnswer
+lines-are program goal constants n cells letters r s a q e = rw q at e
+
+-- what `goal_lines` found
+abbrev read : tie.After-counts → tie.After-goal-lines
+read q = q .before .before .before .before .before .before .before .before
+
+abbrev entry : tie.After-goal-lines → tie.Start
+entry l = l .before .before .before .before .before .before .before .before .before .before .before .before .before
+
+abbrev cells : tie.After-counts → List ℕ
+cells q = read q .goal-lines .last .1 .1 .1 .1 .1 .1 .1 .0
+
+fits : (q : tie.After-counts) → GoalFits (entry (read q) .args .symbols .now) (entry (read q) .args .k) (entry (read q) .args .n)
+    (cells q) (read q .goal-lines .last .1 .1 .1 .1 .1 .1 .1 .1 .0) (q .counts .given .0 .0)
+fits q = lines-fit _ _ _ _ _ _ _ (q .counts .given .1) (read q .goal-lines .ensures .1)
+
+room : (q : tie.After-counts) → 5 * q .counts .given .0 .0 .constraints ≤ length (cells q)
+room q =
+    omega (arith, fits q .few, read q .goal-lines .kept .1 .1 .1 .1 .1 .1 .1 .0, entry (read q) .pre .constraint-cells)
+
 returns : tie.Need-returns
 unfolding goalAnswer
-returns c =
-    let args′ = c .before .before .before .before .before .before .before .args in (
-      λ p t. goal-long (args′ .program .now) (args′ .goal .now) (args′ .constants .now) (args′ .n) (args′ .symbols .now)
-          (args′ .k)
-          p t ((c .if1) .taken),
-      omega arith,
-    )
+returns c = (λ p t. search goal-long, omega arith)
 
 classes-requires : tie.Need-classes-requires
 classes-requires c κs = search needs
@@ -35,59 +66,22 @@ enum-known-counts : tie.Need-enum-known-counts
 enum-known-counts c = search needs
 
 mul-end : tie.Need-mul-end
-mul-end c =
-    let args′ = c .before .before .before .before .before .before .before .before .before .before .before .before .before .before
-    .before .before .before .before .before .before .before .before .before .args in
-    let goal-lines′ = c .before .before .before .before .before .before .before .before .before .before .goal-lines in
-    let counts′ = c .before .before .counts in
-    let f : GoalFits (args′ .symbols .now) (args′ .k) (args′ .n) (goal-lines′ .last .1 .1 .1 .1 .1 .1 .1 .0)
-    (goal-lines′ .last .1 .1 .1 .1 .1 .1 .1 .1 .0) (counts′ .given .0 .0) = rw (counts′ .given .1) at (goal-lines′ .ensures .1) in
-    omega (arith, f .few)
+mul-end c = omega (arith, fits (c .before .before) .few)
 
 slice-reshare-prefix-weight-of : tie.Need-slice-reshare-prefix-weight-of
-slice-reshare-prefix-weight-of c =
-    let args′ = c .before .before .before .before .before .before .before .before .before .before .before .before .before .before
-    .before .before .before .before .before .before .before .before .before .args in
-    let pre′ = c .before .before .before .before .before .before .before .before .before .before .before .before .before .before
-    .before .before .before .before .before .before .before .before .before .pre in
-    let goal-lines′ = c .before .before .before .before .before .before .before .before .before .before .goal-lines in
-    let counts′ = c .before .before .counts in
-    let f : GoalFits (args′ .symbols .now) (args′ .k) (args′ .n) (goal-lines′ .last .1 .1 .1 .1 .1 .1 .1 .0)
-    (goal-lines′ .last .1 .1 .1 .1 .1 .1 .1 .1 .0) (counts′ .given .0 .0) = rw (counts′ .given .1) at (goal-lines′ .ensures .1) in
-    omega (arith, f .few, goal-lines′ .kept .1 .1 .1 .1 .1 .1 .1 .0, pre′ .constraint-cells)
+slice-reshare-prefix-weight-of c = omega (arith, room (c .before .before))
 
 slice-aggregate-weight-of : tie.Need-slice-aggregate-weight-of
 slice-aggregate-weight-of c =
-    let args′ = c .before .before .before .before .before .before .before .before .before .before .before .before .before .before
-    .before .before .before .before .before .before .before .before .before .before .args in
-    let pre′ = c .before .before .before .before .before .before .before .before .before .before .before .before .before .before
-    .before .before .before .before .before .before .before .before .before .before .pre in
-    let goal-lines′ = c .before .before .before .before .before .before .before .before .before .before .before .goal-lines in
-    let counts′ = c .before .before .before .counts in
-    let f : GoalFits (args′ .symbols .now) (args′ .k) (args′ .n) (goal-lines′ .last .1 .1 .1 .1 .1 .1 .1 .0)
-    (goal-lines′ .last .1 .1 .1 .1 .1 .1 .1 .1 .0) (counts′ .given .0 .0) = rw (counts′ .given .1) at (goal-lines′ .ensures .1) in
-    sym (length-take-le (5 * counts′ .given .0 .0 .constraints) (goal-lines′ .last .1 .1 .1 .1 .1 .1 .1 .0)
-    (omega (arith, f .few, goal-lines′ .kept .1 .1 .1 .1 .1 .1 .1 .0, pre′ .constraint-cells)))
+    let q = c .before .before .before in
+    sym (length-take-le (5 * q .counts .given .0 .0 .constraints) (cells q) (room q))
 
 weight-of-requires : tie.Need-weight-of-requires
 weight-of-requires c κs =
-    let args′ = c .before .before .before .before .before .before .before .before .before .before .before .before .before .before
-    .before .before .before .before .before .before .before .before .before .before .args in
-    let pre′ = c .before .before .before .before .before .before .before .before .before .before .before .before .before .before
-    .before .before .before .before .before .before .before .before .before .before .pre in
-    let goal-lines′ = c .before .before .before .before .before .before .before .before .before .before .before .goal-lines in
-    let counts′ = c .before .before .before .counts in
-    let f : GoalFits (args′ .symbols .now) (args′ .k) (args′ .n) (goal-lines′ .last .1 .1 .1 .1 .1 .1 .1 .0)
-    (goal-lines′ .last .1 .1 .1 .1 .1 .1 .1 .1 .0) (counts′ .given .0 .0) =
-    rw (counts′ .given .1) at (goal-lines′ .ensures .1) in (
-      omega (arith, pre′ .symbol-cells, pre′ .few-symbols),
-      omega (
-        arith,
-        f .few,
-        length-take-le (5 * counts′ .given .0 .0 .constraints) (goal-lines′ .last .1 .1 .1 .1 .1 .1 .1 .0)
-            (omega (arith, f .few, goal-lines′ .kept .1 .1 .1 .1 .1 .1 .1 .0, pre′ .constraint-cells)),
-      ),
-    )
+    let q = c .before .before .before in
+    let pre = entry (read q) .pre in
+    let sized = length-take-le (5 * q .counts .given .0 .0 .constraints) (cells q) (room q) in
+    (omega (arith, pre .symbol-cells, pre .few-symbols), omega (arith, fits q .few, sized))
 
 same-length : tie.Need-same-length
 same-length c = search needs
@@ -101,22 +95,15 @@ same-length-3 c = search needs
 returns-2 : tie.Need-returns-2
 unfolding goalLinesAnswer
 returns-2 c =
-    let args′ = c .before .before .before .before .before .before .before .before .before .before .before .before .before .before
-    .before .before .before .before .before .before .before .before .before .before .before .before .args in
-    let program′ = args′ .program .now in
-    let goal′ = args′ .goal .now in
-    let if1′ = c .before .before .before .before .before .before .before .before .before .before .before .before .before .before
-    .before .before .before .before .before .if1 in
-    let goal-lines′ = c .before .before .before .before .before .before .before .before .before .before .before .before .before
-    .goal-lines in
-    let counts′ = c .before .before .before .before .before .counts in (
-      λ p t. goal-overweight program′ goal′ (args′ .constants .now) (args′ .n) (args′ .symbols .now) (args′ .k) p t
-          (omega (arith, if1′ .left)) (goal-lines′ .last .1 .1 .1 .1 .1 .0) (goal-lines′ .last .1 .1 .1 .1 .1 .1 .1 .0)
-          (goal-lines′ .last .1 .1 .1 .1 .1 .1 .1 .1 .0) (counts′ .given .0 .0)
-          (ap (goalLinesAnswer program′ goal′ (goal-lines′ .last .1 .1 .1 .1 .1 .0) (args′ .n)
-          (goal-lines′ .last .1 .1 .1 .1 .1 .1 .1 .0) (goal-lines′ .last .1 .1 .1 .1 .1 .1 .1 .1 .0)) (sym (counts′ .given .1))
-          ∙ goal-lines′ .ensures .0)
-          (omega (arith, (c .before .weight-of) .ensures program′, (c .if2) .taken)),
+    let q = c .before .before .before .before .before in
+    let lines = read q in
+    let args = entry lines .args in
+    let known = lines-are _ _ _ _ (cells q) _ _ _ _ (q .counts .given .1) (lines .goal-lines .ensures .0) in
+    let short = lines .before .before .before .before .before .before .if1 .left in (
+      λ p t. goal-overweight (args .program .now) (args .goal .now) (args .constants .now) (args .n) (args .symbols .now)
+          (args .k)
+          p t (omega (arith, short)) _ (cells q) _ (q .counts .given .0 .0) known
+          (omega (arith, c .before .weight-of .ensures (args .program .now), c .if2 .taken)),
       omega arith,
     )
 
@@ -132,19 +119,9 @@ same-length-6 c = search needs
 returns-3 : tie.Need-returns-3
 unfolding goalLinesAnswer goalAnswer
 returns-3 c =
-    let args′ = c .before .before .before .before .before .before .before .before .before .before .before .before .before .before
-    .before .before .before .before .before .before .before .before .args in
-    let if1′ = c .before .before .before .before .before .before .before .before .before .before .before .before .before .before
-    .before .if1 in
-    let goal-lines′ = c .before .before .before .before .before .before .before .before .before .goal-lines in
-    let x′ = c .before .x in (
-      λ p t. goal-refused (args′ .program .now) (args′ .goal .now) (args′ .constants .now) (args′ .n) (args′ .symbols .now)
-          (args′ .k) p t (omega (arith, if1′ .left)) (x′ .given .0 .0) (x′ .given .0 .1 .0)
-          (ap (goalLinesAnswer (args′ .program .now) (args′ .goal .now) (goal-lines′ .last .1 .1 .1 .1 .1 .0) (args′ .n)
-          (goal-lines′ .last .1 .1 .1 .1 .1 .1 .1 .0) (goal-lines′ .last .1 .1 .1 .1 .1 .1 .1 .1 .0)) (sym (x′ .given .1))
-          ∙ goal-lines′ .ensures .0),
-      omega arith,
-    )
+    let lines = c .before .before .before .before .before .before .before .before .before in
+    let refused = rw (c .before .x .given .1) at (lines .goal-lines .ensures .0) in
+    (λ p t. search (goal-refused, refused, lines .before .before .before .before .before .before .if1 .left), omega arith)
 
 same-length-7 : tie.Need-same-length-7
 same-length-7 c = search needs
@@ -158,29 +135,15 @@ same-length-9 c = search needs
 returns-4 : tie.Need-returns-4
 unfolding goalLinesAnswer
 returns-4 c =
-    let args′ = c .before .before .before .before .before .before .before .before .before .before .before .before .before .before
-    .before .before .before .before .before .before .before .before .before .before .before .before .args in
-    let symbols′ = args′ .symbols .now in
-    let program′ = args′ .program .now in
-    let goal′ = args′ .goal .now in
-    let if1′ = c .before .before .before .before .before .before .before .before .before .before .before .before .before .before
-    .before .before .before .before .before .if1 in
-    let goal-lines′ = c .before .before .before .before .before .before .before .before .before .before .before .before .before
-    .goal-lines in
-    let counts′ = c .before .before .before .before .before .counts in
-    let weight-of′ = c .before .weight-of in
-    let if2′ = c .if2 in
-    let f : GoalFits symbols′ (args′ .k) (args′ .n) (goal-lines′ .last .1 .1 .1 .1 .1 .1 .1 .0)
-    (goal-lines′ .last .1 .1 .1 .1 .1 .1 .1 .1 .0) (counts′ .given .0 .0) =
-    rw (counts′ .given .1) at (goal-lines′ .ensures .1) in (
-      λ p t. goal-accepted program′ goal′ (args′ .constants .now) (args′ .n) symbols′ (args′ .k) p t (omega (arith, if1′ .left))
-          (goal-lines′ .last .1 .1 .1 .1 .1 .0) (goal-lines′ .last .1 .1 .1 .1 .1 .1 .1 .0)
-          (goal-lines′ .last .1 .1 .1 .1 .1 .1 .1 .1 .0) (counts′ .given .0 .0)
-          (ap (goalLinesAnswer program′ goal′ (goal-lines′ .last .1 .1 .1 .1 .1 .0) (args′ .n)
-          (goal-lines′ .last .1 .1 .1 .1 .1 .1 .1 .0) (goal-lines′ .last .1 .1 .1 .1 .1 .1 .1 .1 .0)) (sym (counts′ .given .1))
-          ∙ goal-lines′ .ensures .0)
-          (omega (arith, weight-of′ .ensures program′, if2′ .left)),
-      (f, omega (arith, weight-of′ .ensures program′, if2′ .left)),
+    let q = c .before .before .before .before .before in
+    let lines = read q in
+    let args = entry lines .args in
+    let known = lines-are _ _ _ _ (cells q) _ _ _ _ (q .counts .given .1) (lines .goal-lines .ensures .0) in
+    let short = lines .before .before .before .before .before .before .if1 .left in
+    let light = c .before .weight-of .ensures (args .program .now) in (
+      λ p t. goal-accepted (args .program .now) (args .goal .now) (args .constants .now) (args .n) (args .symbols .now) (args .k)
+          p t (omega (arith, short)) _ (cells q) _ (q .counts .given .0 .0) known (omega (arith, light, c .if2 .left)),
+      (fits q, omega (arith, light, c .if2 .left)),
     )
 
 pub read-goal-spec : {M : Type 1} → statement M

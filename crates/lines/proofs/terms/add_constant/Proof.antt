@@ -1,17 +1,7 @@
 -- `lines::terms::add_constant` meets its contract: a name that no constant has, and no other field, is one more. Assumes nothing.
 use borrow.Author.Needs.{needs}
-use mathlib.Core.Path.{_≡_, sym, ap, _∙_}
-use mathlib.Core.Bool.{true}
-use mathlib.Core.List.{List}
-use Prim.Native.Nat.{ℕ, _-_}
-use native.Mathlib.Numerals.{add-one}
 use native.Mathlib.Omega.{arith}
-use borrow.Author.Tests.{not-true, not-false}
-use lib.ListN.{take, drop, length-set}
-use Rattle.text.specs.Lists.{placeOf}
-use Rattle.text.specs.Fields.{isName}
-use Rattle.text.proofs.Cursors.{drop-take}
-use Rattle.syntax.specs.Tables.{part, constantsOf}
+use lib.ListN.{length-set}
 use Rattle.lines.specs.Read.{addedOf}
 use Rattle.lines.proofs.Constants.{after-none, after-known, after-full, after-new}
 use Rattle.lines.proofs.terms.add_constant.Statement.{statement}
@@ -31,15 +21,7 @@ is-name-requires c κs = search needs
 
 returns : tie.Need-returns
 unfolding addedOf
-returns c =
-    let args′ = c .before .before .before .before .before .before .before .args in
-    let second′ = args′ .second .now in
-    let pre′ = c .before .before .before .before .before .before .before .pre in
-    let is-name′ = c .before .is-name in
-    after-none (args′ .first .now) second′ (args′ .cells .now) (args′ .n) (args′ .m)
-    (drop (args′ .start) (take (args′ .end) second′)) (pre′ .5)
-    (ap isName (drop-take (args′ .start) (args′ .end) second′ (pre′ .1))
-    ∙ sym (is-name′ .ensures) ∙ not-true (is-name′ .result) ((c .if1) .taken))
+returns c = search after-none
 
 find-constant-requires : tie.Need-find-constant-requires
 find-constant-requires c κs = search needs
@@ -53,23 +35,10 @@ same-length c = search needs
 returns-2 : tie.Need-returns-2
 unfolding addedOf
 returns-2 c =
-    let args′ = c .before .before .before .before .before .before .before .before .before .before .args in
-    let second′ = args′ .second .now in
-    let first′ = args′ .first .now in
-    let cells′ = args′ .cells .now in
-    let pre′ = c .before .before .before .before .before .before .before .before .before .before .pre in
-    let is-name′ = c .before .before .before .before .is-name in
-    let find-constant′ = c .before .find-constant in
-    let named : isName (drop (args′ .start) (take (args′ .end) second′)) ≡ true =
-    ap isName (drop-take (args′ .start) (args′ .end) second′ (pre′ .1))
-    ∙ sym (is-name′ .ensures) ∙ not-false (is-name′ .result) ((c .before .before .before .if1) .left) in
-    let found : find-constant′ .result ≡ placeOf (drop (args′ .start) (take (args′ .end) second′))
-    (constantsOf first′ second′ cells′ (args′ .n) (args′ .m)) =
-    find-constant′ .ensures .0
-    ∙ ap (λ (f : List ℕ). placeOf f (constantsOf first′ second′ cells′ (args′ .n) (args′ .m)))
-    (sym (drop-take (args′ .start) (args′ .end) second′ (pre′ .1))) in
-    after-known first′ second′ cells′ (args′ .n) (args′ .m)
-    (drop (args′ .start) (take (args′ .end) second′)) (pre′ .5) (find-constant′ .result) named found ((c .if2) .taken)
+    let named = c .before .before .before in
+    let pre = named .before .before .before .before .before .before .before .pre in
+    let found = c .before .find-constant .ensures in
+    search (after-known, named .before .is-name .ensures, named .if1 .left, found .0, c .if2 .taken, pre .1, pre .5)
 
 same-length-2 : tie.Need-same-length-2
 same-length-2 c = search needs
@@ -77,24 +46,13 @@ same-length-2 c = search needs
 returns-3 : tie.Need-returns-3
 unfolding addedOf
 returns-3 c =
-    let args′ = c .before .before .before .before .before .before .before .before .before .before .before .args in
-    let second′ = args′ .second .now in
-    let first′ = args′ .first .now in
-    let cells′ = args′ .cells .now in
-    let pre′ = c .before .before .before .before .before .before .before .before .before .before .before .pre in
-    let is-name′ = c .before .before .before .before .before .is-name in
-    let find-constant′ = c .before .before .find-constant in
-    let named : isName (drop (args′ .start) (take (args′ .end) second′)) ≡ true =
-    ap isName (drop-take (args′ .start) (args′ .end) second′ (pre′ .1))
-    ∙ sym (is-name′ .ensures) ∙ not-false (is-name′ .result) ((c .before .before .before .before .if1) .left) in
-    let found : find-constant′ .result ≡ placeOf (drop (args′ .start) (take (args′ .end) second′))
-    (constantsOf first′ second′ cells′ (args′ .n) (args′ .m)) =
-    find-constant′ .ensures .0
-    ∙ ap (λ (f : List ℕ). placeOf f (constantsOf first′ second′ cells′ (args′ .n) (args′ .m)))
-    (sym (drop-take (args′ .start) (args′ .end) second′ (pre′ .1))) in
-    after-full first′ second′ cells′ (args′ .n) (args′ .m)
-    (drop (args′ .start) (take (args′ .end) second′)) (pre′ .5) (find-constant′ .result) named found
-    ((c .before .if2) .left) (find-constant′ .ensures .1) ((c .if3) .taken)
+    let named = c .before .before .before .before in
+    let start = named .before .before .before .before .before .before .before in
+    let args = start .args in
+    let found = c .before .before .find-constant .ensures in
+    after-full (args .first .now) (args .second .now) (args .cells .now) (args .n) (args .m) (args .start) (args .end) _
+    (named .before .is-name .ensures) (start .pre .1) (start .pre .5) (named .if1 .left) _ (found .0) (c .before .if2 .left)
+    (found .1) (c .if3 .taken)
 
 cast-cells : tie.Need-cast-cells
 cast-cells c = search needs
@@ -133,28 +91,13 @@ same-length-3 : tie.Need-same-length-3
 same-length-3 c = search needs
 
 returns-4 : tie.Need-returns-4
-unfolding addedOf part
+unfolding addedOf
 returns-4 c =
-    let args′ = c .before .before .before .before .before .before .before .before .before .before .before .args in
-    let second′ = args′ .second .now in
-    let first′ = args′ .first .now in
-    let cells′ = args′ .cells .now in
-    let pre′ = c .before .before .before .before .before .before .before .before .before .before .before .pre in
-    let is-name′ = c .before .before .before .before .before .is-name in
-    let find-constant′ = c .before .before .find-constant in
-    let named : isName (drop (args′ .start) (take (args′ .end) second′)) ≡ true =
-    ap isName (drop-take (args′ .start) (args′ .end) second′ (pre′ .1))
-    ∙ sym (is-name′ .ensures) ∙ not-false (is-name′ .result) ((c .before .before .before .before .if1) .left) in
-    let found : find-constant′ .result ≡ placeOf (drop (args′ .start) (take (args′ .end) second′))
-    (constantsOf first′ second′ cells′ (args′ .n) (args′ .m)) =
-    find-constant′ .ensures .0
-    ∙ ap (λ (f : List ℕ). placeOf f (constantsOf first′ second′ cells′ (args′ .n) (args′ .m)))
-    (sym (drop-take (args′ .start) (args′ .end) second′ (pre′ .1))) in
-    rw (add-one (args′ .m)) (after-new first′ second′ cells′ (args′ .n) (args′ .m)
-    (drop (args′ .start) (take (args′ .end) second′)) (pre′ .5) (find-constant′ .result) (args′ .start)
-    (args′ .end - args′ .start)
-    named found ((c .before .if2) .left) (find-constant′ .ensures .1) ((c .if3) .left) (pre′ .4)
-    (drop-take (args′ .start) (args′ .end) second′ (pre′ .1)))
+    let named = c .before .before .before .before in
+    let pre = named .before .before .before .before .before .before .before .pre in
+    let found = c .before .before .find-constant .ensures in
+    let is-name = named .before .is-name .ensures in
+    search (after-new, is-name, named .if1 .left, found .0, found .1, c .before .if2 .left, c .if3 .left, pre .1, pre .4, pre .5)
 
 pub add-constant-spec : {M : Type 1} → statement M
 add-constant-spec =

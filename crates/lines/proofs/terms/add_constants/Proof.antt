@@ -1,22 +1,17 @@
 -- `lines::terms::add_constants` meets its contract: the constants after the fields left, from those so far, are the answer.
 -- Assumes nothing.
 use borrow.Author.Needs.{needs}
-use mathlib.Core.Path.{_≡_, refl, sym, ap, _∙_}
-use mathlib.Core.List.{List}
-use mathlib.Core.Option.{some}
-use Prim.Native.Nat.{ℕ, suc, _≤_, _+_, _-_}
+use mathlib.Core.Path.{_≡_, refl, sym, _∙_}
+use Prim.Native.Nat.{suc, _≤_, _+_, _-_}
 use native.Mathlib.Numerals.{add-one}
 use native.Mathlib.Omega.{arith}
-use lib.ListN.{length, take, drop}
+use lib.ListN.{length, take}
 use lib.Seq.{length-take-le}
 use Rattle.text.specs.Places.{fieldsFrom}
-use Rattle.text.proofs.Cursors.{fields-out}
 use Rattle.syntax.specs.Forms.{constantsAfter}
 use Rattle.syntax.specs.Tables.{constantsOf}
 use Rattle.lines.specs.Read.{addedOf, roomy}
-use Rattle.syntax.proofs.Tabled.{constants-length}
 use Rattle.lines.proofs.Constants.{added-step, added-full, added-end, added-fits}
-use Rattle.lines.proofs.Cells.{line-field}
 use Rattle.lines.proofs.terms.add_constants.Statement.{statement}
 use Rattle.lines.proofs.terms.add_constants.Tie as tie
 
@@ -31,133 +26,70 @@ abbrev μ-loop : tie.MeasureT-loop
 
 slice-aggregate-line : tie.Need-slice-aggregate-line Inv-loop μ-loop
 slice-aggregate-line c =
-    let args′ = c .before .before .before .before .before .args in
-    let pre′ = c .before .before .before .before .before .pre in
-    sym (length-take-le (args′ .end) (args′ .second .now) (pre′ .2))
+    let start = c .before .before .before .before .before in
+    sym (length-take-le (start .args .end) (start .args .second .now) (start .pre .2))
 
 loop-holds : tie.Need-loop-holds Inv-loop μ-loop
-loop-holds c = ((c .before .before .before .before .before .pre) .4, omega arith, omega arith, refl)
+loop-holds c = (c .before .before .before .before .before .pre .4, omega arith, omega arith, refl)
 
 field-end-requires : tie.Need-field-end-requires Inv-loop μ-loop
 field-end-requires c κs =
-    let args′ = c .before .before .before .before .before .before .before .args in
-    let pre′ = c .before .before .before .before .before .before .before .pre in
-    omega (arith, length-take-le (args′ .end) (args′ .second .now) (pre′ .2))
+    let start = c .before .before .before .before .before .before .before in
+    omega (arith, length-take-le (start .args .end) (start .args .second .now) (start .pre .2))
 
 add-constant-requires : tie.Need-add-constant-requires Inv-loop μ-loop
 add-constant-requires c κs =
-    let args′ = c .before .before .before .before .before .before .before .before .before .args in
-    let second′ = args′ .second .now in
-    let pre′ = c .before .before .before .before .before .before .before .before .before .pre in
-    let loop′ = c .before .before .before .loop in
-    let field-end′ = c .before .field-end in
-    let sized : length (take (args′ .end) second′) ≡ args′ .end =
-    length-take-le (args′ .end) second′ (pre′ .2) in
-    (pre′ .0, field-end′ .ensures .1, omega (arith, field-end′ .ensures .2), pre′ .3, loop′ .inv .0, loop′ .inv .1)
+    let start = c .before .before .before .before .before .before .before .before .before in
+    let pre = start .pre in
+    let loop = c .before .before .before .loop in
+    let ends = c .before .field-end .ensures in
+    let sized = length-take-le (start .args .end) (start .args .second .now) (pre .2) in
+    (pre .0, ends .1, omega (arith, ends .2, sized), pre .3, loop .inv .0, loop .inv .1)
 
 enum-told : tie.Need-enum-told Inv-loop μ-loop
 enum-told c = search needs
 
 same-length : tie.Need-same-length Inv-loop μ-loop
-same-length c =
-    let pre′ = c .before .before .before .before .before .before .before .before .before .before .before .before .before .before
-    .pre in
-    let loop′ = c .before .before .before .before .before .before .before .before .loop in
-    (c .before .before .before .before .add-constant) .kept .1 .1 .1 .1 .1 .0 ∙ loop′ .inv .0 ∙ sym (pre′ .4)
+same-length c = search needs
 
 returns : tie.Need-returns Inv-loop μ-loop
 unfolding addedOf
-returns c =
-    let args′ = c .before .before .before .before .before .before .before .before .before .before .before .before .before .before
-    .args in
-    let second′ = args′ .second .now in
-    let first′ = args′ .first .now in
-    let pre′ = c .before .before .before .before .before .before .before .before .before .before .before .before .before .before
-    .pre in
-    let loop′ = c .before .before .before .before .before .before .before .before .loop in
-    let loop-test′ = c .before .before .before .before .before .before .before .loop-test in
-    let field-end′ = c .before .before .before .before .before .before .field-end in
-    let add-constant′ = c .before .before .before .before .add-constant in
-    added-full (drop (loop′ .start) (take (field-end′ .result) second′)) (fieldsFrom (take (args′ .end) second′) (loop′ .start))
-    (fieldsFrom (take (args′ .end) second′) (suc (field-end′ .result)))
-    (constantsOf first′ second′ (loop′ .cells) (args′ .n) (loop′ .count))
-    (line-field second′ (loop′ .start) (field-end′ .result) (args′ .end) (loop-test′ .taken) (pre′ .2)
-    (field-end′ .ensures .0) (field-end′ .ensures .2))
-    (ap (addedOf first′ second′ (add-constant′ .last .1 .1 .1 .1 .1 .0) (args′ .n)) (sym ((c .enum-told) .given .1))
-    ∙ add-constant′ .ensures)
-    ∙ loop′ .inv .3
+returns c = search (added-full, rw (c .enum-told .given .1) at (c .before .before .before .before .add-constant .ensures))
 
 enum-known-k : tie.Need-enum-known-k Inv-loop μ-loop
 enum-known-k c = search needs
 
 add-start : tie.Need-add-start Inv-loop μ-loop
 add-start c =
-    let args′ = c .before .before .before .before .before .before .before .before .before .before .before .before .before .before
-    .before .args in
-    let second′ = args′ .second .now in
-    let pre′ = c .before .before .before .before .before .before .before .before .before .before .before .before .before .before
-    .before .pre in
-    let field-end′ = c .before .before .before .before .before .before .before .field-end in
-    let sized : length (take (args′ .end) second′) ≡ args′ .end =
-    length-take-le (args′ .end) second′ (pre′ .2) in
-    record { fits = omega (arith, field-end′ .ensures .2, pre′ .2, pre′ .3) }
+    let start =
+    c .before .before .before .before .before .before .before .before .before .before .before .before .before .before .before in
+    let ends = c .before .before .before .before .before .before .before .field-end .ensures in
+    let sized = length-take-le (start .args .end) (start .args .second .now) (start .pre .2) in
+    record { fits = omega (arith, ends .2, sized, start .pre .2, start .pre .3) }
 
 loop-less : tie.Need-loop-less Inv-loop μ-loop
-loop-less c =
-    let loop-test′ = c .before .before .before .before .before .before .before .before .loop-test in
-    let field-end′ = c .before .before .before .before .before .before .before .field-end in
-    omega (arith, field-end′ .ensures .1, field-end′ .ensures .2, loop-test′ .taken)
+loop-less c = search needs
 
 loop-again : tie.Need-loop-again Inv-loop μ-loop
 unfolding addedOf
 loop-again c =
-    let args′ = c .before .before .before .before .before .before .before .before .before .before .before .before .before .before
-    .before .args in
-    let second′ = args′ .second .now in
-    let first′ = args′ .first .now in
-    let pre′ = c .before .before .before .before .before .before .before .before .before .before .before .before .before .before
-    .before .pre in
-    let loop′ = c .before .before .before .before .before .before .before .before .before .loop in
-    let loop-test′ = c .before .before .before .before .before .before .before .before .loop-test in
-    let field-end′ = c .before .before .before .before .before .before .before .field-end in
-    let add-constant′ = c .before .before .before .before .before .add-constant in
-    let k′ = c .before .k in
-    let sized : length (take (args′ .end) second′) ≡ args′ .end = length-take-le (args′ .end) second′ (pre′ .2) in
-    let cells : List ℕ = add-constant′ .last .1 .1 .1 .1 .1 .0 in
-    let known : some (constantsOf first′ second′ cells (args′ .n) (k′ .given .0 .0)) ≡ _ =
-    ap (addedOf first′ second′ cells (args′ .n)) (sym (k′ .given .1)) ∙ add-constant′ .ensures in (
-      add-constant′ .kept .1 .1 .1 .1 .1 .0 ∙ loop′ .inv .0,
-      omega (
-        arith,
-        added-fits first′ second′ cells (args′ .n) (k′ .given .0 .0) _ known,
-      ),
-      omega (arith, field-end′ .ensures .2),
-      rw (add-one (field-end′ .result))
-          (sym (added-step (drop (loop′ .start) (take (field-end′ .result) second′))
-          (fieldsFrom (take (args′ .end) second′) (loop′ .start))
-          (fieldsFrom (take (args′ .end) second′) (suc (field-end′ .result)))
-          (constantsOf first′ second′ (loop′ .cells) (args′ .n) (loop′ .count))
-          (line-field second′ (loop′ .start) (field-end′ .result) (args′ .end) (loop-test′ .taken) (pre′ .2)
-          (field-end′ .ensures .0) (field-end′ .ensures .2)) _ known) ∙ loop′ .inv .3),
+    let added = c .before .before .before .before .before in
+    let loop = added .before .before .before .before .loop in
+    let ends = added .before .before .field-end .ensures in
+    let start = added .before .before .before .before .before .before .before .before .before .before in
+    let known = rw (c .before .k .given .1) at (added .add-constant .ensures) in (
+      added .add-constant .kept .1 .1 .1 .1 .1 .0 ∙ loop .inv .0,
+      added-fits _ _ _ _ _ _ known,
+      omega (arith, ends .2, length-take-le (start .args .end) (start .args .second .now) (start .pre .2)),
+      rw (add-one (added .before .before .field-end .result)) (search (added-step, known)),
     )
 
 same-length-2 : tie.Need-same-length-2 Inv-loop μ-loop
-same-length-2 c = (c .before .loop) .inv .0 ∙ sym ((c .before .before .before .before .before .before .before .pre) .4)
+same-length-2 c = search needs
 
 returns-2 : tie.Need-returns-2 Inv-loop μ-loop
 unfolding addedOf
-returns-2 c =
-    let args′ = c .before .before .before .before .before .before .before .args in
-    let first′ = args′ .first .now in
-    let second′ = args′ .second .now in
-    let pre′ = c .before .before .before .before .before .before .before .pre in
-    let loop′ = c .before .loop in
-    let sized : length (take (args′ .end) second′) ≡ args′ .end = length-take-le (args′ .end) second′ (pre′ .2) in
-    added-end (fieldsFrom (take (args′ .end) second′) (loop′ .start))
-    (constantsOf first′ second′ (loop′ .cells) (args′ .n) (loop′ .count))
-    (fields-out (take (args′ .end) second′) (loop′ .start) (omega (arith, (c .loop-test) .left)))
-    (omega (arith, constants-length first′ second′ (loop′ .cells) (args′ .n) (loop′ .count)))
-    ∙ loop′ .inv .3
+returns-2 c = search added-end
 
 pub add-constants-spec : {M : Type 1} → statement M
 add-constants-spec =

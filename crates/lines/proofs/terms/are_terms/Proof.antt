@@ -1,16 +1,14 @@
 -- `lines::terms::are_terms` meets its contract: the fields passed are terms, so the rest decides. Assumes nothing.
 use borrow.Author.Needs.{needs}
-use mathlib.Core.Path.{_≡_, refl, sym, ap, _∙_}
+use mathlib.Core.Path.{_≡_, refl}
 use Prim.Native.Nat.{suc, _≤_, _+_, _-_}
 use native.Mathlib.Numerals.{add-one}
 use native.Mathlib.Omega.{arith}
-use borrow.Author.Tests.{not-true, not-false}
 use lib.ListN.{length}
 use Rattle.text.specs.Lists.{every}
 use Rattle.text.specs.Fields.{isTerm}
 use Rattle.text.specs.Places.{fieldsFrom}
-use Rattle.text.proofs.Cursors.{fields-out}
-use Rattle.lines.proofs.Cells.{field-cut, terms-fail, terms-step}
+use Rattle.lines.proofs.Cells.{terms-out, terms-fail, terms-step}
 use Rattle.lines.proofs.terms.are_terms.Statement.{statement}
 use Rattle.lines.proofs.terms.are_terms.Tie as tie
 
@@ -40,16 +38,7 @@ is-term-requires : tie.Need-is-term-requires Inv-loop μ-loop
 is-term-requires c κs = search needs
 
 returns : tie.Need-returns Inv-loop μ-loop
-returns c =
-    let args′ = c .before .before .before .before .before .before .before .before .args in
-    let line′ = args′ .line .now in
-    let loop′ = c .before .before .before .before .before .loop in
-    let field-end′ = c .before .before .before .field-end in
-    let is-term′ = c .before .is-term in
-    sym (terms-fail _ (fieldsFrom line′ (loop′ .start)) _
-    (field-cut line′ (loop′ .start) (field-end′ .result) ((c .before .before .before .before .loop-test) .taken)
-    (field-end′ .ensures .0))
-    (sym (is-term′ .ensures) ∙ not-true (is-term′ .result) ((c .if1) .taken))) ∙ loop′ .inv .1
+returns c = search terms-fail
 
 add-start : tie.Need-add-start Inv-loop μ-loop
 add-start c = search needs
@@ -58,24 +47,10 @@ loop-less : tie.Need-loop-less Inv-loop μ-loop
 loop-less c = search needs
 
 loop-again : tie.Need-loop-again Inv-loop μ-loop
-loop-again c =
-    let args′ = c .before .before .before .before .before .before .before .before .args in
-    let line′ = args′ .line .now in
-    let loop′ = c .before .before .before .before .before .loop in
-    let field-end′ = c .before .before .before .field-end in
-    let is-term′ = c .before .is-term in (
-      omega arith,
-      rw add-one (sym (terms-step _ (fieldsFrom line′ (loop′ .start)) _
-          (field-cut line′ (loop′ .start) (field-end′ .result)
-          ((c .before .before .before .before .loop-test) .taken) (field-end′ .ensures .0))
-          (sym (is-term′ .ensures) ∙ not-false (is-term′ .result) ((c .if1) .left))) ∙ loop′ .inv .1),
-    )
+loop-again c = (omega arith, rw add-one (search terms-step))
 
 returns-2 : tie.Need-returns-2 Inv-loop μ-loop
-returns-2 c =
-    let loop′ = c .before .loop in
-    sym (ap (every isTerm) (fields-out ((c .before .before .before .before .args) .line .now) (loop′ .start)
-    ((c .loop-test) .left))) ∙ loop′ .inv .1
+returns-2 c = search terms-out
 
 pub are-terms-spec : {M : Type 1} → statement M
 are-terms-spec =

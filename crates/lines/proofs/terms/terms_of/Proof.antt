@@ -3,11 +3,11 @@
 use borrow.Author.Needs.{needs}
 use mathlib.Core.Path.{_≡_, sym, ap}
 use mathlib.Core.Bool.{true}
-use mathlib.Core.List.{List, map}
+use mathlib.Core.List.{List, _∷_, map}
 use Prim.Native.Nat.{ℕ, suc, _≤_, _+_, _-_}
 use native.Mathlib.Numerals.{add-one}
 use native.Mathlib.Omega.{arith}
-use lib.ListN.{length, take}
+use lib.ListN.{length, take, drop}
 use lib.Seq.{length-take-le}
 use Rattle.text.specs.Lists.{every, placeOf}
 use Rattle.text.specs.Fields.{isTerm}
@@ -32,28 +32,37 @@ Inv-loop classes first second at end cells n m letters v line r₀ j₀ start₀
 abbrev μ-loop : tie.MeasureT-loop
 μ-loop classes first second at end cells n m letters v line r₀ j₀ start₀ r j start = suc end - start
 
+-- the field that is found, and where it ends
+abbrev entry : tie.After-field-end Inv-loop μ-loop → tie.Start Inv-loop μ-loop
+entry p = p .before .before .before .before .before .before .before .before .before
+
+abbrev line : tie.After-field-end Inv-loop μ-loop → List ℕ
+line p = take (entry p .args .end) (entry p .args .second .now)
+
+inside : (p : tie.After-field-end Inv-loop μ-loop) → p .field-end .result ≤ entry p .args .end
+inside p =
+    omega (arith, p .field-end .ensures .2, length-take-le (entry p .args .end) (entry p .args .second .now) (entry p .pre .6))
+
+field : (p : tie.After-field-end Inv-loop μ-loop) → fieldsFrom (line p) (p .before .before .loop .start)
+    ≡ take (p .field-end .result - p .before .before .loop .start) (drop (p .before .before .loop .start) (line p))
+    ∷ fieldsFrom (line p) (suc (p .field-end .result))
+field p =
+    let ends = p .field-end .ensures in
+    field-cut (line p) (p .before .before .loop .start) (p .field-end .result) (omega (arith, ends .1, ends .2)) (ends .0)
+
 slice-aggregate-line : tie.Need-slice-aggregate-line Inv-loop μ-loop
 slice-aggregate-line c =
-    let args′ = c .before .before .before .before .before .before .args in
-    let pre′ = c .before .before .before .before .before .before .pre in
-    sym (length-take-le (args′ .end) (args′ .second .now) (pre′ .6))
+    let start = c .before .before .before .before .before .before in
+    sym (length-take-le (start .args .end) (start .args .second .now) (start .pre .6))
 
 loop-holds : tie.Need-loop-holds Inv-loop μ-loop
 loop-holds c =
-    let pre′ = c .before .before .before .before .before .before .pre in
-    let args′ = c .before .before .before .before .before .before .args in (
-      omega arith,
-      pre′ .8,
-      filled-start (termFor (args′ .first .now) (args′ .second .now) (args′ .cells .now) (args′ .n) (args′ .m)
-          (args′ .letters .now) (args′ .v))
-          (fieldsFrom (take (args′ .end) (args′ .second .now)) (args′ .at)) (pre′ .7),
-    )
+    let pre = c .before .before .before .before .before .before .pre in (omega arith, pre .8, filled-start _ _ (pre .7))
 
 field-end-requires : tie.Need-field-end-requires Inv-loop μ-loop
 field-end-requires c κs =
-    let args′ = c .before .before .before .before .before .before .before .before .args in
-    let pre′ = c .before .before .before .before .before .before .before .before .pre in
-    omega (arith, length-take-le (args′ .end) (args′ .second .now) (pre′ .6))
+    let start = c .before .before .before .before .before .before .before .before in
+    omega (arith, length-take-le (start .args .end) (start .args .second .now) (start .pre .6))
 
 sub-term-cell : tie.Need-sub-term-cell Inv-loop μ-loop
 sub-term-cell c = search needs
@@ -66,108 +75,48 @@ part-term-cell-end c = search needs
 
 term-cell-requires : tie.Need-term-cell-requires Inv-loop μ-loop
 term-cell-requires c κs =
-    let args′ = c .before .before .before .before .before .before .before .before .before .before .args in
-    let second′ = args′ .second .now in
-    let pre′ = c .before .before .before .before .before .before .before .before .before .before .pre in
-    let loop′ = c .before .before .before .loop in
-    let field-end′ = c .before .field-end in (
-      pre′ .0,
-      pre′ .1,
-      pre′ .2,
-      pre′ .3,
-      pre′ .4,
-      terms-both _ (fieldsFrom (take (args′ .end) second′) (loop′ .start)) _
-          (field-cut (take (args′ .end) second′) (loop′ .start) (field-end′ .result)
-          (omega (arith, (c .before .before .loop-test) .taken)) (field-end′ .ensures .0))
-          (loop′ .inv .1) .0,
-    )
+    let p = c .before in
+    let pre = entry p .pre in
+    let terms = terms-both _ _ _ (field p) (p .before .before .loop .inv .1) in (pre .0, pre .1, pre .2, pre .3, pre .4, terms .0)
 
 mul-r : tie.Need-mul-r Inv-loop μ-loop
-mul-r c =
-    let loop′ = c .before .before .before .before .loop in
-    record { fits = omega (arith, loop′ .inv .2 .fits) }
+mul-r c = record { fits = omega (arith, c .before .before .before .before .loop .inv .2 .fits) }
 
 array-write-r : tie.Need-array-write-r Inv-loop μ-loop
 array-write-r c =
-    let args′ = c .before .before .before .before .before .before .before .before .before .before .before .args in
-    let second′ = args′ .second .now in
-    let pre′ = c .before .before .before .before .before .before .before .before .before .before .before .pre in
-    let loop′ = c .before .before .before .before .loop in
-    let field-end′ = c .before .before .field-end in
-    let sized : length (take (args′ .end) second′) ≡ args′ .end = length-take-le (args′ .end) second′ (pre′ .6) in
-    let more : length (fieldsFrom (take (args′ .end) second′) (loop′ .start))
-    ≡ suc (length (fieldsFrom (take (args′ .end) second′) (suc (field-end′ .result)))) =
-    ap (λ (fs : List (List ℕ)). length fs) (field-cut (take (args′ .end) second′) (loop′ .start) (field-end′ .result)
-    (omega (arith, (c .before .before .before .loop-test) .taken)) (field-end′ .ensures .0)) in
-    omega (arith, loop′ .inv .2 .fits)
+    let p = c .before .before in
+    let more = ap (λ (fs : List (List ℕ)). length fs) (field p) in omega (arith, more, p .before .before .loop .inv .2 .fits)
 
 add-j : tie.Need-add-j Inv-loop μ-loop
-add-j c =
-    let loop′ = c .before .before .before .before .loop in
-    record { fits = omega (arith, loop′ .inv .2 .fits) }
+add-j c = record { fits = omega (arith, c .before .before .before .before .loop .inv .2 .fits) }
 
 add-start : tie.Need-add-start Inv-loop μ-loop
 add-start c =
-    let args′ = c .before .before .before .before .before .before .before .before .before .before .before .args in
-    let second′ = args′ .second .now in
-    let pre′ = c .before .before .before .before .before .before .before .before .before .before .before .pre in
-    let fits′ = c .before .before .before .before .before .before .before .before .before .before .before .fits in
-    let field-end′ = c .before .before .field-end in
-    let sized : length (take (args′ .end) second′) ≡ args′ .end =
-    length-take-le (args′ .end) second′ (pre′ .6) in
-    record { fits = omega (arith, field-end′ .ensures .2, fits′ .end, field-end′ .ok) }
+    let p = c .before .before in
+    record { fits = omega (arith, inside p, entry p .fits .end, p .field-end .ok) }
 
 loop-less : tie.Need-loop-less Inv-loop μ-loop
-loop-less c =
-    let field-end′ = c .before .before .field-end in
-    omega (arith, field-end′ .ensures .1, field-end′ .ensures .2, (c .before .before .before .loop-test) .taken)
+loop-less c = search needs
 
 loop-again : tie.Need-loop-again Inv-loop μ-loop
 loop-again c =
-    let args′ = c .before .before .before .before .before .before .before .before .before .before .before .args in
-    let second′ = args′ .second .now in
-    let first′ = args′ .first .now in
-    let cells′ = args′ .cells .now in
-    let letters′ = args′ .letters .now in
-    let pre′ = c .before .before .before .before .before .before .before .before .before .before .before .pre in
-    let loop′ = c .before .before .before .before .loop in
-    let loop-test′ = c .before .before .before .loop-test in
-    let field-end′ = c .before .before .field-end in
-    let term-cell′ = c .term-cell in
-    let sized : length (take (args′ .end) second′) ≡ args′ .end = length-take-le (args′ .end) second′ (pre′ .6) in
-    rw (add-one (field-end′ .result), add-one (loop′ .j), add-one (args′ .end)) (
-      omega (arith, field-end′ .ensures .2),
-      terms-both _ (fieldsFrom (take (args′ .end) second′) (loop′ .start)) _
-          (field-cut (take (args′ .end) second′) (loop′ .start) (field-end′ .result) (omega (arith, loop-test′ .taken))
-          (field-end′ .ensures .0))
-          (loop′ .inv .1) .1,
-      filled-step (termFor first′ second′ cells′ (args′ .n) (args′ .m) letters′ (args′ .v))
-          (map (termFor first′ second′ cells′ (args′ .n) (args′ .m) letters′ (args′ .v))
-          (fieldsFrom (take (args′ .end) second′) (args′ .at)))
-          (loop′ .r) (loop′ .j) _ (fieldsFrom (take (args′ .end) second′) (loop′ .start))
-          (fieldsFrom (take (args′ .end) second′) (suc (field-end′ .result))) (term-cell′ .result) (loop′ .inv .2)
-          (field-cut (take (args′ .end) second′) (loop′ .start) (field-end′ .result) (omega (arith, loop-test′ .taken))
-          (field-end′ .ensures .0))
-          (term-cell′ .ensures .0) (term-cell′ .ensures .1),
+    let p = c .before .before in
+    let loop = p .before .before .loop in
+    let terms = terms-both _ _ _ (field p) (loop .inv .1) in
+    rw (add-one (p .field-end .result), add-one (loop .j), add-one (entry p .args .end)) (
+      omega (arith, inside p),
+      terms .1,
+      search (filled-step, loop .inv .2, field p, c .term-cell .ensures),
     )
 
 returns : tie.Need-returns Inv-loop μ-loop
 returns c =
-    let args′ = c .before .before .before .before .before .before .before .before .args in
-    let second′ = args′ .second .now in
-    let first′ = args′ .first .now in
-    let cells′ = args′ .cells .now in
-    let letters′ = args′ .letters .now in
-    let pre′ = c .before .before .before .before .before .before .before .before .pre in
-    let loop′ = c .before .loop in
-    let sized : length (take (args′ .end) second′) ≡ args′ .end = length-take-le (args′ .end) second′ (pre′ .6) in (
-      filled-end (termFor first′ second′ cells′ (args′ .n) (args′ .m) letters′ (args′ .v))
-          (map (termFor first′ second′ cells′ (args′ .n) (args′ .m) letters′ (args′ .v))
-          (fieldsFrom (take (args′ .end) second′) (args′ .at)))
-          (loop′ .r) (loop′ .j) (fieldsFrom (take (args′ .end) second′) (loop′ .start)) (loop′ .inv .2)
-          (fields-out (take (args′ .end) second′) (loop′ .start) (omega (arith, (c .loop-test) .left))),
-      loop′ .inv .2 .sized,
-    )
+    let start = c .before .before .before .before .before .before .before .before in
+    let loop = c .before .loop in
+    let sized = length-take-le (start .args .end) (start .args .second .now) (start .pre .6) in
+    let out =
+    fields-out (take (start .args .end) (start .args .second .now)) (loop .start) (omega (arith, sized, c .loop-test .left)) in
+    (search (filled-end, loop .inv .2, out), loop .inv .2 .sized)
 
 pub terms-of-spec : {M : Type 1} → statement M
 terms-of-spec =

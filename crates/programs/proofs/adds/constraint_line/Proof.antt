@@ -1,13 +1,15 @@
 -- `programs::adds::constraint_line` meets its contract: what is found of the line is added to the last rule's row.
 -- Assumes nothing.
 use borrow.Author.Needs.{needs}
-use mathlib.Core.Path.{sym, ap, _∙_}
-use Prim.Native.Nat.{_≤_}
 use native.Mathlib.Omega.{arith}
 use Rattle.programs.specs.Read.{termsAnswer, cellsMeant, lineAnswer}
 use Rattle.programs.proofs.Lasts.{constraint-refused, constraint-fits, constraint-next}
 use Rattle.programs.proofs.adds.constraint_line.Statement.{statement}
 use Rattle.programs.proofs.adds.constraint_line.Tie as tie
+
+-- where the terms are read
+abbrev entry : tie.After-read-terms → tie.Start
+entry read = read .before .before .before .before .before .before .before .before .before .before
 
 sub-base : tie.Need-sub-base
 sub-base c = search needs
@@ -69,18 +71,12 @@ slice-aggregate-add-cells c = search needs
 add-cells-requires : tie.Need-add-cells-requires
 unfolding termsAnswer
 add-cells-requires c κs =
-    let pre′ = c .before .before .before .before .before .before .before .before .before .before .before .before .before .before
-    .before .before .before .pre in
-    let args′ = c .before .before .before .before .before .before .before .before .before .before .before .before .before .before
-    .before .before .before .args in
-    let text′ = args′ .text .now in
-    let wide′ = c .before .before .before .before .before .before .before .before .before .wide in
-    let read′ = c .before .before .before .before .before .before .before .read-terms in
-    let cells′ = c .before .before .before .cells in
-    constraint-fits text′ (args′ .symbols .now) (args′ .rules .now) (args′ .constants .now) (args′ .stage) (args′ .place) _
-    (pre′ .6) (pre′ .8) (pre′ .9)
-    (args′ .part) (wide′ .result) (pre′ .10) (wide′ .ensures .0) _
-    (ap (termsAnswer text′ (read′ .last .1 .1 .1 .1 .1 .1 .1 .0) 0) (sym (cells′ .given .1)) ∙ read′ .ensures .0 0)
+    let read = c .before .before .before .before .before .before .before in
+    let args = entry read .args in
+    let pre = entry read .pre in
+    constraint-fits (args .text .now) (args .symbols .now) (args .rules .now) (args .constants .now) (args .stage) (args .place) _
+    (pre .6) (pre .8) (pre .9) (args .part) _ (pre .10) (read .before .before .wide .ensures .0) _
+    (rw (c .before .before .before .cells .given .1) at (read .read-terms .ensures .0 0))
 
 same-length : tie.Need-same-length
 same-length c = search needs
@@ -88,18 +84,13 @@ same-length c = search needs
 returns : tie.Need-returns
 unfolding termsAnswer lineAnswer
 returns c =
-    let pre′ = c .before .before .before .before .before .before .before .before .before .before .before .before .before .before
-    .before .pre in
-    let args′ = c .before .before .before .before .before .before .before .before .before .before .before .before .before .before
-    .before .args in
-    let text′ = args′ .text .now in
-    let wide′ = c .before .before .before .before .before .before .before .wide in
-    let read′ = c .before .before .before .before .before .read-terms in
-    let x′ = c .before .x in (
-      λ n. constraint-refused text′ (args′ .symbols .now) (args′ .rules .now) (args′ .constants .now) (args′ .stage)
-          (args′ .place) _ (pre′ .6) (pre′ .8) (pre′ .9)
-          (args′ .part) (wide′ .result) (pre′ .10) (wide′ .ensures .0) n _
-          (ap (termsAnswer text′ (read′ .last .1 .1 .1 .1 .1 .1 .1 .0) n) (sym (x′ .given .1)) ∙ read′ .ensures .0 n),
+    let read = c .before .before .before .before .before in
+    let args = entry read .args in
+    let pre = entry read .pre in (
+      λ n. constraint-refused (args .text .now) (args .symbols .now) (args .rules .now) (args .constants .now) (args .stage)
+          (args .place) _
+          (pre .6) (pre .8) (pre .9) (args .part) _ (pre .10) (read .before .before .wide .ensures .0) n _
+          (rw (c .before .x .given .1) at (read .read-terms .ensures .0 n)),
       omega arith,
     )
 
@@ -112,19 +103,14 @@ same-length-3 c = search needs
 returns-2 : tie.Need-returns-2
 unfolding termsAnswer lineAnswer cellsMeant
 returns-2 c =
-    let pre′ = c .before .before .before .before .before .before .before .before .before .before .before .before .before .before
-    .before .before .before .before .before .before .pre in
-    let args′ = c .before .before .before .before .before .before .before .before .before .before .before .before .before .before
-    .before .before .before .before .before .before .args in
-    let text′ = args′ .text .now in
-    let wide′ = c .before .before .before .before .before .before .before .before .before .before .before .before .wide in
-    let read′ = c .before .before .before .before .before .before .before .before .before .before .read-terms in
-    let cells′ = c .before .before .before .before .before .before .cells in
-    let fit : cells′ .given .0 .1 .0 ≤ 64 = rw (cells′ .given .1) at (read′ .ensures .1) in
-    constraint-next text′ (args′ .symbols .now) (args′ .rules .now) (args′ .constants .now) (args′ .stage) (args′ .place) _
-    (pre′ .6) (pre′ .8) (pre′ .9)
-    (args′ .part) (wide′ .result) (pre′ .10) (wide′ .ensures .0) _ _ _ _ _ _ _ _ fit ((c .before .before .add-cells) .ensures)
-    (λ n. ap (termsAnswer text′ (read′ .last .1 .1 .1 .1 .1 .1 .1 .0) n) (sym (cells′ .given .1)) ∙ read′ .ensures .0 n)
+    let read = c .before .before .before .before .before .before .before .before .before .before in
+    let cells = c .before .before .before .before .before .before .cells in
+    let args = entry read .args in
+    let pre = entry read .pre in
+    constraint-next (args .text .now) (args .symbols .now) (args .rules .now) (args .constants .now) (args .stage) (args .place) _
+    (pre .6) (pre .8) (pre .9) (args .part) _ (pre .10) (read .before .before .wide .ensures .0)
+    _ _ _ _ _ _ _ _ (rw (cells .given .1) at (read .read-terms .ensures .1)) (c .before .before .add-cells .ensures)
+    (λ n. rw (cells .given .1) at (read .read-terms .ensures .0 n))
 
 pub constraint-line-spec : {M : Type 1} → statement M
 constraint-line-spec =

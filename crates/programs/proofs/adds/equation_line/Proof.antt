@@ -1,20 +1,48 @@
 -- `programs::adds::equation_line` meets its contract: numbers 4 and 7, else the equation is added to the last rule's row.
 -- Assumes nothing.
 use borrow.Author.Needs.{needs}
-use mathlib.Core.Path.{_≡_, refl, sym, ap, _∙_}
+use mathlib.Core.Path.{_≡_, refl, sym, _∙_}
+use mathlib.Core.List.{List}
 use mathlib.Core.Option.{some}
-use Prim.Native.Nat.{ℕ, _+_}
+use Prim.Native.Nat.{ℕ, _≤_, _+_}
 use native.Mathlib.Omega.{arith}
-use lib.ListN.{length, take}
+use lib.ListN.{take}
 use lib.Seq.{length-take-le}
+use Rattle.text.specs.Places.{fieldsFrom}
 use Rattle.text.proofs.Laws.{tabled-length}
+use Rattle.syntax.specs.Forms.{constantsAfter}
 use Rattle.syntax.specs.Tables.{constantsOf}
-use Rattle.lines.specs.Read.{alphabetLetters, addedOf}
+use Rattle.lines.specs.Read.{alphabetLetters, addedOf, roomy}
 use Rattle.programs.specs.Read.{lineAnswer, SidesAt}
 use Rattle.lines.proofs.Constants.{added-fits}
-use Rattle.programs.proofs.Lasts.{sides-faulty, sides-fit, sides-full, sides-many, sides-next}
+use Rattle.programs.proofs.Lasts.{sides-faulty, sides-full, sides-many, sides-next}
 use Rattle.programs.proofs.adds.equation_line.Statement.{statement}
 use Rattle.programs.proofs.adds.equation_line.Tie as tie
+
+-- what `equation_form` found
+abbrev entry : tie.After-from → tie.Start
+entry p = p .before .before .before .before .before .before .before .before .before .before
+
+abbrev line : tie.After-from → List ℕ
+line p = take (entry p .args .end) (entry p .args .text .now)
+
+sides : (p : tie.After-from) → SidesAt (line p) (entry p .args .at) (p .from .given .0 .0)
+sides p = rw (p .from .given .1) at (p .before .before .equation-form .ensures)
+
+inside : (p : tie.After-from) → p .from .given .0 .0 ≤ entry p .args .end + 1
+inside p = omega (arith, sides p .within, length-take-le (entry p .args .end) (entry p .args .text .now) (entry p .pre .3))
+
+-- what `add_constants` found
+abbrev at-form : tie.After-count → tie.After-from
+at-form q = q .before .before .before .before .before .before .before .before .before .before
+
+known : (q : tie.After-count) → some (constantsOf (entry (at-form q) .args .text .now) (entry (at-form q) .args .text .now)
+    (q .before .before .before .before .add-constants .last .1 .1 .1 .1 .1 .0) 0 (q .count .given .0 .0))
+    ≡ roomy (constantsAfter (fieldsFrom (line (at-form q)) (at-form q .from .given .0 .0))
+    (constantsOf (entry (at-form q) .args .text .now) (entry (at-form q) .args .text .now)
+    (entry (at-form q) .args .constants .now) 0 (entry (at-form q) .args .stage .constants)))
+unfolding addedOf
+known q = rw (q .count .given .1) at (q .before .before .before .before .add-constants .ensures)
 
 sub-base : tie.Need-sub-base
 sub-base c = search needs
@@ -24,15 +52,13 @@ mul-base c = search needs
 
 slice-aggregate-line : tie.Need-slice-aggregate-line
 slice-aggregate-line c =
-    let args′ = c .before .before .before .before .before .before .before .args in
-    let pre′ = c .before .before .before .before .before .before .before .pre in
-    sym (length-take-le (args′ .end) (args′ .text .now) (pre′ .3))
+    let start = c .before .before .before .before .before .before .before in
+    sym (length-take-le (start .args .end) (start .args .text .now) (start .pre .3))
 
 equation-form-requires : tie.Need-equation-form-requires
 equation-form-requires c κs =
-    let pre′ = c .before .before .before .before .before .before .before .pre in
-    let args′ = c .before .before .before .before .before .before .before .args in
-    (pre′ .0, omega (arith, length-take-le (args′ .end) (args′ .text .now) (pre′ .3), pre′ .2))
+    let start = c .before .before .before .before .before .before .before in
+    (start .pre .0, omega (arith, length-take-le (start .args .end) (start .args .text .now) (start .pre .3), start .pre .2))
 
 enum-told : tie.Need-enum-told
 enum-told c = search needs
@@ -55,35 +81,19 @@ wide-requires c κs = search needs
 returns : tie.Need-returns
 unfolding lineAnswer
 returns c =
-    let equation-form′ = c .before .before .before .before .before .before .equation-form in
-    let wide′ = c .before .wide in
-    let pre′ = c .before .before .before .before .before .before .before .before .before .before .before .before .before .before
-    .pre in
-    let args′ = c .before .before .before .before .before .before .before .before .before .before .before .before .before .before
-    .args in
-    let text′ = args′ .text .now in
-    let from′ = c .before .before .before .before .from in
-    let sides : SidesAt (take (args′ .end) text′) (args′ .at) (from′ .given .0 .0) =
-    rw (from′ .given .1) at (equation-form′ .ensures) in (
-      λ n. sides-full text′ (args′ .symbols .now) (args′ .rules .now) (args′ .constants .now) (args′ .stage) (args′ .place) _
-          (pre′ .6) (pre′ .8) (pre′ .9) (wide′ .result) (wide′ .ensures .0) (take (args′ .end) text′) (args′ .at) _ refl sides n
-          ((c .if1) .taken),
+    let p = c .before .before .before .before in
+    let args = entry p .args in
+    let pre = entry p .pre in (
+      λ n. sides-full (args .text .now) (args .symbols .now) (args .rules .now) (args .constants .now) (args .stage)
+          (args .place) _
+          (pre .6) (pre .8) (pre .9) _ (c .before .wide .ensures .0) _ _ _ refl (sides p) n (c .if1 .taken),
       omega arith,
     )
 
 add-constants-requires : tie.Need-add-constants-requires
 add-constants-requires c κs =
-    let equation-form′ = c .before .before .before .before .before .before .before .equation-form in
-    let pre′ = c .before .before .before .before .before .before .before .before .before .before .before .before .before .before
-    .before .pre in
-    let args′ = c .before .before .before .before .before .before .before .before .before .before .before .before .before .before
-    .before .args in
-    let text′ = args′ .text .now in
-    let from′ = c .before .before .before .before .before .from in
-    let sides : SidesAt (take (args′ .end) text′) (args′ .at) (from′ .given .0 .0) =
-    rw (from′ .given .1) at (equation-form′ .ensures) in
-    let sized : length (take (args′ .end) text′) ≡ args′ .end = length-take-le (args′ .end) text′ (pre′ .3) in
-    (pre′ .0, omega (arith, sides .within), pre′ .3, pre′ .4, pre′ .7, omega (arith, pre′ .8 .few-constants))
+    let p = c .before .before .before .before .before in
+    let pre = entry p .pre in (pre .0, inside p, pre .3, pre .4, pre .7, omega (arith, pre .8 .few-constants))
 
 enum-told-2 : tie.Need-enum-told-2
 enum-told-2 c = search needs
@@ -92,32 +102,20 @@ enum-known-count : tie.Need-enum-known-count
 enum-known-count c = search needs
 
 terms-of-requires : tie.Need-terms-of-requires
-unfolding addedOf alphabetLetters
+unfolding alphabetLetters
 terms-of-requires c κs =
-    let equation-form′ = c .before .before .before .before .before .before .before .before .before .before .before .before .before
-    .before .equation-form in
-    let pre′ = c .before .before .before .before .before .before .before .before .before .before .before .before .before .before
-    .before .before .before .before .before .before .before .before .pre in
-    let args′ = c .before .before .before .before .before .before .before .before .before .before .before .before .before .before
-    .before .before .before .before .before .before .before .before .args in
-    let text′ = args′ .text .now in
-    let from′ = c .before .before .before .before .before .before .before .before .before .before .before .before .from in
-    let sides : SidesAt (take (args′ .end) text′) (args′ .at) (from′ .given .0 .0) =
-    rw (from′ .given .1) at (equation-form′ .ensures) in
-    let sized : length (take (args′ .end) text′) ≡ args′ .end = length-take-le (args′ .end) text′ (pre′ .3) in
-    let added′ = c .before .before .before .before .before .before .add-constants in
-    let count′ = c .before .before .count in
-    let known : some (constantsOf text′ text′ (added′ .last .1 .1 .1 .1 .1 .0) 0 (count′ .given .0 .0)) ≡ _ =
-    ap (addedOf text′ text′ (added′ .last .1 .1 .1 .1 .1 .0) 0) (sym (count′ .given .1)) ∙ added′ .ensures in (
-      pre′ .0,
-      added′ .kept .1 .1 .1 .1 .1 .0 ∙ pre′ .7,
-      added-fits text′ text′ (added′ .last .1 .1 .1 .1 .1 .0) 0 (count′ .given .0 .0) _ known,
+    let q = c .before .before in
+    let p = at-form q in
+    let pre = entry p .pre in (
+      pre .0,
+      q .before .before .before .before .add-constants .kept .1 .1 .1 .1 .1 .0 ∙ pre .7,
+      added-fits _ _ _ 0 _ _ (known q),
       omega arith,
-      rw (pre′ .1) (omega (arith, tabled-length (λ (i : ℕ). 65 + i) 26)),
-      omega (arith, sides .within),
-      pre′ .3,
-      omega (arith, sides .two),
-      sides .terms,
+      rw (pre .1) (omega (arith, tabled-length (λ (i : ℕ). 65 + i) 26)),
+      inside p,
+      pre .3,
+      omega (arith, sides p .two),
+      sides p .terms,
     )
 
 array-read-t38 : tie.Need-array-read-t38
@@ -134,49 +132,31 @@ add-start c = search needs
 
 add-add-cells : tie.Need-add-add-cells
 add-add-cells c =
-    let pre′ = c .before .before .before .before .before .before .before .before .before .before .before .before .before .before
-    .before .before .before .before .before .before .before .before .before .before .pre in
-    record { fits = omega (arith, pre′ .8 .few-rules, pre′ .9) }
+    let pre = entry (at-form (c .before .before .before .before)) .pre in
+    record { fits = omega (arith, pre .8 .few-rules, pre .9) }
 
 add-add-cells-2 : tie.Need-add-add-cells-2
 add-add-cells-2 c =
-    let if1′ = c .before .before .before .before .before .before .before .before .before .before .if1 in
-    let pre′ = c .before .before .before .before .before .before .before .before .before .before .before .before .before .before
-    .before .before .before .before .before .before .before .before .before .before .pre in
-    record { fits = omega (arith, if1′ .left, pre′ .8 .few-rules, pre′ .9) }
+    let pre = entry (at-form (c .before .before .before .before)) .pre in
+    let room = c .before .before .before .before .before .before .before .before .before .before .if1 .left in
+    record { fits = omega (arith, room, pre .8 .few-rules, pre .9) }
 
 slice-aggregate-add-cells : tie.Need-slice-aggregate-add-cells
 slice-aggregate-add-cells c = search needs
 
 add-cells-requires : tie.Need-add-cells-requires
 add-cells-requires c κs =
-    let equation-form′ = c .before .before .before .before .before .before .before .before .before .before .before .before .before
-    .before .before .before .before .equation-form in
-    let wide′ = c .before .before .before .before .before .before .before .before .before .before .before .before .wide in
-    let if1′ = c .before .before .before .before .before .before .before .before .before .before .before .if1 in
-    let pre′ = c .before .before .before .before .before .before .before .before .before .before .before .before .before .before
-    .before .before .before .before .before .before .before .before .before .before .before .pre in
-    let args′ = c .before .before .before .before .before .before .before .before .before .before .before .before .before .before
-    .before .before .before .before .before .before .before .before .before .before .before .args in
-    let text′ = args′ .text .now in
-    let from′ = c .before .before .before .before .before .before .before .before .before .before .before .before .before .before
-    .before .from in
-    let sides : SidesAt (take (args′ .end) text′) (args′ .at) (from′ .given .0 .0) =
-    rw (from′ .given .1) at (equation-form′ .ensures) in
-    sides-fit text′ (args′ .symbols .now) (args′ .rules .now) (args′ .constants .now) (args′ .stage) (args′ .place) _
-    (pre′ .6) (pre′ .8) (pre′ .9) (wide′ .result) (wide′ .ensures .0) (take (args′ .end) text′) (args′ .at) _ refl sides
-    (if1′ .left)
+    let pre = entry (at-form (c .before .before .before .before .before)) .pre in
+    let few = c .before .before .before .before .before .before .before .before .before .before .before in (
+      omega (arith, few .if1 .left, pre .6, pre .8 .few-rules, pre .9),
+      omega arith,
+      omega (arith, few .if1 .left, few .before .wide .ensures .0),
+    )
 
 returns-2 : tie.Need-returns-2
 unfolding lineAnswer
 returns-2 c =
-    let pre′ = c .before .before .before .before .before .before .before .before .before .before .pre in
-    let args′ = c .before .before .before .before .before .before .before .before .before .before .args in (
-      λ n. sides-faulty (args′ .text .now) (args′ .symbols .now) (args′ .rules .now) (args′ .constants .now) (args′ .stage)
-          (args′ .place) _
-          (pre′ .6) (pre′ .8) (pre′ .9) n (rw ((c .enum-told) .given .1) at ((c .before .before .equation-form) .ensures)),
-      omega arith,
-    )
+    (λ n. search (sides-faulty, rw (c .enum-told .given .1) at (c .before .before .equation-form .ensures)), omega arith)
 
 same-length : tie.Need-same-length
 same-length c = search needs
@@ -184,25 +164,11 @@ same-length c = search needs
 returns-3 : tie.Need-returns-3
 unfolding lineAnswer addedOf
 returns-3 c =
-    let equation-form′ = c .before .before .before .before .before .before .before .before .before .before .before .before
-    .equation-form in
-    let wide′ = c .before .before .before .before .before .before .before .wide in
-    let if1′ = c .before .before .before .before .before .before .if1 in
-    let pre′ = c .before .before .before .before .before .before .before .before .before .before .before .before .before .before
-    .before .before .before .before .before .before .pre in
-    let args′ = c .before .before .before .before .before .before .before .before .before .before .before .before .before .before
-    .before .before .before .before .before .before .args in
-    let text′ = args′ .text .now in
-    let from′ = c .before .before .before .before .before .before .before .before .before .before .from in
-    let sides : SidesAt (take (args′ .end) text′) (args′ .at) (from′ .given .0 .0) =
-    rw (from′ .given .1) at (equation-form′ .ensures) in
-    let added′ = c .before .before .before .before .add-constants in (
-      λ n. sides-many text′ (args′ .symbols .now) (args′ .rules .now) (args′ .constants .now) (args′ .stage) (args′ .place) _
-          (pre′ .6) (pre′ .8) (pre′ .9) (wide′ .result) (wide′ .ensures .0) (take (args′ .end) text′) (args′ .at) _ refl sides n
-          (if1′ .left)
-          (ap (addedOf text′ text′ (added′ .last .1 .1 .1 .1 .1 .0) 0) (sym ((c .enum-told2) .given .1)) ∙ added′ .ensures),
-      omega arith,
-    )
+    let added = c .before .before .before .before in
+    let p = added .before .before .before .before .before .before in
+    let none-left = rw (c .enum-told2 .given .1) at (added .add-constants .ensures) in
+    let pre = entry p .pre in
+    (λ n. search (sides-many, sides p, none-left, pre .6, pre .8, pre .9), omega arith)
 
 same-length-2 : tie.Need-same-length-2
 same-length-2 c = search needs
@@ -211,34 +177,17 @@ same-length-3 : tie.Need-same-length-3
 same-length-3 c = search needs
 
 returns-4 : tie.Need-returns-4
-unfolding lineAnswer addedOf
+unfolding lineAnswer
 returns-4 c =
-    let equation-form′ = c .before .before .before .before .before .before .before .before .before .before .before .before .before
-    .before .before .before .before .before .before .before .equation-form in
-    let wide′ = c .before .before .before .before .before .before .before .before .before .before .before .before .before .before
-    .before .wide in
-    let if1′ = c .before .before .before .before .before .before .before .before .before .before .before .before .before .before
-    .if1 in
-    let terms-of′ = c .before .before .before .before .before .terms-of in
-    let pre′ = c .before .before .before .before .before .before .before .before .before .before .before .before .before .before
-    .before .before .before .before .before .before .before .before .before .before .before .before .before .before .pre in
-    let args′ = c .before .before .before .before .before .before .before .before .before .before .before .before .before .before
-    .before .before .before .before .before .before .before .before .before .before .before .before .before .before .args in
-    let text′ = args′ .text .now in
-    let from′ = c .before .before .before .before .before .before .before .before .before .before .before .before .before .before
-    .before .before .before .before .from in
-    let sides : SidesAt (take (args′ .end) text′) (args′ .at) (from′ .given .0 .0) =
-    rw (from′ .given .1) at (equation-form′ .ensures) in
-    let added′ = c .before .before .before .before .before .before .before .before .before .before .before .before
-    .add-constants in
-    let count′ = c .before .before .before .before .before .before .before .before .count in
-    let known : some (constantsOf text′ text′ (added′ .last .1 .1 .1 .1 .1 .0) 0 (count′ .given .0 .0)) ≡ _ =
-    ap (addedOf text′ text′ (added′ .last .1 .1 .1 .1 .1 .0) 0) (sym (count′ .given .1)) ∙ added′ .ensures in
-    sides-next text′ (args′ .symbols .now) (args′ .rules .now) (args′ .constants .now) (args′ .stage) (args′ .place) _
-    (pre′ .6) (pre′ .8) (pre′ .9) (wide′ .result) (wide′ .ensures .0) (take (args′ .end) text′) (args′ .at) _ refl sides
-    (args′ .letters .now) (terms-of′ .result) _ (added′ .last .1 .1 .1 .1 .1 .0) (count′ .given .0 .0) (if1′ .left) (pre′ .1)
-    (terms-of′ .ensures .1) known
-    (terms-of′ .ensures .0) ((c .before .before .add-cells) .ensures)
+    let q = c .before .before .before .before .before .before .before .before in
+    let p = at-form q in
+    let args = entry p .args in
+    let pre = entry p .pre in
+    let few = q .before .before .before .before .before .before in
+    let terms = c .before .before .before .before .before .terms-of .ensures in
+    sides-next (args .text .now) (args .symbols .now) (args .rules .now) (args .constants .now) (args .stage) (args .place) _
+    (pre .6) (pre .8) (pre .9) _ (few .before .wide .ensures .0) _ _ _ refl (sides p) _ _ _ _ _ (few .if1 .left) (pre .1)
+    (terms .1) (known q) (terms .0) (c .before .before .add-cells .ensures)
 
 pub equation-line-spec : {M : Type 1} → statement M
 equation-line-spec =

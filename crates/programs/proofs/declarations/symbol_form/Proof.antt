@@ -1,31 +1,135 @@
 -- `programs::declarations::symbol_form` meets its contract: four fields, then each test decides, or leaves the next to decide.
 -- Assumes nothing.
 use borrow.Author.Needs.{needs}
-use mathlib.Core.Path.{_≡_, refl, sym, ap, ap₂, _∙_}
+use mathlib.Core.Path.{_≡_, sym, ap, _∙_}
 use mathlib.Core.Bool.{Bool, true, false, not, _||_}
 use mathlib.Core.List.{List, _∷_}
-use Prim.Native.Nat.{ℕ, suc, _+_}
+use Prim.Native.Nat.{ℕ, suc, _+_, _-_, _≤_}
 use native.Mathlib.Numerals.{add-one}
 use native.Mathlib.Omega.{arith}
-use borrow.Author.Tests.{not-true, not-false}
-use lib.ListN.{take, drop}
+use borrow.Author.Tests.{not-false}
+use lib.ListN.{length, take, drop}
 use Rattle.text.specs.Fields.{isName, isNumberIn}
 use Rattle.text.specs.Places.{before, fieldsFrom}
 use Rattle.text.proofs.Cursors.{drop-take}
 use Rattle.text.proofs.Forms.{in-short}
 use Rattle.lines.specs.Read.{isSymbolFaulty}
-use Rattle.lines.proofs.Shapes.{start-within, second-starts, third-starts, four-fields, symbol-count, symbol-shape}
-use Rattle.lines.proofs.Shapes.{field-one, field-two, field-three, short-part}
+use Rattle.lines.proofs.Cells.{field-cut, field-part}
+use Rattle.lines.proofs.Shapes.{within, symbol-count, symbol-shape, field-one, field-two, field-three, short-part}
+use Rattle.programs.specs.Read.{SymbolAt}
 use Rattle.programs.proofs.declarations.symbol_form.Statement.{statement}
 use Rattle.programs.proofs.declarations.symbol_form.Tie as tie
+
+-- where the field ends that starts at a place
+abbrev Ends : List ℕ → ℕ → ℕ → Type 0
+Ends line at end = end ≡ at + before 44 (drop at line)
+
+abbrev cut : List ℕ → ℕ → ℕ → List ℕ
+cut line at end = take (end - at) (drop at line)
+
+behind : (line : List ℕ) (at end : ℕ) → at ≤ length line → Ends line at end
+    → fieldsFrom line at ≡ cut line at end ∷ fieldsFrom line (end + 1)
+behind line at end h e =
+    field-cut line at end h e ∙ ap (λ (n : ℕ). cut line at end ∷ fieldsFrom line n) (sym (add-one end))
+
+-- a field behind another, if there are more
+more : (line : List ℕ) (at end k : ℕ) → at ≤ length line → Ends line at end → length (fieldsFrom line at) ≡ suc k
+    → length (fieldsFrom line (end + 1)) ≡ k
+more line at end k h e n =
+    let z : length (fieldsFrom line at) ≡ suc (length (fieldsFrom line (end + 1))) =
+    ap (λ (fs : List (List ℕ)). length fs) (behind line at end h e) in omega arith
+
+-- the four fields, as the code finds them
+module _ (line : List ℕ) (at count end : ℕ) (n : count ≡ length (fieldsFrom line at)) (h : at ≤ length line) where
+  not-four : (count ≡ 4 → ⊥) → isSymbolFaulty (fieldsFrom line at) ≡ true
+  not-four k = symbol-count (fieldsFrom line at) (λ e. k (n ∙ e))
+
+  module _ (four : count ≡ 4) (e : Ends line at end) where
+    three : length (fieldsFrom line (end + 1)) ≡ 3
+    three = more line at end 3 h e (sym n ∙ four)
+
+    second-in : end + 1 ≤ length line
+    second-in = within line (end + 1) (omega (arith, three))
+
+    module _ (stop : ℕ) (p : Ends line (end + 1) stop) where
+      two : length (fieldsFrom line (stop + 1)) ≡ 2
+      two = more line (end + 1) stop 2 second-in p three
+
+      third-in : stop + 1 ≤ length line
+      third-in = within line (stop + 1) (omega (arith, two))
+
+      module _ (next : ℕ) (q : Ends line (stop + 1) next) where
+        one : length (fieldsFrom line (next + 1)) ≡ 1
+        one = more line (stop + 1) next 1 third-in q two
+
+        fourth-in : next + 1 ≤ length line
+        fourth-in = within line (next + 1) (omega (arith, one))
+
+        module _ (last : ℕ) (r : Ends line (next + 1) last) where
+          abbrev name : List ℕ
+          name = cut line (end + 1) stop
+
+          abbrev arity : List ℕ
+          arity = cut line (stop + 1) next
+
+          abbrev weight : List ℕ
+          weight = cut line (next + 1) last
+
+          shape : fieldsFrom line at ≡ cut line at end ∷ name ∷ arity ∷ weight ∷ fieldsFrom line (last + 1)
+          shape =
+              behind line at end h e
+              ∙ ap (λ (fs : List (List ℕ)). cut line at end ∷ fs) (behind line (end + 1) stop second-in p
+              ∙ ap (λ (fs : List (List ℕ)). name ∷ fs) (behind line (stop + 1) next third-in q
+              ∙ ap (λ (fs : List (List ℕ)). arity ∷ fs) (behind line (next + 1) last fourth-in r)))
+
+          tests : isSymbolFaulty (fieldsFrom line at)
+              ≡ (not (isName name) || not (isNumberIn 0 4 arity) || not (isNumberIn 1 31 weight))
+          tests = symbol-shape _ _ _ _ _ _ shape (sym n ∙ four)
+
+          module _ (named : Bool) (t : named ≡ isName name) where
+            misnamed : not named ≡ true → isSymbolFaulty (fieldsFrom line at) ≡ true
+            misnamed x = rw (tests, ← t, x)
+
+            module _ (x : not named ≡ false) (counted : Bool) (u : counted ≡ isNumberIn 0 4 arity) where
+              miscounted : not counted ≡ true → isSymbolFaulty (fieldsFrom line at) ≡ true
+              miscounted y = rw (tests, ← t, x, ← u, y)
+
+              module _ (y : not counted ≡ false) (weighed : Bool) (v : weighed ≡ isNumberIn 1 31 weight) where
+                misweighed : not weighed ≡ true → isSymbolFaulty (fieldsFrom line at) ≡ true
+                misweighed z = rw (tests, ← t, x, ← u, y, ← v, z)
+
+                found : not weighed ≡ false → last ≤ length line → SymbolAt line at (end + 1) stop next last
+                found z w =
+                    record {
+                      fine = rw (tests, ← t, x, ← u, y, ← v, z);
+                      name = field-one _ _ _ _ shape ∙ sym (drop-take (end + 1) stop line (omega (arith, p)));
+                      arity =
+                          field-two _ _ _ _ _ shape
+                          ∙ sym (field-part line stop (stop + 1) next (add-one stop) (omega (arith, q)));
+                      weight =
+                          field-three _ _ _ _ _ _ shape
+                          ∙ sym (field-part line next (next + 1) last (add-one next) (omega (arith, r)));
+                      starts = omega (arith, p);
+                      nexts = omega (arith, q);
+                      lasts = omega (arith, r);
+                      stops = w;
+                      short-arity = omega (
+                        arith,
+                        short-part line (stop + 1) next (omega (arith, q)) (omega (arith, fourth-in))
+                            (in-short 0 4 arity (omega arith) (sym u ∙ not-false counted y)),
+                      );
+                      short-weight = omega (
+                        arith,
+                        short-part line (next + 1) last (omega (arith, r)) w
+                            (in-short 1 31 weight (omega arith) (sym v ∙ not-false weighed z)),
+                      );
+                    }
 
 count-fields-requires : tie.Need-count-fields-requires
 count-fields-requires c κs = search needs
 
 returns : tie.Need-returns
-returns c =
-    let args′ = c .before .before .before .before .args in
-    symbol-count (fieldsFrom (args′ .line .now) (args′ .at)) (λ e. (c .if1) .taken ((c .before .count-fields) .ensures ∙ e))
+returns c = search not-four
 
 field-end-requires : tie.Need-field-end-requires
 field-end-requires c κs = search needs
@@ -34,43 +138,19 @@ add-start : tie.Need-add-start
 add-start c = search needs
 
 field-end-requires-2 : tie.Need-field-end-requires-2
-field-end-requires-2 c κs =
-    let args′ = c .before .before .before .before .before .args in
-    let pre′ = c .before .before .before .before .before .pre in
-    let field-end′ = c .field-end in
-    start-within (args′ .line .now) (args′ .at) (field-end′ .result) (field-end′ .result + 1) _ _ _ _ _ (pre′ .1)
-    (field-end′ .ensures .0) refl
-    refl refl refl refl refl (sym ((c .before .before .count-fields) .ensures) ∙ (c .before .if1) .left)
+field-end-requires-2 c κs = search second-in
 
 add-second : tie.Need-add-second
 add-second c = search needs
 
 field-end-requires-3 : tie.Need-field-end-requires-3
-field-end-requires-3 c κs =
-    let args′ = c .before .before .before .before .before .before .args in
-    let pre′ = c .before .before .before .before .before .before .pre in
-    let field-end′ = c .before .field-end in
-    let field-end2′ = c .field-end2 in
-    second-starts (args′ .line .now) (args′ .at) (field-end′ .result) (field-end′ .result + 1) (field-end2′ .result)
-    (field-end2′ .result + 1) _ _ _
-    (pre′ .1) (field-end′ .ensures .0) refl (field-end2′ .ensures .0) refl refl refl refl
-    (sym ((c .before .before .before .count-fields) .ensures) ∙ (c .before .before .if1) .left)
+field-end-requires-3 c κs = search third-in
 
 add-third : tie.Need-add-third
 add-third c = search needs
 
 field-end-requires-4 : tie.Need-field-end-requires-4
-field-end-requires-4 c κs =
-    let args′ = c .before .before .before .before .before .before .before .args in
-    let pre′ = c .before .before .before .before .before .before .before .pre in
-    let field-end′ = c .before .before .field-end in
-    let field-end2′ = c .before .field-end2 in
-    let field-end3′ = c .field-end3 in
-    third-starts (args′ .line .now) (args′ .at) (field-end′ .result) (field-end′ .result + 1) (field-end2′ .result)
-    (field-end2′ .result + 1)
-    (field-end3′ .result) (field-end3′ .result + 1) _ (pre′ .1) (field-end′ .ensures .0) refl (field-end2′ .ensures .0) refl
-    (field-end3′ .ensures .0)
-    refl refl (sym ((c .before .before .before .before .count-fields) .ensures) ∙ (c .before .before .before .if1) .left)
+field-end-requires-4 c κs = search fourth-in
 
 sub-is-name : tie.Need-sub-is-name
 sub-is-name c = search needs
@@ -85,35 +165,7 @@ is-name-requires : tie.Need-is-name-requires
 is-name-requires c κs = search needs
 
 returns-2 : tie.Need-returns-2
-returns-2 c =
-    let args′ = c .before .before .before .before .before .before .before .before .before .before .before .args in
-    let line′ = args′ .line .now in
-    let pre′ = c .before .before .before .before .before .before .before .before .before .before .before .pre in
-    let count-fields′ = c .before .before .before .before .before .before .before .before .count-fields in
-    let if1′ = c .before .before .before .before .before .before .before .if1 in
-    let field-end′ = c .before .before .before .before .before .before .field-end in
-    let field-end2′ = c .before .before .before .before .before .field-end2 in
-    let field-end3′ = c .before .before .before .before .field-end3 in
-    let field-end4′ = c .before .before .before .field-end4 in
-    let is-name′ = c .before .is-name in
-    let f : List ℕ = drop (args′ .at) (take (field-end′ .result) line′) in
-    let g : List ℕ = drop (field-end′ .result + 1) (take (field-end2′ .result) line′) in
-    let h : List ℕ = drop (field-end2′ .result + 1) (take (field-end3′ .result) line′) in
-    let i : List ℕ = drop (field-end3′ .result + 1) (take (field-end4′ .result) line′) in
-    let all : List (List ℕ) = fieldsFrom line′ (args′ .at) in
-    let rest : List (List ℕ) = fieldsFrom line′ (suc (field-end4′ .result)) in
-    let shape : all ≡ f ∷ g ∷ h ∷ i ∷ rest =
-    four-fields line′ (args′ .at) (field-end′ .result) (field-end′ .result + 1) (field-end2′ .result) (field-end2′ .result + 1)
-    (field-end3′ .result)
-    (field-end3′ .result + 1) (field-end4′ .result) (pre′ .1) (field-end′ .ensures .0) refl (field-end2′ .ensures .0) refl
-    (field-end3′ .ensures .0) refl
-    (field-end4′ .ensures .0) (sym (count-fields′ .ensures) ∙ if1′ .left) in
-    let faulty : isSymbolFaulty all ≡ (not (isName g) || not (isNumberIn 0 4 h) || not (isNumberIn 1 31 i)) =
-    symbol-shape f g h i all rest shape (sym (count-fields′ .ensures) ∙ if1′ .left) in
-    let named : isName g ≡ false =
-    ap isName (drop-take (field-end′ .result + 1) (field-end2′ .result) line′ (field-end2′ .ensures .1))
-    ∙ sym (is-name′ .ensures) ∙ not-true (is-name′ .result) ((c .if2) .taken) in
-    faulty ∙ ap (λ (b : Bool). not b || not (isNumberIn 0 4 h) || not (isNumberIn 1 31 i)) named
+returns-2 c = search misnamed
 
 sub-is-number-in : tie.Need-sub-is-number-in
 sub-is-number-in c = search needs
@@ -128,41 +180,7 @@ is-number-in-requires : tie.Need-is-number-in-requires
 is-number-in-requires c κs = search needs
 
 returns-3 : tie.Need-returns-3
-returns-3 c =
-    let args′ = c .before .before .before .before .before .before .before .before .before .before .before .before .before .before
-    .args in
-    let line′ = args′ .line .now in
-    let pre′ = c .before .before .before .before .before .before .before .before .before .before .before .before .before .before
-    .pre in
-    let count-fields′ = c .before .before .before .before .before .before .before .before .before .before .before .count-fields in
-    let if1′ = c .before .before .before .before .before .before .before .before .before .before .if1 in
-    let field-end′ = c .before .before .before .before .before .before .before .before .before .field-end in
-    let field-end2′ = c .before .before .before .before .before .before .before .before .field-end2 in
-    let field-end3′ = c .before .before .before .before .before .before .before .field-end3 in
-    let field-end4′ = c .before .before .before .before .before .before .field-end4 in
-    let is-name′ = c .before .before .before .before .is-name in
-    let is-number-in′ = c .before .is-number-in in
-    let f : List ℕ = drop (args′ .at) (take (field-end′ .result) line′) in
-    let g : List ℕ = drop (field-end′ .result + 1) (take (field-end2′ .result) line′) in
-    let h : List ℕ = drop (field-end2′ .result + 1) (take (field-end3′ .result) line′) in
-    let i : List ℕ = drop (field-end3′ .result + 1) (take (field-end4′ .result) line′) in
-    let all : List (List ℕ) = fieldsFrom line′ (args′ .at) in
-    let rest : List (List ℕ) = fieldsFrom line′ (suc (field-end4′ .result)) in
-    let shape : all ≡ f ∷ g ∷ h ∷ i ∷ rest =
-    four-fields line′ (args′ .at) (field-end′ .result) (field-end′ .result + 1) (field-end2′ .result) (field-end2′ .result + 1)
-    (field-end3′ .result)
-    (field-end3′ .result + 1) (field-end4′ .result) (pre′ .1) (field-end′ .ensures .0) refl (field-end2′ .ensures .0) refl
-    (field-end3′ .ensures .0) refl
-    (field-end4′ .ensures .0) (sym (count-fields′ .ensures) ∙ if1′ .left) in
-    let faulty : isSymbolFaulty all ≡ (not (isName g) || not (isNumberIn 0 4 h) || not (isNumberIn 1 31 i)) =
-    symbol-shape f g h i all rest shape (sym (count-fields′ .ensures) ∙ if1′ .left) in
-    let named : isName g ≡ true =
-    ap isName (drop-take (field-end′ .result + 1) (field-end2′ .result) line′ (field-end2′ .ensures .1))
-    ∙ sym (is-name′ .ensures) ∙ not-false (is-name′ .result) ((c .before .before .before .if2) .left) in
-    let counted : isNumberIn 0 4 h ≡ false =
-    ap (isNumberIn 0 4) (drop-take (field-end2′ .result + 1) (field-end3′ .result) line′ (field-end3′ .ensures .1))
-    ∙ sym (is-number-in′ .ensures) ∙ not-true (is-number-in′ .result) ((c .if3) .taken) in
-    faulty ∙ ap₂ (λ (b d : Bool). not b || not d || not (isNumberIn 1 31 i)) named counted
+returns-3 c = search miscounted
 
 sub-is-number-in-2 : tie.Need-sub-is-number-in-2
 sub-is-number-in-2 c = search needs
@@ -177,115 +195,23 @@ is-number-in-requires-2 : tie.Need-is-number-in-requires-2
 is-number-in-requires-2 c κs = search needs
 
 returns-4 : tie.Need-returns-4
-returns-4 c =
-    let args′ = c .before .before .before .before .before .before .before .before .before .before .before .before .before .before
-    .before .before .before .args in
-    let line′ = args′ .line .now in
-    let pre′ = c .before .before .before .before .before .before .before .before .before .before .before .before .before .before
-    .before .before .before .pre in
-    let count-fields′ = c .before .before .before .before .before .before .before .before .before .before .before .before .before
-    .before .count-fields in
-    let if1′ = c .before .before .before .before .before .before .before .before .before .before .before .before .before .if1 in
-    let field-end′ = c .before .before .before .before .before .before .before .before .before .before .before .before
-    .field-end in
-    let field-end2′ = c .before .before .before .before .before .before .before .before .before .before .before .field-end2 in
-    let field-end3′ = c .before .before .before .before .before .before .before .before .before .before .field-end3 in
-    let field-end4′ = c .before .before .before .before .before .before .before .before .before .field-end4 in
-    let is-name′ = c .before .before .before .before .before .before .before .is-name in
-    let if2′ = c .before .before .before .before .before .before .if2 in
-    let is-number-in′ = c .before .before .before .before .is-number-in in
-    let is-number-in2′ = c .before .is-number-in2 in
-    let f : List ℕ = drop (args′ .at) (take (field-end′ .result) line′) in
-    let g : List ℕ = drop (field-end′ .result + 1) (take (field-end2′ .result) line′) in
-    let h : List ℕ = drop (field-end2′ .result + 1) (take (field-end3′ .result) line′) in
-    let i : List ℕ = drop (field-end3′ .result + 1) (take (field-end4′ .result) line′) in
-    let all : List (List ℕ) = fieldsFrom line′ (args′ .at) in
-    let rest : List (List ℕ) = fieldsFrom line′ (suc (field-end4′ .result)) in
-    let shape : all ≡ f ∷ g ∷ h ∷ i ∷ rest =
-    four-fields line′ (args′ .at) (field-end′ .result) (field-end′ .result + 1) (field-end2′ .result) (field-end2′ .result + 1)
-    (field-end3′ .result)
-    (field-end3′ .result + 1) (field-end4′ .result) (pre′ .1) (field-end′ .ensures .0) refl (field-end2′ .ensures .0) refl
-    (field-end3′ .ensures .0) refl
-    (field-end4′ .ensures .0) (sym (count-fields′ .ensures) ∙ if1′ .left) in
-    let faulty : isSymbolFaulty all ≡ (not (isName g) || not (isNumberIn 0 4 h) || not (isNumberIn 1 31 i)) =
-    symbol-shape f g h i all rest shape (sym (count-fields′ .ensures) ∙ if1′ .left) in
-    let named : isName g ≡ true =
-    ap isName (drop-take (field-end′ .result + 1) (field-end2′ .result) line′ (field-end2′ .ensures .1))
-    ∙ sym (is-name′ .ensures) ∙ not-false (is-name′ .result) (if2′ .left) in
-    let counted : isNumberIn 0 4 h ≡ true =
-    ap (isNumberIn 0 4) (drop-take (field-end2′ .result + 1) (field-end3′ .result) line′ (field-end3′ .ensures .1))
-    ∙ sym (is-number-in′ .ensures) ∙ not-false (is-number-in′ .result) ((c .before .before .before .if3) .left) in
-    let weighed : isNumberIn 1 31 i ≡ false =
-    ap (isNumberIn 1 31) (drop-take (field-end3′ .result + 1) (field-end4′ .result) line′ (field-end4′ .ensures .1))
-    ∙ sym (is-number-in2′ .ensures) ∙ not-true (is-number-in2′ .result) ((c .if4) .taken) in
-    faulty ∙ ap₂ (λ (b d : Bool). not b || not d || not (isNumberIn 1 31 i)) named counted ∙ ap not weighed
+returns-4 c = search misweighed
 
 returns-5 : tie.Need-returns-5
 returns-5 c =
-    let args′ = c .before .before .before .before .before .before .before .before .before .before .before .before .before .before
-    .before .before .before .args in
-    let line′ = args′ .line .now in
-    let pre′ = c .before .before .before .before .before .before .before .before .before .before .before .before .before .before
-    .before .before .before .pre in
-    let count-fields′ = c .before .before .before .before .before .before .before .before .before .before .before .before .before
-    .before .count-fields in
-    let if1′ = c .before .before .before .before .before .before .before .before .before .before .before .before .before .if1 in
-    let field-end′ = c .before .before .before .before .before .before .before .before .before .before .before .before
-    .field-end in
-    let field-end2′ = c .before .before .before .before .before .before .before .before .before .before .before .field-end2 in
-    let field-end3′ = c .before .before .before .before .before .before .before .before .before .before .field-end3 in
-    let field-end4′ = c .before .before .before .before .before .before .before .before .before .field-end4 in
-    let is-name′ = c .before .before .before .before .before .before .before .is-name in
-    let if2′ = c .before .before .before .before .before .before .if2 in
-    let is-number-in′ = c .before .before .before .before .is-number-in in
-    let if3′ = c .before .before .before .if3 in
-    let is-number-in2′ = c .before .is-number-in2 in
-    let if4′ = c .if4 in
-    let f : List ℕ = drop (args′ .at) (take (field-end′ .result) line′) in
-    let g : List ℕ = drop (field-end′ .result + 1) (take (field-end2′ .result) line′) in
-    let h : List ℕ = drop (field-end2′ .result + 1) (take (field-end3′ .result) line′) in
-    let i : List ℕ = drop (field-end3′ .result + 1) (take (field-end4′ .result) line′) in
-    let all : List (List ℕ) = fieldsFrom line′ (args′ .at) in
-    let rest : List (List ℕ) = fieldsFrom line′ (suc (field-end4′ .result)) in
-    let shape : all ≡ f ∷ g ∷ h ∷ i ∷ rest =
-    four-fields line′ (args′ .at) (field-end′ .result) (field-end′ .result + 1) (field-end2′ .result) (field-end2′ .result + 1)
-    (field-end3′ .result)
-    (field-end3′ .result + 1) (field-end4′ .result) (pre′ .1) (field-end′ .ensures .0) refl (field-end2′ .ensures .0) refl
-    (field-end3′ .ensures .0) refl
-    (field-end4′ .ensures .0) (sym (count-fields′ .ensures) ∙ if1′ .left) in
-    let faulty : isSymbolFaulty all ≡ (not (isName g) || not (isNumberIn 0 4 h) || not (isNumberIn 1 31 i)) =
-    symbol-shape f g h i all rest shape (sym (count-fields′ .ensures) ∙ if1′ .left) in
-    let named : isName g ≡ true =
-    ap isName (drop-take (field-end′ .result + 1) (field-end2′ .result) line′ (field-end2′ .ensures .1))
-    ∙ sym (is-name′ .ensures) ∙ not-false (is-name′ .result) (if2′ .left) in
-    let counted : isNumberIn 0 4 h ≡ true =
-    ap (isNumberIn 0 4) (drop-take (field-end2′ .result + 1) (field-end3′ .result) line′ (field-end3′ .ensures .1))
-    ∙ sym (is-number-in′ .ensures) ∙ not-false (is-number-in′ .result) (if3′ .left) in
-    let weighed : isNumberIn 1 31 i ≡ true =
-    ap (isNumberIn 1 31) (drop-take (field-end3′ .result + 1) (field-end4′ .result) line′ (field-end4′ .ensures .1))
-    ∙ sym (is-number-in2′ .ensures) ∙ not-false (is-number-in2′ .result) (if4′ .left) in
-    let second : field-end2′ .result + 1 ≡ suc (field-end2′ .result) = add-one (field-end2′ .result) in
-    let third : field-end3′ .result + 1 ≡ suc (field-end3′ .result) = add-one (field-end3′ .result) in
-    record {
-      fine = faulty ∙ ap₂ (λ (b d : Bool). not b || not d || not (isNumberIn 1 31 i)) named counted ∙ ap not weighed;
-      name = field-one f g all (h ∷ i ∷ rest) shape;
-      arity = field-two f g h all (i ∷ rest) shape ∙ ap (λ (n : ℕ). drop n (take (field-end3′ .result) line′)) second;
-      weight = field-three f g h i all rest shape ∙ ap (λ (n : ℕ). drop n (take (field-end4′ .result) line′)) third;
-      starts = field-end2′ .ensures .1;
-      nexts = omega (arith, field-end3′ .ensures .1);
-      lasts = omega (arith, field-end4′ .ensures .1);
-      stops = field-end4′ .ensures .2;
-      short-arity = omega (
-        arith,
-        short-part line′ (field-end2′ .result + 1) (field-end3′ .result) (field-end3′ .ensures .1) (field-end3′ .ensures .2)
-            (in-short 0 4 _ (omega arith) (sym (is-number-in′ .ensures) ∙ not-false (is-number-in′ .result) (if3′ .left))),
-      );
-      short-weight = omega (
-        arith,
-        short-part line′ (field-end3′ .result + 1) (field-end4′ .result) (field-end4′ .ensures .1) (field-end4′ .ensures .2)
-            (in-short 1 31 _ (omega arith) (sym (is-number-in2′ .ensures) ∙ not-false (is-number-in2′ .result) (if4′ .left))),
-      );
-    }
+    let weighed = c .before in
+    let counted = weighed .before .before .before in
+    let named = counted .before .before .before in
+    let last = named .before .before in
+    let next = last .before in
+    let stop = next .before in
+    let end = stop .before in
+    let all = end .before .before in
+    found _ _ _ _ (all .count-fields .ensures) (all .before .before .before .pre .1) (end .before .if1 .left)
+    (end .field-end .ensures .0) _ (stop .field-end2 .ensures .0) _ (next .field-end3 .ensures .0) _
+    (last .field-end4 .ensures .0)
+    _ (named .is-name .ensures) (counted .before .before .if2 .left) _ (counted .is-number-in .ensures)
+    (weighed .before .before .if3 .left) _ (weighed .is-number-in2 .ensures) (c .if4 .left) (last .field-end4 .ensures .2)
 
 pub symbol-form-spec : {M : Type 1} → statement M
 symbol-form-spec =

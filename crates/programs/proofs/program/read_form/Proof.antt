@@ -18,26 +18,17 @@ enum-told c = search needs
 symbol-line-requires : tie.Need-symbol-line-requires
 unfolding formMeant
 symbol-line-requires c κs =
-    let pre′ = c .before .before .before .before .before .before .before .before .before .pre in
-    let args′ = c .before .before .before .before .before .before .before .before .before .args in (
-      pre′ .0,
-      pre′ .2,
-      pre′ .3,
-      pre′ .4,
-      pre′ .5,
-      pre′ .8 .few-symbols,
-      first-place (args′ .place) (args′ .stage .place)
-          (pre′ .10 ∙ ap (λ (f : LineForm). placeAfter (formMeant f) (placeMeant (args′ .stage .place)))
-          ((c .before .enum-told) .given .1)) (pre′ .9),
-    )
+    let start = c .before .before .before .before .before .before .before .before .before in
+    let pre = start .pre in
+    let form =
+    ap (λ (f : LineForm). placeAfter (formMeant f) (placeMeant (start .args .stage .place))) (c .before .enum-told .given .1) in
+    (pre .0, pre .2, pre .3, pre .4, pre .5, pre .8 .few-symbols, first-place _ _ (pre .10 ∙ form) (pre .9))
 
 enum-told-2 : tie.Need-enum-told-2
 enum-told-2 c = search needs
 
 rule-line-requires : tie.Need-rule-line-requires
-rule-line-requires c κs =
-    let pre′ = c .before .before .before .before .before .before .before .before .before .pre in
-    (pre′ .0, pre′ .2, pre′ .3, pre′ .4, pre′ .6, pre′ .8 .few-rules)
+rule-line-requires c κs = search needs
 
 enum-told-3 : tie.Need-enum-told-3
 enum-told-3 c = search needs
@@ -45,19 +36,9 @@ enum-told-3 c = search needs
 constraint-line-requires : tie.Need-constraint-line-requires
 unfolding formMeant placeAfter
 constraint-line-requires c κs =
-    let pre′ = c .before .before .before .before .before .before .before .before .before .before .before .pre in (
-      pre′ .0,
-      pre′ .1,
-      pre′ .2,
-      pre′ .3,
-      pre′ .4,
-      pre′ .5,
-      pre′ .6,
-      pre′ .7,
-      pre′ .8,
-      pre′ .8 .begun (begun _ Head _ _ refl (pre′ .10) ((c .before .before .before .enum-told3) .given .1) (pre′ .9)),
-      omega arith,
-    )
+    let pre = c .before .before .before .before .before .before .before .before .before .before .before .pre in
+    let started = pre .8 .begun (begun _ Head _ _ refl (pre .10) (c .before .before .before .enum-told3 .given .1) (pre .9)) in
+    search (needs, started)
 
 enum-told-4 : tie.Need-enum-told-4
 enum-told-4 c = search needs
@@ -65,19 +46,9 @@ enum-told-4 c = search needs
 constraint-line-requires-2 : tie.Need-constraint-line-requires-2
 unfolding formMeant placeAfter
 constraint-line-requires-2 c κs =
-    let pre′ = c .before .before .before .before .before .before .before .before .before .before .before .pre in (
-      pre′ .0,
-      pre′ .1,
-      pre′ .2,
-      pre′ .3,
-      pre′ .4,
-      pre′ .5,
-      pre′ .6,
-      pre′ .7,
-      pre′ .8,
-      pre′ .8 .begun (begun _ Body _ _ refl (pre′ .10) ((c .before .before .before .enum-told4) .given .1) (pre′ .9)),
-      omega arith,
-    )
+    let pre = c .before .before .before .before .before .before .before .before .before .before .before .pre in
+    let started = pre .8 .begun (begun _ Body _ _ refl (pre .10) (c .before .before .before .enum-told4 .given .1) (pre .9)) in
+    search (needs, started)
 
 enum-told-5 : tie.Need-enum-told-5
 enum-told-5 c = search needs
@@ -85,18 +56,10 @@ enum-told-5 c = search needs
 equation-line-requires : tie.Need-equation-line-requires
 unfolding formMeant placeAfter
 equation-line-requires c κs =
-    let pre′ = c .before .before .before .before .before .before .before .before .before .before .before .pre in (
-      pre′ .0,
-      pre′ .1,
-      pre′ .2,
-      pre′ .3,
-      pre′ .4,
-      pre′ .5,
-      pre′ .6,
-      pre′ .7,
-      pre′ .8,
-      pre′ .8 .begun (begun _ Equation _ _ refl (pre′ .10) ((c .before .before .before .enum-told5) .given .1) (pre′ .9)),
-    )
+    let pre = c .before .before .before .before .before .before .before .before .before .before .before .pre in
+    let started =
+    pre .8 .begun (begun _ Equation _ _ refl (pre .10) (c .before .before .before .enum-told5 .given .1) (pre .9)) in
+    search (needs, started)
 
 enum-told-6 : tie.Need-enum-told-6
 enum-told-6 c = search needs
@@ -110,15 +73,9 @@ same-length c = search needs
 returns : tie.Need-returns
 unfolding formMeant readForm
 returns c =
-    let args′ = c .before .before .before .before .before .before .before .before .before .before .before .before .args in
-    let rules′ = args′ .rules .now in
-    let pre′ = c .before .before .before .before .before .before .before .before .before .before .before .before .pre in
-    let symbol-line′ = c .before .before .symbol-line in
-    rw ((c .before .before .before .before .enum-told) .given .1) (
-      symbol-line′ .ensures .0 (args′ .number) rules′ (args′ .constants .now),
-      symbol-line′ .ensures .1
-          rules′ (pre′ .8),
-    )
+    let start = c .before .before .before .before .before .before .before .before .before .before .before .before in
+    let line = c .before .before .symbol-line .ensures in
+    rw (c .before .before .before .before .enum-told .given .1) (line .0 _ _ _, line .1 _ (start .pre .8))
 
 same-length-2 : tie.Need-same-length-2
 same-length-2 c = search needs
@@ -126,11 +83,9 @@ same-length-2 c = search needs
 returns-2 : tie.Need-returns-2
 unfolding formMeant readForm
 returns-2 c =
-    let args′ = c .before .before .before .before .before .before .before .before .before .before .before .before .args in
-    let pre′ = c .before .before .before .before .before .before .before .before .before .before .before .before .pre in
-    let rule-line′ = c .before .before .rule-line in
-    rw ((c .before .before .before .before .enum-told2) .given .1)
-    (rule-line′ .ensures .0 (args′ .symbols .now) (args′ .constants .now), rule-line′ .ensures .1 (pre′ .8))
+    let start = c .before .before .before .before .before .before .before .before .before .before .before .before in
+    let line = c .before .before .rule-line .ensures in
+    rw (c .before .before .before .before .enum-told2 .given .1) (line .0 _ _, line .1 (start .pre .8))
 
 same-length-3 : tie.Need-same-length-3
 same-length-3 c = search needs
@@ -144,11 +99,8 @@ same-length-5 c = search needs
 returns-3 : tie.Need-returns-3
 unfolding formMeant partForm
 returns-3 c =
-    let args′ = c .before .before .before .before .before .before .before .before .before .before .before .before .before .before
-    .before .before .args in
-    let enum-told3′ = c .before .before .before .before .before .before .before .before .enum-told3 in
-    let constraint-line′ = c .before .before .before .before .constraint-line in
-    rw (enum-told3′ .given .1) (constraint-line′ .ensures .0 (args′ .number), constraint-line′ .ensures .1)
+    let line = c .before .before .before .before .constraint-line .ensures in
+    rw (c .before .before .before .before .before .before .before .before .enum-told3 .given .1) (line .0 _, line .1)
 
 same-length-6 : tie.Need-same-length-6
 same-length-6 c = search needs
@@ -162,11 +114,8 @@ same-length-8 c = search needs
 returns-4 : tie.Need-returns-4
 unfolding formMeant partForm
 returns-4 c =
-    let args′ = c .before .before .before .before .before .before .before .before .before .before .before .before .before .before
-    .before .before .args in
-    let enum-told4′ = c .before .before .before .before .before .before .before .before .enum-told4 in
-    let constraint-line2′ = c .before .before .before .before .constraint-line2 in
-    rw (enum-told4′ .given .1) (constraint-line2′ .ensures .0 (args′ .number), constraint-line2′ .ensures .1)
+    let line = c .before .before .before .before .constraint-line2 .ensures in
+    rw (c .before .before .before .before .before .before .before .before .enum-told4 .given .1) (line .0 _, line .1)
 
 same-length-9 : tie.Need-same-length-9
 same-length-9 c = search needs
@@ -180,11 +129,8 @@ same-length-11 c = search needs
 returns-5 : tie.Need-returns-5
 unfolding formMeant
 returns-5 c =
-    let args′ = c .before .before .before .before .before .before .before .before .before .before .before .before .before .before
-    .before .before .args in
-    let enum-told5′ = c .before .before .before .before .before .before .before .before .enum-told5 in
-    let equation-line′ = c .before .before .before .before .equation-line in
-    rw (enum-told5′ .given .1) (equation-line′ .ensures .0 (args′ .number), equation-line′ .ensures .1)
+    let line = c .before .before .before .before .equation-line .ensures in
+    rw (c .before .before .before .before .before .before .before .before .enum-told5 .given .1) (line .0 _, line .1)
 
 returns-6 : tie.Need-returns-6
 unfolding formMeant readForm lineAnswer

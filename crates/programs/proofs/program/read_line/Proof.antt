@@ -1,42 +1,41 @@
 -- `programs::program::read_line` meets its contract: number 2, then 3, then the form. Assumes nothing.
 use borrow.Author.Needs.{needs}
-use mathlib.Core.Path.{sym, _∙_}
+use mathlib.Core.Path.{_≡_, sym, _∙_}
+use mathlib.Core.Bool.{false}
 use native.Mathlib.Omega.{arith}
 use lib.Seq.{length-take-le}
-use Rattle.lines.specs.Read.{formMeant}
+use Rattle.text.specs.Lines.{lineIsFaulty}
+use Rattle.text.specs.Places.{lineAt}
 use Rattle.programs.specs.Read.{draftOf, lineAnswer}
 use Rattle.programs.proofs.Whole.{some-bytes, line-faulty, line-placeless, line-formed}
 use Rattle.programs.proofs.program.read_line.Statement.{statement}
 use Rattle.programs.proofs.program.read_line.Tie as tie
+
+-- a line that is not faulty
+abbrev entry : tie.Else1 → tie.Start
+entry p = p .before .before .before .before .before .before .before .before
+
+fine : (p : tie.Else1) → lineIsFaulty (lineAt (entry p .args .text .now) (entry p .args .at) (entry p .args .end)) ≡ false
+fine p = sym (p .before .is-faulty-line .ensures) ∙ p .if1 .left
 
 is-faulty-line-requires : tie.Need-is-faulty-line-requires
 is-faulty-line-requires c κs = search needs
 
 returns : tie.Need-returns
 unfolding lineAnswer
-returns c =
-    let args′ = c .before .before .before .before .before .before .before .before .args in (
-      line-faulty (args′ .text .now) (args′ .at) (args′ .end) (args′ .number)
-          (draftOf (args′ .text .now) (args′ .symbols .now) (args′ .rules .now) (args′ .constants .now) (args′ .stage))
-          (sym ((c .before .is-faulty-line) .ensures) ∙ (c .if1) .taken),
-      omega arith,
-    )
+returns c = (search (line-faulty, sym (c .before .is-faulty-line .ensures) ∙ c .if1 .taken), omega arith)
 
 slice-aggregate-line : tie.Need-slice-aggregate-line
 slice-aggregate-line c =
-    let args′ = c .before .before .before .before .before .before .before .before .before .args in
-    let pre′ = c .before .before .before .before .before .before .before .before .before .pre in
-    sym (length-take-le (args′ .end) (args′ .text .now) (pre′ .3))
+    let start = entry (c .before) in sym (length-take-le (start .args .end) (start .args .text .now) (start .pre .3))
 
 form-at-requires : tie.Need-form-at-requires
 form-at-requires c κs =
-    let args′ = c .before .before .before .before .before .before .before .before .before .args in
-    let pre′ = c .before .before .before .before .before .before .before .before .before .pre in
+    let start = entry (c .before) in
     omega (
       arith,
-      length-take-le (args′ .end) (args′ .text .now) (pre′ .3),
-      some-bytes (args′ .text .now) (args′ .at) (args′ .end) (pre′ .2) (pre′ .3)
-          (sym ((c .before .before .is-faulty-line) .ensures) ∙ (c .before .if1) .left),
+      length-take-le (start .args .end) (start .args .text .now) (start .pre .3),
+      some-bytes _ _ _ (start .pre .2) (start .pre .3) (fine (c .before)),
     )
 
 place-after-requires : tie.Need-place-after-requires
@@ -44,39 +43,14 @@ place-after-requires c κs = search needs
 
 returns-2 : tie.Need-returns-2
 unfolding lineAnswer draftOf
-returns-2 c =
-    let args′ = c .before .before .before .before .before .before .before .before .before .before .before .before .args in
-    let text′ = args′ .text .now in
-    let pre′ = c .before .before .before .before .before .before .before .before .before .before .before .before .pre in
-    let is-faulty-line′ = c .before .before .before .before .before .is-faulty-line in
-    let form-at′ = c .before .before .form-at in
-    let place-after′ = c .before .place-after in (
-      line-placeless text′ (args′ .at) (args′ .end) (args′ .number)
-          (draftOf text′ (args′ .symbols .now) (args′ .rules .now) (args′ .constants .now) (args′ .stage)) (pre′ .2)
-          (pre′ .3)
-          (sym (is-faulty-line′ .ensures) ∙ (c .before .before .before .before .if1) .left) (formMeant (form-at′ .result))
-          (form-at′ .ensures) (place-after′ .result) (place-after′ .ensures)
-          ((c .if2) .taken),
-      omega arith,
-    )
+returns-2 c = (search (line-placeless, fine (c .before .before .before .before)), omega arith)
 
 read-form-requires : tie.Need-read-form-requires
 read-form-requires c κs =
-    let pre′ = c .before .before .before .before .before .before .before .before .before .before .before .before .before .before
-    .before .pre in (
-      pre′ .0,
-      pre′ .1,
-      pre′ .2,
-      pre′ .3,
-      pre′ .4,
-      pre′ .5,
-      pre′ .6,
-      pre′ .7,
-      pre′ .8,
-      omega
-          (arith, (c .before .before .before .if2) .left),
-      (c .before .before .before .before .place-after) .ensures,
-    )
+    let placed = c .before .before .before in
+    let pre = placed .before .before .before .before .before .before .before .before .before .before .before .before .pre in
+    let at = placed .before .place-after .ensures in
+    (pre .0, pre .1, pre .2, pre .3, pre .4, pre .5, pre .6, pre .7, pre .8, omega (arith, placed .if2 .left), at)
 
 same-length : tie.Need-same-length
 same-length c = search needs
@@ -90,27 +64,12 @@ same-length-3 c = search needs
 returns-3 : tie.Need-returns-3
 unfolding draftOf
 returns-3 c =
-    let args′ = c .before .before .before .before .before .before .before .before .before .before .before .before .before .before
-    .before .before .before .before .before .before .before .before .args in
-    let text′ = args′ .text .now in
-    let pre′ = c .before .before .before .before .before .before .before .before .before .before .before .before .before .before
-    .before .before .before .before .before .before .before .before .pre in
-    let is-faulty-line′ = c .before .before .before .before .before .before .before .before .before .before .before .before
-    .before .before .before .is-faulty-line in
-    let if1′ = c .before .before .before .before .before .before .before .before .before .before .before .before .before .before
-    .if1 in
-    let form-at′ = c .before .before .before .before .before .before .before .before .before .before .before .before .form-at in
-    let place-after′ = c .before .before .before .before .before .before .before .before .before .before .before .place-after in
-    let if2′ = c .before .before .before .before .before .before .before .before .before .before .if2 in
-    let read-form′ = c .before .before .before .before .before .before .read-form in (
-      read-form′ .ensures .0 ∙ line-formed text′ (args′ .at) (args′ .end) (args′ .number)
-          (draftOf text′ (args′ .symbols .now) (args′ .rules .now) (args′ .constants .now) (args′ .stage)) (pre′ .2)
-          (pre′ .3)
-          (sym (is-faulty-line′ .ensures) ∙ if1′ .left) (formMeant (form-at′ .result)) (form-at′ .ensures) (place-after′ .result)
-          (place-after′ .ensures)
-          (if2′ .left),
-      read-form′ .ensures .1,
-    )
+    let p = c .before .before .before .before .before .before .before .before .before .before .before .before .before .before in
+    let form = c .before .before .before .before .before .before .read-form .ensures in
+    let placed = c .before .before .before .before .before .before .before .before .before .before in
+    let pre = entry p .pre in
+    let place = placed .before .place-after .ensures in
+    (form .0 ∙ search (line-formed, fine p, pre .2, pre .3, place, placed .if2 .left), form .1)
 
 pub read-line-spec : {M : Type 1} → statement M
 read-line-spec =

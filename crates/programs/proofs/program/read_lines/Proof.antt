@@ -1,6 +1,6 @@
 -- `programs::program::read_lines` meets its contract: what is left of the text, read from here, is the answer. Assumes nothing.
 use borrow.Author.Needs.{needs}
-use mathlib.Core.Path.{_≡_, refl, sym, ap, _∙_}
+use mathlib.Core.Path.{_≡_, refl, _∙_}
 use Prim.Native.Nat.{_≤_, _+_, _-_}
 use native.Mathlib.Numerals.{add-one}
 use native.Mathlib.Omega.{arith}
@@ -46,156 +46,80 @@ loop-holds c =
     )
 
 line-end-requires : tie.Need-line-end-requires Inv-loop μ-loop
-line-end-requires c κs = omega (arith, (c .loop-test) .taken)
+line-end-requires c κs = search needs
 
 read-line-requires : tie.Need-read-line-requires Inv-loop μ-loop
 read-line-requires c κs =
-    let pre′ = c .before .before .before .before .before .before .before .before .before .before .before .before .pre in
-    let loop′ = c .before .before .before .before .before .loop in
-    let line-end′ = c .before .before .before .line-end in (
-      pre′ .0,
-      pre′ .1,
-      line-end′ .ensures .1,
-      line-end′ .ensures .2,
-      pre′ .2,
-      loop′ .inv .0,
-      loop′ .inv .1,
-      loop′ .inv .2,
-      loop′ .inv .5,
-    )
+    let line = c .before .before .before in
+    let loop = line .before .before .loop in
+    let pre = line .before .before .before .before .before .before .before .before .before .pre in
+    let ends = line .line-end .ensures in
+    (pre .0, pre .1, ends .1, ends .2, pre .2, loop .inv .0, loop .inv .1, loop .inv .2, loop .inv .5)
 
 enum-known-x : tie.Need-enum-known-x Inv-loop μ-loop
 enum-known-x c = search needs
 
 same-length : tie.Need-same-length Inv-loop μ-loop
-same-length c =
-    let pre′ = c .before .before .before .before .before .before .before .before .before .before .before .before .before .before
-    .before .before .before .before .before .before .before .before .pre in
-    let loop′ = c .before .before .before .before .before .before .before .before .before .before .before .before .before .before
-    .before .loop in
-    let read-line′ = c .before .before .before .before .before .before .before .before .before .read-line in
-    read-line′ .kept .1 .1 .1 .1 .1 .1 .0 ∙ loop′ .inv .0 ∙ sym (pre′ .3)
+same-length c = search needs
 
 same-length-2 : tie.Need-same-length-2 Inv-loop μ-loop
-same-length-2 c =
-    let pre′ = c .before .before .before .before .before .before .before .before .before .before .before .before .before .before
-    .before .before .before .before .before .before .before .before .pre in
-    let loop′ = c .before .before .before .before .before .before .before .before .before .before .before .before .before .before
-    .before .loop in
-    let read-line′ = c .before .before .before .before .before .before .before .before .before .read-line in
-    read-line′ .kept .1 .1 .1 .1 .1 .1 .1 .0 ∙ loop′ .inv .1 ∙ sym (pre′ .4)
+same-length-2 c = search needs
 
 same-length-3 : tie.Need-same-length-3 Inv-loop μ-loop
-same-length-3 c =
-    let pre′ = c .before .before .before .before .before .before .before .before .before .before .before .before .before .before
-    .before .before .before .before .before .before .before .before .pre in
-    let loop′ = c .before .before .before .before .before .before .before .before .before .before .before .before .before .before
-    .before .loop in
-    let read-line′ = c .before .before .before .before .before .before .before .before .before .read-line in
-    read-line′ .kept .1 .1 .1 .1 .1 .1 .1 .1 .0 ∙ loop′ .inv .2 ∙ sym (pre′ .5)
+same-length-3 c = search needs
 
 returns : tie.Need-returns Inv-loop μ-loop
 unfolding lineAnswer linesAnswer
 returns c =
-    let args′ = c .before .before .before .before .before .before .before .before .before .before .before .before .before .before
-    .before .before .before .before .before .before .before .before .args in
-    let text′ = args′ .text .now in
-    let loop′ = c .before .before .before .before .before .before .before .before .before .before .before .before .before .before
-    .before .loop in
-    let loop-test′ = c .before .before .before .before .before .before .before .before .before .before .before .before .before
-    .before .loop-test in
-    let line-end′ = c .before .before .before .before .before .before .before .before .before .before .before .before .before
-    .line-end in
-    let read-line′ = c .before .before .before .before .before .before .before .before .before .read-line in
-    let x′ = c .before .x in (
-      lines-refused text′ (loop′ .at) (line-end′ .result) (loop′ .number)
-          (draftOf text′ (loop′ .symbols) (loop′ .rules) (loop′ .constants) (loop′ .stage)) (loop-test′ .taken)
-          (line-end′ .ensures .0)
-          (x′ .given .0 .0) (loop′ .number)
-          (ap (lineAnswer text′ (read-line′ .last .1 .1 .1 .1 .1 .1 .0) (read-line′ .last .1 .1 .1 .1 .1 .1 .1 .0)
-          (read-line′ .last .1 .1 .1 .1 .1 .1 .1 .1 .0) (loop′ .number)) (sym (x′ .given .1)) ∙ read-line′ .ensures .0) ∙ loop′
-          .inv .6,
-      omega arith,
-    )
+    let read = c .before .before .before .before .before .before .before .before .before in
+    let line = read .before .before .before .before in
+    let refused = rw (c .before .x .given .1) at (read .read-line .ensures .0) in
+    let loop = line .before in
+    let ends = line .line-end .ensures in
+    (search (lines-refused, refused, loop .before .loop .inv .6, loop .loop-test .taken, ends .0), omega arith)
 
 enum-known-next : tie.Need-enum-known-next Inv-loop μ-loop
 enum-known-next c = search needs
 
 add-at : tie.Need-add-at Inv-loop μ-loop
-add-at c =
-    let pre′ = c .before .before .before .before .before .before .before .before .before .before .before .before .before .before
-    .before .before .before .before .before .before .before .before .pre in
-    let line-end′ = c .before .before .before .before .before .before .before .before .before .before .before .before .before
-    .line-end in
-    record { fits = omega (arith, line-end′ .ensures .2, pre′ .2) }
+add-at c = search needs
 
 add-number : tie.Need-add-number Inv-loop μ-loop
-add-number c =
-    let pre′ = c .before .before .before .before .before .before .before .before .before .before .before .before .before .before
-    .before .before .before .before .before .before .before .before .pre in
-    let loop′ = c .before .before .before .before .before .before .before .before .before .before .before .before .before .before
-    .before .loop in
-    let loop-test′ = c .before .before .before .before .before .before .before .before .before .before .before .before .before
-    .before .loop-test in
-    record { fits = omega (arith, loop′ .inv .4, loop-test′ .taken, pre′ .2) }
+add-number c = search needs
 
 loop-less : tie.Need-loop-less Inv-loop μ-loop
-loop-less c =
-    let loop-test′ = c .before .before .before .before .before .before .before .before .before .before .before .before .before
-    .before .loop-test in
-    let line-end′ = c .before .before .before .before .before .before .before .before .before .before .before .before .before
-    .line-end in
-    omega (arith, line-end′ .ensures .1, line-end′ .ensures .2, loop-test′ .taken)
+loop-less c = search needs
 
 loop-again : tie.Need-loop-again Inv-loop μ-loop
 unfolding lineAnswer
 loop-again c =
-    let args′ = c .before .before .before .before .before .before .before .before .before .before .before .before .before .before
-    .before .before .before .before .before .before .before .before .args in
-    let text′ = args′ .text .now in
-    let loop′ = c .before .before .before .before .before .before .before .before .before .before .before .before .before .before
-    .before .loop in
-    let loop-test′ = c .before .before .before .before .before .before .before .before .before .before .before .before .before
-    .before .loop-test in
-    let line-end′ = c .before .before .before .before .before .before .before .before .before .before .before .before .before
-    .line-end in
-    let read-line′ = c .before .before .before .before .before .before .before .before .before .read-line in
-    let next′ = c .before .next in
-    rw (add-one (line-end′ .result), add-one (loop′ .number)) (
-      read-line′ .kept .1 .1 .1 .1 .1 .1 .0 ∙ loop′ .inv .0,
-      read-line′ .kept .1 .1 .1 .1 .1 .1 .1 .0 ∙ loop′ .inv .1,
-      read-line′ .kept .1 .1 .1 .1 .1 .1 .1 .1 .0 ∙ loop′ .inv .2,
-      omega (arith, line-end′ .ensures .2),
-      omega (arith, line-end′ .ensures .1, loop′ .inv .4),
-      rw (next′ .given .1) at (read-line′ .ensures .1),
-      lines-next text′ (loop′ .at) (line-end′ .result) (loop′ .number)
-          (draftOf text′ (loop′ .symbols) (loop′ .rules) (loop′ .constants) (loop′ .stage)) (loop-test′ .taken)
-          (line-end′ .ensures .0) _
-          (ap (lineAnswer text′ (read-line′ .last .1 .1 .1 .1 .1 .1 .0) (read-line′ .last .1 .1 .1 .1 .1 .1 .1 .0)
-          (read-line′ .last .1 .1 .1 .1 .1 .1 .1 .1 .0) (loop′ .number)) (sym (next′ .given .1)) ∙ read-line′ .ensures .0) ∙ loop′
-          .inv .6,
+    let read = c .before .before .before .before .before .before .before .before .before in
+    let line = read .before .before .before .before in
+    let loop = line .before .before .loop in
+    let ends = line .line-end .ensures in
+    let next = rw (c .before .next .given .1) at (read .read-line .ensures .0) in
+    rw (add-one (line .line-end .result), add-one (loop .number)) (
+      read .read-line .kept .1 .1 .1 .1 .1 .1 .0 ∙ loop .inv .0,
+      read .read-line .kept .1 .1 .1 .1 .1 .1 .1 .0 ∙ loop .inv .1,
+      read .read-line .kept .1 .1 .1 .1 .1 .1 .1 .1 .0 ∙ loop .inv .2,
+      omega (arith, ends .2),
+      omega (arith, ends .1, loop .inv .4),
+      rw (c .before .next .given .1) at (read .read-line .ensures .1),
+      search (lines-next, next, loop .inv .6, line .before .loop-test .taken, ends .0),
     )
 
 same-length-4 : tie.Need-same-length-4 Inv-loop μ-loop
-same-length-4 c = (c .before .loop) .inv .0 ∙ sym ((c .before .before .before .before .before .before .before .before .pre) .3)
+same-length-4 c = search needs
 
 same-length-5 : tie.Need-same-length-5 Inv-loop μ-loop
-same-length-5 c = (c .before .loop) .inv .1 ∙ sym ((c .before .before .before .before .before .before .before .before .pre) .4)
+same-length-5 c = search needs
 
 same-length-6 : tie.Need-same-length-6 Inv-loop μ-loop
-same-length-6 c = (c .before .loop) .inv .2 ∙ sym ((c .before .before .before .before .before .before .before .before .pre) .5)
+same-length-6 c = search needs
 
 returns-2 : tie.Need-returns-2 Inv-loop μ-loop
 unfolding linesAnswer
-returns-2 c =
-    let args′ = c .before .before .before .before .before .before .before .before .args in
-    let loop′ = c .before .loop in (
-      lines-end (args′ .text .now) (loop′ .at) (loop′ .number)
-          (draftOf (args′ .text .now) (loop′ .symbols) (loop′ .rules) (loop′ .constants) (loop′ .stage)) ((c .loop-test) .left)
-          ∙ loop′
-          .inv .6,
-      loop′ .inv .5,
-    )
+returns-2 c = (search lines-end, c .before .loop .inv .5)
 
 pub read-lines-spec : {M : Type 1} → statement M
 read-lines-spec =
