@@ -3,4 +3,5 @@ pub mod Bytes
 pub mod Lists
 pub mod Lines
 pub mod Fields
+pub mod Keys
 pub mod Places
