@@ -18,7 +18,7 @@ use Rattle.semantics.specs.Solving.{solve}
 use Rattle.semantics.specs.Firing.{without, instance, settle, fired, fireAt}
 use Rattle.semantics.specs.Derivations.{Event, enter, fire, Progress, become, taken, entering, firing, follow, followAll}
 use Rattle.semantics.specs.Derivations.{start, derive}
-use Rattle.semantics.specs.Strategy.{entered}
+use Rattle.semantics.specs.Strategy.{goalState}
 use Rattle.semantics.proofs.Configurations.{TermBelow, All, also}
 use Rattle.semantics.proofs.Configurations as C
 use Rattle.semantics.proofs.Multisets.{all-member, all-mono, all-map, all-append}
@@ -119,7 +119,7 @@ module _
 -- all states of derivations of a program's goals are scoped
 pub derive-scoped :
     (p : Program) (g : Goal) (es : List Event) → isWellFormed p ≡ true → isGoalOf p g ≡ true → ScopedState (derive p g es .state)
-unfolding derive start entered
+unfolding derive start goalState
 derive-scoped p g es w over =
     followAll-sound p w g (goal-below p g over) es (start g) (
       record { bound = entered-scoped g (goal-below p g over) .bound; constraints = C.none },

@@ -20,7 +20,7 @@ use Rattle.text.specs.Lists.{every, has, tabled, upTo}
 use Rattle.semantics.specs.Terms.{Term, con, var, Constraint, Program, Goal, live, mapTerms}
 use Rattle.semantics.specs.Derivations.{Event, enter, Progress, become, taken, entering, follow, followAll, start}
 use Rattle.semantics.specs.Derivations.{allEntered}
-use Rattle.semantics.specs.Strategy.{entered}
+use Rattle.semantics.specs.Strategy.{goalState}
 use Rattle.semantics.proofs.Options.{apart-eqb}
 use Rattle.semantics.proofs.Bools.{eqb-same, and-true, or-right}
 
@@ -159,8 +159,8 @@ pub enters-all :
 enters-all p g = enters-first p g (length (g .constraints)) (omega arith)
 
 -- then the state is the one that the strategy starts from
-pub arrivedAt-state : (g : Goal) → arrivedAt g (length (g .constraints)) .state ≡ entered g
-unfolding entered
+pub arrivedAt-state : (g : Goal) → arrivedAt g (length (g .constraints)) .state ≡ goalState g
+unfolding goalState
 arrivedAt-state g = rw take-length
 
 -- and all have entered

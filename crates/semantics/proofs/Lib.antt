@@ -32,6 +32,7 @@ pub mod Weights
 pub mod Bound
 pub mod Entering
 pub mod Normal
+pub mod Runs
 pub mod Vocabulary
 pub mod Reordering
 pub mod LateEntry
@@ -46,7 +47,6 @@ pub mod Appearing
 pub mod JoinLaws
 pub mod OverlapGoals
 pub mod PeakOverlaps
-pub mod SideEvents
 pub mod Newman
 pub mod Firings
 pub mod Reface

@@ -17,7 +17,8 @@ use Rattle.semantics.specs.Terms.{Term, var, Rule, Program, Goal, State,
 use Rattle.semantics.specs.Solving.{solve}
 use Rattle.semantics.specs.Firing.{fireAt}
 use Rattle.semantics.specs.Derivations.{Event, derive, NoRuleFits}
-use Rattle.semantics.specs.Strategy.{entered}
+use Rattle.semantics.specs.Strategy.{goalState}
+use Rattle.semantics.specs.Runs.{RunsByChoice}
 use Rattle.semantics.specs.Overlaps.{pairings, Numbered, Overlap, secondPositions, goalOf, overlapOf, overlaps}
 use Rattle.semantics.specs.Published.{Published, Simplify, Emptied, Represents, Goes}
 use Rattle.semantics.specs.CriticalPairs.{Joint, Choice, jointsOf, partnersOf, CriticalPair, Critical, leftState}
@@ -49,7 +50,7 @@ pub record ChoicesArePairings (m n : ℕ) : Type 0 where
 -- the pair's state is emptied, the state after the firing represents it, seen by a reading
 pub record Side (o : Overlap) (r : Rule) (ps : List ℕ) (ts : List Term) (a : Published) : Type 1 where
   pub state : State
-  pub fires : fireAt r ps (entered (o .goal)) ≡ some state
+  pub fires : fireAt r ps (goalState (o .goal)) ≡ some state
   pub represents : (b : Published) → Emptied a b → Represents b (seen ts state)
 
 -- the two sides of an overlap are the two states of a critical pair, under the unifier of the pair's condition, which makes the
@@ -95,7 +96,7 @@ pub record OverlapsAreCriticalPairs (p : Program) : Type 1 where
       → jointsOf (o .partners) ≡ jointsOf (u .partners) → m ≡ n
 
 -- demand 2 of a program: every state of a derivation of one of its goals represents a published state, and firing in it is
--- Simplify there; the choices of heads are the pairings; and the overlaps are the critical pairs
+-- Simplify there; the choices of heads are the pairings; the overlaps are the critical pairs; and the run is one by the order of choice
 pub record Demand2 (p : Program) : Type 1 where
   pub represented :
       (g : Goal) (es : List Event) → isGoalOf p g ≡ true
@@ -105,3 +106,4 @@ pub record Demand2 (p : Program) : Type 1 where
       → FiringIsSimplify p a (derive p g es .state)
   pub choices : (m n : ℕ) → ChoicesArePairings m n
   pub overlaps : OverlapsAreCriticalPairs p
+  pub runs : RunsByChoice p
