@@ -2,7 +2,7 @@
 -- Assumes nothing.
 use Prim.Native.Nat.{ℕ, _≤_}
 use mathlib.Core.List.{List}
-use mathlib.Core.Path.{_≡_, _∙_}
+use mathlib.Core.Path.{_≡_}
 use lib.ListN.{length}
 use Rattle.semantics.specs.Strategy.{run}
 use Rattle.semantics.proofs.Demand2.{derivation-published}
@@ -10,8 +10,10 @@ use Rattle.syntax.specs.Answers.{accepted}
 use Rattle.syntax.specs.Programs.{Reading, readProgram}
 use Rattle.syntax.specs.Goals.{GoalReading, readGoal}
 use Rattle.syntax.proofs.WellFormed.{read-wellFormed}
+use Rattle.syntax.proofs.GoalVocabulary.{goal-small}
+use Rattle.syntax.proofs.Vocabulary.{read-small}
 use Rattle.library.specs.Replies.{listing, replyOf, goalText, runListing, runReply}
-use Rattle.library.specs.Claims.{Ran, Demand2On}
+use Rattle.library.specs.Claims.{Demand2On}
 use Rattle.library.proofs.Demand3.{fitted-listed}
 
 -- a listing of a run that fits is the reply
@@ -32,7 +34,7 @@ run-published s r e =
       ran =
           λ t room g f l.
           record {
-            goal = ?;
+            goal = goal-small r t (read-small s e .few-constants) f .is-goal;
             end = run (r .program) (g .goal);
             reply = run-listed s t room r g e f l;
             runs = published .runs .ends (g .goal);

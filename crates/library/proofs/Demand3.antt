@@ -2,25 +2,23 @@
 -- Assumes nothing.
 use Prim.Native.Nat.{ℕ, suc, _≤_, _<_}
 use native.Mathlib.Omega.{arith}
-use mathlib.Core.Bool.{Bool, true, false, cond}
-use mathlib.Core.List.{List, [], _∷_, _++_}
-use mathlib.Core.Logic.{_↔_}
+use mathlib.Core.Bool.{true, false, cond}
+use mathlib.Core.List.{List}
 use mathlib.Core.Path.{_≡_, refl, sym, ap, subst, _∙_}
 use lib.Dec.{ltb, leb→le}
 use lib.ListN.{length, getD}
-use Rattle.text.specs.Bytes.{ascii}
 use Rattle.text.proofs.Opened.{opened as textOpened}
 use Rattle.semantics.specs.Strategy.{Final}
-use Rattle.semantics.specs.Overlaps.{Overlap, overlaps}
+use Rattle.semantics.specs.Overlaps.{Overlap}
 use Rattle.semantics.specs.Verdict.{Verdict, verdict, confluent, unjoined}
-use Rattle.semantics.specs.Claims.{OneOutcome, Demand3}
+use Rattle.semantics.specs.Claims.{Demand3}
 use Rattle.semantics.proofs.Configurations.{Or, inl, inr}
 use Rattle.semantics.proofs.Options.{decide, true-T}
 use Rattle.semantics.proofs.Demand3.{verdict-exact}
 use Rattle.syntax.specs.Answers.{accepted}
 use Rattle.syntax.specs.Programs.{Reading, readProgram}
 use Rattle.syntax.proofs.WellFormed.{read-wellFormed}
-use Rattle.listing.specs.Listing.{decimal, lineOf, verdictListing}
+use Rattle.listing.specs.Listing.{lineOf, verdictListing}
 use Rattle.library.specs.Replies.{Reply, refusal, listing, Text, programText, replyOf, fitted, checkListing, checkReply}
 use Rattle.library.specs.Claims.{verdictReply, passes, fails, Checked, Demand3On}
 

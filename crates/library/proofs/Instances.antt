@@ -2,11 +2,11 @@
 --   leq-confluent        LEQ is confluent: any two finished derivations of any goal over it agree
 --   twoWays-not          the sheet of document 01's section 'Printed answers' is not, and its goal is shown
 -- Assumes nothing.
-use mathlib.Core.List.{List, [], _∷_}
+use mathlib.Core.List.{[], _∷_}
 use mathlib.Core.Path.{_≡_, refl}
 use Rattle.text.specs.Bytes.{ascii}
 use Rattle.text.proofs.Opened.{opened as textOpened}
-use Rattle.semantics.specs.Terms.{Constraint, Goal}
+use Rattle.semantics.specs.Terms.{Goal}
 use Rattle.semantics.specs.Strategy.{Final}
 use Rattle.semantics.specs.Overlaps.{Overlap}
 use Rattle.semantics.specs.Verdict.{verdict, confluent, unjoined}
