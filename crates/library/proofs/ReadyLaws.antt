@@ -249,7 +249,8 @@ module _ {program goal symbols rules constants letters cells : List ℕ} {z : Si
       omega (
         arith,
         goal-read .light,
-        normalise-few (weight (r .p .program .symbols) (r .g .goal .constraints)) (r .p .program .rules) (goalState (r .g .goal)) 0,
+        normalise-few (weight (r .p .program .symbols) (r .g .goal .constraints)) (r .p .program .rules)
+            (goalState (r .g .goal)) 0,
       )
 
   -- the reply is the listing, or number 11

@@ -43,15 +43,15 @@ pub record Checked (s : List ℕ) (room : ℕ) (r : Reading) : Type 1 where
   pub exact : ((n : ℕ) × (checkReply s room ≡ verdictReply r (confluent n))) ↔ OneOutcome (r .program)
   pub counted : OneOutcome (r .program) → checkReply s room ≡ verdictReply r (confluent (length (overlaps (r .program))))
 
--- demand 3 for a text that reads as r: its check, wherever the listing fits; for one outcome of all goals it is enough that those whose
--- variables count by first appearance have one; and no derivation fires more often than its goal's weight
+-- demand 3 for a text that reads as r: its check, wherever the listing fits; for one outcome of all goals it is enough that those
+-- whose variables count by first appearance have one; and no derivation fires more often than its goal's weight
 pub record Demand3On (s : List ℕ) (r : Reading) : Type 1 where
   pub checked : (room : ℕ) → length (checkListing r) ≤ room → Checked s room r
   pub enough : OneOutcomeByAppearance (r .program) → OneOutcome (r .program)
   pub bounded : Bounded (r .program)
 
--- the reply to a goal's text that reads as g, in a room that the listing fits: the listing of an end, and the run of the goal, which is
--- over the program's symbols, ends so
+-- the reply to a goal's text that reads as g, in a room that the listing fits: the listing of an end, and the run of the goal, which
+-- is over the program's symbols, ends so
 pub record Ran (s t : List ℕ) (room : ℕ) (r : Reading) (g : GoalReading) : Type 0 where
   pub goal : isGoalOf (r .program) (g .goal) ≡ true
   pub end : Final

@@ -208,7 +208,8 @@ terms-extend seen (con c ∷ ts) = terms-extend seen ts
 terms-extend seen (var x ∷ ts) = go (decide (has x seen)) (terms-extend (seenWith x seen) ts)
   where
     go :
-        Or (has x seen ≡ true) (has x seen ≡ false) → (more : List ℕ) × (appearingIn (seenWith x seen) ts ≡ seenWith x seen ++ more)
+        Or (has x seen ≡ true) (has x seen ≡ false)
+        → (more : List ℕ) × (appearingIn (seenWith x seen) ts ≡ seenWith x seen ++ more)
         → (more : List ℕ) × (appearingIn (seenWith x seen) ts ≡ seen ++ more)
     go (inl h) (more, e) = (more, e ∙ rw h)
     go (inr h) (more, e) = (x ∷ more, e ∙ rw h (append-assoc seen (x ∷ []) more))
@@ -265,7 +266,8 @@ terms-count order seen (var x ∷ ts) rest e =
     ∙ terms-count order (seenWith x seen) ts rest e
   where
     go :
-        Or (has x seen ≡ true) (has x seen ≡ false) → (more : List ℕ) × (appearingIn (seenWith x seen) ts ≡ seenWith x seen ++ more)
+        Or (has x seen ≡ true) (has x seen ≡ false)
+        → (more : List ℕ) × (appearingIn (seenWith x seen) ts ≡ seenWith x seen ++ more)
         → seenWith (placeFrom (eqb x) 0 order) (upTo (length seen)) ≡ upTo (length (seenWith x seen))
     go (inl h) (more, f) =
         let split : order ≡ seenWith x seen ++ (more ++ rest) =

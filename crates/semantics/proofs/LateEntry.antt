@@ -286,7 +286,8 @@ finished-whole p g d (byRest a f) = (rw none-waits (alone (d .state)), f)
 -- the end of a finished derivation is, up to order, reached from all of the goal by as many firings, and no rule fits there
 pub finished-reaches :
     (p : Program) (g : Goal) → isGoalOf p g ≡ true → (es : List Event) → Finished p g (derive p g es)
-    → (u : State) × Reach (p .rules) (derive p g es .firings) (goalState g) u × NoRuleFits p u × Reordered (derive p g es .state) u
+    → (u : State) × Reach (p .rules) (derive p g es .firings) (goalState g) u × NoRuleFits p u
+    × Reordered (derive p g es .state) u
 finished-reaches p g e es f =
     let h = late-entry p g e es in
     let w = finished-whole p g (derive p g es) f in

@@ -204,7 +204,8 @@ module _ {i j : Numbered} {ds : List ℕ} {o : Overlap} (parts : OverlapParts i 
   pub second-fires :
       length ds ≡ length (i .rule .heads)
       → (s : State)
-      × (fireAt (j .rule) (secondPositions 1 (length (i .rule .heads)) (length (j .rule .heads)) ds) (goalState (o .goal)) ≡ some s)
+      × (fireAt (j .rule) (secondPositions 1 (length (i .rule .heads)) (length (j .rule .heads)) ds) (goalState (o .goal))
+      ≡ some s)
   unfolding fireAt goalState
   second-fires l =
       let (θ, e, a) = second-fits l in (
@@ -272,10 +273,9 @@ listed-goal p {o} w l =
 -- its goal's variables count by first appearance
 pub listed-appearance : (p : Program) {o : Overlap} → Listed p o → ByAppearance (o .goal)
 listed-appearance p {o} l =
-    let i = o .first in
-    let parts = overlap-parts i (o .second) (o .partners) (l .made) in
-    subst (λ (x : Overlap). ByAppearance (x .goal)) (sym (parts .made))
-    (goal-appearance (map (mapTerms (parts .solution)) (i .rule .heads ++ unjoinedHeads 1 (secondHeads (o .second)) (o .partners))))
+    let parts = overlap-parts (o .first) (o .second) (o .partners) (l .made) in
+    let heads = o .first .rule .heads ++ unjoinedHeads 1 (secondHeads (o .second)) (o .partners) in
+    subst (λ (x : Overlap). ByAppearance (x .goal)) (sym (parts .made)) (goal-appearance (map (mapTerms (parts .solution)) heads))
 
 -- the end of a side that fires is what the strategy makes of the state after its firing
 side-end :

@@ -39,8 +39,8 @@ pub advance-chosen :
 unfolding advance fireAt
 advance-chosen p failed t e = none-some refl e
 advance-chosen p (live next bound cs) t e =
-    let u = bind-some (choose (p .rules) cs) (λ c. some (fired (c .rule) (c .place .positions) (c .place .assignment) next bound cs)) e
-    in
+    let u = bind-some (choose (p .rules) cs)
+    (λ c. some (fired (c .rule) (c .place .positions) (c .place .assignment) next bound cs)) e in
     let c = u .0 in
     let h = choose-sound (p .rules) cs c (u .1) in (
       c .number,
@@ -52,7 +52,8 @@ advance-chosen p (live next bound cs) t e =
         lowest = λ m r qs l q. rw (choose-lowest (p .rules) cs c (u .1) m r l q qs);
         smallest =
             λ qs v f differ.
-            (let k = bind-some (matchAt (c .rule .heads) qs cs [] unassigned) (λ θ. some (fired (c .rule) qs θ next bound cs)) f in
+            (let k = bind-some (matchAt (c .rule .heads) qs cs [] unassigned)
+            (λ θ. some (fired (c .rule) qs θ next bound cs)) f in
             later (choose-smallest (p .rules) cs c (u .1) qs (k .0) (k .1)) differ);
       },
     )

@@ -51,7 +51,8 @@ unfolding matchAt
 matchAt-join f = rw (f .free, f .stands, f .fits) (f .rest)
 
 -- heads match at no fewer positions
-matchAt-few : (h : Constraint) (hs cs : List Constraint) (chosen : List ℕ) (θ : Assignment) → matchAt (h ∷ hs) [] cs chosen θ ≡ none
+matchAt-few :
+    (h : Constraint) (hs cs : List Constraint) (chosen : List ℕ) (θ : Assignment) → matchAt (h ∷ hs) [] cs chosen θ ≡ none
 unfolding matchAt
 matchAt-few h hs cs chosen θ = refl
 

@@ -22,7 +22,14 @@ use Rattle.semantics.proofs.Places.{some-equal}
 kinds {ℓ} : {A : Type ℓ} {n : ℕ} {o : Overlap} {e f : Final} → confluent n ≡ unjoined o e f → A
 kinds p = absurd (let z : _≡_ {A = ℕ} 0 1 = cc in omega arith)
 
--- the overlaps that are left all join, and are counted
+-- where the overlaps that are left all join, they are counted
+confluent-judge :
+    (p : Program) (n : ℕ) {os : List Overlap} → All (λ o. isJoinable p o ≡ true) os → judge p n os ≡ confluent (n + length os)
+unfolding judge
+confluent-judge p n none = ap confluent (omega arith)
+confluent-judge p n (also j a) = rw j (confluent-judge p (suc n) a ∙ ap confluent (omega arith))
+
+-- and only there is a program found confluent
 judge-confluent :
     (p : Program) (n k : ℕ) (os : List Overlap) → judge p n os ≡ confluent k
     → All (λ o. isJoinable p o ≡ true) os × (k ≡ n + length os)
@@ -36,12 +43,6 @@ judge-confluent p n k (o ∷ os) e = go (isJoinable p o) refl e (judge-confluent
         → All (λ o. isJoinable p o ≡ true) (o ∷ os) × (k ≡ n + suc (length os))
     go true j q ih = let (a, c) = ih q in (also j a, omega arith)
     go false j q ih = kinds (sym q)
-
-confluent-judge :
-    (p : Program) (n : ℕ) {os : List Overlap} → All (λ o. isJoinable p o ≡ true) os → judge p n os ≡ confluent (n + length os)
-unfolding judge
-confluent-judge p n none = ap confluent (omega arith)
-confluent-judge p n (also j a) = rw j (confluent-judge p (suc n) a ∙ ap confluent (omega arith))
 
 -- the first overlap of a list that does not join
 pub record FirstUnjoined (p : Program) (os : List Overlap) (o : Overlap) : Type 0 where
@@ -97,6 +98,13 @@ judge-unjoined p n {o} {e} {f} (x ∷ os) q = go (isJoinable p x) refl q (judge-
     go true j r ih = let (a, b, c) = ih r in (behind j a, b, c)
     go false j r ih = shown j r
 
+-- an overlap that is shown is the first of the program's that does not join, and its ends are those that are shown
+pub verdict-unjoined :
+    (p : Program) {o : Overlap} {e f : Final} → verdict p ≡ unjoined o e f
+    → FirstUnjoined p (overlaps p) o × (e ≡ firstEnd p o) × (f ≡ secondEnd p o)
+unfolding verdict
+verdict-unjoined p q = judge-unjoined p 0 (overlaps p) q
+
 -- a program that is found confluent: every overlap joins, and their number is stated
 pub verdict-confluent :
     (p : Program) {n : ℕ} → verdict p ≡ confluent n
@@ -112,10 +120,3 @@ pub confluent-verdict :
     → verdict p ≡ confluent (length (overlaps p))
 unfolding verdict
 confluent-verdict p h = confluent-judge p 0 (all-of-members (overlaps p) h) ∙ ap confluent (omega arith)
-
--- an overlap that is shown is the first of the program's that does not join, and its ends are those that are shown
-pub verdict-unjoined :
-    (p : Program) {o : Overlap} {e f : Final} → verdict p ≡ unjoined o e f
-    → FirstUnjoined p (overlaps p) o × (e ≡ firstEnd p o) × (f ≡ secondEnd p o)
-unfolding verdict
-verdict-unjoined p q = judge-unjoined p 0 (overlaps p) q

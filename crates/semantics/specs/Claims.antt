@@ -44,8 +44,8 @@ OneOutcomeByAppearance p = (g : Goal) → isGoalOf p g ≡ true → ByAppearance
 abbrev pub Bounded : Program → Type 0
 Bounded p = (g : Goal) (es : List Event) → derive p g es .firings ≤ weight (p .symbols) (g .constraints)
 
--- the two ends of an overlap: those of the finished derivations of its goal in which all its constraints enter in order, the side's
--- own rule fires at the side's positions, and the run follows
+-- the two ends of an overlap: those of the finished derivations of its goal in which all its constraints enter in order, the
+-- side's own rule fires at the side's positions, and the run follows
 pub record Ends (p : Program) (o : Overlap) (one two : Final) : Type 0 where
   pub first : RunsTo p (o .goal) (fire (o .first .number) (upTo (length (o .first .rule .heads))) ∷ []) one
   pub second :
@@ -61,8 +61,8 @@ pub record Joins (p : Program) (o : Overlap) : Type 1 where
   pub ends : Ends p o one two
   pub equal : Variant (one .state) (two .state)
 
--- an unjoined overlap, shown with two ends: it is one of the program's, by its number in the enumeration, and every overlap before it
--- joins; its goal is over the program's symbols; the ends are its own, and they are not equal
+-- an unjoined overlap, shown with two ends: it is one of the program's, by its number in the enumeration, and every overlap before
+-- it joins; its goal is over the program's symbols; the ends are its own, and they are not equal
 pub record Counterexample (p : Program) (o : Overlap) (one two : Final) : Type 1 where
   pub number : ℕ
   pub listed : getElem? (overlaps p) number ≡ some o
@@ -73,8 +73,8 @@ pub record Counterexample (p : Program) (o : Overlap) (one two : Final) : Type 1
   pub differ : Variant (one .state) (two .state) → ⊥
 
 -- demand 3 of a program: its verdict is confluent exactly when each goal has one outcome, and then the number is that of its
--- overlaps; for that it is enough that the goals whose variables count by first appearance have one; a verdict that shows an overlap
--- shows a counterexample; and every derivation is bounded
+-- overlaps; for one outcome of all goals it is enough that those whose variables count by first appearance have one; a verdict that
+-- shows an overlap shows a counterexample; and every derivation is bounded
 pub record Demand3 (p : Program) : Type 1 where
   pub exact : ((n : ℕ) × (verdict p ≡ confluent n)) ↔ OneOutcome p
   pub enough : OneOutcomeByAppearance p → OneOutcome p

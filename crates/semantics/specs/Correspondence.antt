@@ -96,7 +96,7 @@ pub record OverlapsAreCriticalPairs (p : Program) : Type 1 where
       → jointsOf (o .partners) ≡ jointsOf (u .partners) → m ≡ n
 
 -- demand 2 of a program: every state of a derivation of one of its goals represents a published state, and firing in it is
--- Simplify there; the choices of heads are the pairings; the overlaps are the critical pairs; and the run is one by the order of choice
+-- Simplify there; the choices of heads are the pairings; the overlaps are the critical pairs; and the run is by the order of choice
 pub record Demand2 (p : Program) : Type 1 where
   pub represented :
       (g : Goal) (es : List Event) → isGoalOf p g ≡ true

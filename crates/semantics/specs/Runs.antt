@@ -42,8 +42,8 @@ pub data Run (p : Program) : State → List Event → State → Type 0 where
 unfoldable pub arrivals : Goal → List Event
 arrivals g = map enter (upTo (length (g .constraints)))
 
--- a finished derivation of a goal: all its constraints enter in order, the events es follow, then come those of a run. It ends so, and
--- its firings are es and the run's, none of them turned away
+-- a finished derivation of a goal: all its constraints enter in order, the events es follow, then come those of a run. It ends so,
+-- and its firings are es and the run's, none of them turned away
 pub record RunsTo (p : Program) (g : Goal) (es : List Event) (end : Final) : Type 0 where
   pub events : List Event
   pub run : Run p (derive p g (arrivals g ++ es) .state) events (end .state)
