@@ -37,6 +37,6 @@ run-published s r e =
             goal = goal-small r t (read-small s e .few-constants) f .is-goal;
             end = run (r .program) (g .goal);
             reply = run-listed s t room r g e f l;
-            runs = published .runs .ends (g .goal);
+            runs = published .runs .goals (g .goal);
           };
     }

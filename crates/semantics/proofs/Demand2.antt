@@ -19,5 +19,5 @@ derivation-published p w = record {
   firing = λ g es a over goals v. firing-is-simplify p a (derive p g es .state) w (derive-scoped p g es w over) goals v;
   choices = choices-are-pairings;
   overlaps = overlaps-are-critical-pairs p w;
-  runs = record { ends = λ g. run-runs p g w; only = run-only p };
+  runs = record { goals = λ g. run-runs p g w; only = run-only p };
 }

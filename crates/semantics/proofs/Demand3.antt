@@ -27,7 +27,7 @@ counterexample p o w f =
       goal = listed-goal p w l;
       appearance = listed-appearance p l;
       ends = overlap-ends p w o l;
-      differ = λ v. true-false (equal-joins p w o l v) (f .unjoined);
+      differ = λ v. true-false (equal-joins p w o l v) (f .unequal);
     }
 
 -- demand 3

@@ -120,7 +120,7 @@ runs-to p g es s end d fs r k =
     ∙ followAll-append p g (arrivals g ++ es) fs (start g) ∙ run-follows p g r before (ap (λ q. q .state) d) in
     record {
       events = fs;
-      run = rw d r;
+      runs = rw d r;
       finished =
           byRest (arrivedAt-entered g _ (ap (λ q. q .entered) whole ∙ ap (λ q. q .entered) d)) (rw whole (run-rests r));
       state = ap (λ q. q .state) whole;

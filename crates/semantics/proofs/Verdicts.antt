@@ -48,7 +48,7 @@ judge-confluent p n k (o ∷ os) e = go (isJoinable p o) refl e (judge-confluent
 pub record FirstUnjoined (p : Program) (os : List Overlap) (o : Overlap) : Type 0 where
   pub number : ℕ
   pub listed : getElem? os number ≡ some o
-  pub unjoined : isJoinable p o ≡ false
+  pub unequal : isJoinable p o ≡ false
   pub earlier : (k : ℕ) (u : Overlap) → k < number → getElem? os k ≡ some u → isJoinable p u ≡ true
 
 -- what is shown of the overlaps that are left is the first of them that does not join, with its ends
@@ -69,7 +69,7 @@ judge-unjoined p n {o} {e} {f} (x ∷ os) q = go (isJoinable p x) refl q (judge-
           record {
             number = 0;
             listed = ap some one;
-            unjoined = subst (λ y. isJoinable p y ≡ false) one j;
+            unequal = subst (λ y. isJoinable p y ≡ false) one j;
             earlier = λ k u l h. absurd (omega arith);
           },
           sym two ∙ ap (firstEnd p) one,
@@ -86,7 +86,7 @@ judge-unjoined p n {o} {e} {f} (x ∷ os) q = go (isJoinable p x) refl q (judge-
     behind j r = record {
       number = suc (r .number);
       listed = r .listed;
-      unjoined = r .unjoined;
+      unequal = r .unequal;
       earlier = before j r;
     }
 

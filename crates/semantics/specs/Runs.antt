@@ -46,7 +46,7 @@ arrivals g = map enter (upTo (length (g .constraints)))
 -- and its firings are es and the run's, none of them turned away
 pub record RunsTo (p : Program) (g : Goal) (es : List Event) (end : Final) : Type 0 where
   pub events : List Event
-  pub run : Run p (derive p g (arrivals g ++ es) .state) events (end .state)
+  pub runs : Run p (derive p g (arrivals g ++ es) .state) events (end .state)
   pub finished : Finished p g (derive p g (arrivals g ++ (es ++ events)))
   pub state : derive p g (arrivals g ++ (es ++ events)) .state ≡ end .state
   pub firings : derive p g (arrivals g ++ (es ++ events)) .firings ≡ end .firings
@@ -54,5 +54,5 @@ pub record RunsTo (p : Program) (g : Goal) (es : List Event) (end : Final) : Typ
 
 -- the run of every goal is one, from the state in which all its constraints have entered; and no state has two runs
 pub record RunsByChoice (p : Program) : Type 0 where
-  pub ends : (g : Goal) → RunsTo p g [] (run p g)
+  pub goals : (g : Goal) → RunsTo p g [] (run p g)
   pub only : (s t u : State) (es fs : List Event) → Run p s es t → Run p s fs u → (es ≡ fs) × (t ≡ u)
