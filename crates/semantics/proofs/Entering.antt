@@ -2,6 +2,7 @@
 --   followAll-append           events one behind the other
 --   tabled-entry               an entry of a table
 --   constraint-itself          before any firing each constraint would enter as it is
+--   every-last                 a test of a list with one more behind it
 --   every-below, every-upTo    a test of all numbers below n
 --   enters                     the events by which the first constraints of a goal enter, in order
 --   arrivedAt                  how far they lead
@@ -123,7 +124,7 @@ enters-first p g (suc n) l =
     (rw (enters-first p g n (omega arith)) (entering-next g n l))
 
 -- a test over a list with one more behind it
-every-last : (test : ℕ → Bool) (l : List ℕ) (n : ℕ) → every test l ≡ true → test n ≡ true → every test (l ++ (n ∷ [])) ≡ true
+pub every-last : (test : ℕ → Bool) (l : List ℕ) (n : ℕ) → every test l ≡ true → test n ≡ true → every test (l ++ (n ∷ [])) ≡ true
 every-last test [] n e t = rw t
 every-last test (m ∷ l) n e t =
     let u = and-true (test m) (every test l) e in
