@@ -1,5 +1,6 @@
 -- The states of derivations (document 01: runs) are scoped.
 --   Sound                a state over a goal's variables: scoped, with a term for each
+--   start-sound          where a derivation starts
 --   follow-sound         every event keeps a state so
 --   derive-scoped        so all states of derivations are scoped
 -- Assumes nothing.
@@ -32,7 +33,7 @@ use Rattle.semantics.proofs.Represent.{ScopedState, fireAt-scoped}
 use Rattle.semantics.proofs.Entering.{tabled-length}
 use Rattle.semantics.proofs.LateEntry.{goal-below}
 use Rattle.semantics.proofs.Firings.{entered-scoped}
-use Rattle.semantics.proofs.Readings.{become-below}
+use Rattle.semantics.proofs.GoalTerms.{become-below}
 
 -- how many terms a state has for goal variables
 abbrev widthOf : ℕ → State → Type 0
@@ -76,7 +77,7 @@ taken-sound {k} c (live n b cs) h (scoped, e) = (
 module _
     (p : Program) (w : isWellFormed p ≡ true) (g : Goal) (over : All (ConstraintBelow (g .variables)) (g .constraints)) where
   -- every event keeps a state so
-  follow-sound : (e : Event) (d : Progress) → Sound (g .variables) (d .state) → Sound (g .variables) (follow p g e d .state)
+  pub follow-sound : (e : Event) (d : Progress) → Sound (g .variables) (d .state) → Sound (g .variables) (follow p g e d .state)
   unfolding follow entering firing
   follow-sound (enter n) d h = go (has n (d .entered)) (getElem? (g .constraints) n) refl
     where
@@ -116,12 +117,16 @@ module _
   followAll-sound [] d h = h
   followAll-sound (e ∷ es) d h = followAll-sound es (follow p g e d) (follow-sound e d h)
 
+-- where a derivation starts
+pub start-sound : (g : Goal) → All (ConstraintBelow (g .variables)) (g .constraints) → Sound (g .variables) (start g .state)
+unfolding start goalState
+start-sound g over =
+    (record { bound = entered-scoped g over .bound; constraints = C.none }, tabled-length T.var (g .variables))
+
 -- all states of derivations of a program's goals are scoped
 pub derive-scoped :
     (p : Program) (g : Goal) (es : List Event) → isWellFormed p ≡ true → isGoalOf p g ≡ true → ScopedState (derive p g es .state)
-unfolding derive start goalState
-derive-scoped p g es w over =
-    followAll-sound p w g (goal-below p g over) es (start g) (
-      record { bound = entered-scoped g (goal-below p g over) .bound; constraints = C.none },
-      tabled-length T.var (g .variables),
-    ) .0
+unfolding derive
+derive-scoped p g es w e =
+    let over = goal-below p g e in
+    followAll-sound p w g over es (start g) (start-sound g over) .0

@@ -18,7 +18,7 @@ use Rattle.semantics.specs.Matching.{Assignment, unassigned, matchAt}
 use Rattle.semantics.specs.Solving.{solve}
 use Rattle.semantics.specs.Firing.{without, instance, settle, fired, fireAt}
 use Rattle.semantics.specs.Derivations.{Event, enter, fire, Progress, become, taken, entering, firing, follow, followAll}
-use Rattle.semantics.specs.Derivations.{start, derive, NoRuleFits, allEntered, Finished, byFailure, byRest}
+use Rattle.semantics.specs.Derivations.{start, derive, waiting, NoRuleFits, allEntered, Finished, byFailure, byRest}
 use Rattle.semantics.specs.Strategy.{goalState}
 use Rattle.semantics.specs.Variants.{Inserted, SameMultiset, put, Variant}
 use Rattle.semantics.proofs.Configurations.{TermBelow, All, also}
@@ -29,7 +29,7 @@ use Rattle.semantics.proofs.MatchedTerms.{ConstraintBelow, without-all}
 use Rattle.semantics.proofs.Options.{none-some, bind-some}
 use Rattle.semantics.proofs.Bools.{and-true}
 use Rattle.semantics.proofs.Removal.{without-none, without-every}
-use Rattle.semantics.proofs.Bound.{waiting, waiting-enters}
+use Rattle.semantics.proofs.Bound.{waiting-enters}
 use Rattle.semantics.proofs.Entering.{tabled-length, constraint-itself, every-upTo}
 use Rattle.semantics.proofs.Normal.{Reach, arrived, fires}
 use Rattle.semantics.proofs.Reordering.{Reordered, bothFailed, reordered, reordered-refl, reordered-trans}
