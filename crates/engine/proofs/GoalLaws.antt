@@ -30,7 +30,7 @@ use Rattle.semantics.specs.Terms.{
   weight,
 }
 use Rattle.semantics.specs.Terms.{isDeclared, isBelow, isGoalOf, alphabet, isOfRule, isRuleOf, isWellFormed}
-use Rattle.semantics.specs.Strategy.{entered, run}
+use Rattle.semantics.specs.Strategy.{goalState, run}
 use Rattle.syntax.specs.Tables.{cellTerm, symbolOf, symbolsOf, ruleOfRow, ruleOf, rulesOf}
 use Rattle.engine.specs.Places.{isLettered, isSide, isLow, Row, Table}
 use Rattle.engine.specs.States.{stateOf}
@@ -251,6 +251,6 @@ module _ (text symbols : List ℕ) (s : ℕ) (rules : List ℕ) (n : ℕ) (r : A
         → Ended rules n bound cells m (g .variables) bound′ cells′ alive count number firings
         → record { state = stateOf alive number bound′ (take (5 * count) cells′); firings = firings }
         ≡ run (programOf text symbols s rules n) g
-    unfolding run entered programOf
+    unfolding run goalState programOf
     goal-runs bound bound′ cells′ alive count number firings b e =
         e .same text (weight names (g .constraints)) (omega (arith, weighs, e .bounded weigh read-lowers)) ∙ rw (b, holds)

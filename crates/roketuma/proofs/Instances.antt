@@ -2,17 +2,17 @@
 --   leq-confluent        LEQ is confluent: any two finished derivations of any goal over it agree
 --   twoWays-not          the sheet of document 01's section 'Printed answers' is not, and its goal is shown
 -- Assumes nothing.
-use mathlib.Core.List.{List, [], _∷_}
+use mathlib.Core.List.{[], _∷_}
 use mathlib.Core.Path.{_≡_, refl}
 use Rattle.text.specs.Bytes.{ascii}
 use Rattle.text.proofs.Opened.{opened as textOpened}
-use Rattle.semantics.specs.Terms.{Constraint, Goal}
+use Rattle.semantics.specs.Terms.{Goal}
 use Rattle.semantics.specs.Strategy.{Final}
 use Rattle.semantics.specs.Overlaps.{Overlap}
 use Rattle.semantics.specs.Verdict.{verdict, confluent, unjoined}
 use Rattle.semantics.specs.Claims.{OneOutcome, Counterexample}
 use Rattle.semantics.proofs.Opened.{opened as semanticsOpened}
-use Rattle.semantics.proofs.Demand3.{demand-3-values}
+use Rattle.semantics.proofs.Demand3.{verdict-exact}
 use Rattle.syntax.specs.Answers.{Answer, refused, accepted}
 use Rattle.syntax.specs.Programs.{Reading, readProgram}
 use Rattle.syntax.proofs.Opened.{opened as syntaxOpened}
@@ -47,7 +47,7 @@ leq-verdict = refl
 
 -- LEQ is confluent: any two finished derivations of any goal over it end in equal states
 pub leq-confluent : OneOutcome (leqReading .program)
-leq-confluent = demand-3-values (leqReading .program) (read-wellFormed (ascii leq) leq-reads) .exact .0 (23, leq-verdict)
+leq-confluent = verdict-exact (leqReading .program) (read-wellFormed (ascii leq) leq-reads) .exact .0 (23, leq-verdict)
 
 -- the goal a, of the first symbol
 pub goalA : Goal
@@ -64,4 +64,4 @@ pub twoWays-not :
     (o : Overlap) × (one : Final) × (two : Final) × Counterexample (twoWaysReading .program) o one two × (o .goal ≡ goalA)
 twoWays-not =
     let (o, one, two, v, g) = twoWays-verdict in
-    (o, one, two, demand-3-values (twoWaysReading .program) (read-wellFormed (ascii twoWays) twoWays-reads) .shown o one two v, g)
+    (o, one, two, verdict-exact (twoWaysReading .program) (read-wellFormed (ascii twoWays) twoWays-reads) .shown o one two v, g)

@@ -1,8 +1,8 @@
--- Laws of this crate's definitions, the starred cases, and demand 3 on bytes. Assumes nothing.
+-- Laws of this crate's definitions, the starred cases, and demands 2 and 3 on bytes. Assumes nothing.
 pub mod Opened
 pub mod Starred
-pub mod Demand2
 pub mod Demand3
+pub mod Demand2
 pub mod Instances
 pub mod LineNumbers
 pub mod CellLaws

@@ -19,7 +19,7 @@ use Rattle.text.specs.Lists.{every, onward, tabled}
 use Rattle.text.proofs.Laws.{tabled-length, tabled-at}
 use Rattle.semantics.specs.Terms.{Term, con, var, Constraint, Equation, Symbol, Rule, Program, State, failed, live}
 use Rattle.semantics.specs.Terms.{noSymbol, weight, alphabet, isDeclared, isGoalOf, isWellFormed}
-use Rattle.semantics.specs.Strategy.{Final, advance, normalise, entered, run}
+use Rattle.semantics.specs.Strategy.{Final, advance, normalise, goalState, run}
 use Rattle.semantics.proofs.Configurations.{TermBelow, All, also}
 use Rattle.semantics.proofs.Bools.{and-true}
 use Rattle.semantics.proofs.Listings.{all-every}
@@ -249,7 +249,8 @@ module _ {program goal symbols rules constants letters cells : List ℕ} {z : Si
       omega (
         arith,
         goal-read .light,
-        normalise-few (weight (r .p .program .symbols) (r .g .goal .constraints)) (r .p .program .rules) (entered (r .g .goal)) 0,
+        normalise-few (weight (r .p .program .symbols) (r .g .goal .constraints)) (r .p .program .rules)
+            (goalState (r .g .goal)) 0,
       )
 
   -- the reply is the listing, or number 11

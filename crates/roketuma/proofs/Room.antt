@@ -20,7 +20,7 @@ use Rattle.text.specs.Lists.{has, placeFrom}
 use Rattle.text.specs.Lines.{parted}
 use Rattle.semantics.specs.Terms.{Term, con, var, Constraint, Symbol, Program, Goal, State, failed, live}
 use Rattle.semantics.specs.Terms.{noSymbol, symbolAt, weight, isDeclared, isWellFormed}
-use Rattle.semantics.specs.Strategy.{entered, run}
+use Rattle.semantics.specs.Strategy.{goalState, run}
 use Rattle.semantics.specs.Overlaps.{appearingIn, appearing}
 use Rattle.semantics.proofs.Configurations.{All, also}
 use Rattle.semantics.proofs.Configurations as C
@@ -232,9 +232,9 @@ reach-weighs p w (fires {s = s} {t = t} k r ps e f more) =
 run-weighs :
     (p : Program) (g : Goal) → isWellFormed p ≡ true
     → stateWeight (p .symbols) (run p g .state) + run p g .firings ≤ weight (p .symbols) (g .constraints)
-unfolding run entered stateWeight
+unfolding run goalState stateWeight
 run-weighs p g w =
-    let (n, reach, count) = normalise-reach (p .rules) (weight (p .symbols) (g .constraints)) (entered g) 0 in
+    let (n, reach, count) = normalise-reach (p .rules) (weight (p .symbols) (g .constraints)) (goalState g) 0 in
     omega (arith, count, reach-weighs p w reach)
 
 -- the bytes of an end that weighs at most 512 with its firings

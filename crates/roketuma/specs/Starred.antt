@@ -1,7 +1,8 @@
 -- Document 01's starred rehearsal cases as one table, from text bytes to listing bytes.
 --   Case, shown       a case, and what the definitions show for it
 --   starred           the table: each case with what it must show
--- The theorem `starred-hold` of proofs/Starred.antt says that all rows hold. Assumes nothing.
+-- The theorem `starred-hold` of proofs/Starred.antt says that all rows hold, and `starred-unequal` that the two ends are no variants
+-- of each other. Assumes nothing.
 use Prim.Native.Nat.{ℕ}
 use Prim.Native.String.{String}
 use mathlib.Core.Bool.{Bool, true, false, cond}
@@ -89,7 +90,7 @@ unfoldable pub row : Case → String → Row
 row c text = record { case = c; expected = ascii text }
 
 -- the table: the empty sheet; the sheet above; refl alone; p(X), q(Y) to nothing, as the check shows it, and its overlaps on q
--- and on p; LEQ with three goals; the ends p(U1,U2) and p(U1,U1)
+-- and on p; LEQ with three goals; the ends p(U1,U2) and p(U1,U1), either way round
 unfoldable pub starred : List Row
 starred =
     row (check "") "CONFLUENT,0\n"
@@ -102,4 +103,5 @@ starred =
     ∷ row (run leq "G,leq,a,b\nG,leq,b,a\n") "FAILED,1\n"
     ∷ row (run leq "") "END,0\n"
     ∷ row (comparison (holding (var 0) (var 1)) (holding (var 0) (var 0))) "UNEQUAL\n"
+    ∷ row (comparison (holding (var 0) (var 0)) (holding (var 0) (var 1))) "UNEQUAL\n"
     ∷ []

@@ -19,7 +19,7 @@ use Rattle.semantics.specs.Terms.{isDeclared, isBelow, isGoalOf, isOfRul
 use Rattle.semantics.specs.Matching.{Assignment, unassigned, matchAt}
 use Rattle.semantics.specs.Solving.{solve}
 use Rattle.semantics.specs.Firing.{without, instance, settle, fired, fireAt}
-use Rattle.semantics.specs.Strategy.{entered, run}
+use Rattle.semantics.specs.Strategy.{goalState, run}
 use Rattle.semantics.proofs.Configurations.{Or, inl, inr, Member, TermBelow, All, also, Scoped}
 use Rattle.semantics.proofs.Configurations as C
 use Rattle.semantics.proofs.Bools.{and-true}
@@ -199,8 +199,8 @@ tabled-size (suc n) = simp length-append (omega (arith, tabled-size n))
 -- a goal over a program's symbols, all of whose constraints have entered
 entered-spoken :
     (p : Program) (P : ℕ → Type 0) (g : Goal) → isGoalOf p g ≡ true → All (ConstraintOver P) (g .constraints)
-    → SpokenState (p .symbols) P (g .variables) (g .variables) (entered g)
-unfolding entered isGoalOf
+    → SpokenState (p .symbols) P (g .variables) (g .variables) (goalState g)
+unfolding goalState isGoalOf
 entered-spoken p P g w o =
     let all = every-all (λ c. isDeclared (p .symbols) c && every (isBelow (g .variables)) (c .terms)) (g .constraints) w in
     let parts : (c : Constraint) → (isDeclared (p .symbols) c && every (isBelow (g .variables)) (c .terms)) ≡ true
@@ -226,7 +226,7 @@ pub run-spoken :
     → SpokenState (p .symbols) P (g .variables) (g .variables + alphabet * run p g .firings) (run p g .state)
 unfolding run isWellFormed
 run-spoken p P g w goal rules constraints =
-    let (n, reach, count) = normalise-reach (p .rules) (weight (p .symbols) (g .constraints)) (entered g) 0 in
+    let (n, reach, count) = normalise-reach (p .rules) (weight (p .symbols) (g .constraints)) (goalState g) 0 in
     let number : ℕ = g .variables in
     subst (λ k. SpokenState (p .symbols) P number (number + alphabet * k) (run p g .state)) (omega arith)
     (reach-spoken (p .symbols) P number (every-all (isRuleOf (p .symbols)) (p .rules) w) rules number

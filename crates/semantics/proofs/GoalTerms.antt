@@ -1,5 +1,5 @@
--- The goal of an overlap, seen from the variables of its rules (document 000, definition 3.4: under the unifier).
---   rep-seen            a state with the terms of a reading for a face represents the configuration with that face
+-- The goal of an overlap, and the variables of its rules in it (document 000, definition 3.4: under the unifier).
+--   rep-withTerms       a state with terms of its goal for a face represents the configuration with that face
 --   goalNumber          a term under the unifier, in the goal
 --   numbered-fire       firing on heads in the goal is firing on the heads themselves, with the equations of the unifier
 -- Assumes nothing.
@@ -18,7 +18,7 @@ use Rattle.semantics.specs.Solving.{solve}
 use Rattle.semantics.specs.Derivations.{become}
 use Rattle.semantics.specs.Variants.{Pointwise, done}
 use Rattle.semantics.specs.Overlaps.{appearing, numbered}
-use Rattle.semantics.specs.CriticalPairs.{seen}
+use Rattle.semantics.specs.CriticalPairs.{withTerms}
 use Rattle.semantics.proofs.Configurations.{Or, inl, inr, Member, Tm, con, var, Eqn, sub, Eqv, same, flip, chain, Config}
 use Rattle.semantics.proofs.Configurations.{AtomRel, Core, Iso, lift, liftAtom, liftEqn, fireC, confOf, TermBelow, All}
 use Rattle.semantics.proofs.Configurations.{none, also, Rep, hasFailed, isLive}
@@ -64,13 +64,13 @@ become-below {n} a (T.var x) h = go (T.var x) x a h
     go d zero (also a more) h = a
     go d (suc x) (also a more) h = go d x more (omega arith)
 
--- a state seen by a reading represents the configuration with the reading's face
-pub rep-seen :
+-- a state with terms of its goal represents the configuration with these for a face
+pub rep-withTerms :
     {ts : List Term} {s : State} {C : Config} → All (TermBelow (length (C .face))) ts → Rep s C
-    → Rep (seen ts s) (reface (map lift ts) C)
-unfolding seen
-rep-seen {ts} h (hasFailed n) = hasFailed (reface-inconsistent (map lift ts) n)
-rep-seen {ts} {C} h (isLive {n} {b} {cs} scoped I) =
+    → Rep (withTerms ts s) (reface (map lift ts) C)
+unfolding withTerms
+rep-withTerms {ts} h (hasFailed n) = hasFailed (reface-inconsistent (map lift ts) n)
+rep-withTerms {ts} {C} h (isLive {n} {b} {cs} scoped I) =
     let l : length b ≡ length (C .face) = sym (length-map b lift) ∙ pointwise-length (I .faces) in
     let k : All (TermBelow (length b)) ts = subst (λ m. All (TermBelow m) ts) (sym l) h in
     isLive (record { bound = all-map (become b) (all-mono (become-below (scoped .bound)) k); constraints = scoped .constraints })

@@ -1,6 +1,6 @@
--- Choices of heads to be equated (document 000, definition 3.4) are the pairings that are enumerated, one to one.
---   joints-partners, partners-joints      from a choice to partners and back, and the other way round, nothing changes
---   choice-pairing, pairing-choice        a choice gives a pairing, and a pairing a choice
+-- Joinings of heads (document 000, definition 3.4) are the pairings that are enumerated, one to one.
+--   joints-partners, partners-joints      from joints to partners and back, and the other way round, nothing changes
+--   joining-pairing, pairing-joining      a joining gives a pairing, and a pairing a joining
 --   has-rights                            which heads of the second rule are joined
 -- Assumes nothing.
 use Prim.Native.Nat.{ℕ, zero, suc, _+_, _<_, _≤_}
@@ -12,7 +12,7 @@ use lib.Dec.{eqb, eqb·suc-zero, eqb·suc-suc, eqb·zero-suc}
 use lib.ListN.{length}
 use Rattle.text.specs.Lists.{every, has}
 use Rattle.semantics.specs.Overlaps.{isOneToOne, isPairing}
-use Rattle.semantics.specs.CriticalPairs.{Joint, rights, Joints, noMore, oneMore, Choice, jointsFrom, jointsOf, partnerOf}
+use Rattle.semantics.specs.CriticalPairs.{Joint, rights, Joints, noMore, oneMore, Joining, jointsFrom, jointsOf, partnerOf}
 use Rattle.semantics.specs.CriticalPairs.{partnersFrom, partnersOf}
 use Rattle.semantics.proofs.Configurations.{Or, inl, inr, All, none, also}
 use Rattle.semantics.proofs.Options.{decide, true-false, eqb-equal, equal-eqb, apart-eqb}
@@ -145,10 +145,10 @@ unfolding partnersFrom
 partners-within k zero h = none
 partners-within k (suc m) h = also (partner-within k h) (partners-within (suc k) m h)
 
--- a choice gives a pairing
-pub choice-pairing : (m n : ℕ) (js : List Joint) → Choice m n js → IsPairing m n (partnersOf m js)
+-- a joining gives a pairing
+pub joining-pairing : (m n : ℕ) (js : List Joint) → Joining m n js → IsPairing m n (partnersOf m js)
 unfolding isPairing partnersOf
-choice-pairing m n js c =
+joining-pairing m n js c =
     let ds = partnersFrom 0 m js in
     let back : jointsFrom 0 ds ≡ js = joints-partners m n 0 m (omega arith) (c .joints) in
     record {
@@ -163,10 +163,10 @@ choice-pairing m n js c =
     both a true p q = absurd (q refl)
     both a false p q = rw p
 
--- a pairing gives a choice
-pub pairing-choice : (m n : ℕ) (ds : List ℕ) → IsPairing m n ds → Choice m n (jointsOf ds)
+-- a pairing gives a joining
+pub pairing-joining : (m n : ℕ) (ds : List ℕ) → IsPairing m n ds → Joining m n (jointsOf ds)
 unfolding isPairing jointsOf
-pairing-choice m n ds p =
+pairing-joining m n ds p =
     let (u, v) = and-true (isOneToOne ds) (not (every (eqb 0) ds)) (p .pairs) in
     record {
       joints = joints-of m n 0 (omega (arith, p .long)) (p .within) u;
