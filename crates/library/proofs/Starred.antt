@@ -1,5 +1,5 @@
--- The starred cases hold: `starred-hold`, one proof for all rows of the table in specs/Starred.antt; and `starred-unequal`, the last
--- two rows of the relation.
+-- The starred cases hold: `starred-hold`, one proof for all rows of the table in specs/Starred.antt; and `starred-unequal`, the
+-- last two rows, of the relation `Variant`.
 -- Assumes nothing.
 use mathlib.Core.Path.{_≡_, refl}
 use mathlib.Core.List.{map}

@@ -1,8 +1,8 @@
 -- Document 01's starred rehearsal cases as one table, from text bytes to listing bytes.
 --   Case, shown       a case, and what the definitions show for it
 --   starred           the table: each case with what it must show
--- The theorem `starred-hold` of proofs/Starred.antt says that all rows hold, and `starred-unequal` that the two ends are no variants
--- of each other. Assumes nothing.
+-- The theorem `starred-hold` of proofs/Starred.antt says that all rows hold, and `starred-unequal` that the two ends are no
+-- variants of each other. Assumes nothing.
 use Prim.Native.Nat.{ℕ}
 use Prim.Native.String.{String}
 use mathlib.Core.Bool.{Bool, true, false, cond}

@@ -148,9 +148,15 @@ module _
       let (P, stands, split, fits, rep) = fireAt-matched r ps n b cs (letters .others) scoped h in
       let (M, K, parts, p, q) = multiset-pick P (without 0 ps cs) (multiset-sym pairs) split in
       let fit = fits-core (renamed-core (solve-solution (a .builtInStore) solved) o) fits (paired (pointwise-sym p)) in
-      let (d, c, k, e, I) = simplify-exists a M K letters (solved-satisfiable (a .builtInStore) solved) parts fit in
-      (M, d, c, standing (pointwise-sym p) stands, k, e,
-      rep-represents c t (rep-iso (rep-iso rep (fired-iso r (pointwise-sym p) (multiset-sym q))) I))
+      let (d, c, k, e, I) = simplify-exists a M K letters (solved-satisfiable (a .builtInStore) solved) parts fit in (
+        M,
+        d,
+        c,
+        standing (pointwise-sym p) stands,
+        k,
+        e,
+        rep-represents c t (rep-iso (rep-iso rep (fired-iso r (pointwise-sym p) (multiset-sym q))) I),
+      )
 
   -- a Simplify step is a firing at the positions of the partners of the constraints that it matches
   live-fires :
@@ -161,9 +167,13 @@ module _
       let core = core-sym (renamed-core (solve-solution (a .builtInStore) solved) o) in
       let fit = fits-core core (implies-fits r κ (matched-avoids a κ f rest split) sat equated implied)
       (pointwise-mono (λ x y k. atom-sym k) (pointwise-sym (paired p))) in
-      let (ps, t, stands, h, rep) = matched-fires r n b cs P Q (letters .others) scoped parts fit in
-      (ps, t, standing p stands, h,
-      rep-represents c t (rep-iso (rep-iso rep (fired-iso r p q)) (simplify-iso r a c κ M rest es letters f split equated e)))
+      let (ps, t, stands, h, rep) = matched-fires r n b cs P Q (letters .others) scoped parts fit in (
+        ps,
+        t,
+        standing p stands,
+        h,
+        rep-represents c t (rep-iso (rep-iso rep (fired-iso r p q)) (simplify-iso r a c κ M rest es letters f split equated e)),
+      )
 
 module _ (p : Program) (w : isWellFormed p ≡ true) (a : Published) where
   fires-in :
