@@ -19,6 +19,7 @@ use Rattle.syntax.specs.Answers.{accepted}
 use Rattle.syntax.specs.Programs.{Reading, readProgram}
 use Rattle.syntax.proofs.WellFormed.{read-wellFormed}
 use Rattle.listing.specs.Listing.{lineOf, verdictListing}
+use Rattle.listing.proofs.Decimals.{decimal-exact}
 use Rattle.roketuma.specs.Replies.{Reply, refusal, listing, Text, programText, replyOf, fitted, checkListing, checkReply}
 use Rattle.roketuma.specs.Claims.{verdictReply, passes, fails, Checked, Demand3On}
 
@@ -87,4 +88,5 @@ check-exact s r e =
       checked = λ room l. checked-of-verdict s room r (check-listed s room r e l) d;
       enough = d .enough;
       bounded = d .bounded;
+      decimals = decimal-exact;
     }

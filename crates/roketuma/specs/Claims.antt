@@ -11,6 +11,7 @@ use mathlib.Core.List.{List, []}
 use mathlib.Core.Logic.{_↔_}
 use mathlib.Core.Path.{_≡_}
 use lib.ListN.{length}
+use Rattle.text.specs.Fields.{isNumber, valueOf}
 use Rattle.semantics.specs.Terms.{isGoalOf}
 use Rattle.semantics.specs.Strategy.{Final}
 use Rattle.semantics.specs.Runs.{RunsTo}
@@ -21,7 +22,7 @@ use Rattle.semantics.specs.Correspondence.{Demand2}
 use Rattle.syntax.specs.Answers.{accepted}
 use Rattle.syntax.specs.Programs.{Reading}
 use Rattle.syntax.specs.Goals.{GoalReading, readGoal}
-use Rattle.listing.specs.Listing.{endListing, verdictListing}
+use Rattle.listing.specs.Listing.{decimal, endListing, verdictListing}
 use Rattle.roketuma.specs.Replies.{Reply, listing, namingOf, runListing, checkListing, runReply, checkReply}
 
 -- the reply that lists a verdict
@@ -44,11 +45,13 @@ pub record Checked (s : List ℕ) (room : ℕ) (r : Reading) : Type 1 where
   pub counted : OneOutcome (r .program) → checkReply s room ≡ verdictReply r (confluent (length (overlaps (r .program))))
 
 -- demand 3 for a text that reads as r: its check, wherever the listing fits; for one outcome of all goals it is enough that those
--- whose variables count by first appearance have one; and no derivation fires more often than its goal's weight
+-- whose variables count by first appearance have one; no derivation fires more often than its goal's weight; and a number is shown in
+-- digits without a leading zero, whose value it is
 pub record Demand3On (s : List ℕ) (r : Reading) : Type 1 where
   pub checked : (room : ℕ) → length (checkListing r) ≤ room → Checked s room r
   pub enough : OneOutcomeByAppearance (r .program) → OneOutcome (r .program)
   pub bounded : Bounded (r .program)
+  pub decimals : (n : ℕ) → (isNumber (decimal n) ≡ true) × (valueOf (decimal n) ≡ n)
 
 -- the reply to a goal's text that reads as g, in a room that the listing fits: the listing of an end, and the run of the goal, which
 -- is over the program's symbols, ends so
