@@ -2,6 +2,7 @@
 --   cellTerm, cellTerms          a cell as a term, and cells up to the first 0
 --   rowConstraint                five cells as a constraint
 --   cellConstraints, cellEquations   cells as constraints and equations
+--   isLow                        a constraint whose symbol lies below the variables
 --   stateOf                      cells as a state
 -- A cell holds a symbol's number, a constant's, or 256 more than a variable's; 0 stands behind a constraint's last term.
 -- Assumes nothing.
@@ -35,6 +36,10 @@ cellConstraints (k ∷ a ∷ b ∷ []) = []
 cellConstraints (k ∷ a ∷ b ∷ c ∷ []) = []
 cellConstraints (k ∷ a ∷ b ∷ c ∷ d ∷ cells) =
     record { symbol = k; terms = cellTerms (a ∷ b ∷ c ∷ d ∷ []) } ∷ cellConstraints cells
+
+-- whether a constraint's symbol lies below the variables' cells
+unfoldable pub isLow : Constraint → Bool
+isLow c = ltb (c .symbol) firstVariable
 
 -- cells as equations, two to each
 unfoldable pub cellEquations : List ℕ → List Equation
