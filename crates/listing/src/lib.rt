@@ -37,12 +37,12 @@ fn list_failed(out: &mut [u8], firings: usize) -> Listed
     ensures { λ r. ⌜ ListedAs (lineOf (ascii "FAILED") (decimal firings ∷ [])) (now (out .entry)) (now (out .exit)) r ⌝ }
 {
     let mut none = [0; 1];
-    let size = put_head(&mut none[..0], 0, b"FAILED,", firings);
-    if out.len() < size {
+    let count = put_head(&mut none[..0], 0, b"FAILED,", firings);
+    if out.len() < count {
         return Listed::TooShort;
     }
     put_head(out, 0, b"FAILED,", firings);
-    Listed::Written(size)
+    Listed::Written(count)
 }
 
 // The listing of a state whose variables are numbered.

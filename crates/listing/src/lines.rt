@@ -32,8 +32,8 @@ pub fn put_head(out: &mut [u8], at: usize, word: &[u8], n: usize) -> usize
     ensures { λ r. ⌜ Writes (now (word .entry) ++ (decimal n ++ (10 ∷ []))) at (now (out .entry)) (now (out .exit)) r ⌝ }
 {
     let digits = copy(out, at, word);
-    let end = put_decimal(out, digits, n);
-    put_byte(out, end, b'\n')
+    let feed = put_decimal(out, digits, n);
+    put_byte(out, feed, b'\n')
 }
 
 // A cell: a constant by its name, a variable by a letter and its number.

@@ -9,10 +9,10 @@ pub fn put_byte(out: &mut [u8], at: usize, b: u8) -> usize
     requires { ⌜ Countable at (b ∷ []) ⌝ }
     ensures { λ r. ⌜ Writes (b ∷ []) at (now (out .entry)) (now (out .exit)) r ⌝ }
 {
-    if at < out.len() {
-        out[at] = b;
+    if out.len() <= at {
         return at + 1;
     }
+    out[at] = b;
     at + 1
 }
 
