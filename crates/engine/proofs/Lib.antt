@@ -8,6 +8,7 @@ pub mod SolveLaws
 pub mod FireLaws
 pub mod RuleLaws
 pub mod WeightLaws
+pub mod FiredLaws
 pub mod StepLaws
 pub mod RunLaws
 pub mod GoalLaws
