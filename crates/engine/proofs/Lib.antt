@@ -10,5 +10,6 @@ pub mod RuleLaws
 pub mod WeightLaws
 pub mod FiredLaws
 pub mod StepLaws
+pub mod StatedLaws
 pub mod RunLaws
 pub mod GoalLaws

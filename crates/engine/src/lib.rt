@@ -5,3 +5,4 @@ pub mod firing;
 pub mod matching;
 pub mod search;
 pub mod solving;
+pub mod stated;
