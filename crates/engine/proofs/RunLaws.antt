@@ -1,20 +1,21 @@
 -- The derivation on cells is the derivation on states; it ends by every weighing, and keeps within its arrays.
 -- Assumes nothing.
 use Prim.Native.Nat.{ℕ, zero, suc, _+_, _-_, _*_, _≤_, _<_}
+use native.Mathlib.Nat.{add-zero, add-suc}
 use native.Mathlib.Omega.{arith}
 use native.Mathlib.Numerals.{add-one}
 use mathlib.Core.Bool.{Bool, true, false, cond}
 use mathlib.Core.List.{List, [], _∷_, map}
-use mathlib.Core.Option.{none, some}
-use mathlib.Core.Path.{_≡_, refl, sym, _∙_}
+use mathlib.Core.Option.{Option, none, some}
+use mathlib.Core.Path.{_≡_, refl, sym, ap, _∙_}
 use lib.ListN.{length, take}
 use lib.Seq.{length-take-le}
-use Rattle.text.specs.Lists.{every}
+use Rattle.text.specs.Lists.{onward, every}
 use Rattle.semantics.specs.Terms.{Rule, State, failed, live}
-use Rattle.semantics.specs.Strategy.{advance, normalise}
+use Rattle.semantics.specs.Strategy.{Final, advance, normalise}
 use Rattle.tables.specs.Cells.{cellTerm, cellConstraints, isLow, stateOf}
 use Rattle.tables.specs.Rows.{rulesOf}
-use Rattle.engine.specs.Runs.{weightBy, Lowers, storeOf, Live, Stepped, Startable, Ended}
+use Rattle.engine.specs.Runs.{weightBy, Lowers, storeOf, Live, Stepped, Startable, Ended, Continued}
 use Rattle.engine.proofs.StepLaws.{no-way}
 use Rattle.engine.proofs.WeightLaws.{weight-length}
 
@@ -180,3 +181,40 @@ module _ (rules : List ℕ) (n : ℕ) (bound cells : List ℕ) (m next : ℕ) wh
                       (stateOf a (number + 26) b (take (5 * k) c)) firings (t .moves y names))
                       ∙ before names fuel (omega arith));
                 }
+
+-- more firings before
+unfoldable later : ℕ → Final → Final
+later f e = record { state = e .state; firings = f + e .firings }
+
+-- firings before a derivation only count
+normalise-later :
+    (k : ℕ) (rs : List Rule) (s : State) (f g : ℕ) → normalise k rs s (f + g) ≡ later f (normalise k rs s g)
+unfolding normalise later
+normalise-later zero rs s f g = refl
+normalise-later (suc k) rs s f g = go (λ t. rw (← add-suc) (normalise-later k rs t f (suc g))) (advance rs s)
+  where
+    go : ((t : State) → normalise k rs t (suc (f + g)) ≡ later f (normalise k rs t (suc g))) → (o : Option State)
+        → onward o (record { state = s; firings = f + g }) (λ t. normalise k rs t (suc (f + g)))
+        ≡ later f (onward o (record { state = s; firings = g }) (λ t. normalise k rs t (suc g)))
+    go more none = refl
+    go more (some t) = more t
+
+module _ (rules : List ℕ) (n : ℕ) (bound cells : List ℕ) (m next : ℕ) (bound′ cells′ : List ℕ) (alive : Bool)
+    (count number firings : ℕ) (e : Ended rules n bound cells m next bound′ cells′ alive count number firings) where
+  -- a derivation has few firings
+  pub ended-few : Startable rules n cells m next → firings ≤ 512
+  ended-few s = omega (arith, e .bounded (s .weigh) (s .lowers), s .light)
+
+  -- the end counts the firings before
+  pub ended-later :
+      (before : ℕ) → Continued rules n bound cells m next before bound′ cells′ alive count number (before + firings)
+  unfolding later
+  ended-later before =
+      record {
+        same = λ names fuel h.
+            ap (later before) (e .same names fuel (omega arith))
+            ∙ sym (normalise-later fuel (rulesOf names rules n) (live next (map cellTerm bound) (storeOf cells m)) before 0)
+            ∙ rw add-zero;
+        bounded = λ w lw. omega (arith, e .bounded w lw);
+        few = e .few;
+      }

@@ -2,6 +2,7 @@
 --   weightBy, Lowers     the weight of constraints, and a weighing that every rule lowers
 --   Live, Stepped        one firing of the strategy
 --   Startable, Ended     the derivation to its end
+--   Continued            the same, from a number of firings
 -- Assumes nothing.
 use Prim.Native.Nat.{ℕ, _+_, _*_, _≤_, _<_}
 use mathlib.Core.Bool.{Bool, true, false, cond}
@@ -77,4 +78,14 @@ pub record Ended (rules : List ℕ) (n : ℕ) (bound cells : List ℕ) (m next :
       → record { state = stateOf alive number bound′ (take (constraintSize * count) cells′); firings = firings }
       ≡ normalise fuel (rulesOf names rules n) (live next (map cellTerm bound) (storeOf cells m)) 0
   pub bounded : (w : ℕ → ℕ) → Lowers w rules n → firings ≤ weightBy w (storeOf cells m)
+  pub few : alive ≡ true → count ≤ 512
+
+-- the same end for a state that took `before` firings already, which count
+pub record Continued (rules : List ℕ) (n : ℕ) (bound cells : List ℕ) (m next before : ℕ) (bound′ cells′ : List ℕ)
+    (alive : Bool) (count number firings : ℕ) : Type 0 where
+  pub same :
+      (names : List ℕ) (fuel : ℕ) → firings ≤ before + fuel
+      → record { state = stateOf alive number bound′ (take (constraintSize * count) cells′); firings = firings }
+      ≡ normalise fuel (rulesOf names rules n) (live next (map cellTerm bound) (storeOf cells m)) before
+  pub bounded : (w : ℕ → ℕ) → Lowers w rules n → firings ≤ before + weightBy w (storeOf cells m)
   pub few : alive ≡ true → count ≤ 512
