@@ -12,4 +12,5 @@ pub mod FiredLaws
 pub mod StepLaws
 pub mod StatedLaws
 pub mod RunLaws
+pub mod EnterLaws
 pub mod GoalLaws
