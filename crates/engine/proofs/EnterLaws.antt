@@ -32,8 +32,12 @@ module _ (start bound : List ℕ) (i : ℕ) (w : Starting start bound i) where
       rw (add-one i) (record {
         within = omega (arith, w .size);
         size = length-set bound i (256 + i) ∙ w .size;
-        same = rw (take-suc-set bound i (256 + i) l, map-append cellTerm (take i bound) ((256 + i) ∷ []), w .same,
-            variable-cell i);
+        same = rw (
+          take-suc-set bound i (256 + i) l,
+          map-append cellTerm (take i bound) ((256 + i) ∷ []),
+          w .same,
+          variable-cell i,
+        );
       })
 
   pub starting-end : length bound ≤ i → map cellTerm bound ≡ tabled var (length start)

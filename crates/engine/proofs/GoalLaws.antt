@@ -1,6 +1,7 @@
 -- A goal over a program as it is read can be run, and its end is that of the definition.
 --   AsRead          what the reading of a program promises of the tables
 --   read-table      such a table holds rules that the engine runs
+--   rule-stands     a rule of a table, by its number
 --   well-formed-lowers   every rule of a well-formed program lowers the weight
 --   goal-runnable, goal-starts   a goal of weight at most 512 can be run
 --   goal-runs       the end of its derivation is `run`'s (the main law)
@@ -96,7 +97,7 @@ side-of (con c) h k = k
 side-of (var x) h k = h
 
 -- a rule of a table, by its number
-rule-stands :
+pub rule-stands :
     (names rules : List ℕ) (n i : ℕ) → i < n → getElem? (rulesOf names rules n) i ≡ some (ruleOf names rules i)
 unfolding rulesOf
 rule-stands names rules n i l =
@@ -278,4 +279,5 @@ module _ (names symbols : List ℕ) (s : ℕ) (rules : List ℕ) (n : ℕ) (r : 
           ≡ run (programOf names symbols s rules n) g
       unfolding run entered programOf
       goal-runs bound bound′ cells′ alive count number firings b e =
-          e .same names (weight declaredTable (g .constraints)) (omega (arith, weighs, e .bounded weigh read-lowers)) ∙ rw (b, holds)
+          e .same names (weight declaredTable (g .constraints)) (omega (arith, weighs, e .bounded weigh read-lowers))
+          ∙ rw (b, holds)

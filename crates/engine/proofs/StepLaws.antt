@@ -90,7 +90,8 @@ module _ (rules : List ℕ) (n : ℕ) (cells : List ℕ) (m next : ℕ) (s : Liv
               rests = λ y. no-way-back y;
               moves = λ y names. rw (← chosen .same names, z) (ap some (sym (done .same (nameOf names (firstRule + i)))));
               lighter = λ y w lw.
-                  fired-lighter row ps b next bound cells m bound′ cells′ alive count done w fits (lw .falls i (chosen .within z));
+                  fired-lighter row ps b next bound cells m bound′ cells′ alive count done w fits
+                  (lw .falls i (chosen .within z));
               low = λ y.
                   fired-low row ps b next bound cells m bound′ cells′ alive count done (s .table .rows i (chosen .within z))
                   (s .low);

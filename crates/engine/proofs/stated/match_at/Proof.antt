@@ -38,7 +38,11 @@ fit-at-requires : tie.Need-fit-at-requires Inv-loop μ-loop
 fit-at-requires c κs = (search matching-rows, omega arith, search needs)
 
 returns-2 : tie.Need-returns-2 Inv-loop μ-loop
-returns-2 c = search (matching-misfit, not-true)
+returns-2 c =
+    let placed = c .before .before in
+    let tested = placed .before .before .before in
+    matching-misfit _ _ _ _ _ _ _ _ (tested .before .before .loop .inv) (tested .before .loop-test .taken) (tested .if1 .left) _ _
+    (placed .fit-at .ensures) (not-true _ (c .if2 .taken))
 
 loop-again : tie.Need-loop-again Inv-loop μ-loop
 loop-again c =
