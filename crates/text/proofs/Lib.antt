@@ -8,3 +8,4 @@ pub mod Keys
 pub mod Words
 pub mod Passing
 pub mod Splitting
+pub mod SplitLaws
