@@ -3,11 +3,11 @@
 pub mod fields;
 pub mod parting;
 pub mod table;
+
 pub use parting::same_bytes;
 pub use parting::split_goal;
-pub use table::classes;
 use table::class_of;
-
+pub use table::classes;
 ghost use mathlib.Core.Path.{_≡_};
 ghost use mathlib.Core.Bool.{not, _&&_};
 ghost use Prim.Native.Nat.{_+_, _-_, _≤_, _<_};
@@ -229,4 +229,3 @@ pub fn is_number_in(f: &[u8], lo: u16, hi: u16) -> bool
     }
     v <= hi
 }
-
