@@ -24,6 +24,7 @@ use Rattle.syntax.specs.Forms.{termOf, letterNumber, isConstraintFaulty,
 use Rattle.syntax.specs.Programs.{Draft, Reading, blank, onLast, lastRule, withHead, withBody, withEquation, withRule}
 use Rattle.syntax.specs.Programs.{readSymbol, readRule, readConstraint, readEquation, readForm, readLine, readLines}
 use Rattle.syntax.specs.Programs.{checkRules, readProgram, maxSymbols, maxRules, maxEquations, maxConstants, maxText}
+use Rattle.text.proofs.Keys.{variable-range}
 
 -- what holds of an answer: of the value, if it is accepted
 abbrev pub Holds : {A : Type 0} → (A → Type 0) → Answer A → Type 0
@@ -83,11 +84,10 @@ every-map t u f (x ∷ l) k p =
 
 -- a letter is one of the alphabet
 letter-below : (f : List ℕ) → isVariable f ≡ true → isBelow alphabet (var (letterNumber f)) ≡ true
-unfolding isVariable between isBelow letterNumber alphabet
+unfolding isVariable isBelow letterNumber alphabet
 letter-below [] p = true-false p refl
 letter-below (b ∷ []) p =
-    let h = and-parts (leb 65 b) (leb b 90) p in
-    let k : b ≤ 90 = leb→le b 90 (true-T (h .1)) in
+    let k : b ≤ 90 = variable-range (b ∷ []) p .2 in
     T-true (ltb (b - 65) 26) (le→leb (suc (b - 65)) 26 (omega arith))
 letter-below (b ∷ c ∷ s) p = true-false p refl
 
