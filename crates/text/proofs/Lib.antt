@@ -3,3 +3,6 @@ pub mod Opened
 pub mod Laws
 pub mod Cursors
 pub mod Forms
+pub mod ClassLaws
+pub mod Passing
+pub mod Splitting
