@@ -48,7 +48,7 @@ ruleOfRow name row =
     }
 
 -- the cells of rule i
-unfoldable pub rowOf : List ℕ → ℕ → List ℕ
+abbrev pub rowOf : List ℕ → ℕ → List ℕ
 rowOf rules i = take rowSize (drop (rowSize * i) rules)
 
 -- rule i
