@@ -27,6 +27,7 @@ use Rattle.syntax.specs.Tables.{lettersOf}
 use Rattle.lines.specs.Read.{alphabetLetters, constraintLine, HeadAt, roomy}
 use Rattle.lines.proofs.Constants.{roomy-is, roomy-not}
 use Rattle.lines.proofs.Cells.{and-both}
+use Rattle.text.proofs.ClassLaws.{is-capital}
 
 every-at : (test : ℕ → Bool) (xs : List ℕ) (i : ℕ) → every test xs ≡ true → i < length xs → test (getD xs i 0) ≡ true
 every-at test [] i e h = absurd (not-suc-le-zero h)
@@ -56,7 +57,7 @@ letter-place b e =
 letter-number : (f : List ℕ) → isVariable f ≡ true → placeOf f (lettersOf alphabetLetters 26) ≡ letterNumber f
 unfolding isVariable letterNumber
 letter-number [] e = absurd (let z : _≡_ {A = ℕ} 0 1 = cc in omega arith)
-letter-number (b ∷ []) e = letter-place b e
+letter-number (b ∷ []) e = letter-place b (sym (is-capital b) ∙ e)
 letter-number (b ∷ c ∷ s) e = absurd (let z : _≡_ {A = ℕ} 0 1 = cc in omega arith)
 
 term-name : (variable : List ℕ → ℕ) (cs : List (List ℕ)) (f : List ℕ) → isName f ≡ true

@@ -11,7 +11,7 @@ use mathlib.Core.List.{List, [], _∷_, _++_, append-assoc, append-nil}
 use mathlib.Core.Option.{none}
 use mathlib.Core.Path.{_≡_, refl, sym, ap, subst, _∙_}
 use lib.Dec.{leb, ltb, eqb}
-use lib.ListN.{length, length-map, length-append, drop}
+use lib.ListN.{length, length-map, length-append, drop, getD}
 use borrow.Author.Tests.{lt-ltb, le-ltb, ltb-true, ltb-false, leb-true, leb-false, eqb-true, eqb-false, ne-eqb, eq-eqb}
 use Rattle.text.specs.Bytes.{between}
 use Rattle.text.specs.Lists.{every, placeFrom, placeOf, sameBytes, isKnown, withName}
@@ -35,6 +35,7 @@ use Rattle.syntax.proofs.WellFormed.{Holds, holds-refuseIf, holds-andTh
 use Rattle.syntax.proofs.WellFormed.{and-both, and-parts, or-neither, not-false}
 use Rattle.syntax.proofs.Known.{grown, grown-front, grown-known, letters-grown}
 use Rattle.syntax.proofs.Vocabulary.{ConstantOf, constraints-more, constants-more, constraint-over}
+use Rattle.text.proofs.Keys.{variable-range}
 
 -- whether a name is known behind others: among them, or as the last
 place-split :
@@ -122,15 +123,11 @@ present-adds (suc n) j names h =
 
 -- a letter's field
 variable-field : (f : List ℕ) → isVariable f ≡ true → (j : ℕ) × (j < 26) × (f ≡ letterField j)
-unfolding isVariable between
-variable-field [] h = absurd (let z : _≡_ {A = ℕ} 0 1 = cc in omega arith)
-variable-field (b ∷ []) h =
-    let (low, high) = and-parts (leb 65 b) (leb b 90) h in
-    let least = leb-true 65 b low in
-    let most = leb-true b 90 high in
+variable-field f h =
+    let b : ℕ = getD f 0 0 in
+    let (one, least, most) = variable-range f h in
     let same : b ≡ 65 + (b - 65) = omega arith in
-    (b - 65, omega arith, ap (λ (x : ℕ). x ∷ []) same)
-variable-field (b ∷ c ∷ s) h = absurd (let z : _≡_ {A = ℕ} 0 1 = cc in omega arith)
+    (b - 65, omega arith, one ∙ ap (λ (x : ℕ). x ∷ []) same)
 
 -- a term field that is no name is a letter's
 term-variable : (f : List ℕ) → isTerm f ≡ true → isName f ≡ false → isVariable f ≡ true

@@ -14,6 +14,7 @@ use Rattle.text.specs.Bytes.{between}
 use Rattle.text.specs.Lists.{onward, every, isKnown}
 use Rattle.text.specs.Lines.{Line, lines, lineIsFaulty}
 use Rattle.text.specs.Fields.{fields, isName, isVariable, isTerm, isNumberIn}
+use Rattle.text.proofs.Keys.{variable-range}
 use Rattle.semantics.specs.Terms.{Term, con, var, Constraint, Equation, Symbol, Rule, Program, weight}
 use Rattle.semantics.specs.Terms.{isDeclared, isBelow, alphabet, isOfRule, isRuleOf, isWellFormed, symbolAt}
 use Rattle.semantics.proofs.Configurations.{Or, inl, inr}
@@ -86,11 +87,10 @@ every-map t u f (x ∷ l) k p =
 
 -- a letter is one of the alphabet
 letter-below : (f : List ℕ) → isVariable f ≡ true → isBelow alphabet (var (letterNumber f)) ≡ true
-unfolding isVariable between isBelow letterNumber alphabet
+unfolding isVariable isBelow letterNumber alphabet
 letter-below [] p = true-false p refl
 letter-below (b ∷ []) p =
-    let h = and-parts (leb 65 b) (leb b 90) p in
-    let k : b ≤ 90 = leb→le b 90 (true-T (h .1)) in
+    let k : b ≤ 90 = variable-range (b ∷ []) p .2 in
     T-true (ltb (b - 65) 26) (le→leb (suc (b - 65)) 26 (omega arith))
 letter-below (b ∷ c ∷ s) p = true-false p refl
 

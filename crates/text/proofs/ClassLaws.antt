@@ -6,10 +6,10 @@ use mathlib.Core.Path.{_≡_, refl, sym, ap, _∙_}
 use mathlib.Core.Bool.{Bool, true, false, cond, not, _&&_, _||_}
 use Prim.Native.Nat.{ℕ, _≤_, _<_}
 use native.Mathlib.Omega.{arith}
-use borrow.Author.Tests.{leb-true, le-leb, eqb-true, ne-eqb}
+use borrow.Author.Tests.{leb-true, le-leb, lt-leb, eqb-true, ne-eqb}
 use lib.Dec.{leb, eqb}
 use Rattle.text.specs.Bytes.{Class, small, capital, digit, comma, lineFeed, other, between, classOf, classNumber}
-use Rattle.text.specs.Bytes.{isNameClass}
+use Rattle.text.specs.Bytes.{isClass, isNameClass}
 use Rattle.text.specs.Lines.{isOther}
 use Rattle.text.specs.Splits.{isPlain}
 
@@ -42,9 +42,9 @@ module _ (b : ℕ) where
       go false false false false true p q r h = absurd (omega (arith, leb-true 4 2 h))
       go false false false false false p q r h = absurd (omega (arith, leb-true 5 2 h))
 
-  pub name-range : isNameClass (classOf b) ≡ true → (48 ≤ b) × (b ≤ 122)
-  unfolding isPlain classOf classNumber isNameClass
-  name-range h = plain-range (go (classOf b) h)
+  pub name-plain : isNameClass (classOf b) ≡ true → isPlain b ≡ true
+  unfolding isPlain classNumber isNameClass
+  name-plain h = go (classOf b) h
     where
       go : (k : Class) → isNameClass k ≡ true → leb (classNumber k) 2 ≡ true
       go small h = refl
@@ -53,6 +53,9 @@ module _ (b : ℕ) where
       go comma h = absurd (let z : _≡_ {A = ℕ} 0 1 = cc in omega arith)
       go lineFeed h = absurd (let z : _≡_ {A = ℕ} 0 1 = cc in omega arith)
       go other h = absurd (let z : _≡_ {A = ℕ} 0 1 = cc in omega arith)
+
+  pub name-range : isNameClass (classOf b) ≡ true → (48 ≤ b) × (b ≤ 122)
+  name-range h = plain-range (name-plain h)
 
   -- a letter or digit that may not stand in a name is a capital
   pub capital-range : isPlain b ≡ true → isNameClass (classOf b) ≡ false → between 65 90 b ≡ true
@@ -84,6 +87,49 @@ module _ (b : ℕ) where
   pub plain-not : (x : ℕ) → isPlain x ≡ false → isPlain b ≡ true → b ≡ x → ⊥
   plain-not x p h e = let z : true ≡ false = sym h ∙ ap isPlain e ∙ p in let y : _≡_ {A = ℕ} 0 1 = cc in omega arith
 
+and-false : (t : Bool) → (t && false) ≡ false
+and-false true = refl
+and-false false = refl
+
+pub between-above : (a z b : ℕ) → z < b → between a z b ≡ false
+unfolding between
+between-above a z b h = rw (lt-leb b z h) (and-false (leb a b))
+
+pub between-below : (a z b : ℕ) → b < a → between a z b ≡ false
+unfolding between
+between-below a z b h = rw (lt-leb a b h)
+
+pub between-is : (a z b : ℕ) → a ≤ b → b ≤ z → between a z b ≡ true
+unfolding between
+between-is a z b h k = rw (le-leb a b h, le-leb b z k)
+
+-- the capitals and the digits by their byte values
+pub is-capital : (b : ℕ) → isClass capital b ≡ between 65 90 b
+unfolding isClass classOf classNumber
+is-capital b = go (between 97 122 b) (between 65 90 b) (between 48 57 b) (eqb b 44) (eqb b 10) refl refl
+  where
+    go : (s c d k l : Bool) → between 97 122 b ≡ s → between 65 90 b ≡ c
+        → eqb (classNumber (chosen s c d k l)) 1 ≡ between 65 90 b
+    go true c d k l p q = sym (between-above 65 90 b (omega (arith, between-true 97 122 b p)))
+    go false true d k l p q = sym q
+    go false false true k l p q = sym q
+    go false false false true l p q = sym q
+    go false false false false true p q = sym q
+    go false false false false false p q = sym q
+
+pub is-digit : (b : ℕ) → isClass digit b ≡ between 48 57 b
+unfolding isClass classOf classNumber
+is-digit b = go (between 97 122 b) (between 65 90 b) (between 48 57 b) (eqb b 44) (eqb b 10) refl refl refl
+  where
+    go : (s c d k l : Bool) → between 97 122 b ≡ s → between 65 90 b ≡ c → between 48 57 b ≡ d
+        → eqb (classNumber (chosen s c d k l)) 2 ≡ between 48 57 b
+    go true c d k l p q r = sym (between-above 48 57 b (omega (arith, between-true 97 122 b p)))
+    go false true d k l p q r = sym (between-above 48 57 b (omega (arith, between-true 65 90 b q)))
+    go false false true k l p q r = sym r
+    go false false false true l p q r = sym r
+    go false false false false true p q r = sym r
+    go false false false false false p q r = sym r
+
 -- a class by its number
 pub class-comma : (b : ℕ) → classNumber (classOf b) ≡ 3 → b ≡ 44
 unfolding classOf classNumber
@@ -110,7 +156,7 @@ class-feed b h = go (between 97 122 b) (between 65 90 b) (between 48 57 b) (eqb 
     go false false false false false q h = absurd (omega arith)
 
 pub class-other : (b : ℕ) → 4 < classNumber (classOf b) → isOther b ≡ true
-unfolding isOther classNumber
+unfolding isOther isClass classNumber
 class-other b h = go (classOf b) h
   where
     go : (k : Class) → 4 < classNumber k → eqb (classNumber k) (classNumber other) ≡ true
@@ -141,5 +187,5 @@ inner-not-feed b h e = let z : true ≡ false = sym h ∙ ap isInner e ∙ feed 
     feed = refl
 
 pub inner-not-other : (b : ℕ) → isInner b ≡ true → isOther b ≡ false
-unfolding isInner isOther classNumber
+unfolding isInner isOther isClass classNumber
 inner-not-other b h = ne-eqb (classNumber (classOf b)) 5 (λ e. omega (arith, leb-true (classNumber (classOf b)) 3 h))

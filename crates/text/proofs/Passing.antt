@@ -1,7 +1,6 @@
--- Laws of one field's bytes as they come in: their value to base 256, their shape, and the key that these make.
---   every-append, packed-snoc, packed-below    a test and a value, one byte on
---   passed-none, passed-on                     what is known of a field, one byte on
---   key-..                                     the key by what is known
+-- Laws of one field's bytes as they come in: what is known of them, one byte on, and the key that this makes.
+--   passed-start, passed-step     what is known of a field, one byte on
+--   key-..                        the key by what is known
 -- Assumes nothing.
 use mathlib.Core.Path.{_≡_, refl, sym, ap, ap₂, _∙_}
 use mathlib.Core.Bool.{Bool, true, false, cond, not, _&&_, _||_}
@@ -19,43 +18,10 @@ use Rattle.text.specs.Lists.{every}
 use Rattle.text.specs.Fields.{isName, isVariable}
 use Rattle.text.specs.Keys.{packedFrom, packed, keyOf}
 use Rattle.text.specs.Splits.{isPlain, Passed, part}
-use Rattle.text.proofs.ClassLaws.{and-true, between-true, plain-range, capital-range, plain-capital}
-
-abbrev nameByte : ℕ → Bool
-nameByte b = isNameClass (classOf b)
-
-and-assoc : (a b c : Bool) → ((a && b) && c) ≡ (a && (b && c))
-and-assoc true b c = refl
-and-assoc false b c = refl
-
-pub every-append {ℓ} : {A : Type ℓ} (test : A → Bool) (p q : List A) → every test (p ++ q) ≡ (every test p && every test q)
-every-append test [] q = refl
-every-append test (x ∷ p) q =
-    ap (λ (t : Bool). test x && t) (every-append test p q) ∙ sym (and-assoc (test x) (every test p) (every test q))
-
-pub packed-append : (v : ℕ) (p q : List ℕ) → packedFrom v (p ++ q) ≡ packedFrom (packedFrom v p) q
-unfolding packedFrom
-packed-append v [] q = refl
-packed-append v (b ∷ p) q = packed-append (v * 256 + b) p q
-
-pub packed-snoc : (f : List ℕ) (b : ℕ) → packed (f ++ (b ∷ [])) ≡ packed f * 256 + b
-unfolding packed packedFrom
-packed-snoc f b = packed-append 0 f (b ∷ [])
-
--- n bytes of a value to base 256 are below 256 ^ n
-pub packed-under : (v m : ℕ) (f : List ℕ) → v < m → every isPlain f ≡ true → packedFrom v f < m * 256 ^ length f
-unfolding packedFrom
-packed-under v m [] h e = omega arith
-packed-under v m (b ∷ f) h e =
-    let both = and-true (isPlain b) (every isPlain f) e in
-    let next : v * 256 + b < m * 256 = omega (arith, plain-range b (both .0)) in
-    let rest : packedFrom (v * 256 + b) f < m * 256 * 256 ^ length f = packed-under (v * 256 + b) (m * 256) f next (both .1) in
-    rw (pow-suc 256 (length f)) (omega (arith, rest))
-
-pub packed-below : (f : List ℕ) → every isPlain f ≡ true → length f ≤ 7 → packed f < 72057594037927936
-unfolding packed
-packed-below f e h =
-    omega (arith, packed-under 0 1 f (omega arith) e, pow-le-pow-right {n = 256} (omega arith) {i = length f} {j = 7} h)
+use Rattle.text.proofs.ClassLaws.{and-true, between-true, capital-range, plain-capital, is-capital}
+use Rattle.text.proofs.Laws.{every-append}
+use Rattle.text.proofs.Keys.{nameByte, packed-snoc, packed-below, name-is, name-long, name-none, key-of-name}
+use Rattle.text.proofs.Keys.{key-of-variable, key-of-more}
 
 -- no byte has passed; one more passes
 pub passed-none : Passed [] 0 0 false
@@ -101,35 +67,6 @@ passed-step s at i limit v class v′ c c′ p h q r e l f g =
     let more : suc i - at ≡ suc (i - at) = omega arith in
     rw (add-one i, part-suc s at i h (omega arith), more, f, g, e) (passed-on (getD s i 0) p plain)
 
--- the key by the shape of a field
-and-false : (t : Bool) → (t && false) ≡ false
-and-false true = refl
-and-false false = refl
-
-pub name-is : (f : List ℕ) → 1 ≤ length f → length f ≤ 8 → every nameByte f ≡ true → isName f ≡ true
-unfolding isName between
-name-is f h k e = rw (le-leb 1 (length f) h, le-leb (length f) 8 k, e)
-
-pub name-long : (f : List ℕ) → 8 < length f → isName f ≡ false
-unfolding isName between
-name-long f h = rw (lt-leb (length f) 8 h, and-false (leb 1 (length f)))
-
-pub name-none : (f : List ℕ) → every nameByte f ≡ false → isName f ≡ false
-unfolding isName
-name-none f e = rw (e, and-false (between 1 8 (length f)))
-
-pub key-of-name : (f : List ℕ) → isName f ≡ true → keyOf f ≡ packed f
-unfolding keyOf
-key-of-name f h = rw h
-
-pub key-of-variable : (f : List ℕ) → isName f ≡ false → isVariable f ≡ true → keyOf f ≡ getD f 0 0 - 63
-unfolding keyOf
-key-of-variable f h k = rw (h, k)
-
-pub key-of-more : (b c : ℕ) (s : List ℕ) → isName (b ∷ c ∷ s) ≡ false → keyOf (b ∷ c ∷ s) ≡ 1
-unfolding keyOf isVariable
-key-of-more b c s h = rw (h, ne-eqb (length (b ∷ c ∷ s)) 0 (λ e. omega arith))
-
 -- the key by what is known of a field
 flipped : (t u : Bool) → t ≡ not u → u ≡ not t
 flipped true true h = h
@@ -144,7 +81,13 @@ key-letter (b ∷ []) v n t p c e =
     let plain : isPlain b ≡ true = and-true (isPlain b) true (p .plain) .0 in
     let not-all : every nameByte (b ∷ []) ≡ false = flipped true (every nameByte (b ∷ [])) (sym c ∙ p .shaped) in
     let range : between 65 90 b ≡ true = capital-range b plain (not-one (nameByte b) not-all) in
-    omega (arith, between-true 65 90 b range, p .valued (omega arith), key-of-variable (b ∷ []) (name-none (b ∷ []) not-all) range)
+    omega (
+      arith,
+      between-true 65 90 b range,
+      p .valued (omega arith),
+      key-of-variable (b ∷ []) (name-none (b ∷ []) not-all)
+          (is-capital b ∙ range),
+    )
   where
     not-one : (t : Bool) → (t && true) ≡ false → t ≡ false
     not-one true h = h

@@ -28,15 +28,9 @@ use Rattle.text.specs.declared.fields.Field.{Field}
 use Rattle.text.specs.declared.fields.Fields.{Fields}
 use Rattle.text.proofs.ClassLaws.{and-true, isInner, plain-inner, inner-comma, inner-not-feed, inner-not-other, plain-not}
 use Rattle.text.proofs.ClassLaws.{class-comma, class-feed, class-other}
-use Rattle.text.proofs.Passing.{every-append, part-suc}
+use Rattle.text.proofs.Passing.{part-suc}
+use Rattle.text.proofs.Laws.{every-append, every-implied}
 use Rattle.text.proofs.Cursors.{before-is, before-not, fields-is, fields-not}
-
--- a test that holds of all elements holds of another test's
-pub every-implied : (p q : ℕ → Bool) → ((b : ℕ) → p b ≡ true → q b ≡ true) → (s : List ℕ) → every p s ≡ true → every q s ≡ true
-every-implied p q f [] h = refl
-every-implied p q f (b ∷ s) h =
-    let both = and-true (p b) (every p s) h in
-    rw (f b (both .0), every-implied p q f s (both .1))
 
 -- bytes in front of a text, no line feed among them
 pub before-append : (p r : List ℕ) → every isInner p ≡ true → before 10 (p ++ r) ≡ length p + before 10 r

@@ -5,8 +5,8 @@ ghost use mathlib.Core.Bool.{_||_};
 ghost use mathlib.Core.List.{List};
 ghost use Prim.Native.Nat.{ℕ, _+_, _*_, _%_, _≤_, _<_, min};
 ghost use lib.Dec.{eqb};
-ghost use lib.ListN.{length, set};
-ghost use Rattle.text.specs.Keys.{keyOf};
+ghost use lib.ListN.{length, drop, set};
+ghost use Rattle.text.specs.Keys.{keyOf, numberOf, wordLength, word};
 ghost use Rattle.text.specs.Places.{classTable};
 ghost use Rattle.text.specs.Splits.{Passed, Stopped, SplitAt};
 
@@ -143,4 +143,61 @@ pub fn split(classes: &[u8], s: &[u8], at: usize) -> Fields
         }
         start = end + 1;
     }
+}
+
+// The value of a key that is a number of one or two digits; 100 for any other.
+pub fn number_of(key: u64) -> u16
+    ensures { λ r. ⌜ r ≡ numberOf key ⌝ }
+{
+    if key < 48 {
+        return 100;
+    }
+    if key <= 57 {
+        return (key - 48) as u16;
+    }
+    let tens = key / 256;
+    let ones = key % 256;
+    if tens < 49 {
+        return 100;
+    }
+    if 57 < tens {
+        return 100;
+    }
+    if ones < 48 {
+        return 100;
+    }
+    if 57 < ones {
+        return 100;
+    }
+    ((tens - 48) * 10 + (ones - 48)) as u16
+}
+
+// Where the word ends that starts at `at`: the place of the first comma or line feed, or the length.
+fn word_end(s: &[u8], at: usize) -> usize
+    requires { ⌜ at ≤ length (now s) ⌝ }
+    ensures { λ r. ⌜ (r ≡ at + wordLength (drop at (now (s .entry)))) × (at ≤ r) × (r ≤ length (now (s .entry))) ⌝ }
+{
+    let mut i = at;
+    while i < s.len() {
+        if s[i] == 44 {
+            return i;
+        }
+        if s[i] == 10 {
+            return i;
+        }
+        i += 1;
+    }
+    i
+}
+
+// The word that starts at `at`: the bytes up to the next comma or line feed; none behind the text's end.
+pub fn word_at(s: &[u8], at: usize) -> &[u8]
+    ensures { λ r. ⌜ now r ≡ word (now (s .entry)) at ⌝ }
+{
+    let size = s.len();
+    if size < at {
+        return &s[size..];
+    }
+    let end = word_end(s, at);
+    &s[at..end]
 }
