@@ -90,7 +90,7 @@ term-over variable constants f h = go (isName f) refl
 pub constants-more : (fs before : List (List ℕ)) → (more : List (List ℕ)) × (constantsAfter fs before ≡ before ++ more)
 constants-more fs before = rw (constants-grown fs before) (grown-front isName fs before)
 
-constants-least : (fs before : List (List ℕ)) → length before ≤ length (constantsAfter fs before)
+pub constants-least : (fs before : List (List ℕ)) → length before ≤ length (constantsAfter fs before)
 constants-least fs before =
     let (more, e) = constants-more fs before in
     omega (arith, ap length e, length-append before more)
