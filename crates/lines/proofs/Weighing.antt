@@ -1,9 +1,9 @@
--- Laws of constraints as cells, five to each.
+-- Laws of the weight of constraints in cells, five to each.
 --   constraints-append, constraints-length    whole constraints in front of more cells, and how many they are
 --   weight-known, weight-none                 the weight of a symbol by the table
 --   weight-step, weight-end                   the weight of the constraints from a place on, and from the next on
 -- Assumes nothing.
-use mathlib.Core.Path.{_≡_, refl, ap, ap₂, _∙_}
+use mathlib.Core.Path.{_≡_, refl, sym, ap, ap₂, _∙_}
 use mathlib.Core.List.{List, [], _∷_, _++_}
 use Prim.Native.Nat.{ℕ, zero, suc, _+_, _*_, _≤_, _<_}
 use native.Mathlib.Nat.{add-zero}
@@ -11,8 +11,9 @@ use native.Mathlib.Omega.{arith}
 use lib.ListN.{length, drop, getD, length-drop, List·getD-eq-default}
 use lib.Seq.{getD-drop, drop-drop}
 use Rattle.semantics.specs.Terms.{Symbol, Constraint, noSymbol, symbolAt, weight}
-use Rattle.syntax.specs.Tables.{cellTerms, cellConstraints, symbolOf, symbolsOf}
-use Rattle.lines.proofs.Shapes.{symbols-length, symbol-at}
+use Rattle.tables.specs.Cells.{cellTerms, cellConstraints}
+use Rattle.tables.specs.Rows.{symbolOf, symbolsOf}
+use Rattle.lines.proofs.HeadLaws.{symbols-length, symbol-at}
 
 pub constraints-append : (h : ℕ) (xs ys : List ℕ) → length xs ≡ 5 * h
     → cellConstraints (xs ++ ys) ≡ cellConstraints xs ++ cellConstraints ys
@@ -39,16 +40,16 @@ constraints-length (suc h) (a ∷ b ∷ c ∷ []) e = absurd (omega arith)
 constraints-length (suc h) (a ∷ b ∷ c ∷ d ∷ []) e = absurd (omega arith)
 constraints-length (suc h) (a ∷ b ∷ c ∷ d ∷ f ∷ xs) e = ap suc (constraints-length h xs (omega arith))
 
-pub weight-known : (text cells : List ℕ) (k s : ℕ) → s < k
-    → symbolAt (symbolsOf text cells k) s .weight ≡ getD cells (4 * s + 3) 0
-unfolding symbolOf
-weight-known text cells k s h = ap (λ (t : Symbol). t .weight) (symbol-at text cells k s h)
+module _ (names symbols : List ℕ) (k : ℕ) (size : length symbols ≡ 2 * k) (s : ℕ) where
+  pub weight-known : 2 * s + 1 < length symbols → getD symbols (2 * s + 1) 0 ≡ symbolAt (symbolsOf names symbols k) s .weight
+  unfolding symbolOf
+  weight-known h = sym (ap (λ (t : Symbol). t .weight) (symbol-at names symbols k s (omega arith)))
 
-pub weight-none : (text cells : List ℕ) (k s : ℕ) → k ≤ s → symbolAt (symbolsOf text cells k) s .weight ≡ 0
-unfolding symbolAt noSymbol
-weight-none text cells k s h =
-    ap (λ (t : Symbol). t .weight) (List·getD-eq-default (symbolsOf text cells k) noSymbol
-    (omega (arith, h, symbols-length text cells k)))
+  pub weight-none : length symbols ≤ 2 * s + 1 → 0 ≡ symbolAt (symbolsOf names symbols k) s .weight
+  unfolding symbolAt noSymbol
+  weight-none h =
+      sym (ap (λ (t : Symbol). t .weight) (List·getD-eq-default (symbolsOf names symbols k) noSymbol {n = s}
+      (omega (arith, symbols-length names symbols k))))
 
 weight-first : (symbols : List Symbol) (l : List ℕ) → 5 ≤ length l
     → weight symbols (cellConstraints l) ≡ symbolAt symbols (getD l 0 0) .weight + weight symbols (cellConstraints (drop 5 l))
