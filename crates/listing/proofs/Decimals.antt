@@ -10,10 +10,11 @@ use Prim.Native.Nat.{ℕ, zero, suc, _+_, _-_, _*_, _/_, _%_, _≤_, _<_}
 use native.Mathlib.Omega.{arith}
 use lib.Dec.{ltb, leb}
 use lib.ListN.{length, length-append}
-use borrow.Author.Tests.{lt-ltb, le-ltb, le-leb, leb-true, ltb-true, ltb-false}
-use Rattle.text.specs.Bytes.{between}
+use borrow.Author.Tests.{lt-ltb, le-ltb, le-leb, leb-true, ltb-true, ltb-false, ne-eqb}
+use Rattle.text.specs.Bytes.{digit, between, isClass}
 use Rattle.text.specs.Fields.{isNumber, valueFrom, valueOf}
 use Rattle.text.specs.Lists.{every}
+use Rattle.text.proofs.ClassLaws.{is-digit}
 use Rattle.semantics.proofs.Bools.{and-true}
 use Rattle.semantics.proofs.Entering.{every-last}
 use Rattle.listing.specs.Listing.{decimalFrom, decimal}
@@ -136,13 +137,25 @@ decimal-led (suc f) n h k = go (ltb n 10) refl (decimal-led f (n / 10))
               (digit-between 48 (n % 10) (omega arith) (omega arith));
         }
 
+-- all of such digits are digits by class
+digits-classed : (s : List ℕ) → every (between 48 57) s ≡ true → every (isClass digit) s ≡ true
+digits-classed [] h = refl
+digits-classed (b ∷ s) h =
+    let (first, rest) = and-true (between 48 57 b) (every (between 48 57) s) h in
+    rw (is-digit b, first) (digits-classed s rest)
+
 -- such digits have the form of a number
 led-number : (b : ℕ) (s : List ℕ) → between 49 57 b ≡ true → every (between 48 57) s ≡ true → isNumber (b ∷ s) ≡ true
 unfolding isNumber between
-led-number b [] h k =
-    let (least, most) = and-true (leb 49 b) (leb b 57) h in
-    rw (le-leb 48 b (omega (arith, leb-true 49 b least)), most)
-led-number b (c ∷ s) h k = rw (h, k)
+led-number b s h k =
+    let (low, most) = and-true (leb 49 b) (leb b 57) h in
+    let least : 49 ≤ b = leb-true 49 b low in
+    let one : isClass digit b ≡ true = is-digit b ∙ rw (le-leb 48 b (omega (arith, least)), most) in
+    go s least one (digits-classed s k)
+  where
+    go : (s : List ℕ) → 49 ≤ b → isClass digit b ≡ true → every (isClass digit) s ≡ true → isNumber (b ∷ s) ≡ true
+    go [] least one k = one
+    go (c ∷ s) least one k = rw (ne-eqb b 48 (λ e. omega (arith, least)), one, k)
 
 -- the value of a number's digits
 decimal-value : (f n : ℕ) → n < f → valueOf (decimal n) ≡ n
@@ -160,7 +173,7 @@ decimal-value (suc f) n h = go (ltb n 10) refl (decimal-value f (n / 10))
 -- zero is one digit
 zero-number : isNumber (48 ∷ []) ≡ true
 unfolding isNumber between
-zero-number = refl
+zero-number = is-digit 48
 
 -- the digits of a number have no leading zero, and their value is the number
 pub decimal-exact : (n : ℕ) → (isNumber (decimal n) ≡ true) × (valueOf (decimal n) ≡ n)

@@ -9,7 +9,7 @@ use mathlib.Core.List.{List, []}
 use mathlib.Core.Path.{_≡_, refl, sym, ap, _∙_}
 use lib.ListN.{set}
 use borrow.Author.Tests.{lt-ltb, le-ltb}
-use Rattle.roketuma.specs.Replies.{Reply, refusal, listing, runReply, ample}
+use Rattle.replies.specs.Replies.{Reply, refusal, listing, runReply, ample}
 use Rattle.roketuma.specs.Answers.{answerOf, Replied}
 use Rattle.roketuma.specs.declared.Refusal.{Refusal}
 use Rattle.roketuma.specs.declared.RunReply.{RunReply}

@@ -8,7 +8,7 @@ use mathlib.Core.List.{List, []}
 use lib.Dec.{ltb}
 use lib.ListN.{set}
 use Rattle.text.specs.Bytes.{ascii}
-use Rattle.roketuma.specs.Replies.{Reply, refusal, listing, runReply, ample}
+use Rattle.replies.specs.Replies.{Reply, refusal, listing, runReply, ample}
 
 -- the digit of a number below 10, and `?` of any other
 unfoldable pub numberDigit : ℕ → ℕ

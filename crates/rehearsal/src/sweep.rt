@@ -5,7 +5,7 @@ ghost use mathlib.Core.List.{[]};
 ghost use mathlib.Core.Path.{_≡_};
 ghost use Prim.Native.Nat.{_<_};
 ghost use lib.ListN.{set};
-ghost use Rattle.roketuma.specs.Replies.{runReply, ample};
+ghost use Rattle.replies.specs.Replies.{runReply, ample};
 ghost use Rattle.rehearsal.specs.Sweep.{numberDigit, digitOf, sweptProgram, sweptGoal, goalProgram, sweptDigit};
 
 // The digit of a number below 10.

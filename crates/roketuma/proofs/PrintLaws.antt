@@ -26,8 +26,8 @@ use Rattle.listing.proofs.Decimals.{decimal-low, decimal-high, decimal-few}
 use Rattle.listing.proofs.Laying.{Placed, from, back, lent-room-last, lent-part, lent-last, put-placed, put-length}
 use Rattle.listing.proofs.Laying.{from-drop}
 use Rattle.listing.proofs.LineLaws.{head-size}
-use Rattle.roketuma.specs.Replies.{programText, goalText, Reply, refusal, listing, runReply, outputAfter}
-use Rattle.roketuma.specs.Replies.{textLetter, printed, ample, sheetrun}
+use Rattle.replies.specs.Replies.{programText, goalText, Reply, refusal, listing, runReply, outputAfter}
+use Rattle.replies.specs.Replies.{textLetter, printed, ample, sheetrun}
 use Rattle.roketuma.specs.Answers.{textMeant, replyMeant, answerOf, Replied, Printed}
 use Rattle.roketuma.specs.declared.TextName.{TextName}
 use Rattle.roketuma.specs.declared.TextName.the-variants.{S, G}

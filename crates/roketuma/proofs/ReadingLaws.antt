@@ -25,7 +25,7 @@ use Rattle.goals.specs.declared.goal.GoalRead.the-variants as goal-read
 use Rattle.goals.specs.ReadGoal.{ReadFrom, GoalRoom, GoalFits, goalReadingOf, goalAnswer, goalKeeps}
 use Rattle.roketuma.specs.declared.TextName.the-variants.{S, G}
 use Rattle.roketuma.specs.declared.RunReply.the-variants.{Refused}
-use Rattle.roketuma.specs.Replies.{runReply}
+use Rattle.replies.specs.Replies.{runReply}
 use Rattle.roketuma.specs.Answers.{Replied}
 use Rattle.roketuma.specs.Stages.{programTable, ProgramReady, GoalReady, Ready}
 use Rattle.roketuma.proofs.ReadyLaws.{few-symbols}

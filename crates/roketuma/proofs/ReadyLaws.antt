@@ -43,7 +43,7 @@ use Rattle.listing.proofs.RunLaws.{listing-next}
 use Rattle.roketuma.specs.declared.RunReply.{RunReply}
 use Rattle.roketuma.specs.Answers.{Replied}
 use Rattle.roketuma.specs.declared.Sizes.{Sizes}
-use Rattle.roketuma.specs.Replies.{goalText, replyOf, fitted, namingOf, runListing, runReply}
+use Rattle.replies.specs.Replies.{goalText, replyOf, fitted, namingOf, runListing, runReply}
 use Rattle.roketuma.specs.Stages.{programTable, ProgramReady, Ready}
 use Rattle.roketuma.proofs.StageLaws.{count-few}
 use Rattle.roketuma.proofs.CellLaws.{all-at, all-mapped, bound-start}

@@ -20,8 +20,8 @@ use Rattle.listing.specs.Runs.{listedIn, ListedAs}
 use Rattle.listing.specs.Runs as runs
 use Rattle.listing.specs.declared.Listed.{Listed}
 use Rattle.listing.specs.declared.Listed.the-variants.{TooShort, Written}
-use Rattle.roketuma.specs.Replies.{Text, programText, goalText, Reply, refusal, listing, replyOf, fitted, runReply}
-use Rattle.roketuma.specs.Replies.{outputAfter}
+use Rattle.replies.specs.Replies.{Text, programText, goalText, Reply, refusal, listing, replyOf, fitted, runReply}
+use Rattle.replies.specs.Replies.{outputAfter}
 use Rattle.roketuma.specs.Answers.{textMeant, replyMeant, letterOf, answerOf, Replied, nameByte}
 use Rattle.roketuma.specs.Answers.{answerNumber, textByte, replyNumber}
 use Rattle.roketuma.specs.declared.TextName.{TextName}

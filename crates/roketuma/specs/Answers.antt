@@ -10,7 +10,7 @@ use Prim.Native.Nat.{ℕ, _+_, _*_}
 use mathlib.Core.List.{List, _++_}
 use mathlib.Core.Path.{_≡_}
 use lib.ListN.{length, take, drop}
-use Rattle.roketuma.specs.Replies.{Text, programText, goalText, Reply, refusal, listing, outputAfter}
+use Rattle.replies.specs.Replies.{Text, programText, goalText, Reply, refusal, listing, outputAfter}
 use Rattle.roketuma.specs.declared.TextName.{TextName}
 use Rattle.roketuma.specs.declared.TextName.the-variants.{S, G}
 use Rattle.roketuma.specs.declared.RunReply.{RunReply}

@@ -1,6 +1,3 @@
--- The definitions of this crate, in reading order. Assumes nothing.
-pub mod Replies
+-- What the public functions' answers mean, and what the stages of a run ask. Assumes nothing.
 pub mod Answers
 pub mod Stages
-pub mod Claims
-pub mod Starred

@@ -4,7 +4,7 @@ use crate::TextName;
 use crate::running::run;
 ghost use mathlib.Core.Path.{_≡_};
 ghost use lib.ListN.{length};
-ghost use Rattle.roketuma.specs.Replies.{runReply};
+ghost use Rattle.replies.specs.Replies.{runReply};
 ghost use Rattle.roketuma.specs.Answers.{nameByte, answerNumber, Returned};
 
 // The byte of a text's letter.

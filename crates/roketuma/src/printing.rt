@@ -14,7 +14,7 @@ ghost use lib.ListN.{length};
 ghost use Rattle.text.specs.Bytes.{ascii};
 ghost use Rattle.listing.specs.Listing.{decimal};
 ghost use Rattle.listing.specs.Pieces.{headBytes, Put};
-ghost use Rattle.roketuma.specs.Replies.{refusal, printed, runReply, ample, sheetrun};
+ghost use Rattle.replies.specs.Replies.{refusal, printed, runReply, ample, sheetrun};
 ghost use Rattle.roketuma.specs.Answers.{textMeant, Printed};
 
 // The line of a refusal, from the bytes `,S,` or `,G,` that name its text.

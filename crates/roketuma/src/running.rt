@@ -16,7 +16,7 @@ ghost use Prim.Native.Nat.{ℕ, _+_, _*_, _≤_, _<_};
 ghost use lib.ListN.{length};
 ghost use Rattle.text.specs.Lists.{tabled};
 ghost use Rattle.listing.specs.Runs.{tableNaming, runBytes, RunListable};
-ghost use Rattle.roketuma.specs.Replies.{goalText, fitted, runReply};
+ghost use Rattle.replies.specs.Replies.{goalText, fitted, runReply};
 ghost use Rattle.roketuma.specs.Answers.{Replied};
 ghost use Rattle.roketuma.specs.Stages.{GoalReady, Ready};
 

@@ -1,6 +1,6 @@
 -- `rehearsal::sweep::met` meets its contract: the number of the answer of `run`. Assumes nothing.
 use borrow.Author.Needs.{needs}
-use Rattle.roketuma.specs.Replies.{ample}
+use Rattle.replies.specs.Replies.{ample}
 use Rattle.rehearsal.proofs.SweepLaws.{refused-digit, listed-digit}
 use Rattle.rehearsal.proofs.sweep.met.Statement.{statement}
 use Rattle.rehearsal.proofs.sweep.met.Tie as tie

@@ -1,7 +1,7 @@
 -- `roketuma::exported::roketuma_run` meets its contract: the answer of `run`, as a number. Assumes nothing.
 use mathlib.Core.Path.{_∙_, ap}
 use borrow.Author.Needs.{needs}
-use Rattle.roketuma.specs.Replies.{runReply}
+use Rattle.replies.specs.Replies.{runReply}
 use Rattle.roketuma.specs.Answers.{answerNumber}
 use Rattle.roketuma.proofs.ReplyLaws.{reply-number}
 use Rattle.roketuma.proofs.exported.roketuma_run.Statement.{statement}

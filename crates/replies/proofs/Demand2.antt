@@ -12,9 +12,9 @@ use Rattle.syntax.specs.Goals.{GoalReading, readGoal}
 use Rattle.syntax.proofs.WellFormed.{read-wellFormed}
 use Rattle.syntax.proofs.GoalVocabulary.{goal-small}
 use Rattle.syntax.proofs.Vocabulary.{read-small}
-use Rattle.roketuma.specs.Replies.{listing, replyOf, goalText, runListing, runReply}
-use Rattle.roketuma.specs.Claims.{Demand2On}
-use Rattle.roketuma.proofs.Demand3.{fitted-listed}
+use Rattle.replies.specs.Replies.{listing, replyOf, goalText, runListing, runReply}
+use Rattle.replies.specs.Claims.{Demand2On}
+use Rattle.replies.proofs.Demand3.{fitted-listed}
 
 -- a listing of a run that fits is the reply
 run-listed :

@@ -39,11 +39,11 @@ use Rattle.listing.specs.Listing.{decimalFrom, decimal, fieldsBehind, lineOf, N
 use Rattle.listing.specs.Listing.{constraintLines, unbound}
 use Rattle.listing.specs.Listing.{boundLines, stateListing, endListing}
 use Rattle.listing.proofs.Decimals.{decimal-low, decimal-high}
-use Rattle.roketuma.specs.Replies.{Text, programText, goalText, Reply, refusal, listing, replyOf, fitted, namingOf}
-use Rattle.roketuma.specs.Replies.{runListing, runReply, printed, ample, sheetrun}
-use Rattle.roketuma.proofs.CellLaws.{all-at}
-use Rattle.roketuma.proofs.ShortNames.{Short, ShortProgram, ShortGoal, program-short, goal-short, reads-accepted}
-use Rattle.roketuma.proofs.ShortNames.{reads-refused}
+use Rattle.replies.specs.Replies.{Text, programText, goalText, Reply, refusal, listing, replyOf, fitted, namingOf}
+use Rattle.replies.specs.Replies.{runListing, runReply, printed, ample, sheetrun}
+use Rattle.replies.proofs.Elements.{all-at}
+use Rattle.replies.proofs.ShortNames.{Short, ShortProgram, ShortGoal, program-short, goal-short, reads-accepted}
+use Rattle.replies.proofs.ShortNames.{reads-refused}
 
 -- ten times as many numbers have one digit more
 digits-more :

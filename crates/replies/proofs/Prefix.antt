@@ -15,9 +15,9 @@ use Rattle.text.specs.Lines.{Parts, parted}
 use Rattle.syntax.specs.Answers.{Answer, refused, accepted}
 use Rattle.syntax.specs.Programs.{Reading, maxText, readProgram}
 use Rattle.syntax.specs.Goals.{readGoal}
-use Rattle.roketuma.specs.Replies.{refusal, programText, goalText, replyOf, fitted, runListing, runReply}
-use Rattle.roketuma.specs.Replies.{printed, ample, sheetrun}
-use Rattle.roketuma.proofs.Parting.{Agree, sameProgram, longPrograms, parted-agrees}
+use Rattle.replies.specs.Replies.{refusal, programText, goalText, replyOf, fitted, runListing, runReply}
+use Rattle.replies.specs.Replies.{printed, ample, sheetrun}
+use Rattle.replies.proofs.Parting.{Agree, sameProgram, longPrograms, parted-agrees}
 
 -- a text of more than 16,384 bytes meets number 1
 pub long-program : (s : List ℕ) → 16384 < length s → readProgram s ≡ refused 1 0

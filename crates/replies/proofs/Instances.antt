@@ -17,8 +17,8 @@ use Rattle.syntax.specs.Answers.{Answer, refused, accepted}
 use Rattle.syntax.specs.Programs.{Reading, readProgram}
 use Rattle.syntax.proofs.Opened.{opened as syntaxOpened}
 use Rattle.syntax.proofs.WellFormed.{read-wellFormed}
-use Rattle.roketuma.specs.Starred.{leq, twoWays}
-use Rattle.roketuma.proofs.Opened.{opened as libraryOpened}
+use Rattle.replies.specs.Starred.{leq, twoWays}
+use Rattle.replies.proofs.Opened.{opened as libraryOpened}
 
 -- what an answer reads, or the empty program
 abbrev readingOf : Answer Reading → Reading

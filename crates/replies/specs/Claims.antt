@@ -10,7 +10,7 @@ use mathlib.Core.Bool.{true}
 use mathlib.Core.List.{List, []}
 use mathlib.Core.Logic.{_↔_}
 use mathlib.Core.Path.{_≡_}
-use lib.ListN.{length}
+use lib.ListN.{length, getD}
 use Rattle.text.specs.Fields.{isNumber, valueOf}
 use Rattle.semantics.specs.Terms.{isGoalOf}
 use Rattle.semantics.specs.Strategy.{Final}
@@ -22,12 +22,12 @@ use Rattle.semantics.specs.Correspondence.{Demand2}
 use Rattle.syntax.specs.Answers.{accepted}
 use Rattle.syntax.specs.Programs.{Reading}
 use Rattle.syntax.specs.Goals.{GoalReading, readGoal}
-use Rattle.listing.specs.Listing.{decimal, endListing, verdictListing}
-use Rattle.roketuma.specs.Replies.{Reply, listing, namingOf, runListing, checkListing, runReply, checkReply}
+use Rattle.listing.specs.Listing.{decimal, namingOf, endListing, verdictListing}
+use Rattle.replies.specs.Replies.{Reply, listing, runListing, checkListing, runReply, checkReply}
 
 -- the reply that lists a verdict
 unfoldable pub verdictReply : Reading → Verdict → Reply
-verdictReply r v = listing (verdictListing (namingOf (r .program) (r .constants)) v)
+verdictReply r v = listing (verdictListing (namingOf (r .program .symbols) (r .constants)) v)
 
 -- a program is passed, with a number; or failed, with an overlap that is shown with two ends and is a counterexample
 pub data Decided (s : List ℕ) (room : ℕ) (r : Reading) : Type 1 where
@@ -58,11 +58,11 @@ pub record Demand3On (s : List ℕ) (r : Reading) : Type 1 where
 pub record Ran (s t : List ℕ) (room : ℕ) (r : Reading) (g : GoalReading) : Type 0 where
   pub goal : isGoalOf (r .program) (g .goal) ≡ true
   pub end : Final
-  pub reply : runReply s t room ≡ listing (endListing (namingOf (r .program) (g .constants)) (g .letters) end)
+  pub reply : runReply s t room ≡ listing (endListing (namingOf (r .program .symbols) (g .constants)) (λ x. getD (g .letters) x []) end)
   pub runs : RunsTo (r .program) (g .goal) [] end
 
 -- demand 2 for a text that reads as r: that of the program, and every run on bytes is one
 pub record Demand2On (s : List ℕ) (r : Reading) : Type 1 where
   pub program : Demand2 (r .program)
   pub ran :
-      (t : List ℕ) (room : ℕ) (g : GoalReading) → readGoal r t ≡ accepted g → length (runListing r g) ≤ room → Ran s t room r g
+      (t : List ℕ) (room : ℕ) (g : GoalReading) → readGoal (r .program .symbols) (r .constants) t ≡ accepted g → length (runListing r g) ≤ room → Ran s t room r g

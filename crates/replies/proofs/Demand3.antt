@@ -20,8 +20,8 @@ use Rattle.syntax.specs.Programs.{Reading, readProgram}
 use Rattle.syntax.proofs.WellFormed.{read-wellFormed}
 use Rattle.listing.specs.Listing.{lineOf, verdictListing}
 use Rattle.listing.proofs.Decimals.{decimal-exact}
-use Rattle.roketuma.specs.Replies.{Reply, refusal, listing, Text, programText, replyOf, fitted, checkListing, checkReply}
-use Rattle.roketuma.specs.Claims.{verdictReply, passes, fails, Checked, Demand3On}
+use Rattle.replies.specs.Replies.{Reply, refusal, listing, Text, programText, replyOf, fitted, checkListing, checkReply}
+use Rattle.replies.specs.Claims.{verdictReply, passes, fails, Checked, Demand3On}
 
 -- a listing that fits the room
 pub fitted-listed : (text : Text) (room : ℕ) (bytes : List ℕ) → length bytes ≤ room → fitted text room bytes ≡ listing bytes

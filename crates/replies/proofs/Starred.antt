@@ -11,8 +11,8 @@ use Rattle.text.proofs.Opened.{opened as textOpened}
 use Rattle.semantics.proofs.Opened.{opened as semanticsOpened}
 use Rattle.syntax.proofs.Opened.{opened as syntaxOpened}
 use Rattle.listing.proofs.Opened.{opened as listingOpened}
-use Rattle.roketuma.proofs.Opened.{opened}
-use Rattle.roketuma.specs.Starred.{shown, holding, starred}
+use Rattle.replies.proofs.Opened.{opened}
+use Rattle.replies.specs.Starred.{shown, holding, starred}
 
 -- each row of the table shows what it must
 pub starred-hold : map (λ r. shown (r .case)) starred ≡ map (λ r. r .expected) starred

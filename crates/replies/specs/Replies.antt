@@ -6,20 +6,18 @@
 --   printed            what the two programs print
 -- Assumes nothing.
 use Prim.Native.Nat.{ℕ}
-use Prim.Native.String.{String}
 use mathlib.Core.Bool.{Bool, true, false, cond}
 use mathlib.Core.List.{List, [], _∷_, _++_}
 use lib.Dec.{ltb}
-use lib.ListN.{length, drop}
+use lib.ListN.{length, getD, drop}
 use Rattle.text.specs.Bytes.{ascii}
 use Rattle.text.specs.Lines.{parted}
-use Rattle.semantics.specs.Terms.{Program}
 use Rattle.semantics.specs.Strategy.{run}
 use Rattle.semantics.specs.Verdict.{verdict}
 use Rattle.syntax.specs.Answers.{Answer, refused, accepted}
 use Rattle.syntax.specs.Programs.{Reading, readProgram}
 use Rattle.syntax.specs.Goals.{GoalReading, readGoal}
-use Rattle.listing.specs.Listing.{Naming, decimal, lineOf, endListing, verdictListing}
+use Rattle.listing.specs.Listing.{decimal, lineOf, namingOf, endListing, verdictListing}
 
 -- the text that a refusal names: S for a program's (document 01: the sheet's), G for a goal's
 pub data Text : Type 0 where
@@ -39,23 +37,20 @@ replyOf text (accepted a) next = next a
 unfoldable pub fitted : Text → ℕ → List ℕ → Reply
 fitted text room bytes = cond (ltb room (length bytes)) (refusal 11 text 0) (listing bytes)
 
--- how listings of a program name things, with these constants
-unfoldable pub namingOf : Program → List (List ℕ) → Naming
-namingOf p constants = record { symbols = p .symbols; constants = constants }
-
--- the listing of the run of a goal over a program
+-- the listing of the run of a goal over a program: the goal's variables are named by their letters
 unfoldable pub runListing : Reading → GoalReading → List ℕ
-runListing p g = endListing (namingOf (p .program) (g .constants)) (g .letters) (run (p .program) (g .goal))
+runListing p g =
+    endListing (namingOf (p .program .symbols) (g .constants)) (λ x. getD (g .letters) x []) (run (p .program) (g .goal))
 
 -- the listing of the check of a program
 unfoldable pub checkListing : Reading → List ℕ
-checkListing p = verdictListing (namingOf (p .program) (p .constants)) (verdict (p .program))
+checkListing p = verdictListing (namingOf (p .program .symbols) (p .constants)) (verdict (p .program))
 
 -- the reply of the run: the program's refusals, then the goal's, then number 11
 unfoldable pub runReply : List ℕ → List ℕ → ℕ → Reply
 runReply program goal room =
     replyOf programText (readProgram program)
-    (λ p. replyOf goalText (readGoal p goal) (λ g. fitted goalText room (runListing p g)))
+    (λ p. replyOf goalText (readGoal (p .program .symbols) (p .constants) goal) (λ g. fitted goalText room (runListing p g)))
 
 -- the reply of the check
 unfoldable pub checkReply : List ℕ → ℕ → Reply

@@ -1,0 +1,1 @@
+// The two replies, from bytes to bytes: definitions and what is proved of them. The code that keeps to them is in the crate roketuma.
