@@ -50,7 +50,11 @@ loop-again : tie.Need-loop-again Inv-loop μ-loop
 loop-again c = (omega arith, search fields-next)
 
 put-byte-requires-2 : tie.Need-put-byte-requires-2 Inv-loop μ-loop
-put-byte-requires-2 c κs = search feed-count
+put-byte-requires-2 c κs = 
+    let at-test = c .before in
+    let at-loop = at-test .before in
+    let start = at-loop .before .before .before .before .before .before in
+    feed-count _ _ _ (at-loop .loop .inv .1) (at-test .loop-test .left) (start .pre)
 
 same-length : tie.Need-same-length Inv-loop μ-loop
 same-length c = search needs
