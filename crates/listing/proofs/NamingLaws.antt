@@ -97,7 +97,8 @@ module _ (program goal names places symbols : List ℕ) (s k : ℕ) (placed : Pl
   unfolding namingOf symbolAt symbolsOf symbolOf
   symbol-named n h l m p =
       placed .each n m p
-      ∙ sym (rw (lt-ltb n firstConstant l) (ap (λ (y : Symbol). y .name) (tabled-at (symbolOf names symbols) s n noSymbol h) ∙ name-of n))
+      ∙ sym (rw (lt-ltb n firstConstant l) (ap (λ (y : Symbol). y .name) (tabled-at (symbolOf names symbols) s n noSymbol h)
+      ∙ name-of n))
     where
       name-of : (n : ℕ) → symbolOf names symbols n .name ≡ nameOf names n
       name-of n = refl
@@ -110,10 +111,12 @@ module _ (program goal names places symbols : List ℕ) (s k : ℕ) (placed : Pl
       let above : firstConstant ≤ firstConstant + i = omega arith in
       let back : firstConstant + i - firstConstant ≡ i = omega arith in
       placed .each (firstConstant + i) m p
-      ∙ sym (rw (le-ltb (firstConstant + i) firstConstant above, back) (tabled-at (λ (j : ℕ). nameOf names (firstConstant + j)) k i [] h))
+      ∙ sym (rw (le-ltb (firstConstant + i) firstConstant above, back) (tabled-at (λ (j : ℕ). nameOf names
+      (firstConstant + j)) k i [] h))
 
 -- the name of a goal variable that has a letter
-pub variable-named : (letters : List ℕ) (n x : ℕ) → x < n → n ≤ length letters → variableName letters x ≡ getD (lettersOf letters n) x []
+pub variable-named : (letters : List ℕ) (n x : ℕ) → x < n → n ≤ length letters → variableName letters x ≡ getD
+    (lettersOf letters n) x []
 unfolding variableName lettersOf
 variable-named letters n x h l =
     rw (lt-ltb x (length letters) (omega arith)) (sym (tabled-at (λ (i : ℕ). getD letters i 0 ∷ []) n x [] h))

@@ -11,7 +11,7 @@ name-requires : tie.Need-name-requires
 name-requires c κs = search needs
 
 copy-requires : tie.Need-copy-requires
-copy-requires c κs = 
+copy-requires c κs =
     let at-name = c .before in
     let at-wide = at-name .before in
     let at-if = at-wide .before in
@@ -22,7 +22,7 @@ same-length : tie.Need-same-length
 same-length c = search needs
 
 returns : tie.Need-returns
-returns c = 
+returns c =
     let at-copy = c .before .before in
     let at-name = at-copy .before .before in
     let at-wide = at-name .before in
@@ -39,7 +39,7 @@ add-put-decimal : tie.Need-add-put-decimal
 add-put-decimal c = search needs
 
 put-decimal-requires : tie.Need-put-decimal-requires
-put-decimal-requires c κs = 
+put-decimal-requires c κs =
     let at-byte = c .before .before .before .before in
     let at-if = at-byte .before .before in
     let start = at-if .before .before .before .before .before in
