@@ -49,7 +49,8 @@ pub record Appended (row bindings : List ℕ) (next : ℕ) (cells cells′ : Lis
   pub count : after ≡ k + getD row bodyCell 0
   pub same :
       cellConstraints (take (constraintSize * after) cells′)
-      ≡ cellConstraints (take (constraintSize * k) cells) ++ map (mapTerms (instance next (assigned bindings))) (ruleOfRow [] row .body)
+      ≡ cellConstraints (take (constraintSize * k) cells) ++ map (mapTerms (instance next (assigned bindings)))
+      (ruleOfRow [] row .body)
 
 -- what solving a rule's equations asks
 pub record Equated (row bindings : List ℕ) (next : ℕ) (cells : List ℕ) : Type 0 where

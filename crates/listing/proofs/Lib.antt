@@ -5,3 +5,4 @@ pub mod WriteLaws
 pub mod LineLaws
 pub mod EndLaws
 pub mod SizeLaws
+pub mod NamingLaws

@@ -157,7 +157,8 @@ module _ (field : ℕ → List ℕ) (cells : List ℕ) {o p : List ℕ} {at end 
   fields-next h v u k l =
       rw (add-one i)
       (writing-next (fieldsFrom field cells (suc i))
-      (here h ∙ sym (append-assoc (44 ∷ []) (field (getD cells i 0)) (fieldsFrom field cells (suc i)))) w (wrote-then v u k) (l ∙ k))
+      (here h ∙ sym (append-assoc (44 ∷ []) (field (getD cells i 0)) (fieldsFrom field cells (suc i)))) w (wrote-then v u k)
+      (l ∙ k))
 
   pub feed-count : length cells ≤ i → Countable at (fieldsBehind (map field cells)) → Countable end (10 ∷ [])
   feed-count h c = count-is (last h) (writing-count c w)
@@ -187,7 +188,8 @@ module _ (naming : Naming) (line letter : ℕ) (row : List ℕ) where
       take-all (length row - 1) (drop 1 row) (omega (arith, length-drop 1 row)) in
       let same : n ≡ usedCells (drop 1 row) = rw all at e in
       let few : (1 + n) - 1 ≡ n = omega arith in
-      rw (few, same) (ap (map (termShown naming (numberedAs (letter ∷ [])))) (used-terms (drop 1 row)) ∙ shown (take (usedCells (drop 1 row)) (drop 1 row)))
+      rw (few, same) (ap (map (termShown naming (numberedAs (letter ∷ [])))) (used-terms (drop 1 row)) ∙ shown (take
+      (usedCells (drop 1 row)) (drop 1 row)))
     where
       shown : (l : List ℕ) → map (termShown naming (numberedAs (letter ∷ []))) (map cellTerm l) ≡ map (cellShown naming letter) l
       shown [] = refl
@@ -207,7 +209,8 @@ module _ (naming : Naming) (line letter : ℕ) (row : List ℕ) where
 
   pub line-name : {at m n : ℕ} {o p q s : List ℕ} (k : ℕ) → Countable at rowLine → k ≡ getD row 0 0 → s ≡ naming k
       → Writes (line ∷ []) at o p m → Writes (44 ∷ []) m p q n → Countable n s
-  line-name k c e f w v = count-is (sym (f ∙ ap naming e)) (count-first _ (count-next (count-next (count-is (row-pieces _ refl) c) w) v))
+  line-name k c e f w v = count-is (sym (f ∙ ap naming e)) (count-first _ (count-next (count-next (count-is
+      (row-pieces _ refl) c) w) v))
 
   pub line-fields : {at m n l : ℕ} {o p q r s : List ℕ} (k u : ℕ) → Countable at rowLine → k ≡ getD row 0 0 → s ≡ naming k
       → Writes (line ∷ []) at o p m → Writes (44 ∷ []) m p q n → Writes s n q r l
@@ -226,7 +229,8 @@ module _ (naming : Naming) (line letter : ℕ) (row : List ℕ) where
 
 -- a line for each constraint, from place i on
 abbrev pub rowsFrom : Naming → ℕ → ℕ → List ℕ → ℕ → List ℕ
-rowsFrom naming line letter cells i = constraintLines (line ∷ []) naming (numberedAs (letter ∷ [])) (cellConstraints (drop (5 * i) cells))
+rowsFrom naming line letter cells i = constraintLines (line ∷ []) naming (numberedAs (letter ∷ [])) (cellConstraints (drop
+    (5 * i) cells))
 
 module _ (naming : Naming) (line letter : ℕ) (cells : List ℕ) {o p : List ℕ} {at end : ℕ} (i : ℕ)
     (w : Writing (constraintLines (line ∷ []) naming (numberedAs (letter ∷ [])) (cellConstraints cells)) at o p end
@@ -248,7 +252,8 @@ module _ (naming : Naming) (line letter : ℕ) (cells : List ℕ) {o p : List �
   cut-size h = omega (arith, length-take ((5 * i + 5) - 5 * i) (drop (5 * i) cells), length-drop (5 * i) cells)
 
   pub row-count : 5 * i + 5 ≤ length cells
-      → Countable at (constraintLines (line ∷ []) naming (numberedAs (letter ∷ [])) (cellConstraints cells)) → Countable end cutLine
+      → Countable at (constraintLines (line ∷ []) naming (numberedAs (letter ∷ [])) (cellConstraints cells))
+      → Countable end cutLine
   row-count h c = count-first (rowsFrom naming line letter cells (suc i)) (count-is (row-here h) (writing-count c w))
 
   pub rows-next : {q : List ℕ} {n : ℕ} → 5 * i + 5 ≤ length cells → Writes cutLine end p q n → length q ≡ length p
@@ -286,7 +291,8 @@ module _ (naming : Naming) (letters bound : List ℕ) {o p : List ℕ} {at end :
   pub bound-count : i < length bound
       → Countable at (boundLines naming (numberedAs (ascii "U")) (variableName letters) 0 (map cellTerm bound))
       → Countable end (ascii "A," ++ variableName letters i)
-  bound-count h c = count-first (boundFields ++ boundsFrom naming letters bound (suc i)) (count-is (bound-here h) (writing-count c w))
+  bound-count h c = count-first (boundFields ++ boundsFrom naming letters bound (suc i)) (count-is (bound-here h)
+      (writing-count c w))
 
   pub bound-fields : {q : List ℕ} {m : ℕ} → i < length bound
       → Countable at (boundLines naming (numberedAs (ascii "U")) (variableName letters) 0 (map cellTerm bound))
@@ -301,7 +307,8 @@ module _ (naming : Naming) (letters bound : List ℕ) {o p : List ℕ} {at end :
   bounds-next h v u k l =
       rw (add-one i)
       (writing-next (boundsFrom naming letters bound (suc i))
-      (bound-here h ∙ sym (append-assoc (ascii "A," ++ variableName letters i) boundFields (boundsFrom naming letters bound (suc i))))
+      (bound-here h ∙ sym (append-assoc (ascii "A," ++ variableName letters i) boundFields (boundsFrom naming letters bound
+      (suc i))))
       w (wrote-then v u k) (l ∙ k))
 
   pub bounds-wrote : length bound ≤ i

@@ -97,7 +97,8 @@ pub writing-start : (whole : List ℕ) (at : ℕ) (o : List ℕ) → Writing who
 writing-start whole at o = record { done = []; split = refl; wrote = wrote-none o at; size = refl }
 
 -- what is left can be counted
-pub writing-count : {whole o p left : List ℕ} {at end : ℕ} → Countable at whole → Writing whole at o p end left → Countable end left
+pub writing-count : {whole o p left : List ℕ} {at end : ℕ} → Countable at whole → Writing whole at o p end left
+    → Countable end left
 writing-count {whole} {o} {p} {left} {at} {end} c w = count-next (count-is (sym (w .split)) c) (w .wrote)
 
 -- one piece more

@@ -56,9 +56,11 @@ fn put_live<'a>(
     cells: &[u16],
     firings: usize,
 ) -> usize
-    requires { ⌜ Countable 0 (liveBytes (nameIn (now program) (now goal) (now places)) (now letters) (now bound) (now cells) firings)
+    requires { ⌜ Countable 0
+        (liveBytes (nameIn (now program) (now goal) (now places)) (now letters) (now bound) (now cells) firings)
         × (length (now bound) < 65536) ⌝ }
-    ensures { λ r. ⌜ Writes (liveBytes (nameIn (now (program .entry)) (now (goal .entry)) (now (places .entry))) (now (letters .entry))
+    ensures { λ r. ⌜ Writes
+        (liveBytes (nameIn (now (program .entry)) (now (goal .entry)) (now (places .entry))) (now (letters .entry))
         (now (bound .entry)) (now (cells .entry)) firings) 0 (now (out .entry)) (now (out .exit)) r ⌝ }
 {
     let head = put_head(out, 0, b"END,", firings);
@@ -82,11 +84,21 @@ fn list_live<'a>(
     firings: usize,
 ) -> Listed
     requires { ⌜ length (now bound) + length (now cells) ≤ 65000 ⌝ }
-    ensures { λ r. ⌜ ListedAs (liveBytes (nameIn (now (program .entry)) (now (goal .entry)) (now (places .entry))) (now (letters .entry))
+    ensures { λ r. ⌜ ListedAs
+        (liveBytes (nameIn (now (program .entry)) (now (goal .entry)) (now (places .entry))) (now (letters .entry))
         (now (bound .entry)) (now (cells .entry)) firings) (now (out .entry)) (now (out .exit)) r ⌝ }
 {
     let mut none = [0; 1];
-    let size = put_live(&mut none[..0], program, goal, places, letters, bound, cells, firings);
+    let size = put_live(
+        &mut none[..0],
+        program,
+        goal,
+        places,
+        letters,
+        bound,
+        cells,
+        firings,
+    );
     if out.len() < size {
         return Listed::TooShort;
     }

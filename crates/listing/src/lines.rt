@@ -68,7 +68,8 @@ pub fn put_fields<'a>(
     letter: u8,
     cells: &[u16],
 ) -> usize
-    requires { ⌜ Countable at (fieldsBehind (map (cellShown (nameIn (now program) (now goal) (now places)) letter) (now cells))) ⌝ }
+    requires { ⌜ Countable at (fieldsBehind (map (cellShown (nameIn (now program) (now goal) (now places)) letter)
+        (now cells))) ⌝ }
     ensures { λ r. ⌜ Writes
         (fieldsBehind (map (cellShown (nameIn (now (program .entry)) (now (goal .entry)) (now (places .entry))) letter)
         (now (cells .entry)))) at (now (out .entry)) (now (out .exit)) r ⌝ }

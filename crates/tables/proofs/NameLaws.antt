@@ -75,7 +75,8 @@ unfolding nameIn placedAt nameAt
 name-short program goal places n = go (ltb (getD places n 0) goalPlace)
   where
     go : (b : Bool)
-        → length (cond b (take maxName (word program (getD places n 0))) (take maxName (word goal (getD places n 0 - goalPlace)))) ≤ 8
+        → length (cond b (take maxName (word program (getD places n 0))) (take maxName (word goal
+        (getD places n 0 - goalPlace)))) ≤ 8
     go true = omega (arith, length-take maxName (word program (getD places n 0)))
     go false = omega (arith, length-take maxName (word goal (getD places n 0 - goalPlace)))
 

@@ -250,7 +250,8 @@ module _ (start : List ℕ) (before : ℕ) (cells table : List ℕ) (seen i : �
         left =
             and-true (isBelow (length start) (cellTerm (getD cells i 0)))
             (every (isBelow (length start)) (map cellTerm (drop (suc i) cells))) (rw (here l) at (w .left)) .1;
-        reach = λ order m. reach-more (cellTerm (getD cells i 0)) (map cellTerm (drop (suc i) cells)) (here l) n (w .reach order m);
+        reach = λ order m. reach-more (cellTerm (getD cells i 0)) (map cellTerm (drop (suc i) cells)) (here l) n
+            (w .reach order m);
       })
 
   pub counting-end : length cells ≤ i → Numbered (map cellTerm cells) (length cells) start table before seen
@@ -299,7 +300,8 @@ terms-cut cells i =
     behind [] = refl
     behind (x ∷ l) = refl
 
-module _ (start : List ℕ) (before : ℕ) (cells table : List ℕ) (seen i : ℕ) (w : CountingRows start before cells table seen i) where
+module _ (start : List ℕ) (before : ℕ) (cells table : List ℕ) (seen i : ℕ)
+    (w : CountingRows start before cells table seen i) where
   row : List ℕ
   row = take 5 (drop (5 * i) cells)
 
@@ -326,7 +328,12 @@ module _ (start : List ℕ) (before : ℕ) (cells table : List ℕ) (seen i : �
       (and-true (isLow (rowConstraint row)) (every (isBelow (length start)) (rowConstraint row .terms)) (first-within l .0) .1)
 
   pub lent-few : (n : ℕ) → length (take n (lentTerms cells i)) ≤ 4
-  lent-few n = omega (arith, length-take n (lentTerms cells i), length-take (((5 * i + 1) + 4) - (5 * i + 1)) (drop (5 * i + 1) cells))
+  lent-few n = omega (
+    arith,
+    length-take n (lentTerms cells i),
+    length-take (((5 * i + 1) + 4) - (5 * i + 1)) (drop
+        (5 * i + 1) cells),
+  )
 
   pub rows-next : (n : ℕ) (after : List ℕ) (count : ℕ) → 5 * i + 5 ≤ length cells → n ≡ usedCells (lentTerms cells i)
       → Numbered (map cellTerm (take n (lentTerms cells i))) (length (take n (lentTerms cells i))) table after seen count

@@ -14,19 +14,19 @@ same-length : tie.Need-same-length
 same-length c = search needs
 
 returns : tie.Need-returns
-returns c = 
+returns c =
     let at-failed = c .before .before in
     let at-if = at-failed .before .before in
     listed-is (failed-end _ _ _ _ _ _ _ (not-true _ (at-if .if1 .taken))) (at-failed .list-failed .ensures)
 
 renumber-requires : tie.Need-renumber-requires
-renumber-requires c κs = 
+renumber-requires c κs =
     let at-if = c .before .before in
     let start = at-if .before .before .before .before .before .before .before .before .before in
     (start .pre .live (not-false _ (at-if .if1 .left)), start .pre .few)
 
 list-live-requires : tie.Need-list-live-requires
-list-live-requires c κs = 
+list-live-requires c κs =
     let at-renumber = c .before .before .before .before .before .before .before in
     let at-if = at-renumber .before .before .before in
     let start = at-if .before .before .before .before .before .before .before .before .before in
@@ -43,11 +43,12 @@ same-length-4 : tie.Need-same-length-4
 same-length-4 c = search needs
 
 returns-2 : tie.Need-returns-2
-returns-2 c = 
+returns-2 c =
     let at-list = c .before .before in
     let at-renumber = at-list .before .before .before .before .before .before .before .before in
     let at-if = at-renumber .before .before .before in
-    listed-is (renumbered-is _ _ _ _ _ _ _ _ _ _ (not-false _ (at-if .if1 .left)) (at-renumber .renumber .ensures)) (at-list .list-live .ensures)
+    listed-is (renumbered-is _ _ _ _ _ _ _ _ _ _ (not-false _ (at-if .if1 .left)) (at-renumber .renumber .ensures))
+    (at-list .list-live .ensures)
 
 pub list-end-spec : {M : Type 1} → statement M
 list-end-spec =

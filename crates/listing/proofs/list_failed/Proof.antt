@@ -20,7 +20,7 @@ put-head-requires : tie.Need-put-head-requires
 put-head-requires c κs = failed-count _ (omega arith)
 
 returns : tie.Need-returns
-returns c = 
+returns c =
     let at-head = c .before .before in
     listed-short (wrote-is (failed-is _) (at-head .put-head .ensures)) (c .if1 .taken)
 
@@ -34,7 +34,7 @@ same-length : tie.Need-same-length
 same-length c = search needs
 
 returns-2 : tie.Need-returns-2
-returns-2 c = 
+returns-2 c =
     let at-last = c .before .before in
     let at-if = at-last .before .before .before in
     let at-head = at-if .before .before in

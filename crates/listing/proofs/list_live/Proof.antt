@@ -14,31 +14,35 @@ slice-aggregate-put-live : tie.Need-slice-aggregate-put-live
 slice-aggregate-put-live c = search needs
 
 put-live-requires : tie.Need-put-live-requires
-put-live-requires c κs = 
+put-live-requires c κs =
     let at-cells = c .before in
     let at-bound = at-cells .before in
-    let start = at-bound .before .before .before .before .before .before in
-    (live-count _ (name-short _ _ _) _ _ _ _ (λ i l. omega (arith, at-bound .shared-slice-known5 .given i))
-    (λ i l. omega (arith, at-cells .shared-slice-known6 .given i)) (start .pre) (omega arith), omega (arith, start .pre))
+    let start = at-bound .before .before .before .before .before .before in (
+      live-count _ (name-short _ _ _) _ _ _ _ (λ i l. omega (arith, at-bound .shared-slice-known5 .given i))
+          (λ i l. omega (arith, at-cells .shared-slice-known6 .given i)) (start .pre) (omega arith),
+      omega (arith, start .pre),
+    )
 
 returns : tie.Need-returns
-returns c = 
+returns c =
     let at-count = c .before .before in
     listed-short (at-count .put-live .ensures) (c .if1 .taken)
 
 put-live-requires-2 : tie.Need-put-live-requires-2
-put-live-requires-2 c κs = 
+put-live-requires-2 c κs =
     let at-cells = c .before .before .before .before .before in
     let at-bound = at-cells .before in
-    let start = at-bound .before .before .before .before .before .before in
-    (live-count _ (name-short _ _ _) _ _ _ _ (λ i l. omega (arith, at-bound .shared-slice-known5 .given i))
-    (λ i l. omega (arith, at-cells .shared-slice-known6 .given i)) (start .pre) (omega arith), omega (arith, start .pre))
+    let start = at-bound .before .before .before .before .before .before in (
+      live-count _ (name-short _ _ _) _ _ _ _ (λ i l. omega (arith, at-bound .shared-slice-known5 .given i))
+          (λ i l. omega (arith, at-cells .shared-slice-known6 .given i)) (start .pre) (omega arith),
+      omega (arith, start .pre),
+    )
 
 same-length : tie.Need-same-length
 same-length c = search needs
 
 returns-2 : tie.Need-returns-2
-returns-2 c = 
+returns-2 c =
     let at-last = c .before .before in
     let at-if = at-last .before .before in
     let at-count = at-if .before .before in

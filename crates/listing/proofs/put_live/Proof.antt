@@ -9,18 +9,18 @@ slice-aggregate-put-head : tie.Need-slice-aggregate-put-head
 slice-aggregate-put-head c = search needs
 
 put-head-requires : tie.Need-put-head-requires
-put-head-requires c κs = 
+put-head-requires c κs =
     let start = c .before .before .before .before .before .before .before .before .before in
     live-head _ _ _ _ _ (start .pre .0)
 
 put-bounds-requires : tie.Need-put-bounds-requires
-put-bounds-requires c κs = 
+put-bounds-requires c κs =
     let at-head = c .before .before .before in
     let start = at-head .before .before .before .before .before .before .before .before .before .before in
     (live-bounds _ _ _ _ _ (start .pre .0) (at-head .put-head .ensures), start .pre .1)
 
 put-rows-requires : tie.Need-put-rows-requires
-put-rows-requires c κs = 
+put-rows-requires c κs =
     let at-bounds = c .before .before .before in
     let at-head = at-bounds .before .before .before .before in
     let start = at-head .before .before .before .before .before .before .before .before .before .before in
@@ -30,7 +30,7 @@ same-length : tie.Need-same-length
 same-length c = search needs
 
 returns : tie.Need-returns
-returns c = 
+returns c =
     let at-rows = c .before .before in
     let at-bounds = at-rows .before .before .before .before in
     let at-head = at-bounds .before .before .before .before in

@@ -26,7 +26,7 @@ loop-holds : tie.Need-loop-holds Inv-loop μ-loop
 loop-holds c = (omega arith, writing-start _ _ _)
 
 put-variable-requires : tie.Need-put-variable-requires Inv-loop μ-loop
-put-variable-requires c κs = 
+put-variable-requires c κs =
     let at-test = c .before in
     let at-loop = at-test .before in
     let start = at-loop .before .before .before .before .before .before .before in

@@ -33,7 +33,7 @@ shared-slice-read-put-cell : tie.Need-shared-slice-read-put-cell Inv-loop μ-loo
 shared-slice-read-put-cell c = search needs
 
 put-cell-requires : tie.Need-put-cell-requires Inv-loop μ-loop
-put-cell-requires c κs = 
+put-cell-requires c κs =
     let at-byte = c .before .before .before .before in
     let at-test = at-byte .before .before in
     let at-loop = at-test .before in
@@ -50,7 +50,11 @@ loop-again : tie.Need-loop-again Inv-loop μ-loop
 loop-again c = (omega arith, search fields-next)
 
 put-byte-requires-2 : tie.Need-put-byte-requires-2 Inv-loop μ-loop
-put-byte-requires-2 c κs = search feed-count
+put-byte-requires-2 c κs =
+    let at-test = c .before in
+    let at-loop = at-test .before in
+    let start = at-loop .before .before .before .before .before .before in
+    feed-count _ _ _ (at-loop .loop .inv .1) (at-test .loop-test .left) (start .pre)
 
 same-length : tie.Need-same-length Inv-loop μ-loop
 same-length c = search needs

@@ -8,13 +8,13 @@ copy-requires : tie.Need-copy-requires
 copy-requires c κs = count-first _ (c .before .before .before .pre)
 
 put-decimal-requires : tie.Need-put-decimal-requires
-put-decimal-requires c κs = 
+put-decimal-requires c κs =
     let at-copy = c .before .before .before in
     let start = at-copy .before .before .before .before in
     count-first _ (count-next (start .pre) (at-copy .copy .ensures))
 
 put-byte-requires : tie.Need-put-byte-requires
-put-byte-requires c κs = 
+put-byte-requires c κs =
     let at-decimal = c .before .before .before in
     let at-copy = at-decimal .before .before .before .before in
     let start = at-copy .before .before .before .before in
@@ -24,7 +24,7 @@ same-length : tie.Need-same-length
 same-length c = search needs
 
 returns : tie.Need-returns
-returns c = 
+returns c =
     let at-byte = c .before .before in
     let at-decimal = at-byte .before .before .before .before in
     let at-copy = at-decimal .before .before .before .before in

@@ -45,7 +45,7 @@ part-put-fields-start : tie.Need-part-put-fields-start
 part-put-fields-start c = search needs
 
 part-put-fields-end : tie.Need-part-put-fields-end
-part-put-fields-end c = 
+part-put-fields-end c =
     let at-used = c .before in
     let at-copy = at-used .before .before .before .before in
     let at-name = at-copy .before .before in
@@ -56,7 +56,7 @@ part-put-fields-end c =
     used-within _ (start .args .row .now) (start .pre .0) (at-used .used .ensures .1)
 
 put-fields-requires : tie.Need-put-fields-requires
-put-fields-requires c κs = 
+put-fields-requires c κs =
     let at-used = c .before .before in
     let at-copy = at-used .before .before .before .before in
     let at-name = at-copy .before .before in
@@ -71,7 +71,7 @@ same-length : tie.Need-same-length
 same-length c = search needs
 
 returns : tie.Need-returns
-returns c = 
+returns c =
     let at-fields = c .before .before in
     let at-used = at-fields .before .before .before in
     let at-copy = at-used .before .before .before .before in

@@ -49,7 +49,7 @@ part-put-row-end : tie.Need-part-put-row-end Inv-loop μ-loop
 part-put-row-end c = search needs
 
 put-row-requires : tie.Need-put-row-requires Inv-loop μ-loop
-put-row-requires c κs = 
+put-row-requires c κs =
     let at-test = c .before .before in
     let at-loop = at-test .before in
     let start = at-loop .before .before .before .before .before .before in

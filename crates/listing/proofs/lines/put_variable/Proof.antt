@@ -1,6 +1,7 @@
 -- `listing::lines::put_variable` meets its contract. Assumes nothing.
 use borrow.Author.Needs.{needs}
-use Rattle.listing.proofs.LineLaws.{front-count, lettered-count, lettered-wrote, unlettered-count, unlettered-next, unlettered-wrote}
+use Rattle.listing.proofs.LineLaws.{front-count, lettered-count, lettered-wrote}
+use Rattle.listing.proofs.LineLaws.{unlettered-count, unlettered-next, unlettered-wrote}
 use Rattle.listing.proofs.lines.put_variable.Statement.{statement}
 use Rattle.listing.proofs.lines.put_variable.Tie as tie
 
@@ -29,7 +30,7 @@ add-put-decimal : tie.Need-add-put-decimal
 add-put-decimal c = search needs
 
 put-decimal-requires : tie.Need-put-decimal-requires
-put-decimal-requires c κs = 
+put-decimal-requires c κs =
     let at-byte = c .before .before .before in
     let at-if = at-byte .before .before in
     let at-copy = at-if .before .before .before in

@@ -9,7 +9,7 @@ add-result : tie.Need-add-result
 add-result c = omega (arith, c .before .pre .few)
 
 returns : tie.Need-returns
-returns c = search wrote-over
+returns c = wrote-over _ _ _ (c .if1 .taken)
 
 slice-write-out : tie.Need-slice-write-out
 slice-write-out c = search needs
