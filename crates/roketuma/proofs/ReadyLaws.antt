@@ -1,52 +1,53 @@
 -- From texts that read to what the engine and the listing ask, and back to the reply.
 --   as-read            a program as read is one that the engine runs
 --   ready-starts       a goal as read can be run
---   ready-runs         the end of its derivation is `run`'s
---   ready-lists        that end can be listed, and its listing is `runListing`'s
---   run-refused-program, run-refused-goal, run-replies      the reply, case by case
+--   ready-listable     the end of its derivation can be listed
+--   ready-replies      and its listing is the reply's (the main law)
 -- Assumes nothing.
 use Prim.Native.Nat.{ℕ, zero, suc, _+_, _-_, _*_, _≤_, _<_}
 use native.Mathlib.Omega.{arith}
-use mathlib.Core.Bool.{Bool, true, false, cond, _&&_}
-use mathlib.Core.List.{List, [], _∷_, map}
+use mathlib.Core.Bool.{Bool, true, false, cond, _&&_, _||_}
+use mathlib.Core.List.{List, [], _∷_, _++_, map}
 use mathlib.Core.Option.{Option, none, some}
 use mathlib.Core.Path.{_≡_, refl, sym, ap, subst, _∙_}
-use lib.Dec.{ltb}
-use lib.ListN.{length, length-append, length-drop, take, drop, getD}
+use lib.Dec.{leb, ltb}
+use lib.ListN.{length, getD, take, length-append}
 use lib.Seq.{length-take-le}
-use borrow.Author.Tests.{lt-ltb, le-leb, ltb-true, ltb-false}
-use Rattle.text.specs.Lists.{every, onward, tabled}
+use borrow.Author.Tests.{le-leb, lt-ltb, ltb-true, ltb-false, leb-true}
+use Rattle.text.specs.Lists.{onward, every, tabled}
 use Rattle.text.proofs.Laws.{tabled-length, tabled-at}
-use Rattle.semantics.specs.Terms.{Term, con, var, Constraint, Equation, Symbol, Rule, Program, State, failed, live}
-use Rattle.semantics.specs.Terms.{noSymbol, weight, alphabet, isDeclared, isGoalOf, isWellFormed}
+use Rattle.semantics.specs.Terms.{Term, con, var, Constraint, Equation, Symbol, Program, State, failed, live, noSymbol}
+use Rattle.semantics.specs.Terms.{isDeclared, isBelow, isGoalOf, isWellFormed, weight, alphabet, Rule}
 use Rattle.semantics.specs.Strategy.{Final, advance, normalise, goalState, run}
-use Rattle.semantics.proofs.Configurations.{TermBelow, All, also}
 use Rattle.semantics.proofs.Bools.{and-true}
-use Rattle.semantics.proofs.Listings.{all-every}
+use Rattle.semantics.proofs.Configurations.{All, also, TermBelow}
+use Rattle.semantics.proofs.Configurations as C
 use Rattle.semantics.proofs.Multisets.{all-mono}
-use Rattle.semantics.proofs.MatchedTerms.{ConstraintBelow}
 use Rattle.semantics.proofs.Vocabulary.{TermOver, ConstraintOver, RuleOver, Spoken, SpokenState, run-spoken}
-use Rattle.syntax.specs.Programs.{Reading}
-use Rattle.syntax.specs.Goals.{GoalReading}
-use Rattle.syntax.specs.Tables.{cellTerm, cellConstraints, symbolOf, symbolsOf, ruleOfRow, ruleOf, rulesOf}
-use Rattle.syntax.specs.Tables.{constantOf, constantsOf, lettersOf}
+use Rattle.syntax.specs.Answers.{accepted}
+use Rattle.syntax.specs.Forms.{firstConstant}
+use Rattle.syntax.specs.Programs.{Reading, readProgram}
+use Rattle.syntax.specs.Goals.{GoalReading, readGoal}
 use Rattle.syntax.proofs.WellFormed.{read-wellFormed}
 use Rattle.syntax.proofs.Vocabulary.{ConstantOf, SymbolSmall, RuleSmall, ReadSmall, read-small, term-more}
 use Rattle.syntax.proofs.GoalVocabulary.{ReadGoal, goal-small}
-use Rattle.engine.specs.States.{stateOf}
+use Rattle.tables.specs.Layout.{constraintSize, firstVariable, maxNames}
+use Rattle.tables.specs.Cells.{cellTerm, cellConstraints, isLow, stateOf}
+use Rattle.tables.specs.Rows.{symbolOf, symbolsOf, constantsOf, nameOf, rowOf, ruleOfRow, ruleOf, rulesOf, lettersOf}
+use Rattle.tables.specs.Names.{nameIn, Placed}
+use Rattle.tables.specs.Numbers.{isWithin, Renumberable}
 use Rattle.engine.specs.Runs.{storeOf, Startable, Ended}
+use Rattle.engine.specs.declared.derivation.Final.{Final as FinalCells}
 use Rattle.engine.proofs.GoalLaws.{isUsed, programOf, AsRead, goal-starts, goal-runs}
-use Rattle.listing.specs.Listing.{Naming, endListing}
-use Rattle.listing.specs.Runs as listing
-use Rattle.listing.specs.declared.Counts.{Counts}
-use Rattle.listing.proofs.RunLaws.{listing-next}
-use Rattle.roketuma.specs.declared.RunReply.{RunReply}
+use Rattle.listing.specs.Listing.{Naming, namingOf, variableName, stateListing, endListing}
+use Rattle.listing.specs.Ends.{endBytes, Listable}
+use Rattle.listing.proofs.NamingLaws.{usesIn, usesOf, usesOnly, boundIn, state-named, symbol-named, constant-named, variable-named}
+use Rattle.replies.specs.Replies.{goalText, replyOf, fitted, runListing, runReply}
+use Rattle.replies.proofs.Elements.{all-at}
 use Rattle.roketuma.specs.Answers.{Replied}
+use Rattle.roketuma.specs.Stages.{programTable, isKnown, ProgramReady, Ready, Entered, finalBytes, FinalListable}
+use Rattle.roketuma.specs.declared.RunReply.{RunReply}
 use Rattle.roketuma.specs.declared.Sizes.{Sizes}
-use Rattle.replies.specs.Replies.{goalText, replyOf, fitted, namingOf, runListing, runReply}
-use Rattle.roketuma.specs.Stages.{programTable, ProgramReady, Ready}
-use Rattle.roketuma.proofs.StageLaws.{count-few}
-use Rattle.roketuma.proofs.CellLaws.{all-at, all-mapped, bound-start}
 
 -- a constant with a number is not 0
 over-used : (k : ℕ) (t : Term) → TermOver (ConstantOf k) t → isUsed t ≡ true
@@ -54,79 +55,65 @@ unfolding isUsed
 over-used k (con c) o = le-leb 1 c (omega (arith, o .0))
 over-used k (var x) o = refl
 
-module _ {program symbols rules : List ℕ} {k n : ℕ} {p : Reading} (r : ProgramReady program symbols rules k n p) where
+-- what holds of all elements, as a test
+all-test : {A : Type 0} (t : A → Bool) {l : List A} → All (λ (x : A). t x ≡ true) l → every t l ≡ true
+all-test t C.none = refl
+all-test t (also h more) = rw (h, all-test t more)
+
+module _ {program names symbols rules : List ℕ} {k n : ℕ} {p : Reading} (r : ProgramReady program names symbols rules k n p) where
   -- what reading says of the tables
   abbrev small : ReadSmall p
   small = read-small program (r .read)
 
-  pub few-symbols : k ≤ 32
+  symbols-count : length (p .program .symbols) ≡ k
   unfolding programTable symbolsOf
-  few-symbols =
-      let e : length (p .program .symbols) ≡ k = ap (λ (q : Program). length (q .symbols)) (r .holds)
-      ∙ tabled-length (symbolOf program symbols) k in
-      omega (arith, small .few-symbols)
+  symbols-count = ap (λ (q : Program). length (q .symbols)) (r .holds) ∙ tabled-length (symbolOf names symbols) k
+
+  pub few-symbols : k ≤ 32
+  few-symbols = omega (arith, small .few-symbols, symbols-count)
 
   few-rules : n ≤ 32
   unfolding programTable rulesOf
   few-rules =
       let e : length (p .program .rules) ≡ n = ap (λ (q : Program). length (q .rules)) (r .holds)
-      ∙ tabled-length (ruleOf program rules) n in
+      ∙ tabled-length (ruleOf names rules) n in
       omega (arith, small .few-rules)
 
   -- a symbol's weight
-  heavy : (i : ℕ) → i < k → 1 ≤ getD symbols (4 * i + 3) 0
+  heavy : (i : ℕ) → i < k → 1 ≤ getD symbols (2 * i + 1) 0
   unfolding programTable symbolsOf symbolOf
   heavy i h =
-      let all : All SymbolSmall (tabled (symbolOf program symbols) k) =
+      let all : All SymbolSmall (tabled (symbolOf names symbols) k) =
       subst (λ (q : Program). All SymbolSmall (q .symbols)) (r .holds) (small .symbols) in
-      let at = all-at noSymbol i all (omega (arith, tabled-length (symbolOf program symbols) k)) in
-      let weighs : SymbolSmall (symbolOf program symbols i) = subst SymbolSmall
-      (tabled-at (symbolOf program symbols) k i noSymbol h) at in
+      let at = all-at noSymbol i all (omega (arith, tabled-length (symbolOf names symbols) k)) in
+      let weighs : SymbolSmall (symbolOf names symbols i) = subst SymbolSmall
+      (tabled-at (symbolOf names symbols) k i noSymbol h) at in
       weighs .heavy
 
   -- a rule is within the limits
-  small-rule : (i : ℕ) → i < n → RuleSmall (length (p .constants)) (ruleOf program rules i)
+  small-rule : (i : ℕ) → i < n → RuleSmall (length (p .constants)) (ruleOf names rules i)
   unfolding programTable rulesOf
   small-rule i h =
-      let all : All (RuleSmall (length (p .constants))) (tabled (ruleOf program rules) n) =
+      let all : All (RuleSmall (length (p .constants))) (tabled (ruleOf names rules) n) =
       subst (λ (q : Program). All (RuleSmall (length (p .constants))) (q .rules)) (r .holds) (small .rules) in
-      let at = all-at (ruleOf program rules i) i all (omega (arith, tabled-length (ruleOf program rules) n)) in
-      subst (RuleSmall (length (p .constants))) (tabled-at (ruleOf program rules) n i (ruleOf program rules i) h) at
-
-  -- its row has 64 cells
-  row-size : (i : ℕ) → i < n → length (take 64 (drop (64 * i) rules)) ≡ 64
-  row-size i h = length-take-le 64 (drop (64 * i) rules) (omega (arith, few-rules, r .rules-size, length-drop (64 * i) rules))
-
-  -- a rule's counts
-  heads-few : (i : ℕ) → i < n → getD (take 64 (drop (64 * i) rules)) 3 0 ≤ 4
-  unfolding ruleOf ruleOfRow
-  heads-few i h =
-      let row = take 64 (drop (64 * i) rules) in
-      count-few 4 (getD row 3 0) (drop 6 row) (omega (arith, row-size i h, length-drop 6 row)) (small-rule i h .heads-few)
-
-  body-few : (i : ℕ) → i < n → getD (take 64 (drop (64 * i) rules)) 4 0 ≤ 6
-  unfolding ruleOf ruleOfRow
-  body-few i h =
-      let row = take 64 (drop (64 * i) rules) in
-      count-few 6 (getD row 4 0) (drop 26 row) (omega (arith, row-size i h, length-drop 26 row)) (small-rule i h .body-few)
+      let at = all-at (ruleOf names rules i) i all (omega (arith, tabled-length (ruleOf names rules) n)) in
+      subst (RuleSmall (length (p .constants))) (tabled-at (ruleOf names rules) n i (ruleOf names rules i) h) at
 
   -- a rule's equations
   used :
       (i : ℕ) → i < n
-      → every (λ (e : Equation). isUsed (e .left) && isUsed (e .right)) (ruleOfRow [] (take 64 (drop (64 * i) rules)) .equations)
-      ≡ true
+      → every (λ (e : Equation). isUsed (e .left) && isUsed (e .right)) (ruleOfRow [] (rowOf rules i) .equations) ≡ true
   unfolding ruleOf ruleOfRow
   used i h =
-      all-every (λ (e : Equation). isUsed (e .left) && isUsed (e .right))
+      all-test (λ (e : Equation). isUsed (e .left) && isUsed (e .right))
       (all-mono (λ e o. rw (
         over-used (length (p .constants)) (e .left) (o .0),
-        over-used (length (p .constants)) (e .right)
-            (o .1),
+        over-used (length (p .constants)) (e .right) (o .1),
       ))
       (small-rule i h .over .equations))
 
   -- the engine runs such a program
-  pub as-read : AsRead program symbols k rules n
+  pub as-read : AsRead names symbols k rules n
   unfolding programTable programOf
   as-read =
       record {
@@ -134,8 +121,8 @@ module _ {program symbols rules : List ℕ} {k n : ℕ} {p : Reading} (r : Progr
         few-symbols = few-symbols;
         heavy = heavy;
         size = omega (arith, few-rules, r .rules-size);
-        heads-few = heads-few;
-        body-few = body-few;
+        heads-few = r .heads-few;
+        body-few = r .body-few;
         used = used;
       }
 
@@ -151,48 +138,76 @@ normalise-few (suc fuel) rs s f = go (normalise-few fuel rs) (advance rs s)
     go more none = omega arith
     go more (some t) = omega (arith, more t (suc f))
 
--- the same listing, whatever the naming of equal things
-listing-same :
-    (p : Reading) (g : GoalReading) (naming : Naming) (letters : List (List ℕ)) (f : Final)
-    → p .program .symbols ≡ naming .symbols
-    → g .constants ≡ naming .constants → g .letters ≡ letters → f ≡ run (p .program) (g .goal)
-    → endListing naming letters f ≡ runListing p g
-unfolding runListing namingOf
-listing-same p g naming letters f a b c d =
-    let same : naming ≡ record { symbols = p .program .symbols; constants = g .constants } =
-    ap (λ (ss : List Symbol). record { symbols = ss; constants = naming .constants }) (sym a)
-    ∙ ap (λ (cs : List (List ℕ)). record { symbols = p .program .symbols; constants = cs }) (sym b) in
-    ap (λ (n : Naming). endListing n letters f) same
-    ∙ ap (λ (vs : List (List ℕ)). endListing (record { symbols = p .program .symbols; constants = g .constants }) vs f) (sym c)
-    ∙ ap (endListing (record { symbols = p .program .symbols; constants = g .constants }) (g .letters)) d
+-- tests of terms and constraints that are over a vocabulary, or below a number
+below-test : (n : ℕ) (t : Term) → TermBelow n t → isBelow n t ≡ true
+unfolding isBelow
+below-test n (con c) h = refl
+below-test n (var x) h = lt-ltb x n h
 
-module _ {program goal symbols rules constants letters cells : List ℕ} {z : Sizes}
-    (r : Ready program goal symbols rules constants letters cells z) where
+module _ (k c : ℕ) where
+  over-known : (t : Term) → TermOver (ConstantOf c) t → usesIn (isKnown k c) t ≡ true
+  unfolding usesIn isKnown
+  over-known (con a) (l, h) =
+      go (ltb a k) (rw (le-leb firstConstant a l, lt-ltb a (firstConstant + c) h))
+    where
+      go : (b : Bool) → (leb firstConstant a && ltb a (firstConstant + c)) ≡ true
+          → (b || (leb firstConstant a && ltb a (firstConstant + c))) ≡ true
+      go true e = refl
+      go false e = e
+  over-known (var x) h = refl
+
+  declared-known : (symbols : List Symbol) (d : Constraint) → length symbols ≡ k → isDeclared symbols d ≡ true
+      → isKnown k c (d .symbol) ≡ true
+  unfolding isDeclared isKnown
+  declared-known symbols d size h =
+      let low : ltb (d .symbol) k ≡ true = rw size at (and-true (ltb (d .symbol) (length symbols)) _ h .0) in
+      rw low
+
+  rows-known : (symbols : List Symbol) (cs : List Constraint) → length symbols ≡ k
+      → All (λ d. isDeclared symbols d ≡ true) cs → All (ConstraintOver (ConstantOf c)) cs
+      → every (usesOf (isKnown k c)) cs ≡ true
+  unfolding usesOf
+  rows-known symbols [] size ds os = refl
+  rows-known symbols (d ∷ cs) size (also h ds) (also o os) =
+      rw (
+        declared-known symbols d size h,
+        all-test (usesIn (isKnown k c)) (all-mono over-known o),
+        rows-known symbols cs size ds os,
+      )
+
+-- constraints of few symbols, below a number
+rows-within : (n : ℕ) (symbols : List Symbol) (cs : List Constraint) → length symbols ≤ 32
+    → All (λ d. isDeclared symbols d ≡ true) cs → All (λ d. All (TermBelow n) (d .terms)) cs → every (isWithin n) cs ≡ true
+unfolding isWithin isLow isDeclared
+rows-within n symbols [] few ds bs = refl
+rows-within n symbols (d ∷ cs) few (also h ds) (also b bs) =
+    let low : d .symbol < length symbols = ltb-true (d .symbol) (length symbols)
+    (and-true (ltb (d .symbol) (length symbols)) _ h .0) in
+    rw (
+      lt-ltb (d .symbol) firstVariable (omega arith),
+      all-test (isBelow n) (all-mono (below-test n) b),
+      rows-within n symbols cs few ds bs,
+    )
+
+module _ {program goal places rules letters cells : List ℕ} {z : Sizes} (r : Ready program goal places rules letters cells z) where
   -- what reading says of the goal
   abbrev goal-read : ReadGoal (r .p) (r .g)
   goal-read = goal-small (r .p) goal (read-small program (r .first .read) .few-constants) (r .read)
 
-  variables : r .g .goal .variables ≡ z .variables
+  variables : r .g .goal .variables ≡ length letters
   unfolding lettersOf
-  variables = goal-read .lettered ∙ ap length (r .lettered) ∙ tabled-length (λ i. getD letters i 0 ∷ []) (z .variables)
+  variables = goal-read .lettered ∙ ap length (r .lettered) ∙ tabled-length (λ i. getD letters i 0 ∷ []) (length letters)
 
-  pub few-variables : z .variables ≤ 26
+  pub few-variables : length letters ≤ 26
   few-variables = omega (arith, variables, goal-read .lettered, goal-read .few-letters)
 
-  count-constants : length (r .g .constants) ≡ z .own + z .more
+  count-constants : length (r .g .constants) ≡ r .c
   unfolding constantsOf
-  count-constants =
-      ap length (r .spelled)
-      ∙ length-append (tabled (constantOf program constants) (z .own))
-      (tabled (λ i. constantOf goal constants (z .own + i)) (z .more))
-      ∙ rw (
-        tabled-length (constantOf program constants) (z .own),
-        tabled-length (λ i. constantOf goal constants (z .own + i)) (z .more),
-      )
+  count-constants = ap length (r .spelled) ∙ tabled-length (λ i. nameOf (r .names) (firstConstant + i)) (r .c)
 
   -- the program that the engine runs
   abbrev table : Program
-  table = programOf program symbols (z .symbols) rules (z .rules)
+  table = programOf (r .names) (r .symbols) (r .k) rules (z .rules)
 
   same-program : r .p .program ≡ table
   unfolding programTable programOf
@@ -209,11 +224,11 @@ module _ {program goal symbols rules constants letters cells : List ℕ} {z : Si
   holds = sym (r .held)
 
   -- a goal as read can be run
-  pub ready-starts : Startable rules (z .rules) cells (z .constraints) (z .variables)
+  pub ready-starts : Startable rules (z .rules) cells (z .constraints) (length letters)
   unfolding programOf
   ready-starts =
       subst (λ (v : ℕ). Startable rules (z .rules) cells (z .constraints) v) variables
-      (goal-starts program symbols (z .symbols) rules (z .rules) (as-read (r .first)) (r .g .goal) is-goal cells (z .constraints)
+      (goal-starts (r .names) (r .symbols) (r .k) rules (z .rules) (as-read (r .first)) (r .g .goal) is-goal cells (z .constraints)
       holds light
       (omega (arith, variables, few-variables)) (omega (arith, r .cells-size)) (omega (arith, r .few)))
 
@@ -253,198 +268,173 @@ module _ {program goal symbols rules constants letters cells : List ℕ} {z : Si
             (goalState (r .g .goal)) 0,
       )
 
+  -- the names of the tables are those of the texts
+  same-names : (i : ℕ) → isKnown (r .k) (r .c) i ≡ true
+      → nameIn program goal places i ≡ namingOf (r .p .program .symbols) (r .g .constants) i
+  unfolding isKnown programTable
+  same-names i h =
+      sym (ap (λ (ss : List Symbol). namingOf ss (r .g .constants) i) (ap (λ (q : Program). q .symbols) (r .first .holds))
+      ∙ ap (λ (cs : List (List ℕ)). namingOf (symbolsOf (r .names) (r .symbols) (r .k)) cs i) (r .spelled)
+      ∙ sym (go (ltb i (r .k)) refl h))
+    where
+      few : r .c ≤ 64
+      few = omega (arith, count-constants, goal-read .few-constants)
+
+      go : (b : Bool) → ltb i (r .k) ≡ b → (b || (leb firstConstant i && ltb i (firstConstant + r .c))) ≡ true
+          → nameIn program goal places i
+          ≡ namingOf (symbolsOf (r .names) (r .symbols) (r .k)) (constantsOf (r .names) (r .c)) i
+      go true e t =
+          let low : i < r .k = ltb-true i (r .k) e in
+          symbol-named program goal (r .names) places (r .symbols) (r .k) (r .c) (r .placed) i low
+          (omega (arith, few-symbols (r .first))) (omega (arith, few-symbols (r .first))) (r .named i h)
+      go false e t =
+          let (l, m) = and-true (leb firstConstant i) (ltb i (firstConstant + r .c)) t in
+          let least : firstConstant ≤ i = leb-true firstConstant i l in
+          let most : i < firstConstant + r .c = ltb-true i (firstConstant + r .c) m in
+          let back : firstConstant + (i - firstConstant) ≡ i = omega arith in
+          subst (λ (j : ℕ). nameIn program goal places j
+          ≡ namingOf (symbolsOf (r .names) (r .symbols) (r .k)) (constantsOf (r .names) (r .c)) j) back
+          (constant-named program goal (r .names) places (r .symbols) (r .k) (r .c) (r .placed) (i - firstConstant)
+          (omega arith) (omega (arith, few)) (subst (λ (j : ℕ). 0 < getD (r .names) j 0) (sym back) (r .named i h)))
+
+  -- the names of the goal's variables
+  same-letters : (i : ℕ) → i < length letters → variableName letters i ≡ getD (r .g .letters) i []
+  same-letters i h =
+      variable-named letters (length letters) i h (omega arith)
+      ∙ ap (λ (l : List (List ℕ)). getD l i []) (sym (r .lettered))
+
+  -- the end uses only what is named, and has a name for each goal variable
+  final-uses : (s : State) (f : ℕ)
+      → SpokenState (r .p .program .symbols) vocabulary (r .g .goal .variables) f s
+      → (usesOnly (isKnown (r .k) (r .c)) s ≡ true) × (boundIn s ≤ length letters)
+  unfolding usesOnly boundIn
+  final-uses failed f t = (refl, omega arith)
+  final-uses (live next b cs) f t =
+      let over : All (TermOver (ConstantOf (r .c))) b = rw count-constants at (t .bound) in
+      let rows : All (ConstraintOver (ConstantOf (r .c))) cs = rw count-constants at (t .constraints) in (
+        rw (
+          all-test (usesIn (isKnown (r .k) (r .c))) (all-mono (over-known (r .k) (r .c)) over),
+          rows-known (r .k) (r .c) (r .p .program .symbols) cs (symbols-count (r .first)) (t .declared) rows,
+        ),
+        omega (arith, t .size, variables),
+      )
+
+  -- the listing of the end, by the names of the tables
+  pub final-listed :
+      endListing (nameIn program goal places) (variableName letters) final ≡ runListing (r .p) (r .g)
+  unfolding endListing runListing
+  final-listed =
+      let (uses, few) = final-uses (final .state) _ spoken in
+      state-named (isKnown (r .k) (r .c)) (nameIn program goal places) (namingOf (r .p .program .symbols) (r .g .constants))
+      (variableName letters) (λ x. getD (r .g .letters) x []) (final .firings) (final .state) same-names
+      (λ i h. same-letters i (omega (arith, few))) uses
+
   -- the reply is the listing, or number 11
-  pub run-replies : (room : ℕ) → runReply program goal room ≡ fitted goalText room (runListing (r .p) (r .g))
+  run-replies : (room : ℕ) → runReply program goal room ≡ fitted goalText room (runListing (r .p) (r .g))
   unfolding runReply replyOf
   run-replies room = rw (r .first .read, r .read)
 
-  module _ {bound bound′ cells′ : List ℕ} {alive : Bool} {count number firings : ℕ}
-      (start : bound ≡ tabled (λ (i : ℕ). 256 + i) (z .variables))
-      (e : Ended rules (z .rules) bound cells (z .constraints) (z .variables) bound′ cells′ alive count number firings) where
+  module _ {bound′ cells′ : List ℕ} (f : FinalCells)
+      (e : Entered rules z (length letters) cells bound′ cells′ (f .alive) (f .count) (f .next) (f .firings)) where
     -- the end of the derivation is that of the definition
-    pub ready-runs : record { state = stateOf alive number bound′ (take (5 * count) cells′); firings = firings } ≡ final
+    ready-runs :
+        record { state = stateOf (f .alive) (f .next) bound′ (take (5 * f .count) cells′); firings = f .firings } ≡ final
     ready-runs =
-        goal-runs program symbols (z .symbols) rules (z .rules) (as-read (r .first)) (r .g .goal) is-goal cells (z .constraints)
-        holds
-        bound bound′ cells′ alive count number firings
-        (ap (map cellTerm) start ∙ bound-start (z .variables) ∙ ap (tabled var) (sym variables))
-        (subst (λ (v : ℕ). Ended rules (z .rules) bound cells (z .constraints) v bound′ cells′ alive count number firings)
-        (sym variables) e)
+        goal-runs (r .names) (r .symbols) (r .k) rules (z .rules) (as-read (r .first)) (r .g .goal) is-goal cells (z .constraints)
+        holds (e .bound) bound′ cells′ (f .alive) (f .count) (f .next) (f .firings)
+        (e .itself ∙ ap (tabled var) (sym variables))
+        (subst (λ (v : ℕ). Ended rules (z .rules) (e .bound) cells (z .constraints) v bound′ cells′ (f .alive) (f .count) (f .next)
+        (f .firings)) (sym variables) (e .ended))
         ∙ ap (λ (q : Program). run q (r .g .goal)) (sym same-program)
 
-    same-firings : firings ≡ final .firings
-    same-firings = ap (λ (f : Final). f .firings) ready-runs
+    -- its listing is the definition's, and so is the reply
+    pub ready-replies :
+        {before after : List ℕ} {reply : RunReply}
+        → Replied (fitted goalText (length before) (finalBytes program goal places letters bound′ cells′ f)) before after reply
+        → Replied (runReply program goal (length before)) before after reply
+    unfolding finalBytes
+    ready-replies {before} {after} {reply} l =
+        rw run-replies
+        (subst (λ (bytes : List ℕ). Replied (fitted goalText (length before) bytes) before after reply)
+        (ap (endListing (nameIn program goal places) (variableName letters)) ready-runs ∙ final-listed) l)
 
-    pub ready-few : firings ≤ 512
-    ready-few = omega (arith, same-firings, few-firings)
+    -- and it can be listed
+    pub ready-listable : length bound′ ≡ length letters → length cells′ ≡ 2590 → FinalListable bound′ cells′ f
+    unfolding stateOf alphabet
+    ready-listable size room =
+        record {
+          count-few = λ y. omega (arith, e .ended .few y, room);
+          next-few = λ y. let s = lives y in omega (arith, s .numbered, variables, few-variables, few-firings);
+          within = λ y. let s = lives y in record {
+            bound-within = all-test (isBelow (f .next)) (all-mono (below-test (f .next)) (s .scoped .bound));
+            within = rows-within (f .next) (r .p .program .symbols) (cellConstraints (take (5 * f .count) cells′))
+                (omega (arith, few-symbols (r .first), symbols-count (r .first))) (s .declared) (s .scoped .constraints);
+            few = omega (
+              arith,
+              size,
+              few-variables,
+              e .ended .few y,
+              length-take-le (5 * f .count) cells′ (omega (arith, e .ended .few y, room)),
+            );
+          };
+        }
+      where
+        lives : f .alive ≡ true
+            → Spoken (r .p .program .symbols) vocabulary (r .g .goal .variables)
+            (r .g .goal .variables + alphabet * final .firings) (f .next) (map cellTerm bound′)
+            (cellConstraints (take (5 * f .count) cells′))
+        lives y =
+            let same : live (f .next) (map cellTerm bound′) (cellConstraints (take (5 * f .count) cells′)) ≡ final .state =
+            rw y at (ap (λ (q : Final). q .state) ready-runs) in
+            subst (SpokenState (r .p .program .symbols) vocabulary (r .g .goal .variables)
+            (r .g .goal .variables + alphabet * final .firings)) (sym same) spoken
 
-    -- what the listing asks of a state that lives
-    module _ (lives : alive ≡ true) (bound-size : length bound′ ≡ z .variables) (cells-size : length cells′ ≡ 2590) where
-      abbrev shown : List ℕ
-      shown = take (5 * count) cells′
+-- a goal has entered, and the derivation from there has ended
+pub entered-ended :
+    (start : List ℕ) {rules cells b bound′ cells′ : List ℕ} {z : Sizes} {v : ℕ} {alive : Bool} {count next firings : ℕ}
+    → Ended rules (z .rules) b cells (z .constraints) v bound′ cells′ alive count next firings
+    → map cellTerm b ≡ tabled var (length start) → length b ≡ length start → v ≡ length b
+    → Entered rules z (length start) cells bound′ cells′ alive count next firings
+entered-ended start {rules} {cells} {b} {bound′} {cells′} {z} {v} {alive} {count} {next} {firings} e i l h =
+    record {
+      bound = b;
+      itself = i;
+      ended = subst (λ (w : ℕ). Ended rules (z .rules) b cells (z .constraints) w bound′ cells′ alive count next firings) (h ∙ l) e;
+    }
 
-      live-spoken :
-          Spoken (r .p .program .symbols) vocabulary (r .g .goal .variables) (r .g .goal .variables + alphabet * final .firings)
-          number
-          (map cellTerm bound′) (cellConstraints shown)
-      unfolding stateOf
-      live-spoken =
-          let same : live number (map cellTerm bound′) (cellConstraints shown) ≡ final .state =
-          rw lives at (ap (λ (f : Final). f .state) ready-runs) in
-          subst (SpokenState (r .p .program .symbols) vocabulary (r .g .goal .variables)
-          (r .g .goal .variables + alphabet * final .firings)) (sym same) spoken
+-- the listing of an end that lives, and of one that has failed
+pub lives-listed :
+    (program goal places letters bound cells : List ℕ) (e : FinalCells) (w : ℕ) → e .alive ≡ true → w ≡ e .next
+    → endBytes program goal places letters bound (take (5 * e .count) cells)
+    (record { alive = true; next = w; firings = e .firings })
+    ≡ finalBytes program goal places letters bound cells e
+unfolding endBytes finalBytes
+lives-listed program goal places letters bound cells e w h k = rw (h, k)
 
-      pub few-numbers : number ≤ 13338
-      unfolding alphabet
-      few-numbers = omega (arith, live-spoken .numbered, variables, few-variables, few-firings)
+pub failed-listed :
+    (program goal places letters bound cells : List ℕ) (e : FinalCells) → e .alive ≡ false
+    → endBytes program goal places letters bound cells (record { alive = false; next = 0; firings = e .firings })
+    ≡ finalBytes program goal places letters bound cells e
+unfolding endBytes finalBytes stateOf
+failed-listed program goal places letters bound cells e h = rw h
 
-      shown-size : length shown ≡ 5 * count
-      shown-size = length-take-le (5 * count) cells′ (omega (arith, e .few lives, cells-size))
+-- a reply by other words for its bytes
+pub replied-is :
+    {a b before after : List ℕ} {reply : RunReply} → a ≡ b → Replied (fitted goalText (length before) a) before after reply
+    → Replied (fitted goalText (length before) b) before after reply
+replied-is {a} {b} {before} {after} {reply} e l =
+    subst (λ (s : List ℕ). Replied (fitted goalText (length before) s) before after reply) e l
 
-      -- a term's cell
-      cell-fits :
-          (x : ℕ) → TermOver vocabulary (cellTerm x) → TermBelow number (cellTerm x)
-          → listing.TermCell (z .own + z .more) number x
-      unfolding cellTerm
-      cell-fits x over below = go (ltb x 256) refl over below
-        where
-          go :
-              (b : Bool) → ltb x 256 ≡ b → TermOver vocabulary (cond b (con x) (var (x - 256)))
-              → TermBelow number (cond b (con x) (var (x - 256))) → listing.TermCell (z .own + z .more) number x
-          go true t o u =
-              record {
-                constant = λ _. (o .0, omega (arith, o .1, count-constants));
-                variable = λ h. absurd (omega (arith, ltb-true x 256 t));
-              }
-          go false t o u =
-              record {
-                constant = λ h. absurd (omega (arith, ltb-false x 256 t));
-                variable = λ _. u;
-              }
+-- what the listing of such an end asks
+pub lives-listable :
+    {bound cells : List ℕ} {e : FinalCells} {w : ℕ} → FinalListable bound cells e → e .alive ≡ true → w ≡ e .next
+    → Listable true w bound (take (5 * e .count) cells)
+lives-listable {bound} {cells} {e} {w} l h k =
+    record {
+      few = omega (arith, l .next-few h);
+      live = λ _. subst (λ (n : ℕ). Renumberable n bound (take (5 * e .count) cells)) (sym k) (l .within h);
+    }
 
-      -- a goal variable's cell
-      bound-fits : (i : ℕ) → i < length bound′ → listing.TermCell (z .own + z .more) number (getD bound′ i 0)
-      bound-fits i h =
-          cell-fits (getD bound′ i 0) (all-mapped cellTerm bound′ 0 i (live-spoken .bound) h)
-          (all-mapped cellTerm bound′ 0 i (live-spoken .scoped .bound) h)
-
-      -- a constraint
-      term-fits :
-          (t : Term) → TermOver vocabulary t → TermBelow number t → listing.isTermOf (z .own + z .more) number t ≡ true
-      unfolding listing.isTermOf
-      term-fits (con c) over below =
-          rw (le-leb 32 c (over .0), lt-ltb c (32 + (z .own + z .more)) (omega (arith, over .1, count-constants)))
-      term-fits (var x) over below = lt-ltb x number below
-
-      terms-fit :
-          (ts : List Term) → All (TermOver vocabulary) ts → All (TermBelow number) ts
-          → every (listing.isTermOf (z .own + z .more) number) ts ≡ true
-      terms-fit [] over below = refl
-      terms-fit (t ∷ ts) (also o os) (also b bs) = rw (term-fits t o b, terms-fit ts os bs)
-
-      declared-low : (c : Constraint) → isDeclared (r .p .program .symbols) c ≡ true → ltb (c .symbol) (z .symbols) ≡ true
-      unfolding isDeclared programTable symbolsOf
-      declared-low c h =
-          let size : length (r .p .program .symbols) ≡ z .symbols =
-          ap (λ (q : Program). length (q .symbols)) (r .first .holds) ∙ tabled-length (symbolOf program symbols) (z .symbols) in
-          rw size at (and-true (ltb (c .symbol) (length (r .p .program .symbols))) _ h .0)
-
-      rows-fit :
-          (cs : List Constraint) → All (λ c. isDeclared (r .p .program .symbols) c ≡ true) cs → All (ConstraintOver vocabulary) cs
-          → All (ConstraintBelow number) cs → every (listing.isConstraintOf (z .symbols) (z .own + z .more) number) cs ≡ true
-      unfolding listing.isConstraintOf
-      rows-fit [] declared over below = refl
-      rows-fit (c ∷ cs) (also d ds) (also o os) (also b bs) =
-          rw (declared-low c d, terms-fit (c .terms) o b, rows-fit cs ds os bs)
-
-      -- the counts of a state that lives
-      abbrev counts : Counts
-      counts =
-          record {
-            symbols = z .symbols;
-            own = z .own;
-            more = z .more;
-            constraints = count;
-            firings = firings;
-          }
-
-      -- the end can be listed
-      pub live-lists : listing.RunListable symbols constants letters bound′ shown number false counts
-      live-lists =
-          record {
-            firings = omega (arith, ready-few);
-            live = λ _. record {
-              names-room = omega (arith, few-symbols (r .first), r .first .symbols-size);
-              spellings-room = omega (arith, r .constants-size, count-constants, goal-read .few-constants);
-              lettered = omega (arith, few-variables, r .letters-size);
-              bound-terms = bound-fits;
-              size = shown-size;
-              rows = rows-fit (cellConstraints shown) (live-spoken .declared) (live-spoken .constraints)
-                  (live-spoken .scoped .constraints);
-              few = omega (arith, few-variables, e .few lives);
-            };
-          }
-
-      -- its listing is the definition's
-      live-bytes :
-          listing.runBytes (listing.tableNaming program goal symbols constants counts) letters false 0 bound′ shown firings
-          ≡ runListing (r .p) (r .g)
-      unfolding listing.runBytes listing.tableNaming listing.stateOf stateOf programTable
-      live-bytes =
-          let naming = listing.tableNaming program goal symbols constants counts in
-          sym (listing-next naming letters false number bound′ shown firings)
-          ∙ listing-same (r .p) (r .g) naming (lettersOf letters (length bound′))
-          (record { state = live number (map cellTerm bound′) (cellConstraints shown); firings = firings })
-          (ap (λ (q : Program). q .symbols) (r .first .holds)) (r .spelled)
-          (r .lettered ∙ ap (lettersOf letters) (sym bound-size))
-          (rw lives at ready-runs)
-
-      -- and so is the reply
-      pub live-replies :
-          {before after : List ℕ} {reply : RunReply}
-          → Replied (fitted goalText (length before)
-          (listing.runBytes (listing.tableNaming program goal symbols constants counts) letters false
-          0 bound′ shown firings)) before after reply
-          → Replied (runReply program goal (length before)) before after reply
-      live-replies {before} {after} {reply} l =
-          rw run-replies
-          (subst (λ (bytes : List ℕ). Replied (fitted goalText (length before) bytes) before after reply) live-bytes l)
-
-    -- the same for a state that has failed
-    module _ (fails : alive ≡ false) (bound-size : length bound′ ≡ z .variables) where
-      abbrev failed-counts : Counts
-      failed-counts =
-          record {
-            symbols = z .symbols;
-            own = z .own;
-            more = z .more;
-            constraints = 0;
-            firings = firings;
-          }
-
-      pub failed-lists : (shown : List ℕ) → listing.RunListable symbols constants letters bound′ shown 0 true failed-counts
-      failed-lists shown =
-          record { firings = omega (arith, ready-few); live = λ h. absurd (let w : _≡_ {A = ℕ} 0 1 = cc in omega arith) }
-
-      failed-bytes :
-          (shown : List ℕ)
-          → listing.runBytes (listing.tableNaming program goal symbols constants failed-counts) letters true 0 bound′ shown
-          firings
-          ≡ runListing (r .p) (r .g)
-      unfolding listing.runBytes listing.tableNaming listing.stateOf stateOf programTable
-      failed-bytes shown =
-          let naming = listing.tableNaming program goal symbols constants failed-counts in
-          listing-same (r .p) (r .g) naming (lettersOf letters (length bound′)) (record { state = failed; firings = firings })
-          (ap (λ (q : Program). q .symbols) (r .first .holds)) (r .spelled)
-          (r .lettered ∙ ap (lettersOf letters) (sym bound-size))
-          (rw fails at ready-runs)
-
-      pub failed-replies :
-          (shown : List ℕ) {before after : List ℕ} {reply : RunReply}
-          → Replied (fitted goalText (length before)
-          (listing.runBytes (listing.tableNaming program goal symbols constants failed-counts)
-          letters true 0 bound′ shown firings)) before after reply
-          → Replied (runReply program goal (length before)) before after reply
-      failed-replies shown {before} {after} {reply} l =
-          rw run-replies
-          (subst (λ (bytes : List ℕ). Replied (fitted goalText (length before) bytes) before after reply) (failed-bytes shown) l)
+pub failed-listable : {bound cells : List ℕ} → Listable false 0 bound cells
+failed-listable =
+    record { few = omega arith; live = λ h. absurd (let w : _≡_ {A = ℕ} 0 1 = cc in omega arith) }

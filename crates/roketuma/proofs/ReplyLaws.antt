@@ -7,7 +7,7 @@
 use Prim.Native.Nat.{ℕ, _+_, _*_, _≤_}
 use native.Mathlib.Omega.{arith}
 use mathlib.Core.Bool.{Bool, true, false, cond}
-use mathlib.Core.List.{List}
+use mathlib.Core.List.{List, _++_}
 use mathlib.Core.Path.{_≡_, refl, sym, ap, _∙_}
 use lib.Dec.{ltb}
 use lib.ListN.{length, length-append, drop}
@@ -15,9 +15,8 @@ use lib.Seq.{take-at}
 use Rattle.syntax.specs.Answers.{refused, accepted}
 use Rattle.syntax.specs.Programs.{Reading, readProgram}
 use Rattle.syntax.specs.Goals.{readGoal}
-use Rattle.listing.specs.Pieces.{laid}
-use Rattle.listing.specs.Runs.{listedIn, ListedAs}
-use Rattle.listing.specs.Runs as runs
+use Rattle.listing.specs.Writing.{listedIn, ListedAs}
+use Rattle.listing.specs.Writing as listing-after
 use Rattle.listing.specs.declared.Listed.{Listed}
 use Rattle.listing.specs.declared.Listed.the-variants.{TooShort, Written}
 use Rattle.replies.specs.Replies.{Text, programText, goalText, Reply, refusal, listing, replyOf, fitted, runReply}
@@ -39,7 +38,7 @@ refused-program program goal output number line e = rw e (record { meant = refl;
 -- a goal's text that is refused
 pub refused-goal :
     (program goal output : List ℕ) (p : Reading) (number line : ℕ) → readProgram program ≡ accepted p
-    → readGoal p goal ≡ refused number line
+    → readGoal (p .program .symbols) (p .constants) goal ≡ refused number line
     → Replied (runReply program goal (length output)) output output (Refused (record { number = number; text = G; line = line }))
 unfolding runReply replyOf replyMeant textMeant answerOf letterOf outputAfter
 refused-goal program goal output p number line r e = rw (r, e) (record { meant = refl; answer = refl; output = refl })
@@ -48,11 +47,11 @@ refused-goal program goal output p number line r e = rw (r, e) (record { meant =
 pub listed-short :
     {bytes before after : List ℕ} {reply : Listed} → ListedAs bytes before after reply → reply ≡ TooShort
     → Replied (fitted goalText (length before) bytes) before after (Refused (record { number = 11; text = G; line = 0 }))
-unfolding fitted listedIn runs.outputAfter outputAfter replyMeant textMeant answerOf letterOf
+unfolding fitted listedIn listing-after.outputAfter outputAfter replyMeant textMeant answerOf letterOf
 listed-short {bytes} {before} {after} {reply} l e = go (ltb (length before) (length bytes)) (sym e ∙ l .answer) (l .output)
   where
     go :
-        (b : Bool) → TooShort ≡ cond b TooShort (Written (length bytes)) → after ≡ cond b before (laid bytes before)
+        (b : Bool) → TooShort ≡ cond b TooShort (Written (length bytes)) → after ≡ cond b before (bytes ++ drop (length bytes) before)
         → Replied (cond b (refusal 11 goalText 0) (listing bytes)) before after
         (Refused (record { number = 11; text = G; line = 0 }))
     go true a o = record { meant = refl; answer = refl; output = o }
@@ -62,11 +61,11 @@ listed-short {bytes} {before} {after} {reply} l e = go (ltb (length before) (len
 pub listed-written :
     {bytes before after : List ℕ} {reply : Listed} (n : ℕ) → ListedAs bytes before after reply → reply ≡ Written n
     → Replied (fitted goalText (length before) bytes) before after (ListedTo n)
-unfolding fitted listedIn runs.outputAfter outputAfter replyMeant answerOf laid
+unfolding fitted listedIn listing-after.outputAfter outputAfter replyMeant answerOf
 listed-written {bytes} {before} {after} {reply} n l e = go (ltb (length before) (length bytes)) (sym e ∙ l .answer) (l .output)
   where
     go :
-        (b : Bool) → Written n ≡ cond b TooShort (Written (length bytes)) → after ≡ cond b before (laid bytes before)
+        (b : Bool) → Written n ≡ cond b TooShort (Written (length bytes)) → after ≡ cond b before (bytes ++ drop (length bytes) before)
         → Replied (cond b (refusal 11 goalText 0) (listing bytes)) before after (ListedTo n)
     go true a o = absurd (let z : _≡_ {A = ℕ} 0 1 = cc in omega arith)
     go false a o =

@@ -1,13 +1,7 @@
 // The two replies, from bytes to bytes: the public functions, thin over the readers, the engine and the listing.
 // Their promises are the definitions of specs/Replies.antt, through specs/Answers.antt.
-mod exported;
-mod printing;
 mod running;
 
-pub use printing::put_refusal;
-pub use printing::put_reply;
-pub use printing::put_run;
-pub use running::run;
 
 // The letter of a text: S for a program's, G for a goal's.
 pub enum TextName {
@@ -28,12 +22,8 @@ pub enum RunReply {
     Listed(usize),
 }
 
-// What reading has counted: symbols, rules, constants of the program and more of the goal's, constraints and goal variables.
+// How many rules the tables of a program hold, and how many constraints those of a goal.
 pub struct Sizes {
-    pub symbols: usize,
     pub rules: usize,
-    pub own: usize,
-    pub more: usize,
     pub constraints: usize,
-    pub variables: usize,
 }

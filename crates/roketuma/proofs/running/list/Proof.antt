@@ -1,11 +1,11 @@
--- `roketuma::running::list_in` meets its contract. Assumes nothing.
+-- `roketuma::running::list` meets its contract: the listing is written, or number 11. Assumes nothing.
 use borrow.Author.Needs.{needs}
 use Rattle.roketuma.proofs.ReplyLaws.{listed-short, listed-written}
-use Rattle.roketuma.proofs.running.list_in.Statement.{statement}
-use Rattle.roketuma.proofs.running.list_in.Tie as tie
+use Rattle.roketuma.proofs.running.list.Statement.{statement}
+use Rattle.roketuma.proofs.running.list.Tie as tie
 
-list-run-requires : tie.Need-list-run-requires
-list-run-requires c κs = search needs
+list-end-requires : tie.Need-list-end-requires
+list-end-requires c κs = search needs
 
 enum-told : tie.Need-enum-told
 enum-told c = search needs
@@ -19,28 +19,36 @@ same-length c = search needs
 same-length-2 : tie.Need-same-length-2
 same-length-2 c = search needs
 
-returns : tie.Need-returns
-returns c = search (needs, listed-short)
-
 same-length-3 : tie.Need-same-length-3
 same-length-3 c = search needs
+
+returns : tie.Need-returns
+returns c = search (needs, listed-short)
 
 same-length-4 : tie.Need-same-length-4
 same-length-4 c = search needs
 
+same-length-5 : tie.Need-same-length-5
+same-length-5 c = search needs
+
+same-length-6 : tie.Need-same-length-6
+same-length-6 c = search needs
+
 returns-2 : tie.Need-returns-2
 returns-2 c = search (needs, listed-written)
 
-pub list-in-spec : {M : Type 1} → statement M
-list-in-spec =
+pub list-spec : {M : Type 1} → statement M
+list-spec =
     tie.close
     (tie.spec
-    list-run-requires
+    list-end-requires
     enum-told
     enum-known-n
     same-length
     same-length-2
-    returns
     same-length-3
+    returns
     same-length-4
+    same-length-5
+    same-length-6
     returns-2)
