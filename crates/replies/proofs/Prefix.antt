@@ -12,8 +12,9 @@ use lib.ListN.{length, take}
 use lib.Seq.{take-all}
 use borrow.Author.Tests.{lt-ltb}
 use Rattle.text.specs.Lines.{Parts, parted}
+use Rattle.semantics.specs.Terms.{Symbol}
 use Rattle.syntax.specs.Answers.{Answer, refused, accepted}
-use Rattle.syntax.specs.Programs.{Reading, maxText, readProgram}
+use Rattle.syntax.specs.Programs.{Reading, readProgram}
 use Rattle.syntax.specs.Goals.{readGoal}
 use Rattle.replies.specs.Replies.{refusal, programText, goalText, replyOf, fitted, runListing, runReply}
 use Rattle.replies.specs.Replies.{printed, ample, sheetrun}
@@ -21,12 +22,14 @@ use Rattle.replies.proofs.Parting.{Agree, sameProgram, longPrograms, pa
 
 -- a text of more than 16,384 bytes meets number 1
 pub long-program : (s : List ℕ) → 16384 < length s → readProgram s ≡ refused 1 0
-unfolding readProgram maxText
+unfolding readProgram
 long-program s h = rw (lt-ltb 16384 (length s) h)
 
-pub long-goal : (p : Reading) (s : List ℕ) → 16384 < length s → readGoal p s ≡ refused 1 0
-unfolding readGoal maxText
-long-goal p s h = rw (lt-ltb 16384 (length s) h)
+pub long-goal :
+    (symbols : List Symbol) (constants : List (List ℕ)) (s : List ℕ) → 16384 < length s
+    → readGoal symbols constants s ≡ refused 1 0
+unfolding readGoal
+long-goal symbols constants s h = rw (lt-ltb 16384 (length s) h)
 
 -- the reply where the program is too long, and where the goal is
 program-replies :
@@ -42,10 +45,11 @@ goal-replies program goal room h = go (readProgram program)
   where
     go :
         (a : Answer Reading)
-        → replyOf programText a (λ p. replyOf goalText (readGoal p goal) (λ g. fitted goalText room (runListing p g)))
+        → replyOf programText a
+        (λ p. replyOf goalText (readGoal (p .program .symbols) (p .constants) goal) (λ g. fitted goalText room (runListing p g)))
         ≡ replyOf programText a (λ _. refusal 1 goalText 0)
     go (refused number line) = refl
-    go (accepted p) = rw (long-goal p goal h)
+    go (accepted p) = rw (long-goal (p .program .symbols) (p .constants) goal h)
 
 -- inputs whose parts agree over enough bytes have the same reply
 pub agree-replies :
