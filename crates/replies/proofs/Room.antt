@@ -1,10 +1,12 @@
 -- Every listing of a run fits the room that the programs lend: `run-fits`. So `sheetrun` never prints number 11: `never-eleven`.
 --   line-few                      a line of n fields behind its first has at most 9 n + 1 bytes more than that
---   order-few, unbound-short      how many variables appear; a U number has at most 8 bytes
---   end-few                       the bytes of an end, by the counts of its lines
+--   order-few, number-short       how many variables appear; a variable by a letter and its number has at most 8 bytes
+--   naming-short                  so has every name of a reading
+--   end-few, final-few            the bytes of an end, by the counts of its lines; by its goal variables and its weight
 --   run-weighs                    firings and the weight of the end are within the goal's weight
 --   run-few, run-fits             the listing of a run has at most 24,597 bytes, and fits
---   run-listed, run-answered      texts that read get their listing; any other reply has a number of at most 10
+--   run-listed                    so texts that read get their listing
+--   Answered, run-answered        any other reply has a number of at most 10
 -- Assumes nothing.
 use Prim.Native.Nat.{ℕ, zero, suc, _+_, _-_, _*_, _/_, _%_, _≤_, _<_}
 use native.Mathlib.Decide.{decLt}
@@ -18,7 +20,7 @@ use borrow.Author.Tests.{ltb-true, ltb-false, eqb-true}
 use Rattle.text.specs.Bytes.{ascii}
 use Rattle.text.specs.Lists.{has, placeFrom}
 use Rattle.text.specs.Lines.{parted}
-use Rattle.semantics.specs.Terms.{Term, con, var, Constraint, Symbol, Program, Goal, State, failed, live}
+use Rattle.semantics.specs.Terms.{Term, con, var, Constraint, Symbol, Rule, Program, Goal, State, failed, live}
 use Rattle.semantics.specs.Terms.{noSymbol, symbolAt, weight, isDeclared, isWellFormed}
 use Rattle.semantics.specs.Strategy.{goalState, run}
 use Rattle.semantics.specs.Overlaps.{appearingIn, appearing}
@@ -28,13 +30,13 @@ use Rattle.semantics.proofs.Bools.{and-true}
 use Rattle.semantics.proofs.Multisets.{all-mono, all-map, all-of-members}
 use Rattle.semantics.proofs.Normal.{Reach, arrived, fires, normalise-reach}
 use Rattle.semantics.proofs.Weights.{weight-cons, stateWeight, fireAt-lighter}
-use Rattle.semantics.proofs.Vocabulary.{RuleOver, SpokenState, run-spoken}
+use Rattle.semantics.proofs.Vocabulary.{TermOver, ConstraintOver, RuleOver, SpokenState, run-spoken}
 use Rattle.syntax.specs.Forms.{firstConstant}
 use Rattle.syntax.specs.Answers.{Answer, refused, accepted}
 use Rattle.syntax.specs.Programs.{Reading, readProgram}
 use Rattle.syntax.specs.Goals.{GoalReading, readGoal}
 use Rattle.syntax.proofs.WellFormed.{read-wellFormed}
-use Rattle.syntax.proofs.Vocabulary.{ConstantOf, SymbolSmall, ReadSmall, read-small, term-more}
+use Rattle.syntax.proofs.Vocabulary.{SymbolSmall, ReadSmall, read-small}
 use Rattle.syntax.proofs.GoalVocabulary.{ReadGoal, goal-small}
 use Rattle.listing.specs.Listing.{decimalFrom, decimal, fieldsBehind, lineOf, Naming, namingOf, termShown, constraintShown}
 use Rattle.listing.specs.Listing.{constraintLines, numberedAs, unbound, boundLines, stateListing, endListing}
@@ -47,7 +49,7 @@ use Rattle.replies.proofs.ShortNames.{Short, Turned, ShortProgram, Shor
 use Rattle.replies.proofs.ShortNames.{reads-refused}
 
 -- ten times as many numbers have one digit more
-digits-more :
+pub digits-more :
     (k b : ℕ) → ((m : ℕ) → m < b → length (decimal m) ≤ k) → (n : ℕ) → n < 10 * b → length (decimal n) ≤ suc k
 digits-more k b few n h = go (ltb n 10) refl
   where
@@ -58,7 +60,7 @@ digits-more k b few n h = go (ltb n 10) refl
         (omega (arith, length-append (decimal (n / 10)) ((48 + n % 10) ∷ []), few (n / 10) (omega arith)))
 
 -- a number below 10,000 has at most 4 digits
-four-digits : (n : ℕ) → n < 10000 → length (decimal n) ≤ 4
+pub four-digits : (n : ℕ) → n < 10000 → length (decimal n) ≤ 4
 four-digits n h =
     digits-more 3 1000 (digits-more 2 100 (digits-more 1 10 (λ m k. rw (decimal-low m k) (omega arith)))) n (omega arith)
 
@@ -83,7 +85,7 @@ terms-few seen (var x ∷ ts) =
     go true = omega arith
     go false = omega (arith, length-append seen (x ∷ []))
 
-order-few :
+pub order-few :
     (seen : List ℕ) (cs : List Constraint) → All (λ c. length (c .terms) ≤ 4) cs
     → length (appearing seen cs) ≤ length seen + 4 * length cs
 unfolding appearing
@@ -107,7 +109,8 @@ unfolding fieldsBehind
 behind-few [] C.none = omega arith
 behind-few (f ∷ fs) (also h all) = omega (arith, length-append f (fieldsBehind fs), behind-few fs all)
 
-line-few : (first : List ℕ) (fs : List (List ℕ)) → All Short fs → length (lineOf first fs) ≤ length first + (9 * length fs + 1)
+pub line-few :
+    (first : List ℕ) (fs : List (List ℕ)) → All Short fs → length (lineOf first fs) ≤ length first + (9 * length fs + 1)
 unfolding lineOf
 line-few first fs all = omega (arith, length-append first (fieldsBehind fs), behind-few fs all)
 
@@ -219,32 +222,55 @@ failed-few naming variable f low =
     let digits : Short (decimal f) = omega (arith, four-digits f low) in
     omega (arith, line-few (ascii "FAILED") (decimal f ∷ []) (also digits C.none))
 
--- a declared constraint has at most 4 terms and weighs at least 1
-declared-few :
-    (symbols : List Symbol) → All SymbolSmall symbols → (c : Constraint) → isDeclared symbols c ≡ true → length (c .terms) ≤ 4
-unfolding isDeclared symbolAt
-declared-few symbols small c h =
-    let (known, counted) = and-true (ltb (c .symbol) (length symbols)) _ h in
-    let s = all-at noSymbol (c .symbol) small (ltb-true (c .symbol) (length symbols) known) in
-    omega (arith, eqb-true (length (c .terms)) (getD symbols (c .symbol) noSymbol .arity) counted, s .few)
-
-declared-heavy :
+-- the symbol of a declared constraint is one of the declared, and it has at most 4 terms
+pub declared-small :
     (symbols : List Symbol) → All SymbolSmall symbols → (c : Constraint) → isDeclared symbols c ≡ true
-    → 1 ≤ symbolAt symbols (c .symbol) .weight
+    → SymbolSmall (symbolAt symbols (c .symbol))
 unfolding isDeclared symbolAt
-declared-heavy symbols small c h =
+declared-small symbols small c h =
     let known = and-true (ltb (c .symbol) (length symbols)) _ h .0 in
-    all-at noSymbol (c .symbol) small (ltb-true (c .symbol) (length symbols) known) .heavy
+    all-at noSymbol (c .symbol) small (ltb-true (c .symbol) (length symbols) known)
 
+pub declared-few :
+    (symbols : List Symbol) → All SymbolSmall symbols → (c : Constraint) → isDeclared symbols c ≡ true → length (c .terms) ≤ 4
+unfolding isDeclared
+declared-few symbols small c h =
+    let arity = symbolAt symbols (c .symbol) .arity in
+    let counted = and-true (ltb (c .symbol) (length symbols)) (eqb (length (c .terms)) arity) h .1 in
+    omega (
+      arith,
+      eqb-true (length (c .terms)) arity counted,
+      declared-small symbols small c h .few,
+    )
+
+-- each weighs at least 1
 constraints-few :
     (symbols : List Symbol) (cs : List Constraint) → All SymbolSmall symbols → All (λ c. isDeclared symbols c ≡ true) cs
     → length cs ≤ weight symbols cs
 constraints-few symbols [] small declared = omega arith
 constraints-few symbols (c ∷ cs) small (also h declared) =
-    omega (arith, weight-cons symbols c cs, declared-heavy symbols small c h, constraints-few symbols cs small declared)
+    omega (arith, weight-cons symbols c cs, declared-small symbols small c h .heavy, constraints-few symbols cs small declared)
+
+-- every constant is one, so that terms, constraints and rules are over them
+abbrev pub AnyConstant : ℕ → Type 0
+AnyConstant c = Unit {0}
+
+term-any : (t : Term) → TermOver AnyConstant t
+term-any (con c) = tt
+term-any (var x) = tt
+
+pub constraints-any : (cs : List Constraint) → All (ConstraintOver AnyConstant) cs
+constraints-any cs = all-of-members cs (λ c _. all-of-members (c .terms) (λ t _. term-any t))
+
+pub rules-any : (rs : List Rule) → All (RuleOver AnyConstant) rs
+rules-any rs =
+    all-of-members rs (λ r _. record {
+      body = constraints-any (r .body);
+      equations = all-of-members (r .equations) (λ e _. (term-any (e .left), term-any (e .right)));
+    })
 
 -- firings and the weight of what they reach are within the weight at their start
-reach-weighs :
+pub reach-weighs :
     (p : Program) → isWellFormed p ≡ true → {n : ℕ} {s u : State} → Reach (p .rules) n s u
     → stateWeight (p .symbols) u + n ≤ stateWeight (p .symbols) s
 reach-weighs p w arrived = omega arith
@@ -291,23 +317,17 @@ run-few program goal p g reads reads-goal =
     reads-accepted (ShortGoal (p .constants)) (readGoal symbols (p .constants) goal) (goal-short symbols (p .constants) goal)
     reads-goal in
     let formed = read-wellFormed program reads in
-    let (new, e) = of-goal .front in
-    let more : length (p .constants) ≤ length (g .constants) = omega (arith, ap length e, length-append (p .constants) new) in
-    let over : All (RuleOver (ConstantOf (length (g .constants)))) (p .program .rules) =
-    all-mono (λ q s. record {
-      body = all-mono (λ c. all-mono (term-more more)) (s .over .body);
-      equations = all-mono (λ e o. (term-more more (e .left) (o .0), term-more more (e .right) (o .1))) (s .over .equations);
-    }) (small .rules) in
-    let P : ℕ → Type 0 = ConstantOf (length (g .constants)) in
-    let spoken = run-spoken (p .program) P (g .goal) formed (of-goal .is-goal) over (of-goal .over) in
+    let spoken =
+    run-spoken (p .program) AnyConstant (g .goal) formed (of-goal .is-goal) (rules-any (p .program .rules))
+    (constraints-any (g .goal .constraints)) in
     let names = naming-short symbols (g .constants) (short .symbols) (short-goal .constants (short .constants)) in
     let letters : g .goal .variables ≤ 26 = omega (arith, of-goal .lettered, of-goal .few-letters) in
     omega (
       arith,
-      final-few symbols (namingOf symbols (g .constants)) (λ x. getD (g .letters) x []) (run (p .program) (g .goal) .firings) P
-          (g .goal .variables) 512 _ (run (p .program) (g .goal) .state) names (λ x _. short-at x (short-goal .letters))
-          (small .symbols) spoken (omega (arith, run-weighs (p .program) (g .goal) formed, of-goal .light)) (omega arith)
-          (omega arith),
+      final-few symbols (namingOf symbols (g .constants)) (λ x. getD (g .letters) x []) (run (p .program) (g .goal) .firings)
+          AnyConstant (g .goal .variables) 512 _ (run (p .program) (g .goal) .state) names
+          (λ x _. short-at x (short-goal .letters)) (small .symbols) spoken
+          (omega (arith, run-weighs (p .program) (g .goal) formed, of-goal .light)) (omega arith) (omega arith),
     )
 
 -- so it fits the room that the programs lend
@@ -324,12 +344,25 @@ pub run-listed :
 unfolding runReply replyOf
 run-listed program goal p g e f = rw (e, f) (fitted-listed goalText ample (runListing p g) (run-fits program goal p g e f))
 
--- a reply of a run: a refusal that reading may answer, or the listing of a program and a goal
+-- a reply that is not number 11: a refusal that reading may answer, or a listing that does not begin as a refusal does
 pub data Answered : Reply → Type 0 where
   refusedBy : (number : ℕ) (text : Text) (line : ℕ) → Turned number line → Answered (refusal number text line)
-  listed : (p : Reading) (g : GoalReading) → Answered (listing (runListing p g))
+  listed : (bytes : List ℕ) → (getD bytes 0 0 ≡ 82 → ⊥) → Answered (listing bytes)
 
--- every reply is so
+-- the first byte of the listing of an end
+first-byte : (naming : Naming) (variable : ℕ → List ℕ) (f : ℕ) (s : State) → getD (stateListing naming variable f s) 0 0 ≤ 70
+unfolding stateListing lineOf ascii
+first-byte naming variable f failed = omega arith
+first-byte naming variable f (live next bound cs) = omega arith
+
+run-begins : (p : Reading) (g : GoalReading) → getD (runListing p g) 0 0 ≡ 82 → ⊥
+unfolding runListing endListing
+run-begins p g e =
+    let f = run (p .program) (g .goal) in
+    let naming = namingOf (p .program .symbols) (g .constants) in
+    omega (arith, first-byte naming (λ x. getD (g .letters) x []) (f .firings) (f .state))
+
+-- so is every reply of a run
 pub run-answered : (program goal : List ℕ) → Answered (runReply program goal ample)
 unfolding runReply replyOf
 run-answered program goal = go (readProgram program) refl
@@ -343,7 +376,8 @@ run-answered program goal = go (readProgram program) refl
         (reads-refused (ShortGoal (p .constants)) (readGoal (p .program .symbols) (p .constants) goal)
         (goal-short (p .program .symbols) (p .constants) goal) h)
     goals p k (accepted g) h =
-        subst Answered (sym (fitted-listed goalText ample (runListing p g) (run-fits program goal p g k h))) (listed p g)
+        subst Answered (sym (fitted-listed goalText ample (runListing p g) (run-fits program goal p g k h)))
+        (listed (runListing p g) (run-begins p g))
 
     go :
         (a : Answer Reading) → readProgram program ≡ a
@@ -352,7 +386,7 @@ run-answered program goal = go (readProgram program) refl
     go (refused n l) k = refusedBy n programText l (reads-refused ShortProgram (readProgram program) (program-short program) k)
     go (accepted p) k = goals p k (readGoal (p .program .symbols) (p .constants) goal) refl
 
--- the tenth byte of a printed refusal, by its number, and the first byte of a listing
+-- the tenth byte of a printed refusal, by its number
 tenth-byte : (number : ℕ) (text : Text) (line : ℕ) → number ≤ 10 → getD (printed (refusal number text line)) 9 0 ≤ 48
 unfolding printed lineOf fieldsBehind ascii
 tenth-byte number text line h = elim (decLt number 10) [
@@ -365,23 +399,15 @@ tenth-byte number text line h = elim (decLt number 10) [
     decimal-ten : decimal 10 ≡ 49 ∷ 48 ∷ []
     decimal-ten = decimal-high 10 (omega arith) ∙ ap (λ (s : List ℕ). s ++ (48 ∷ [])) (decimal-low 1 (omega arith))
 
-first-byte : (naming : Naming) (variable : ℕ → List ℕ) (f : ℕ) (s : State) → getD (stateListing naming variable f s) 0 0 ≤ 70
-unfolding stateListing lineOf ascii
-first-byte naming variable f failed = omega arith
-first-byte naming variable f (live next bound cs) = omega arith
-
--- `sheetrun` never prints number 11
-eleven : (r : Reply) (text : Text) (line : ℕ) → Answered r → printed r ≡ printed (refusal 11 text line) → ⊥
-unfolding printed lineOf fieldsBehind ascii decimal decimalFrom runListing endListing
+-- what is printed of such a reply is not number 11
+pub eleven : (r : Reply) (text : Text) (line : ℕ) → Answered r → printed r ≡ printed (refusal 11 text line) → ⊥
+unfolding printed lineOf fieldsBehind ascii decimal decimalFrom
 eleven r text line (refusedBy number t l h) e =
     let z : getD (printed (refusal number t l)) 9 0 ≡ 49 = ap (λ (s : List ℕ). getD s 9 0) e in
     omega (arith, tenth-byte number t l (h .most))
-eleven r text line (listed p g) e =
-    let f = run (p .program) (g .goal) in
-    let z : getD (runListing p g) 0 0 ≡ 82 = ap (λ (s : List ℕ). getD s 0 0) e in
-    let naming = namingOf (p .program .symbols) (g .constants) in
-    omega (arith, first-byte naming (λ x. getD (g .letters) x []) (f .firings) (f .state))
+eleven r text line (listed bytes h) e = h (ap (λ (s : List ℕ). getD s 0 0) e)
 
+-- so `sheetrun` never prints it
 pub never-eleven : (input : List ℕ) (text : Text) (line : ℕ) → sheetrun input ≡ printed (refusal 11 text line) → ⊥
 unfolding sheetrun
 never-eleven input text line e =

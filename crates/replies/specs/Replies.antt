@@ -71,7 +71,7 @@ unfoldable pub printed : Reply → List ℕ
 printed (refusal number text line) = lineOf (ascii "REFUSED") (decimal number ∷ textLetter text ∷ decimal line ∷ [])
 printed (listing bytes) = bytes
 
--- enough room for every listing of a run (`run-fits` in proofs/Room.antt), and of a check (docs/DECISIONS.md)
+-- enough room for every listing of a run (`run-fits` in proofs/Room.antt), and of a check (`check-fits` in proofs/CheckRoom.antt)
 unfoldable pub ample : ℕ
 ample = 32768
 
