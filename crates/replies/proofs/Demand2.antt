@@ -18,8 +18,9 @@ use Rattle.replies.proofs.Demand3.{fitted-listed}
 
 -- a listing of a run that fits is the reply
 run-listed :
-    (s t : List ℕ) (room : ℕ) (r : Reading) (g : GoalReading) → readProgram s ≡ accepted r → readGoal r t ≡ accepted g
-    → length (runListing r g) ≤ room → runReply s t room ≡ listing (runListing r g)
+    (s t : List ℕ) (room : ℕ) (r : Reading) (g : GoalReading) → readProgram s ≡ accepted r
+    → readGoal (r .program .symbols) (r .constants) t ≡ accepted g → length (runListing r g) ≤ room
+    → runReply s t room ≡ listing (runListing r g)
 unfolding runReply replyOf
 run-listed s t room r g e f l = rw (e, f) (fitted-listed goalText room (runListing r g) l)
 

@@ -47,7 +47,7 @@ firstByte (refusal number text line) = 0
 firstByte (listing bytes) = getD bytes 0 0
 
 -- a reply that shows an overlap is no pass
-fail-no-pass :
+pub fail-no-pass :
     (r : Reading) (o : Overlap) (one two : Final) (n : ℕ) → verdictReply r (unjoined o one two) ≡ verdictReply r (confluent n) → ⊥
 unfolding verdictReply verdictListing lineOf textOpened firstByte
 fail-no-pass r o one two n e = let z : _≡_ {A = ℕ} 85 67 = ap firstByte e in omega arith

@@ -4,9 +4,11 @@ pub mod Starred
 pub mod Demand2
 pub mod Demand3
 pub mod Instances
-pub mod LineNumbers
 pub mod Parting
 pub mod Prefix
 pub mod Elements
 pub mod ShortNames
 pub mod Room
+pub mod CheckRoom
+pub mod Sheetcheck
+pub mod LineNumbers

@@ -8,5 +8,6 @@ use Rattle.replies.specs.Starred.{pqEnd, onQ, onP, row, starred}
 
 -- a name to say on an `unfolding` line
 unfoldable pub opened : ℕ
-unfolding replyOf fitted runListing checkListing runReply checkReply outputAfter textLetter printed ample sheetrun sheetcheck overlapShown selfOverlapOf shown twoWays reflexive leq pq holding pqEnd onQ onP row starred
+unfolding replyOf fitted runListing checkListing runReply checkReply outputAfter textLetter printed ample sheetrun sheetcheck
+    overlapShown selfOverlapOf shown twoWays reflexive leq pq holding pqEnd onQ onP row starred
 opened = 0

@@ -1,7 +1,9 @@
--- The first 40,000 bytes of an input decide what `sheetrun` prints: `prefix-decides`.
+-- The first 40,000 bytes of an input decide what the two programs print: `prefix-decides` for `sheetrun`, and
+-- `check-prefix-decides` for `sheetcheck`.
 --   long-program, long-goal     a text of more than 16,384 bytes meets number 1
 --   agree-replies               inputs whose parts agree over enough bytes have the same reply
 --   prefix-replies              so do an input and its first n bytes, for any n from 32,774 on
+--   check-prefix-replies        for a check, any n from 16,385 on
 -- Assumes nothing.
 use Prim.Native.Nat.{ℕ, _≤_, _<_}
 use native.Mathlib.Decide.{decLt}
@@ -9,24 +11,27 @@ use native.Mathlib.Omega.{arith}
 use mathlib.Core.List.{List}
 use mathlib.Core.Path.{_≡_, refl, sym, ap, _∙_}
 use lib.ListN.{length, take}
-use lib.Seq.{take-all}
+use lib.Seq.{length-take-le, take-all}
 use borrow.Author.Tests.{lt-ltb}
 use Rattle.text.specs.Lines.{Parts, parted}
+use Rattle.semantics.specs.Terms.{Symbol}
 use Rattle.syntax.specs.Answers.{Answer, refused, accepted}
-use Rattle.syntax.specs.Programs.{Reading, maxText, readProgram}
+use Rattle.syntax.specs.Programs.{Reading, readProgram}
 use Rattle.syntax.specs.Goals.{readGoal}
 use Rattle.replies.specs.Replies.{refusal, programText, goalText, replyOf, fitted, runListing, runReply}
-use Rattle.replies.specs.Replies.{printed, ample, sheetrun}
+use Rattle.replies.specs.Replies.{checkReply, printed, ample, sheetrun, sheetcheck}
 use Rattle.replies.proofs.Parting.{Agree, sameProgram, longPrograms, parted-agrees}
 
 -- a text of more than 16,384 bytes meets number 1
 pub long-program : (s : List ℕ) → 16384 < length s → readProgram s ≡ refused 1 0
-unfolding readProgram maxText
+unfolding readProgram
 long-program s h = rw (lt-ltb 16384 (length s) h)
 
-pub long-goal : (p : Reading) (s : List ℕ) → 16384 < length s → readGoal p s ≡ refused 1 0
-unfolding readGoal maxText
-long-goal p s h = rw (lt-ltb 16384 (length s) h)
+pub long-goal :
+    (symbols : List Symbol) (constants : List (List ℕ)) (s : List ℕ) → 16384 < length s
+    → readGoal symbols constants s ≡ refused 1 0
+unfolding readGoal
+long-goal symbols constants s h = rw (lt-ltb 16384 (length s) h)
 
 -- the reply where the program is too long, and where the goal is
 program-replies :
@@ -42,10 +47,11 @@ goal-replies program goal room h = go (readProgram program)
   where
     go :
         (a : Answer Reading)
-        → replyOf programText a (λ p. replyOf goalText (readGoal p goal) (λ g. fitted goalText room (runListing p g)))
+        → replyOf programText a
+        (λ p. replyOf goalText (readGoal (p .program .symbols) (p .constants) goal) (λ g. fitted goalText room (runListing p g)))
         ≡ replyOf programText a (λ _. refusal 1 goalText 0)
     go (refused number line) = refl
-    go (accepted p) = rw (long-goal p goal h)
+    go (accepted p) = rw (long-goal (p .program .symbols) (p .constants) goal h)
 
 -- inputs whose parts agree over enough bytes have the same reply
 pub agree-replies :
@@ -77,3 +83,23 @@ prefix-replies n input room h = elim (decLt n (length input)) [
 pub prefix-decides : (input : List ℕ) → sheetrun (take 40000 input) ≡ sheetrun input
 unfolding sheetrun
 prefix-decides input = ap printed (prefix-replies 40000 input ample (omega arith))
+
+-- the reply of a check where the program is too long
+check-replies : (program : List ℕ) (room : ℕ) → 16384 < length program → checkReply program room ≡ refusal 1 programText 0
+unfolding checkReply replyOf
+check-replies program room h = rw (long-program program h)
+
+-- the first n bytes of a program decide the reply of its check, for any n from 16,385 on
+pub check-prefix-replies :
+    (n : ℕ) (input : List ℕ) (room : ℕ) → 16385 ≤ n → checkReply (take n input) room ≡ checkReply input room
+check-prefix-replies n input room h = elim (decLt n (length input)) [
+  | yes k ↦
+      check-replies (take n input) room (omega (arith, length-take-le n input (omega (arith, k))))
+      ∙ sym (check-replies input room (omega (arith, k)))
+  | no k ↦ rw (take-all n input (omega (arith, k)))
+]
+
+-- the first 40,000 bytes of an input decide what `sheetcheck` prints
+pub check-prefix-decides : (input : List ℕ) → sheetcheck (take 40000 input) ≡ sheetcheck input
+unfolding sheetcheck
+check-prefix-decides input = ap printed (check-prefix-replies 40000 input ample (omega arith))

@@ -1,12 +1,14 @@
 -- Every listing of a run fits the room that the programs lend: `run-fits`. So `sheetrun` never prints number 11: `never-eleven`.
 --   line-few                      a line of n fields behind its first has at most 9 n + 1 bytes more than that
---   order-few, unbound-short      how many variables appear; a U number has at most 8 bytes
---   end-few                       the bytes of an end, by the counts of its lines
+--   order-few, number-short       how many variables appear; a variable by a letter and its number has at most 8 bytes
+--   naming-short                  so has every name of a reading
+--   end-few, final-few            the bytes of an end, by the counts of its lines; by its goal variables and its weight
 --   run-weighs                    firings and the weight of the end are within the goal's weight
 --   run-few, run-fits             the listing of a run has at most 24,597 bytes, and fits
---   run-listed, run-answered      texts that read get their listing; any other reply has a number of at most 10
+--   run-listed                    so texts that read get their listing
+--   Answered, run-answered        any other reply has a number of at most 10
 -- Assumes nothing.
-use Prim.Native.Nat.{ℕ, zero, suc, _+_, _*_, _/_, _%_, _≤_, _<_}
+use Prim.Native.Nat.{ℕ, zero, suc, _+_, _-_, _*_, _/_, _%_, _≤_, _<_}
 use native.Mathlib.Decide.{decLt}
 use native.Mathlib.Omega.{arith}
 use mathlib.Core.Bool.{Bool, true, false, cond}
@@ -14,11 +16,11 @@ use mathlib.Core.List.{List, [], _∷_, _++_, map}
 use mathlib.Core.Path.{_≡_, refl, sym, ap, subst, _∙_}
 use lib.Dec.{ltb, eqb}
 use lib.ListN.{length, length-append, length-map, getD}
-use borrow.Author.Tests.{le-ltb, ltb-true, ltb-false, eqb-true}
+use borrow.Author.Tests.{ltb-true, ltb-false, eqb-true}
 use Rattle.text.specs.Bytes.{ascii}
 use Rattle.text.specs.Lists.{has, placeFrom}
 use Rattle.text.specs.Lines.{parted}
-use Rattle.semantics.specs.Terms.{Term, con, var, Constraint, Symbol, Program, Goal, State, failed, live}
+use Rattle.semantics.specs.Terms.{Term, con, var, Constraint, Symbol, Rule, Program, Goal, State, failed, live}
 use Rattle.semantics.specs.Terms.{noSymbol, symbolAt, weight, isDeclared, isWellFormed}
 use Rattle.semantics.specs.Strategy.{goalState, run}
 use Rattle.semantics.specs.Overlaps.{appearingIn, appearing}
@@ -28,25 +30,26 @@ use Rattle.semantics.proofs.Bools.{and-true}
 use Rattle.semantics.proofs.Multisets.{all-mono, all-map, all-of-members}
 use Rattle.semantics.proofs.Normal.{Reach, arrived, fires, normalise-reach}
 use Rattle.semantics.proofs.Weights.{weight-cons, stateWeight, fireAt-lighter}
-use Rattle.semantics.proofs.Vocabulary.{RuleOver, SpokenState, run-spoken}
+use Rattle.semantics.proofs.Vocabulary.{TermOver, ConstraintOver, RuleOver, SpokenState, run-spoken}
+use Rattle.syntax.specs.Forms.{firstConstant}
 use Rattle.syntax.specs.Answers.{Answer, refused, accepted}
 use Rattle.syntax.specs.Programs.{Reading, readProgram}
 use Rattle.syntax.specs.Goals.{GoalReading, readGoal}
 use Rattle.syntax.proofs.WellFormed.{read-wellFormed}
-use Rattle.syntax.proofs.Vocabulary.{ConstantOf, SymbolSmall, ReadSmall, read-small, term-more}
+use Rattle.syntax.proofs.Vocabulary.{SymbolSmall, ReadSmall, read-small}
 use Rattle.syntax.proofs.GoalVocabulary.{ReadGoal, goal-small}
-use Rattle.listing.specs.Listing.{decimalFrom, decimal, fieldsBehind, lineOf, Naming, termShown, constraintShown}
-use Rattle.listing.specs.Listing.{constraintLines, unbound}
-use Rattle.listing.specs.Listing.{boundLines, stateListing, endListing}
+use Rattle.listing.specs.Listing.{decimalFrom, decimal, fieldsBehind, lineOf, Naming, namingOf, termShown, constraintShown}
+use Rattle.listing.specs.Listing.{constraintLines, numberedAs, unbound, boundLines, stateListing, endListing}
 use Rattle.listing.proofs.Decimals.{decimal-low, decimal-high}
-use Rattle.replies.specs.Replies.{Text, programText, goalText, Reply, refusal, listing, replyOf, fitted, namingOf}
+use Rattle.replies.specs.Replies.{Text, programText, goalText, Reply, refusal, listing, replyOf, fitted}
 use Rattle.replies.specs.Replies.{runListing, runReply, printed, ample, sheetrun}
 use Rattle.replies.proofs.Elements.{all-at}
-use Rattle.replies.proofs.ShortNames.{Short, ShortProgram, ShortGoal, program-short, goal-short, reads-accepted}
+use Rattle.replies.proofs.Demand3.{fitted-listed}
+use Rattle.replies.proofs.ShortNames.{Short, Turned, ShortProgram, ShortGoal, program-short, goal-short, reads-accepted}
 use Rattle.replies.proofs.ShortNames.{reads-refused}
 
 -- ten times as many numbers have one digit more
-digits-more :
+pub digits-more :
     (k b : ℕ) → ((m : ℕ) → m < b → length (decimal m) ≤ k) → (n : ℕ) → n < 10 * b → length (decimal n) ≤ suc k
 digits-more k b few n h = go (ltb n 10) refl
   where
@@ -57,7 +60,7 @@ digits-more k b few n h = go (ltb n 10) refl
         (omega (arith, length-append (decimal (n / 10)) ((48 + n % 10) ∷ []), few (n / 10) (omega arith)))
 
 -- a number below 10,000 has at most 4 digits
-four-digits : (n : ℕ) → n < 10000 → length (decimal n) ≤ 4
+pub four-digits : (n : ℕ) → n < 10000 → length (decimal n) ≤ 4
 four-digits n h =
     digits-more 3 1000 (digits-more 2 100 (digits-more 1 10 (λ m k. rw (decimal-low m k) (omega arith)))) n (omega arith)
 
@@ -82,7 +85,7 @@ terms-few seen (var x ∷ ts) =
     go true = omega arith
     go false = omega (arith, length-append seen (x ∷ []))
 
-order-few :
+pub order-few :
     (seen : List ℕ) (cs : List Constraint) → All (λ c. length (c .terms) ≤ 4) cs
     → length (appearing seen cs) ≤ length seen + 4 * length cs
 unfolding appearing
@@ -90,13 +93,15 @@ order-few seen [] few = omega arith
 order-few seen (c ∷ cs) (also h few) =
     omega (arith, order-few (appearingIn seen (c .terms)) cs few, terms-few seen (c .terms))
 
--- so the U numbers have at most 4 digits
+-- a variable's number of at most 4 digits, behind its letter
+pub number-short : (letter x : ℕ) → x < 9999 → Short (numberedAs (letter ∷ []) x)
+unfolding numberedAs
+number-short letter x h = omega (arith, four-digits (suc x) (omega arith))
+
+-- so are the U numbers
 unbound-short : (order : List ℕ) (x : ℕ) → length order < 9999 → Short (unbound order x)
 unfolding unbound ascii
-unbound-short order x h =
-    let n = suc (placeFrom (eqb x) 0 order) in
-    let low : n < 10000 = omega (arith, place-few (eqb x) 0 order) in
-    omega (arith, length-append (ascii "U") (decimal n), four-digits n low)
+unbound-short order x h = number-short 85 (placeFrom (eqb x) 0 order) (omega (arith, place-few (eqb x) 0 order))
 
 -- a line of short fields behind its first
 behind-few : (fs : List (List ℕ)) → All Short fs → length (fieldsBehind fs) ≤ 9 * length fs + 1
@@ -104,7 +109,8 @@ unfolding fieldsBehind
 behind-few [] C.none = omega arith
 behind-few (f ∷ fs) (also h all) = omega (arith, length-append f (fieldsBehind fs), behind-few fs all)
 
-line-few : (first : List ℕ) (fs : List (List ℕ)) → All Short fs → length (lineOf first fs) ≤ length first + (9 * length fs + 1)
+pub line-few :
+    (first : List ℕ) (fs : List (List ℕ)) → All Short fs → length (lineOf first fs) ≤ length first + (9 * length fs + 1)
 unfolding lineOf
 line-few first fs all = omega (arith, length-append first (fieldsBehind fs), behind-few fs all)
 
@@ -120,66 +126,83 @@ symbol-short i C.none = omega arith
 symbol-short zero (also h all) = h
 symbol-short (suc i) (also h all) = symbol-short i all
 
--- the lines of an end, where all names are short
-module _ (naming : Naming) (shown : ℕ → List ℕ) (symbols : All (λ s. Short (s .name)) (naming .symbols))
-    (constants : All Short (naming .constants)) (variables : (x : ℕ) → Short (shown x)) where
-  shown-short : (t : Term) → Short (termShown naming shown t)
-  unfolding termShown
-  shown-short (con c) = short-at _ constants
-  shown-short (var x) = variables x
+-- every name that a naming has of short symbols and constants
+pub naming-short :
+    (symbols : List Symbol) (constants : List (List ℕ)) → All (λ s. Short (s .name)) symbols → All Short constants → (n : ℕ)
+    → Short (namingOf symbols constants n)
+unfolding namingOf
+naming-short symbols constants short all n = go (ltb n firstConstant)
+  where
+    go : (b : Bool) → Short (cond b (symbolAt symbols n .name) (getD constants (n - firstConstant) []))
+    go true = symbol-short n short
+    go false = short-at (n - firstConstant) all
 
-  bounds-few : (vs : List (List ℕ)) (ts : List Term) → All Short vs → length (boundLines naming shown vs ts) ≤ 20 * length vs
-  unfolding boundLines ascii
-  bounds-few [] ts all = omega arith
-  bounds-few (v ∷ vs) [] all = omega arith
-  bounds-few (v ∷ vs) (t ∷ ts) (also h all) =
-      let line = lineOf (ascii "A") (v ∷ termShown naming shown t ∷ []) in
-      omega (
-        arith,
-        length-append line (boundLines naming shown vs ts),
-        line-few (ascii "A") (v ∷ termShown naming shown t ∷ []) (also h (also (shown-short t) C.none)),
-        bounds-few vs ts all,
-      )
+-- lines, where all names are short
+module _ (naming : Naming) (shown : ℕ → List ℕ) (names : (n : ℕ) → Short (naming n)) where
+  -- a constraint of at most 4 terms, which are shown short
+  abbrev pub ShortRow : Constraint → Type 0
+  ShortRow c = (length (c .terms) ≤ 4) × All (λ t. Short (termShown naming shown t)) (c .terms)
 
-  row-few : (c : Constraint) → length (c .terms) ≤ 4 → length (lineOf (ascii "S") (constraintShown naming shown c)) ≤ 47
-  unfolding constraintShown ascii
-  row-few c few =
+  row-few :
+      (first : List ℕ) (c : Constraint) → length first ≤ 1 → ShortRow c
+      → length (lineOf first (constraintShown naming shown c)) ≤ 47
+  unfolding constraintShown
+  row-few first c one (few, short) =
       let terms = map (termShown naming shown) (c .terms) in
-      let name = symbolAt (naming .symbols) (c .symbol) .name in
       omega (
         arith,
         length-map (c .terms) (termShown naming shown),
-        line-few (ascii "S") (name ∷ terms)
-            (also (symbol-short (c .symbol) symbols) (all-map _ (all-of-members (c .terms) (λ t _. shown-short t)))),
+        line-few first (naming (c .symbol) ∷ terms) (also (names (c .symbol)) (all-map _ short)),
       )
 
-  rows-few :
-      (cs : List Constraint) → All (λ c. length (c .terms) ≤ 4) cs
-      → length (constraintLines (ascii "S") naming shown cs) ≤ 47 * length cs
+  pub rows-few :
+      (first : List ℕ) (cs : List Constraint) → length first ≤ 1 → All ShortRow cs
+      → length (constraintLines first naming shown cs) ≤ 47 * length cs
   unfolding constraintLines
-  rows-few [] few = omega arith
-  rows-few (c ∷ cs) (also h few) =
+  rows-few first [] one short = omega arith
+  rows-few first (c ∷ cs) one (also h short) =
       omega (
         arith,
-        length-append (lineOf (ascii "S") (constraintShown naming shown c)) (constraintLines (ascii "S") naming shown cs),
-        row-few c h,
-        rows-few cs few,
+        length-append (lineOf first (constraintShown naming shown c)) (constraintLines first naming shown cs),
+        row-few first c one h,
+        rows-few first cs one short,
       )
+
+  module _ (variables : (x : ℕ) → Short (shown x)) where
+    shown-short : (t : Term) → Short (termShown naming shown t)
+    unfolding termShown
+    shown-short (con c) = names c
+    shown-short (var x) = variables x
+
+    bounds-few :
+        (variable : ℕ → List ℕ) (x : ℕ) (ts : List Term) → ((y : ℕ) → y < x + length ts → Short (variable y))
+        → length (boundLines naming shown variable x ts) ≤ 20 * length ts
+    unfolding boundLines ascii
+    bounds-few variable x [] short = omega arith
+    bounds-few variable x (t ∷ ts) short =
+        let line = lineOf (ascii "A") (variable x ∷ termShown naming shown t ∷ []) in
+        omega (
+          arith,
+          length-append line (boundLines naming shown variable (suc x) ts),
+          line-few (ascii "A") (variable x ∷ termShown naming shown t ∷ [])
+              (also (short x (omega arith)) (also (shown-short t) C.none)),
+          bounds-few variable (suc x) ts (λ y h. short y (omega arith)),
+        )
 
 -- the bytes of an end, by the counts of its lines
 end-few :
-    (naming : Naming) (letters : List (List ℕ)) (f next : ℕ) (bound : List Term) (cs : List Constraint)
-    → All (λ s. Short (s .name)) (naming .symbols) → All Short (naming .constants) → All Short letters
+    (naming : Naming) (variable : ℕ → List ℕ) (f next : ℕ) (bound : List Term) (cs : List Constraint)
+    → ((n : ℕ) → Short (naming n)) → ((x : ℕ) → x < length bound → Short (variable x))
     → All (λ c. length (c .terms) ≤ 4) cs → f < 10000 → length bound + 4 * length cs < 9999
-    → length (stateListing naming letters f (live next bound cs)) ≤ 13 + (20 * length letters + 47 * length cs)
+    → length (stateListing naming variable f (live next bound cs)) ≤ 13 + (20 * length bound + 47 * length cs)
 unfolding stateListing ascii
-end-few naming letters f next bound cs symbols constants short few low room =
+end-few naming variable f next bound cs names short few low room =
     let order = appearing (appearingIn [] bound) cs in
     let shown = unbound order in
     let variables : (x : ℕ) → Short (shown x) = λ x.
     unbound-short order x (omega (arith, order-few (appearingIn [] bound) cs few, terms-few [] bound)) in
     let head = lineOf (ascii "END") (decimal f ∷ []) in
-    let bounds = boundLines naming shown letters bound in
+    let bounds = boundLines naming shown variable 0 bound in
     let rows = constraintLines (ascii "S") naming shown cs in
     let digits : Short (decimal f) = omega (arith, four-digits f low) in
     omega (
@@ -187,42 +210,67 @@ end-few naming letters f next bound cs symbols constants short few low room =
       length-append head (bounds ++ rows),
       length-append bounds rows,
       line-few (ascii "END") (decimal f ∷ []) (also digits C.none),
-      bounds-few naming shown symbols constants variables letters bound short,
-      rows-few naming shown symbols constants variables cs few,
+      bounds-few naming shown names variables variable 0 bound (λ x h. short x (omega arith)),
+      rows-few naming shown names (ascii "S") cs (omega arith)
+          (all-mono (λ c h. (h, all-of-members (c .terms) (λ t _. shown-short naming shown names variables t))) few),
     )
 
-failed-few : (naming : Naming) (letters : List (List ℕ)) (f : ℕ) → f < 10000 → length (stateListing naming letters f failed) ≤ 16
+failed-few :
+    (naming : Naming) (variable : ℕ → List ℕ) (f : ℕ) → f < 10000 → length (stateListing naming variable f failed) ≤ 16
 unfolding stateListing ascii
-failed-few naming letters f low =
+failed-few naming variable f low =
     let digits : Short (decimal f) = omega (arith, four-digits f low) in
     omega (arith, line-few (ascii "FAILED") (decimal f ∷ []) (also digits C.none))
 
--- a declared constraint has at most 4 terms and weighs at least 1
-declared-few :
-    (symbols : List Symbol) → All SymbolSmall symbols → (c : Constraint) → isDeclared symbols c ≡ true → length (c .terms) ≤ 4
-unfolding isDeclared symbolAt
-declared-few symbols small c h =
-    let (known, counted) = and-true (ltb (c .symbol) (length symbols)) _ h in
-    let s = all-at noSymbol (c .symbol) small (ltb-true (c .symbol) (length symbols) known) in
-    omega (arith, eqb-true (length (c .terms)) (getD symbols (c .symbol) noSymbol .arity) counted, s .few)
-
-declared-heavy :
+-- the symbol of a declared constraint is one of the declared, and it has at most 4 terms
+pub declared-small :
     (symbols : List Symbol) → All SymbolSmall symbols → (c : Constraint) → isDeclared symbols c ≡ true
-    → 1 ≤ symbolAt symbols (c .symbol) .weight
+    → SymbolSmall (symbolAt symbols (c .symbol))
 unfolding isDeclared symbolAt
-declared-heavy symbols small c h =
+declared-small symbols small c h =
     let known = and-true (ltb (c .symbol) (length symbols)) _ h .0 in
-    all-at noSymbol (c .symbol) small (ltb-true (c .symbol) (length symbols) known) .heavy
+    all-at noSymbol (c .symbol) small (ltb-true (c .symbol) (length symbols) known)
 
+pub declared-few :
+    (symbols : List Symbol) → All SymbolSmall symbols → (c : Constraint) → isDeclared symbols c ≡ true → length (c .terms) ≤ 4
+unfolding isDeclared
+declared-few symbols small c h =
+    let arity = symbolAt symbols (c .symbol) .arity in
+    let counted = and-true (ltb (c .symbol) (length symbols)) (eqb (length (c .terms)) arity) h .1 in
+    omega (
+      arith,
+      eqb-true (length (c .terms)) arity counted,
+      declared-small symbols small c h .few,
+    )
+
+-- each weighs at least 1
 constraints-few :
     (symbols : List Symbol) (cs : List Constraint) → All SymbolSmall symbols → All (λ c. isDeclared symbols c ≡ true) cs
     → length cs ≤ weight symbols cs
 constraints-few symbols [] small declared = omega arith
 constraints-few symbols (c ∷ cs) small (also h declared) =
-    omega (arith, weight-cons symbols c cs, declared-heavy symbols small c h, constraints-few symbols cs small declared)
+    omega (arith, weight-cons symbols c cs, declared-small symbols small c h .heavy, constraints-few symbols cs small declared)
+
+-- every constant is one, so that terms, constraints and rules are over them
+abbrev pub AnyConstant : ℕ → Type 0
+AnyConstant c = Unit {0}
+
+term-any : (t : Term) → TermOver AnyConstant t
+term-any (con c) = tt
+term-any (var x) = tt
+
+pub constraints-any : (cs : List Constraint) → All (ConstraintOver AnyConstant) cs
+constraints-any cs = all-of-members cs (λ c _. all-of-members (c .terms) (λ t _. term-any t))
+
+pub rules-any : (rs : List Rule) → All (RuleOver AnyConstant) rs
+rules-any rs =
+    all-of-members rs (λ r _. record {
+      body = constraints-any (r .body);
+      equations = all-of-members (r .equations) (λ e _. (term-any (e .left), term-any (e .right)));
+    })
 
 -- firings and the weight of what they reach are within the weight at their start
-reach-weighs :
+pub reach-weighs :
     (p : Program) → isWellFormed p ≡ true → {n : ℕ} {s u : State} → Reach (p .rules) n s u
     → stateWeight (p .symbols) u + n ≤ stateWeight (p .symbols) s
 reach-weighs p w arrived = omega arith
@@ -237,93 +285,108 @@ run-weighs p g w =
     let (n, reach, count) = normalise-reach (p .rules) (weight (p .symbols) (g .constraints)) (goalState g) 0 in
     omega (arith, count, reach-weighs p w reach)
 
--- the bytes of an end that weighs at most 512 with its firings
-final-few :
-    (naming : Naming) (letters : List (List ℕ)) (f : ℕ) (P : ℕ → Type 0) (v number : ℕ) (s : State)
-    → All (λ s. Short (s .name)) (naming .symbols) → All Short (naming .constants) → All Short letters
-    → All SymbolSmall (naming .symbols) → SpokenState (naming .symbols) P v number s → stateWeight (naming .symbols) s + f ≤ 512
-    → v ≤ 26 → length letters ≤ 26 → length (stateListing naming letters f s) ≤ 24597
+-- the bytes of an end of at most v goal variables that weighs at most w with its firings
+pub final-few :
+    (symbols : List Symbol) (naming : Naming) (variable : ℕ → List ℕ) (f : ℕ) (P : ℕ → Type 0) (v w number : ℕ) (s : State)
+    → ((n : ℕ) → Short (naming n)) → ((x : ℕ) → x < v → Short (variable x)) → All SymbolSmall symbols
+    → SpokenState symbols P v number s → stateWeight symbols s + f ≤ w → 1 ≤ w → v + 4 * w < 9999
+    → length (stateListing naming variable f s) ≤ 13 + (20 * v + 47 * w)
 unfolding stateWeight
-final-few naming letters f P v number failed symbols constants short small spoken light few-bound few =
-    omega (arith, failed-few naming letters f (omega arith))
-final-few naming letters f P v number (live next bound cs) symbols constants short small spoken light few-bound few =
-    let count = constraints-few (naming .symbols) cs small (spoken .declared) in
-    let terms : All (λ c. length (c .terms) ≤ 4) cs = all-mono (declared-few (naming .symbols) small) (spoken .declared) in
+final-few symbols naming variable f P v w number failed names short small spoken light some room =
+    omega (arith, failed-few naming variable f (omega arith))
+final-few symbols naming variable f P v w number (live next bound cs) names short small spoken light some room =
+    let size : length bound ≡ v = spoken .size in
+    let count = constraints-few symbols cs small (spoken .declared) in
+    let terms : All (λ c. length (c .terms) ≤ 4) cs = all-mono (declared-few symbols small) (spoken .declared) in
     omega (
       arith,
-      end-few naming letters f next bound cs symbols constants short terms (omega arith) (omega (arith, spoken .size)),
+      end-few naming variable f next bound cs names (λ x h. short x (omega arith)) terms (omega arith) (omega arith),
     )
 
 -- the listing of a run has at most 13 + 26 · 20 + 512 · 47 bytes
 pub run-few :
-    (program goal : List ℕ) (p : Reading) (g : GoalReading) → readProgram program ≡ accepted p → readGoal p goal ≡ accepted g
-    → length (runListing p g) ≤ 24597
-unfolding runListing namingOf endListing
+    (program goal : List ℕ) (p : Reading) (g : GoalReading) → readProgram program ≡ accepted p
+    → readGoal (p .program .symbols) (p .constants) goal ≡ accepted g → length (runListing p g) ≤ 24597
+unfolding runListing endListing
 run-few program goal p g reads reads-goal =
+    let symbols = p .program .symbols in
     let small : ReadSmall p = read-small program reads in
     let of-goal : ReadGoal p g = goal-small p goal (small .few-constants) reads-goal in
     let short : ShortProgram p = reads-accepted ShortProgram (readProgram program) (program-short program) reads in
-    let short-goal : ShortGoal g = reads-accepted ShortGoal (readGoal p goal) (goal-short p goal short) reads-goal in
+    let short-goal : ShortGoal (p .constants) g =
+    reads-accepted (ShortGoal (p .constants)) (readGoal symbols (p .constants) goal) (goal-short symbols (p .constants) goal)
+    reads-goal in
     let formed = read-wellFormed program reads in
-    let (new, e) = of-goal .front in
-    let more : length (p .constants) ≤ length (g .constants) = omega (arith, ap length e, length-append (p .constants) new) in
-    let over : All (RuleOver (ConstantOf (length (g .constants)))) (p .program .rules) =
-    all-mono (λ q s. record {
-      body = all-mono (λ c. all-mono (term-more more)) (s .over .body);
-      equations = all-mono (λ e o. (term-more more (e .left) (o .0), term-more more (e .right) (o .1))) (s .over .equations);
-    }) (small .rules) in
-    let P : ℕ → Type 0 = ConstantOf (length (g .constants)) in
-    let spoken = run-spoken (p .program) P (g .goal) formed (of-goal .is-goal) over (of-goal .over) in
-    final-few (namingOf (p .program) (g .constants)) (g .letters) (run (p .program) (g .goal) .firings) P (g .goal .variables) _
-    (run (p .program) (g .goal) .state) (short .symbols) (short-goal .constants) (short-goal .letters) (small .symbols) spoken
-    (omega (arith, run-weighs (p .program) (g .goal) formed, of-goal .light))
-    (omega (arith, of-goal .lettered, of-goal .few-letters)) (of-goal .few-letters)
+    let spoken =
+    run-spoken (p .program) AnyConstant (g .goal) formed (of-goal .is-goal) (rules-any (p .program .rules))
+    (constraints-any (g .goal .constraints)) in
+    let names = naming-short symbols (g .constants) (short .symbols) (short-goal .constants (short .constants)) in
+    let letters : g .goal .variables ≤ 26 = omega (arith, of-goal .lettered, of-goal .few-letters) in
+    omega (
+      arith,
+      final-few symbols (namingOf symbols (g .constants)) (λ x. getD (g .letters) x []) (run (p .program) (g .goal) .firings)
+          AnyConstant (g .goal .variables) 512 _ (run (p .program) (g .goal) .state) names
+          (λ x _. short-at x (short-goal .letters)) (small .symbols) spoken
+          (omega (arith, run-weighs (p .program) (g .goal) formed, of-goal .light)) (omega arith) (omega arith),
+    )
 
 -- so it fits the room that the programs lend
 pub run-fits :
-    (program goal : List ℕ) (p : Reading) (g : GoalReading) → readProgram program ≡ accepted p → readGoal p goal ≡ accepted g
-    → length (runListing p g) ≤ ample
+    (program goal : List ℕ) (p : Reading) (g : GoalReading) → readProgram program ≡ accepted p
+    → readGoal (p .program .symbols) (p .constants) goal ≡ accepted g → length (runListing p g) ≤ ample
 unfolding ample
 run-fits program goal p g e f = omega (arith, run-few program goal p g e f)
 
--- a listing that fits is the reply
-fitted-listed : (text : Text) (room : ℕ) (bytes : List ℕ) → length bytes ≤ room → fitted text room bytes ≡ listing bytes
-unfolding fitted
-fitted-listed text room bytes h = rw (le-ltb room (length bytes) h)
-
--- and a program and a goal that read get their listing
+-- so a program and a goal that read get their listing
 pub run-listed :
-    (program goal : List ℕ) (p : Reading) (g : GoalReading) → readProgram program ≡ accepted p → readGoal p goal ≡ accepted g
-    → runReply program goal ample ≡ listing (runListing p g)
+    (program goal : List ℕ) (p : Reading) (g : GoalReading) → readProgram program ≡ accepted p
+    → readGoal (p .program .symbols) (p .constants) goal ≡ accepted g → runReply program goal ample ≡ listing (runListing p g)
 unfolding runReply replyOf
 run-listed program goal p g e f = rw (e, f) (fitted-listed goalText ample (runListing p g) (run-fits program goal p g e f))
 
--- a reply of a run: a refusal by a number of at most 10, or the listing of a program and a goal
+-- a reply that is not number 11: a refusal that reading may answer, or a listing that does not begin as a refusal does
 pub data Answered : Reply → Type 0 where
-  refusedBy : (number : ℕ) (text : Text) (line : ℕ) → number ≤ 10 → Answered (refusal number text line)
-  listed : (p : Reading) (g : GoalReading) → Answered (listing (runListing p g))
+  refusedBy : (number : ℕ) (text : Text) (line : ℕ) → Turned number line → Answered (refusal number text line)
+  listed : (bytes : List ℕ) → (getD bytes 0 0 ≡ 82 → ⊥) → Answered (listing bytes)
 
--- every reply is so
+-- the first byte of the listing of an end
+first-byte : (naming : Naming) (variable : ℕ → List ℕ) (f : ℕ) (s : State) → getD (stateListing naming variable f s) 0 0 ≤ 70
+unfolding stateListing lineOf ascii
+first-byte naming variable f failed = omega arith
+first-byte naming variable f (live next bound cs) = omega arith
+
+run-begins : (p : Reading) (g : GoalReading) → getD (runListing p g) 0 0 ≡ 82 → ⊥
+unfolding runListing endListing
+run-begins p g e =
+    let f = run (p .program) (g .goal) in
+    let naming = namingOf (p .program .symbols) (g .constants) in
+    omega (arith, first-byte naming (λ x. getD (g .letters) x []) (f .firings) (f .state))
+
+-- so is every reply of a run
 pub run-answered : (program goal : List ℕ) → Answered (runReply program goal ample)
 unfolding runReply replyOf
 run-answered program goal = go (readProgram program) refl
   where
     goals :
-        (p : Reading) → readProgram program ≡ accepted p → (a : Answer GoalReading) → readGoal p goal ≡ a
+        (p : Reading) → readProgram program ≡ accepted p → (a : Answer GoalReading)
+        → readGoal (p .program .symbols) (p .constants) goal ≡ a
         → Answered (replyOf goalText a (λ g. fitted goalText ample (runListing p g)))
     goals p k (refused n l) h =
-        let short = reads-accepted ShortProgram (readProgram program) (program-short program) k in
-        refusedBy n goalText l (reads-refused ShortGoal (readGoal p goal) (goal-short p goal short) h)
+        refusedBy n goalText l
+        (reads-refused (ShortGoal (p .constants)) (readGoal (p .program .symbols) (p .constants) goal)
+        (goal-short (p .program .symbols) (p .constants) goal) h)
     goals p k (accepted g) h =
-        subst Answered (sym (fitted-listed goalText ample (runListing p g) (run-fits program goal p g k h))) (listed p g)
+        subst Answered (sym (fitted-listed goalText ample (runListing p g) (run-fits program goal p g k h)))
+        (listed (runListing p g) (run-begins p g))
 
     go :
         (a : Answer Reading) → readProgram program ≡ a
-        → Answered (replyOf programText a (λ p. replyOf goalText (readGoal p goal) (λ g. fitted goalText ample (runListing p g))))
+        → Answered (replyOf programText a (λ p. replyOf goalText (readGoal (p .program .symbols) (p .constants) goal)
+        (λ g. fitted goalText ample (runListing p g))))
     go (refused n l) k = refusedBy n programText l (reads-refused ShortProgram (readProgram program) (program-short program) k)
-    go (accepted p) k = goals p k (readGoal p goal) refl
+    go (accepted p) k = goals p k (readGoal (p .program .symbols) (p .constants) goal) refl
 
--- the tenth byte of a printed refusal, by its number, and the first byte of a listing
+-- the tenth byte of a printed refusal, by its number
 tenth-byte : (number : ℕ) (text : Text) (line : ℕ) → number ≤ 10 → getD (printed (refusal number text line)) 9 0 ≤ 48
 unfolding printed lineOf fieldsBehind ascii
 tenth-byte number text line h = elim (decLt number 10) [
@@ -336,22 +399,15 @@ tenth-byte number text line h = elim (decLt number 10) [
     decimal-ten : decimal 10 ≡ 49 ∷ 48 ∷ []
     decimal-ten = decimal-high 10 (omega arith) ∙ ap (λ (s : List ℕ). s ++ (48 ∷ [])) (decimal-low 1 (omega arith))
 
-first-byte : (naming : Naming) (letters : List (List ℕ)) (f : ℕ) (s : State) → getD (stateListing naming letters f s) 0 0 ≤ 70
-unfolding stateListing lineOf ascii
-first-byte naming letters f failed = omega arith
-first-byte naming letters f (live next bound cs) = omega arith
-
--- `sheetrun` never prints number 11
-eleven : (r : Reply) (text : Text) (line : ℕ) → Answered r → printed r ≡ printed (refusal 11 text line) → ⊥
-unfolding printed lineOf fieldsBehind ascii decimal decimalFrom runListing endListing
+-- what is printed of such a reply is not number 11
+pub eleven : (r : Reply) (text : Text) (line : ℕ) → Answered r → printed r ≡ printed (refusal 11 text line) → ⊥
+unfolding printed lineOf fieldsBehind ascii decimal decimalFrom
 eleven r text line (refusedBy number t l h) e =
     let z : getD (printed (refusal number t l)) 9 0 ≡ 49 = ap (λ (s : List ℕ). getD s 9 0) e in
-    omega (arith, tenth-byte number t l h)
-eleven r text line (listed p g) e =
-    let f = run (p .program) (g .goal) in
-    let z : getD (runListing p g) 0 0 ≡ 82 = ap (λ (s : List ℕ). getD s 0 0) e in
-    omega (arith, first-byte (namingOf (p .program) (g .constants)) (g .letters) (f .firings) (f .state))
+    omega (arith, tenth-byte number t l (h .most))
+eleven r text line (listed bytes h) e = h (ap (λ (s : List ℕ). getD s 0 0) e)
 
+-- so `sheetrun` never prints it
 pub never-eleven : (input : List ℕ) (text : Text) (line : ℕ) → sheetrun input ≡ printed (refusal 11 text line) → ⊥
 unfolding sheetrun
 never-eleven input text line e =

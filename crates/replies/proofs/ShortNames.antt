@@ -1,10 +1,11 @@
--- What reading a text answers: a refusal's number is at most 10, and each name of what is accepted has at most 8 bytes.
+-- What reading a text answers: a refusal by a number from 1 to 10 at a line of at most 16,384, or names of at most 8 bytes.
 --   Short             at most 8 bytes
---   Reads             what holds of an answer: of a refusal, that its number is at most 10; or something of the value
---   program-short     the names of symbols and constants (the main law for programs)
+--   Turned            a refusal that reading may answer
+--   Reads             what holds of an answer: of a refusal that it is such, or something of the value
+--   program-short     the names of symbols, rules and constants (the main law for programs)
 --   goal-short        the letters and constants (the main law for goals)
 -- Assumes nothing.
-use Prim.Native.Nat.{ℕ, suc, _≤_}
+use Prim.Native.Nat.{ℕ, suc, _+_, _≤_}
 use native.Mathlib.Omega.{arith}
 use mathlib.Core.Bool.{Bool, true, false, cond, not, _&&_, _||_}
 use mathlib.Core.List.{List, [], _∷_, _++_, map}
@@ -12,23 +13,25 @@ use mathlib.Core.Option.{Option, none, some}
 use mathlib.Core.Path.{_≡_, refl, subst}
 use lib.Dec.{leb, ltb, eqb}
 use lib.ListN.{length, drop}
-use borrow.Author.Tests.{leb-true}
+use borrow.Author.Tests.{leb-true, ltb-false}
 use Rattle.text.specs.Bytes.{between}
-use Rattle.text.specs.Lists.{onward, every, isKnown, withName}
-use Rattle.text.specs.Lines.{Line, lines, lineIsFaulty}
+use Rattle.text.specs.Lists.{onward, every, placeOf, isKnown, withName}
+use Rattle.text.specs.Lines.{Line, lines, inFirstLine, lineIsFaulty}
 use Rattle.text.specs.Fields.{fields, isName, isVariable, isTerm, isNumberIn}
 use Rattle.semantics.specs.Terms.{Constraint, Symbol, Rule, weight}
 use Rattle.semantics.proofs.Configurations.{All, also}
 use Rattle.semantics.proofs.Configurations as C
-use Rattle.semantics.proofs.Multisets.{all-append}
+use Rattle.semantics.proofs.Multisets.{all-append, all-mono, all-map}
 use Rattle.syntax.specs.Answers.{Answer, refused, accepted, refuseIf, andThen}
 use Rattle.syntax.specs.Forms.{Form, symbolForm, ruleForm, headForm, bodyForm, equationForm, goalForm, noForm, formOf}
-use Rattle.syntax.specs.Forms.{Place, placeAfter, fieldAt, constantsAfter, isConstraintFaulty, isUndeclared}
-use Rattle.syntax.specs.Programs.{Draft, Reading, blank, lastRule, withRule, readSymbol, readRule, readConstraint}
-use Rattle.syntax.specs.Programs.{readEquation, readForm, readLine, readLines, checkRules, readProgram, maxText, maxSymbols}
-use Rattle.syntax.specs.Programs.{maxRules, maxHeads, maxBody, maxEquations, maxConstants, withHead, withBody}
+use Rattle.syntax.specs.Forms.{Place, placeAfter, fieldAt, constantsAfter, letterNumber}
+use Rattle.syntax.specs.Forms.{isSymbolFaulty, isRuleFaulty, isEquationFaulty, isConstraintFaulty, isUndeclared, constraintOf}
+use Rattle.syntax.specs.Programs.{RuleRead, Draft, Reading, Found, blank, atPlace, onLast, lastRule, withHead, withBody}
+use Rattle.syntax.specs.Programs.{withEquation, withRule, readSymbol, readRule, constraintLine, readConstraint, readEquation}
+use Rattle.syntax.specs.Programs.{readForm, readFields, readLine, readLines, checkRules, readProgram}
+use Rattle.syntax.specs.Programs.{maxText, maxSymbols, maxRules, maxHeads, maxBody, maxEquations, maxConstants}
 use Rattle.syntax.specs.Goals.{GoalDraft, GoalReading, maxGoal, maxWeight, lettersAfter, readConstraintOfGoal, isGoalForm}
-use Rattle.syntax.specs.Goals.{readGoalLine, readGoalLines, readGoal}
+use Rattle.syntax.specs.Goals.{readGoalFields, readGoalLine, readGoalLines, readGoal}
 use Rattle.syntax.proofs.WellFormed.{and-parts, or-neither, not-false}
 
 -- at most 8 bytes
@@ -86,16 +89,52 @@ letters-short (f ∷ fs) names terms all =
     go true e = all
     go false e = with-short f names (term-short f e) all
 
--- what holds of an answer: of a refusal, that its number is at most 10; or something of the value that is accepted
+-- the name of a K line and of an R line, and the terms of an H, B or G line, of the right form
+symbol-named : (fs : List (List ℕ)) → isSymbolFaulty fs ≡ false → Short (fieldAt 1 fs)
+unfolding isSymbolFaulty
+symbol-named fs fine =
+    let a = not (eqb (length fs) 4) in
+    let b = not (isName (fieldAt 1 fs)) in
+    let c = not (isNumberIn 0 4 (fieldAt 2 fs)) in
+    let e = not (isNumberIn 1 31 (fieldAt 3 fs)) in
+    let ab = or-neither (a || b) c (or-neither (a || b || c) e fine .0) .0 in
+    name-short (fieldAt 1 fs) (not-false (isName (fieldAt 1 fs)) (or-neither a b ab .1))
+
+rule-named : (fs : List (List ℕ)) → isRuleFaulty fs ≡ false → Short (fieldAt 1 fs)
+unfolding isRuleFaulty
+rule-named fs fine =
+    let a = not (eqb (length fs) 2) in
+    let b = not (isName (fieldAt 1 fs)) in
+    name-short (fieldAt 1 fs) (not-false (isName (fieldAt 1 fs)) (or-neither a b fine .1))
+
+line-terms : (fs : List (List ℕ)) → isConstraintFaulty fs ≡ false → every isTerm (drop 2 fs) ≡ true
+unfolding isConstraintFaulty
+line-terms fs fine =
+    let faulty = not (between 2 6 (length fs)) || not (isName (fieldAt 1 fs)) in
+    not-false (every isTerm (drop 2 fs)) (or-neither faulty (not (every isTerm (drop 2 fs))) fine .1)
+
+-- a refusal that reading may answer
+pub record Turned (number line : ℕ) : Type 0 where
+  pub least : 1 ≤ number
+  pub most : number ≤ 10
+  pub within : line ≤ 16384
+
+-- what holds of an answer: of a refusal, that reading may answer it; or something of the value that is accepted
 abbrev pub Reads : {A : Type 0} → (A → Type 0) → Answer A → Type 0
-Reads P (refused number line) = number ≤ 10
+Reads P (refused number line) = Turned number line
 Reads P (accepted a) = P a
 
+turned : (number line : ℕ) → (leb 1 number && leb number 10) ≡ true → line ≤ 16384 → Turned number line
+turned number line h low =
+    let (least, most) = and-parts (leb 1 number) (leb number 10) h in
+    record { least = leb-true 1 number least; most = leb-true number 10 most; within = low }
+
 reads-refuseIf :
-    {A : Type 0} (P : A → Type 0) (b : Bool) (number line : ℕ) (otherwise : Answer A) → number ≤ 10
-    → (b ≡ false → Reads P otherwise) → Reads P (refuseIf b number line otherwise)
-reads-refuseIf P true number line otherwise q h = q
-reads-refuseIf P false number line otherwise q h = h refl
+    {A : Type 0} (P : A → Type 0) (b : Bool) (number line : ℕ) (otherwise : Answer A)
+    → (leb 1 number && leb number 10) ≡ true → line ≤ 16384 → (b ≡ false → Reads P otherwise)
+    → Reads P (refuseIf b number line otherwise)
+reads-refuseIf P true number line otherwise q low h = turned number line q low
+reads-refuseIf P false number line otherwise q low h = h refl
 
 reads-andThen :
     {A B : Type 0} (P : A → Type 0) (R : B → Type 0) (r : Answer A) (next : A → Answer B) → Reads P r
@@ -103,169 +142,238 @@ reads-andThen :
 reads-andThen P R (refused number line) next h k = h
 reads-andThen P R (accepted a) next h k = k a h
 
+-- a rule of a short name, whose R line is one that a refusal may have
+record ShortRule (r : RuleRead) : Type 0 where
+  named : Short (r .rule .name)
+  within : r .line ≤ 16384
+
 -- a draft, and a program as read, whose names are short
 record ShortDraft (d : Draft) : Type 0 where
   symbols : All (λ s. Short (s .name)) (d .symbols)
+  rules : All ShortRule (d .rules)
   constants : All Short (d .constants)
 
 pub record ShortProgram (p : Reading) : Type 0 where
   pub symbols : All (λ s. Short (s .name)) (p .program .symbols)
+  pub rules : All (λ r. Short (r .name)) (p .program .rules)
   pub constants : All Short (p .constants)
 
--- each line keeps a draft so
-symbol-reads :
-    (n : ℕ) (place : Place) (fs : List (List ℕ)) (d : Draft) → ShortDraft d → Reads ShortDraft (readSymbol n place fs d)
-unfolding readSymbol
-symbol-reads n place fs d s =
-    let name = fieldAt 1 fs in
-    let a = not (eqb (length fs) 4) in
-    let b = not (isName name) in
-    let c = not (isNumberIn 0 4 (fieldAt 2 fs)) in
-    let e = not (isNumberIn 1 31 (fieldAt 3 fs)) in
-    reads-refuseIf ShortDraft (a || b || c || e) 4 n _ (omega arith)
-    λ fine. reads-refuseIf ShortDraft (isKnown name (map (λ s. s .name) (d .symbols))) 5 n _ (omega arith)
-    λ _. reads-refuseIf ShortDraft (leb maxSymbols (length (d .symbols))) 7 n _ (omega arith)
-    λ _. (let abc = or-neither (a || b || c) e fine .0 in
-    let ab = or-neither (a || b) c abc .0 in
-    let named = not-false (isName name) (or-neither a b ab .1) in
-    record { symbols = all-append (s .symbols) (also (name-short name named) C.none); constants = s .constants })
+-- a change of the last rule that keeps its name
+last-short :
+    (f : Rule → Rule) (rs : List RuleRead) → ((r : Rule) → f r .name ≡ r .name) → All ShortRule rs → All ShortRule (onLast f rs)
+unfolding onLast
+last-short f [] k C.none = C.none
+last-short f (r ∷ []) k (also h C.none) =
+    let named : Short (f (r .rule) .name) = rw (k (r .rule)) (h .named) in
+    also (record { named = named; within = h .within }) C.none
+last-short f (r ∷ q ∷ rs) k (also h all) = also h (last-short f (q ∷ rs) k all)
 
-rule-reads : (n : ℕ) (place : Place) (fs : List (List ℕ)) (d : Draft) → ShortDraft d → Reads ShortDraft (readRule n place fs d)
-unfolding readRule
-rule-reads n place fs d s =
-    let name = fieldAt 1 fs in
-    reads-refuseIf ShortDraft (not (eqb (length fs) 2) || not (isName name)) 4 n _ (omega arith)
-    λ _. reads-refuseIf ShortDraft (isKnown name (map (λ r. r .name) (d .rules))) 5 n _ (omega arith)
-    λ _. reads-refuseIf ShortDraft (leb maxRules (length (d .rules))) 7 n _ (omega arith)
-    λ _. record { symbols = s .symbols; constants = s .constants }
+change-short :
+    (f : Rule → Rule) (constants : List (List ℕ)) (d : Draft) → ((r : Rule) → f r .name ≡ r .name) → ShortDraft d
+    → All Short constants → ShortDraft (withRule f constants d)
+unfolding withRule
+change-short f constants d k s all =
+    record { symbols = s .symbols; rules = last-short f (d .rules) k (s .rules); constants = all }
 
-constraint-reads :
-    (n : ℕ) (place : Place) (count most : ℕ) (add : Constraint → Rule → Rule) (fs : List (List ℕ)) (d : Draft) → ShortDraft d
-    → Reads ShortDraft (readConstraint n place count most add fs d)
-unfolding readConstraint withRule
-constraint-reads n place count most add fs d s =
-    let constants = constantsAfter (drop 2 fs) (d .constants) in
-    reads-refuseIf ShortDraft (isConstraintFaulty fs) 4 n _ (omega arith)
-    λ _. reads-refuseIf ShortDraft (isUndeclared (d .symbols) fs) 6 n _ (omega arith)
-    λ _. reads-refuseIf ShortDraft (leb most count || ltb maxConstants (length constants)) 7 n _ (omega arith)
-    λ _. record { symbols = s .symbols; constants = constants-short (drop 2 fs) (d .constants) (s .constants) }
+-- each line, of a number of at most 16,384, keeps a draft so
+module _ (n : ℕ) (low : n ≤ 16384) where
+  symbol-reads : (fs : List (List ℕ)) (d : Draft) → ShortDraft d → Reads ShortDraft (readSymbol n fs d)
+  unfolding readSymbol
+  symbol-reads fs d s =
+      reads-refuseIf ShortDraft (isSymbolFaulty fs) 4 n _ refl low
+      λ fine. reads-refuseIf ShortDraft (isKnown (fieldAt 1 fs) (map (λ s. s .name) (d .symbols))) 5 n _ refl low
+      λ _. reads-refuseIf ShortDraft (leb maxSymbols (length (d .symbols))) 7 n _ refl low
+      λ _. record {
+        symbols = all-append (s .symbols) (also (symbol-named fs fine) C.none);
+        rules = s .rules;
+        constants = s .constants;
+      }
 
-equation-reads :
-    (n : ℕ) (place : Place) (fs : List (List ℕ)) (d : Draft) → ShortDraft d → Reads ShortDraft (readEquation n place fs d)
-unfolding readEquation withRule
-equation-reads n place fs d s =
-    let constants = constantsAfter (drop 1 fs) (d .constants) in
-    reads-refuseIf ShortDraft (not (eqb (length fs) 3) || not (every isTerm (drop 1 fs))) 4 n _ (omega arith)
-    λ _. reads-refuseIf ShortDraft
-    (leb maxEquations (length (lastRule (d .rules) .equations)) || ltb maxConstants (length constants)) 7 n _ (omega arith)
-    λ _. record { symbols = s .symbols; constants = constants-short (drop 1 fs) (d .constants) (s .constants) }
+  rule-reads : (fs : List (List ℕ)) (d : Draft) → ShortDraft d → Reads ShortDraft (readRule n fs d)
+  unfolding readRule
+  rule-reads fs d s =
+      reads-refuseIf ShortDraft (isRuleFaulty fs) 4 n _ refl low
+      λ fine. reads-refuseIf ShortDraft (isKnown (fieldAt 1 fs) (map (λ r. r .rule .name) (d .rules))) 5 n _ refl low
+      λ _. reads-refuseIf ShortDraft (leb maxRules (length (d .rules))) 7 n _ refl low
+      λ _. record {
+        symbols = s .symbols;
+        rules = all-append (s .rules) (also (record { named = rule-named fs fine; within = low }) C.none);
+        constants = s .constants;
+      }
 
-form-reads :
-    (form : Form) (n : ℕ) (place : Place) (fs : List (List ℕ)) (d : Draft) → ShortDraft d
-    → Reads ShortDraft (readForm form n place fs d)
-unfolding readForm
-form-reads symbolForm n place fs d s = symbol-reads n place fs d s
-form-reads ruleForm n place fs d s = rule-reads n place fs d s
-form-reads headForm n place fs d s = constraint-reads n place (length (lastRule (d .rules) .heads)) maxHeads withHead fs d s
-form-reads bodyForm n place fs d s = constraint-reads n place (length (lastRule (d .rules) .body)) maxBody withBody fs d s
-form-reads equationForm n place fs d s = equation-reads n place fs d s
-form-reads goalForm n place fs d s = omega arith
-form-reads noForm n place fs d s = omega arith
+  -- what an H, B or G line finds
+  found-reads :
+      (P : Found → Type 0) (full : Bool) (symbols : List Symbol) (variable : List ℕ → ℕ) (constants fs : List (List ℕ))
+      → (every isTerm (drop 2 fs) ≡ true
+      → P (record {
+        constraint = constraintOf symbols variable (constantsAfter (drop 2 fs) constants) fs;
+        constants = constantsAfter (drop 2 fs) constants;
+      }))
+      → Reads P (constraintLine full symbols variable constants n fs)
+  unfolding constraintLine
+  found-reads P full symbols variable constants fs k =
+      reads-refuseIf P (isConstraintFaulty fs) 4 n _ refl low
+      λ fine. reads-refuseIf P (isUndeclared symbols fs) 6 n _ refl low
+      λ _. reads-refuseIf P (full || ltb maxConstants (length (constantsAfter (drop 2 fs) constants))) 7 n _ refl low
+      λ _. k (line-terms fs fine)
 
-line-reads : (n : ℕ) (l : Line) (d : Draft) → ShortDraft d → Reads ShortDraft (readLine n l d)
-unfolding readLine
-line-reads n l d s =
-    reads-refuseIf ShortDraft (lineIsFaulty l) 2 n _ (omega arith)
-    λ _. go (placeAfter (formOf (fieldAt 0 (fields (l .bytes)))) (d .place))
+  constraint-reads :
+      (count most : ℕ) (add : Constraint → Rule → Rule) (fs : List (List ℕ)) (d : Draft)
+      → ((c : Constraint) (r : Rule) → add c r .name ≡ r .name) → ShortDraft d
+      → Reads ShortDraft (readConstraint count most add n fs d)
+  unfolding readConstraint
+  constraint-reads count most add fs d k s =
+      reads-andThen (λ found. All Short (found .constants)) ShortDraft
+      (constraintLine (leb most count) (d .symbols) letterNumber (d .constants) n fs) _
+      (found-reads _ (leb most count) (d .symbols) letterNumber (d .constants) fs
+      λ _. constants-short (drop 2 fs) (d .constants) (s .constants))
+      λ found h. change-short (add (found .constraint)) (found .constants) d (k (found .constraint)) s h
+
+  equation-reads : (fs : List (List ℕ)) (d : Draft) → ShortDraft d → Reads ShortDraft (readEquation n fs d)
+  unfolding readEquation withEquation
+  equation-reads fs d s =
+      let constants = constantsAfter (drop 1 fs) (d .constants) in
+      let full = leb maxEquations (length (lastRule (d .rules) .equations)) in
+      reads-refuseIf ShortDraft (isEquationFaulty fs) 4 n _ refl low
+      λ _. reads-refuseIf ShortDraft (full || ltb maxConstants (length constants)) 7 n _ refl low
+      λ _. change-short _ constants d (λ r. refl) s (constants-short (drop 1 fs) (d .constants) (s .constants))
+
+  form-reads : (form : Form) (fs : List (List ℕ)) (d : Draft) → ShortDraft d → Reads ShortDraft (readForm form n fs d)
+  unfolding readForm withHead withBody
+  form-reads symbolForm fs d s = symbol-reads fs d s
+  form-reads ruleForm fs d s = rule-reads fs d s
+  form-reads headForm fs d s =
+      constraint-reads (length (lastRule (d .rules) .heads)) maxHeads withHead fs d (λ c r. refl) s
+  form-reads bodyForm fs d s =
+      constraint-reads (length (lastRule (d .rules) .body)) maxBody withBody fs d (λ c r. refl) s
+  form-reads equationForm fs d s = equation-reads fs d s
+  form-reads goalForm fs d s = turned 3 n refl low
+  form-reads noForm fs d s = turned 3 n refl low
+
+  moved-short : (place : Place) (d : Draft) → ShortDraft d → ShortDraft (atPlace place d)
+  unfolding atPlace
+  moved-short place d s = record { symbols = s .symbols; rules = s .rules; constants = s .constants }
+
+  fields-read : (fs : List (List ℕ)) (d : Draft) → ShortDraft d → Reads ShortDraft (readFields n fs d)
+  unfolding readFields
+  fields-read fs d s = go (placeAfter (formOf (fieldAt 0 fs)) (d .place))
+    where
+      go :
+          (o : Option Place)
+          → Reads ShortDraft (onward o (refused 3 n) (λ place. readForm (formOf (fieldAt 0 fs)) n fs (atPlace place d)))
+      go none = turned 3 n refl low
+      go (some place) = form-reads (formOf (fieldAt 0 fs)) fs (atPlace place d) (moved-short place d s)
+
+  line-reads : (l : Line) (d : Draft) → ShortDraft d → Reads ShortDraft (readLine n l d)
+  unfolding readLine
+  line-reads l d s =
+      reads-refuseIf ShortDraft (lineIsFaulty l) 2 n _ refl low λ _. fields-read (fields (l .bytes)) d s
+
+lines-read : (n : ℕ) (d : Draft) (ls : List Line) → n + length ls ≤ 16385 → ShortDraft d → Reads ShortDraft (readLines n d ls)
+unfolding readLines
+lines-read n d [] h s = s
+lines-read n d (l ∷ ls) h s =
+    reads-andThen ShortDraft ShortDraft (readLine n l d) _ (line-reads n (omega arith) l d s)
+    (λ e t. lines-read (suc n) e ls (omega arith) t)
+
+-- the rules, each at its R line
+rules-read :
+    {A : Type 0} (P : A → Type 0) (symbols : List Symbol) (rs : List RuleRead) (otherwise : Answer A) → All ShortRule rs
+    → Reads P otherwise → Reads P (checkRules symbols rs otherwise)
+unfolding checkRules
+rules-read P symbols [] otherwise all h = h
+rules-read P symbols (r ∷ rs) otherwise (also s all) h =
+    reads-refuseIf P (eqb (length (r .rule .heads)) 0) 8 (r .line) _ refl (s .within)
+    λ _. reads-refuseIf P (leb (weight symbols (r .rule .heads)) (weight symbols (r .rule .body))) 9 (r .line) _ refl (s .within)
+    λ _. rules-read P symbols rs otherwise all h
+
+-- a text has no more lines than bytes
+lines-few : (s : List ℕ) → length (lines s) ≤ length s
+unfolding lines inFirstLine
+lines-few [] = omega arith
+lines-few (b ∷ s) = go (eqb b 10) (lines s) (lines-few s)
   where
     go :
-        (o : Option Place)
-        → Reads ShortDraft
-        (onward o (refused 3 n) (λ place. readForm (formOf (fieldAt 0 (fields (l .bytes)))) n place (fields (l .bytes)) d))
-    go none = omega arith
-    go (some place) = form-reads (formOf (fieldAt 0 (fields (l .bytes)))) n place (fields (l .bytes)) d s
-
-lines-read : (n : ℕ) (d : Draft) (ls : List Line) → ShortDraft d → Reads ShortDraft (readLines n d ls)
-unfolding readLines
-lines-read n d [] s = s
-lines-read n d (l ∷ ls) s =
-    reads-andThen ShortDraft ShortDraft (readLine n l d) _ (line-reads n l d s) (λ e t. lines-read (suc n) e ls t)
-
-rules-read :
-    (symbols : List Symbol) (rs : List Rule) (starts : List ℕ) → Reads (λ _. Unit {0}) (checkRules symbols rs starts)
-unfolding checkRules
-rules-read symbols [] starts = tt
-rules-read symbols (r ∷ rs) [] = tt
-rules-read symbols (r ∷ rs) (n ∷ starts) =
-    reads-refuseIf _ (eqb (length (r .heads)) 0) 8 n _ (omega arith)
-    λ _. reads-refuseIf _ (leb (weight symbols (r .heads)) (weight symbols (r .body))) 9 n _ (omega arith)
-    λ _. rules-read symbols rs starts
+        (c : Bool) (ls : List Line) → length ls ≤ length s
+        → length (cond c (record { bytes = []; ended = true } ∷ ls) (inFirstLine b ls)) ≤ suc (length s)
+    go true ls h = omega arith
+    go false [] h = omega arith
+    go false (l ∷ ls) h = omega arith
 
 -- a program's text
 pub program-short : (s : List ℕ) → Reads ShortProgram (readProgram s)
 unfolding readProgram blank
 program-short s =
-    reads-refuseIf ShortProgram (ltb maxText (length s)) 1 0 _ (omega arith)
-    λ _. reads-andThen ShortDraft ShortProgram (readLines 1 blank (lines s)) _
-    (lines-read 1 blank (lines s) (record { symbols = C.none; constants = C.none }))
-    λ d t. reads-andThen (λ _. Unit {0}) ShortProgram (checkRules (d .symbols) (d .rules) (d .starts)) _
-    (rules-read (d .symbols) (d .rules) (d .starts))
-    λ _ _. record { symbols = t .symbols; constants = t .constants }
+    reads-refuseIf ShortProgram (ltb maxText (length s)) 1 0 _ refl (omega arith)
+    λ short. reads-andThen ShortDraft ShortProgram (readLines 1 blank (lines s)) _
+    (lines-read 1 blank (lines s) (omega (arith, lines-few s, ltb-false 16384 (length s) short))
+    (record { symbols = C.none; rules = C.none; constants = C.none }))
+    λ d t. rules-read ShortProgram (d .symbols) (d .rules) _ (t .rules)
+    (record { symbols = t .symbols; rules = all-map _ (all-mono (λ r h. h .named) (t .rules)); constants = t .constants })
 
--- a goal's draft, and a goal as read, whose names are short
-record ShortGoalDraft (d : GoalDraft) : Type 0 where
+-- a goal's draft, and a goal as read, whose names are short where the constants before it are
+record ShortGoalDraft (before : List (List ℕ)) (d : GoalDraft) : Type 0 where
   letters : All Short (d .letters)
-  constants : All Short (d .constants)
+  constants : All Short before → All Short (d .constants)
 
-pub record ShortGoal (g : GoalReading) : Type 0 where
+pub record ShortGoal (before : List (List ℕ)) (g : GoalReading) : Type 0 where
   pub letters : All Short (g .letters)
-  pub constants : All Short (g .constants)
+  pub constants : All Short before → All Short (g .constants)
+
+-- what a G line finds
+record ShortFound (before fs : List (List ℕ)) (found : Found) : Type 0 where
+  terms : every isTerm (drop 2 fs) ≡ true
+  constants : All Short before → All Short (found .constants)
 
 goal-line-reads :
-    (symbols : List Symbol) (n : ℕ) (l : Line) (d : GoalDraft) → ShortGoalDraft d
-    → Reads ShortGoalDraft (readGoalLine symbols n l d)
-unfolding readGoalLine readConstraintOfGoal isConstraintFaulty
-goal-line-reads symbols n l d s =
+    (before : List (List ℕ)) (symbols : List Symbol) (n : ℕ) (l : Line) (d : GoalDraft) → n ≤ 16384 → ShortGoalDraft before d
+    → Reads (ShortGoalDraft before) (readGoalLine symbols n l d)
+unfolding readGoalLine readGoalFields readConstraintOfGoal
+goal-line-reads before symbols n l d low s =
     let fs = fields (l .bytes) in
-    let faulty = not (between 2 6 (length fs)) || not (isName (fieldAt 1 fs)) in
-    reads-refuseIf ShortGoalDraft (lineIsFaulty l) 2 n _ (omega arith)
-    λ _. reads-refuseIf ShortGoalDraft (not (isGoalForm (formOf (fieldAt 0 fs)))) 3 n _ (omega arith)
-    λ _. reads-refuseIf ShortGoalDraft (faulty || not (every isTerm (drop 2 fs))) 4 n _ (omega arith)
-    λ fine. reads-refuseIf ShortGoalDraft (isUndeclared symbols fs) 6 n _ (omega arith)
-    λ _. reads-refuseIf ShortGoalDraft
-    (leb maxGoal (length (d .constraints)) || ltb maxConstants (length (constantsAfter (drop 2 fs) (d .constants)))) 7 n _
-    (omega arith)
-    λ _. (let terms = not-false (every isTerm (drop 2 fs)) (or-neither faulty (not (every isTerm (drop 2 fs))) fine .1) in
-    record {
-      letters = letters-short (drop 2 fs) (d .letters) terms (s .letters);
-      constants = constants-short (drop 2 fs) (d .constants) (s .constants);
-    })
+    let letters = lettersAfter (drop 2 fs) (d .letters) in
+    let variable : List ℕ → ℕ = λ f. placeOf f letters in
+    let full = leb maxGoal (length (d .constraints)) in
+    let P = ShortGoalDraft before in
+    reads-refuseIf P (lineIsFaulty l) 2 n _ refl low
+    λ _. reads-refuseIf P (not (isGoalForm (formOf (fieldAt 0 fs)))) 3 n _ refl low
+    λ _. reads-andThen (ShortFound before fs) P (constraintLine full symbols variable (d .constants) n fs) _
+    (found-reads n low _ full symbols variable (d .constants) fs
+    λ terms. record { terms = terms; constants = λ h. constants-short (drop 2 fs) (d .constants) (s .constants h) })
+    λ found h. record {
+      letters = letters-short (drop 2 fs) (d .letters) (h .terms) (s .letters);
+      constants = h .constants;
+    }
 
 goal-lines-read :
-    (symbols : List Symbol) (n : ℕ) (d : GoalDraft) (ls : List Line) → ShortGoalDraft d
-    → Reads ShortGoalDraft (readGoalLines symbols n d ls)
+    (before : List (List ℕ)) (symbols : List Symbol) (n : ℕ) (d : GoalDraft) (ls : List Line) → n + length ls ≤ 16385
+    → ShortGoalDraft before d → Reads (ShortGoalDraft before) (readGoalLines symbols n d ls)
 unfolding readGoalLines
-goal-lines-read symbols n d [] s = s
-goal-lines-read symbols n d (l ∷ ls) s =
-    reads-andThen ShortGoalDraft ShortGoalDraft (readGoalLine symbols n l d) _ (goal-line-reads symbols n l d s)
-    (λ e t. goal-lines-read symbols (suc n) e ls t)
+goal-lines-read before symbols n d [] h s = s
+goal-lines-read before symbols n d (l ∷ ls) h s =
+    reads-andThen (ShortGoalDraft before) (ShortGoalDraft before) (readGoalLine symbols n l d) _
+    (goal-line-reads before symbols n l d (omega arith) s)
+    (λ e t. goal-lines-read before symbols (suc n) e ls (omega arith) t)
 
--- a goal's text over a program as read
-pub goal-short : (p : Reading) (s : List ℕ) → ShortProgram p → Reads ShortGoal (readGoal p s)
+-- a goal's text over symbols and constants
+pub goal-short :
+    (symbols : List Symbol) (constants : List (List ℕ)) (s : List ℕ)
+    → Reads (ShortGoal constants) (readGoal symbols constants s)
 unfolding readGoal
-goal-short p s h =
-    let symbols = p .program .symbols in
-    let start : GoalDraft = record { constraints = []; letters = []; constants = p .constants } in
-    reads-refuseIf ShortGoal (ltb maxText (length s)) 1 0 _ (omega arith)
-    λ _. reads-andThen ShortGoalDraft ShortGoal (readGoalLines symbols 1 start (lines s)) _
-    (goal-lines-read symbols 1 start (lines s) (record { letters = C.none; constants = h .constants }))
-    λ d t. reads-refuseIf ShortGoal (ltb maxWeight (weight symbols (d .constraints))) 10 0 _ (omega arith)
+goal-short symbols constants s =
+    let start : GoalDraft = record { constraints = []; letters = []; constants = constants } in
+    let P = ShortGoal constants in
+    reads-refuseIf P (ltb maxText (length s)) 1 0 _ refl (omega arith)
+    λ short. reads-andThen (ShortGoalDraft constants) P (readGoalLines symbols 1 start (lines s)) _
+    (goal-lines-read constants symbols 1 start (lines s) (omega (arith, lines-few s, ltb-false 16384 (length s) short))
+    (record { letters = C.none; constants = λ h. h }))
+    λ d t. reads-refuseIf P (ltb maxWeight (weight symbols (d .constraints))) 10 0 _ refl (omega arith)
     λ _. record { letters = t .letters; constants = t .constants }
 
--- what holds of the value, and of a refusal's number
+-- what holds of the value, and of a refusal
 pub reads-accepted : {A : Type 0} (P : A → Type 0) (r : Answer A) {a : A} → Reads P r → r ≡ accepted a → P a
 reads-accepted P r h e = subst (Reads P) e h
 
 pub reads-refused :
-    {A : Type 0} (P : A → Type 0) (r : Answer A) {number line : ℕ} → Reads P r → r ≡ refused number line → number ≤ 10
+    {A : Type 0} (P : A → Type 0) (r : Answer A) {number line : ℕ} → Reads P r → r ≡ refused number line → Turned number line
 reads-refused P r h e = subst (Reads P) e h

@@ -3,7 +3,9 @@
 --   Decided           a program is passed or failed
 --   Demand3On         demand 3 for a text that can be read
 --   Demand2On         demand 2 for a text that can be read
--- `check-exact` of proofs/Demand3.antt and `run-published` of proofs/Demand2.antt say that these hold of every such text.
+--   Sheetchecked      what `sheetcheck` prints of such a text
+-- `check-exact` of proofs/Demand3.antt, `run-published` of proofs/Demand2.antt and `sheetcheck-exact` of proofs/Sheetcheck.antt
+-- say that these hold of every such text.
 -- Assumes nothing.
 use Prim.Native.Nat.{ℕ, _≤_}
 use mathlib.Core.Bool.{true}
@@ -23,7 +25,8 @@ use Rattle.syntax.specs.Answers.{accepted}
 use Rattle.syntax.specs.Programs.{Reading}
 use Rattle.syntax.specs.Goals.{GoalReading, readGoal}
 use Rattle.listing.specs.Listing.{decimal, namingOf, endListing, verdictListing}
-use Rattle.replies.specs.Replies.{Reply, listing, runListing, checkListing, runReply, checkReply}
+use Rattle.replies.specs.Replies.{Reply, listing, runListing, checkListing, runReply, checkReply, printed}
+use Rattle.replies.specs.Replies.{sheetcheck}
 
 -- the reply that lists a verdict
 unfoldable pub verdictReply : Reading → Verdict → Reply
@@ -44,25 +47,38 @@ pub record Checked (s : List ℕ) (room : ℕ) (r : Reading) : Type 1 where
   pub exact : ((n : ℕ) × (checkReply s room ≡ verdictReply r (confluent n))) ↔ OneOutcome (r .program)
   pub counted : OneOutcome (r .program) → checkReply s room ≡ verdictReply r (confluent (length (overlaps (r .program))))
 
--- demand 3 for a text that reads as r: its check, wherever the listing fits; for one outcome of all goals it is enough that those
--- whose variables count by first appearance have one; no derivation fires more often than its goal's weight; and a number is shown in
--- digits without a leading zero, whose value it is
+-- demand 3 for a text that reads as r: its check, wherever the listing fits; for one outcome of all goals it is enough that
+-- those whose variables count by first appearance have one; no derivation fires more often than its goal's weight; and a
+-- number is shown in digits without a leading zero, whose value it is
 pub record Demand3On (s : List ℕ) (r : Reading) : Type 1 where
   pub checked : (room : ℕ) → length (checkListing r) ≤ room → Checked s room r
   pub enough : OneOutcomeByAppearance (r .program) → OneOutcome (r .program)
   pub bounded : Bounded (r .program)
   pub decimals : (n : ℕ) → (isNumber (decimal n) ≡ true) × (valueOf (decimal n) ≡ n)
 
--- the reply to a goal's text that reads as g, in a room that the listing fits: the listing of an end, and the run of the goal, which
--- is over the program's symbols, ends so
+-- the reply to a goal's text that reads as g, in a room that the listing fits: the listing of an end, and the run of the goal,
+-- which is over the program's symbols, ends so
 pub record Ran (s t : List ℕ) (room : ℕ) (r : Reading) (g : GoalReading) : Type 0 where
   pub goal : isGoalOf (r .program) (g .goal) ≡ true
   pub end : Final
-  pub reply : runReply s t room ≡ listing (endListing (namingOf (r .program .symbols) (g .constants)) (λ x. getD (g .letters) x []) end)
+  pub reply :
+      runReply s t room
+      ≡ listing (endListing (namingOf (r .program .symbols) (g .constants)) (λ x. getD (g .letters) x []) end)
   pub runs : RunsTo (r .program) (g .goal) [] end
 
 -- demand 2 for a text that reads as r: that of the program, and every run on bytes is one
 pub record Demand2On (s : List ℕ) (r : Reading) : Type 1 where
   pub program : Demand2 (r .program)
   pub ran :
-      (t : List ℕ) (room : ℕ) (g : GoalReading) → readGoal (r .program .symbols) (r .constants) t ≡ accepted g → length (runListing r g) ≤ room → Ran s t room r g
+      (t : List ℕ) (room : ℕ) (g : GoalReading) → readGoal (r .program .symbols) (r .constants) t ≡ accepted g
+      → length (runListing r g) ≤ room → Ran s t room r g
+
+-- what `sheetcheck` prints of an input that reads as r: a pass with the number of its overlaps, and each goal over its symbols,
+-- of any length, has one outcome; or an overlap with two ends that is a counterexample, and not each goal has one
+pub data Sheetchecked (input : List ℕ) (r : Reading) : Type 1 where
+  passed :
+      sheetcheck input ≡ printed (verdictReply r (confluent (length (overlaps (r .program))))) → OneOutcome (r .program)
+      → Sheetchecked input r
+  failed :
+      (o : Overlap) (one two : Final) → sheetcheck input ≡ printed (verdictReply r (unjoined o one two))
+      → Counterexample (r .program) o one two → (OneOutcome (r .program) → ⊥) → Sheetchecked input r

@@ -6,7 +6,7 @@
 --   printed            what the two programs print
 -- Assumes nothing.
 use Prim.Native.Nat.{ℕ}
-use mathlib.Core.Bool.{Bool, true, false, cond}
+use mathlib.Core.Bool.{cond}
 use mathlib.Core.List.{List, [], _∷_, _++_}
 use lib.Dec.{ltb}
 use lib.ListN.{length, getD, drop}
@@ -71,7 +71,7 @@ unfoldable pub printed : Reply → List ℕ
 printed (refusal number text line) = lineOf (ascii "REFUSED") (decimal number ∷ textLetter text ∷ decimal line ∷ [])
 printed (listing bytes) = bytes
 
--- enough room for every listing of a run (`run-fits` in proofs/Room.antt), and of a check (docs/DECISIONS.md)
+-- enough room for every listing of a run (`run-fits` in proofs/Room.antt), and of a check (`check-fits` in proofs/CheckRoom.antt)
 unfoldable pub ample : ℕ
 ample = 32768
 

@@ -5,18 +5,18 @@
 -- variants of each other. Assumes nothing.
 use Prim.Native.Nat.{ℕ}
 use Prim.Native.String.{String}
-use mathlib.Core.Bool.{Bool, true, false, cond}
+use mathlib.Core.Bool.{cond}
 use mathlib.Core.List.{List, [], _∷_, _++_}
-use mathlib.Core.Option.{Option, none, some}
+use mathlib.Core.Option.{Option, none}
 use Rattle.text.specs.Bytes.{ascii}
 use Rattle.text.specs.Lists.{onward}
-use Rattle.semantics.specs.Terms.{Term, con, var, Constraint, Rule, Program, State, live}
+use Rattle.semantics.specs.Terms.{Term, var, Rule, State, live}
 use Rattle.semantics.specs.Variants.{sameState}
 use Rattle.semantics.specs.Overlaps.{Numbered, Overlap, overlapOf, firstEnd, secondEnd}
 use Rattle.semantics.specs.Verdict.{unjoined, isJoinable}
 use Rattle.syntax.specs.Programs.{Reading, readProgram}
 use Rattle.listing.specs.Listing.{namingOf, verdictListing}
-use Rattle.replies.specs.Replies.{Reply, listing, programText, replyOf, runReply, checkReply, printed, ample}
+use Rattle.replies.specs.Replies.{listing, programText, replyOf, runReply, checkReply, printed, ample}
 
 -- a case: the check of a program; the run of a goal over a program; the overlap of a program's first rule with itself by a
 -- list of partners; the comparison of two states
@@ -30,7 +30,8 @@ pub data Case : Type 0 where
 unfoldable pub overlapShown : Reading → Overlap → List ℕ
 overlapShown p o =
     cond (isJoinable (p .program) o) (ascii "JOINS\n")
-    (verdictListing (namingOf (p .program .symbols) (p .constants)) (unjoined o (firstEnd (p .program) o) (secondEnd (p .program) o)))
+    (verdictListing (namingOf (p .program .symbols) (p .constants))
+    (unjoined o (firstEnd (p .program) o) (secondEnd (p .program) o)))
 
 -- the overlap of a program's first rule with itself, by a list of partners
 unfoldable pub selfOverlapOf : List Rule → List ℕ → Option Overlap

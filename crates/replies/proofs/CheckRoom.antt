@@ -1,0 +1,389 @@
+-- Every listing of a check fits the room that the programs lend: `check-fits`. So `sheetcheck` never prints number 11:
+-- `check-never-eleven`.
+--   overlaps-few                  a program as read has at most 640,000 overlaps
+--   GoalFew, overlap-few          the goal of an overlap: at most 8 constraints, 32 variables and a weight of 248
+--   side-few, pairs-few           the bytes of the end of a side, and of the P lines
+--   check-few, check-fits         the listing of a check has at most 25,101 bytes, and fits
+--   check-answered                texts that read get their listing; any other reply has a number of at most 10
+-- Assumes nothing.
+use Prim.Native.Nat.{ℕ, zero, suc, _+_, _*_, _≤_, _<_}
+use native.Mathlib.Nat.{mul-suc, mul-le-mul}
+use native.Mathlib.Omega.{arith}
+use mathlib.Core.Bool.{Bool, true, false, cond}
+use mathlib.Core.List.{List, [], _∷_, _++_, map}
+use mathlib.Core.Option.{Option, none, some}
+use mathlib.Core.Path.{_≡_, refl, sym, ap, subst}
+use lib.ListN.{length, length-append, length-map, getD, getElem?}
+use borrow.Author.Tests.{le-ltb}
+use Rattle.text.specs.Bytes.{ascii}
+use Rattle.text.specs.Lists.{onward, has, gather, answers, upTo}
+use Rattle.text.proofs.Laws.{tabled-length}
+use Rattle.semantics.specs.Terms.{Term, con, var, Constraint, Symbol, Rule, Program, Goal, weight, mapTerms, isDeclared}
+use Rattle.semantics.specs.Terms.{isGoalOf, isWellFormed}
+use Rattle.semantics.specs.Strategy.{goalState}
+use Rattle.semantics.specs.Overlaps.{partnerLists, isPairing, pairings, apart, Numbered, Overlap, overlapOf, numberedFrom}
+use Rattle.semantics.specs.Overlaps.{overlapsOf, overlapsAmong, overlaps, sideEnd, firstEnd, secondEnd}
+use Rattle.semantics.specs.Verdict.{Verdict, confluent, unjoined, verdict}
+use Rattle.semantics.proofs.Configurations.{TermBelow, All, also}
+use Rattle.semantics.proofs.Configurations as C
+use Rattle.semantics.proofs.Multisets.{all-member, all-mono, all-of-members}
+use Rattle.semantics.proofs.MatchedTerms.{ConstraintBelow}
+use Rattle.semantics.proofs.Normal.{arrived}
+use Rattle.semantics.proofs.Weights.{weight-cons, weight-nil, stateWeight}
+use Rattle.semantics.proofs.Listings.{at-member}
+use Rattle.semantics.proofs.Pairings.{leftover}
+use Rattle.semantics.proofs.Enumeration.{Listed, overlap-parts, overlaps-member, pairings-member}
+use Rattle.semantics.proofs.OverlapGoals.{secondHeads, goalTerm, goalFirst, goalSecond, goal-constraints, listed-goal}
+use Rattle.semantics.proofs.OverlapGoals.{listed-appearance}
+use Rattle.semantics.proofs.Vocabulary.{reached-spoken, side-reach, side-spoken}
+use Rattle.semantics.proofs.Verdicts.{verdict-confluent, verdict-unjoined}
+use Rattle.syntax.specs.Answers.{Answer, refused, accepted}
+use Rattle.syntax.specs.Programs.{Reading, readProgram}
+use Rattle.syntax.proofs.WellFormed.{read-wellFormed}
+use Rattle.syntax.proofs.Vocabulary.{SymbolSmall, ReadSmall, read-small}
+use Rattle.listing.specs.Listing.{decimal, lineOf, Naming, namingOf, termShown, constraintLines, variableName, endListing}
+use Rattle.listing.specs.Listing.{pairLines, verdictListing}
+use Rattle.replies.specs.Replies.{Text, programText, refusal, listing, replyOf, fitted, checkListing, checkReply}
+use Rattle.replies.specs.Replies.{printed, ample, sheetcheck}
+use Rattle.replies.proofs.Demand3.{fitted-listed}
+use Rattle.replies.proofs.ShortNames.{Short, ShortProgram, program-short, reads-accepted, reads-refused}
+use Rattle.replies.proofs.Room.{digits-more, four-digits, order-few, number-short, line-few, naming-short, ShortRow}
+use Rattle.replies.proofs.Room.{declared-small, declared-few, AnyConstant, constraints-any, rules-any, reach-weighs}
+use Rattle.replies.proofs.Room.{rows-few, final-few, Answered, refusedBy, listed, eleven}
+
+-- how many answers there are, and elements of lists one behind the other
+answers-few : {A B : Type 0} (f : A → Option B) (l : List A) → length (answers f l) ≤ length l
+answers-few f [] = omega arith
+answers-few f (x ∷ l) = go (f x) (answers-few f l)
+  where
+    go :
+        (o : Option _) → length (answers f l) ≤ length l
+        → length (onward o (answers f l) (λ y. y ∷ answers f l)) ≤ suc (length l)
+    go none h = omega arith
+    go (some y) h = omega arith
+
+gather-few :
+    {A B : Type 0} (f : A → List B) (k : ℕ) {l : List A} → All (λ a. length (f a) ≤ k) l → length (gather f l) ≤ k * length l
+gather-few f k C.none = omega arith
+gather-few f k (also {a = x} {l} h all) =
+    omega (arith, length-append (f x) (gather f l), gather-few f k all, mul-suc k (length l))
+
+-- lists of at most 4 numbers from 0 to at most 4: each number is one of five
+next-few : (k m n : ℕ) → n ≤ 4 → length (partnerLists m n) ≤ k → length (partnerLists (suc m) n) ≤ k * 5
+unfolding partnerLists
+next-few k m n low h =
+    let counted = gather-few (λ d. map (d ∷_) (partnerLists m n)) k
+    (all-of-members (upTo (suc n)) (λ d _. rw (length-map (partnerLists m n) (d ∷_)) h)) in
+    let five : k * length (upTo (suc n)) ≤ k * 5 =
+    mul-le-mul (omega arith) (omega (arith, tabled-length (λ i. i) (suc n))) in
+    omega (arith, counted, five)
+
+lists-few : (m n : ℕ) → m ≤ 4 → n ≤ 4 → length (partnerLists m n) ≤ 625
+unfolding partnerLists
+lists-few m n few low = go m few
+  where
+    none-few : length (partnerLists 0 n) ≤ 1
+    none-few = omega arith
+
+    one : length (partnerLists 1 n) ≤ 5
+    one = next-few 1 0 n low none-few
+
+    two : length (partnerLists 2 n) ≤ 25
+    two = next-few 5 1 n low one
+
+    three : length (partnerLists 3 n) ≤ 125
+    three = next-few 25 2 n low two
+
+    go : (m : ℕ) → m ≤ 4 → length (partnerLists m n) ≤ 625
+    go zero h = omega (arith, none-few)
+    go (suc zero) h = omega (arith, one)
+    go (suc (suc zero)) h = omega (arith, two)
+    go (suc (suc (suc zero))) h = omega (arith, three)
+    go (suc (suc (suc (suc zero)))) h = next-few 125 3 n low three
+    go (suc (suc (suc (suc (suc m))))) h = absurd (omega arith)
+
+-- a rule of at most 4 heads
+abbrev FewHeads : Numbered → Type 0
+FewHeads i = length (i .rule .heads) ≤ 4
+
+-- the overlaps of two such rules, and of at most 32 of them
+pair-overlaps : (i j : Numbered) → FewHeads i → FewHeads j → length (overlapsOf i j) ≤ 625
+unfolding overlapsOf pairings
+pair-overlaps i j a b =
+    let lists = partnerLists (length (i .rule .heads)) (length (j .rule .heads)) in
+    let pairs = pairings (length (i .rule .heads)) (length (j .rule .heads)) in
+    omega (
+      arith,
+      answers-few (overlapOf i j) pairs,
+      answers-few (λ ds. cond (isPairing ds) (some ds) none) lists,
+      lists-few (length (i .rule .heads)) (length (j .rule .heads)) a b,
+    )
+
+among-few : {l : List Numbered} → length l ≤ 32 → All FewHeads l → length (overlapsAmong l) ≤ 20000 * length l
+unfolding overlapsAmong
+among-few h C.none = omega arith
+among-few h (also {a = i} {l} few all) =
+    let first = gather-few (overlapsOf i) 625 {l = i ∷ l} (all-mono (λ j k. pair-overlaps i j few k) (also few all)) in
+    omega (arith, length-append (gather (overlapsOf i) (i ∷ l)) (overlapsAmong l), first, among-few (omega arith) all)
+
+numbered-heads : (n : ℕ) {rs : List Rule} → All (λ r. length (r .heads) ≤ 4) rs → All FewHeads (numberedFrom n rs)
+unfolding numberedFrom
+numbered-heads n C.none = C.none
+numbered-heads n (also h all) = also h (numbered-heads (suc n) all)
+
+numbered-length : (n : ℕ) (rs : List Rule) → length (numberedFrom n rs) ≡ length rs
+unfolding numberedFrom
+numbered-length n [] = refl
+numbered-length n (r ∷ rs) = ap suc (numbered-length (suc n) rs)
+
+pub overlaps-few :
+    (p : Program) → length (p .rules) ≤ 32 → All (λ r. length (r .heads) ≤ 4) (p .rules) → length (overlaps p) ≤ 640000
+unfolding overlaps
+overlaps-few p few heads =
+    let n = numbered-length 0 (p .rules) in
+    omega (arith, n, among-few (omega (arith, n)) (numbered-heads 0 heads))
+
+-- at most as many are left as there were
+leftover-few : {A : Type 0} (n : ℕ) (l : List A) (ds : List ℕ) → length (leftover n l ds) ≤ length l
+leftover-few n [] ds = omega arith
+leftover-few n (x ∷ l) ds = go (has n ds) (leftover-few (suc n) l ds)
+  where
+    go :
+        (b : Bool) → length (leftover (suc n) l ds) ≤ length l
+        → length (cond b (leftover (suc n) l ds) (x ∷ leftover (suc n) l ds)) ≤ suc (length l)
+    go true h = omega arith
+    go false h = omega arith
+
+-- declared constraints weigh at most 31 each
+constraints-light :
+    (symbols : List Symbol) (cs : List Constraint) → All SymbolSmall symbols → All (λ c. isDeclared symbols c ≡ true) cs
+    → weight symbols cs ≤ 31 * length cs
+constraints-light symbols [] small declared = omega (arith, weight-nil symbols)
+constraints-light symbols (c ∷ cs) small (also h declared) =
+    omega (arith, weight-cons symbols c cs, declared-small symbols small c h .light, constraints-light symbols cs small declared)
+
+-- a goal of at most 8 constraints
+pub record GoalFew (symbols : List Symbol) (g : Goal) : Type 0 where
+  pub few : length (g .constraints) ≤ 8
+  pub few-variables : g .variables ≤ 32
+  pub light : weight symbols (g .constraints) ≤ 248
+  pub declared : All (λ c. isDeclared symbols c ≡ true) (g .constraints)
+  pub below : All (ConstraintBelow (g .variables)) (g .constraints)
+
+-- a program as read, over values
+pub record Few (p : Program) : Type 0 where
+  pub formed : isWellFormed p ≡ true
+  pub symbols : All SymbolSmall (p .symbols)
+  pub heads : All (λ r. length (r .heads) ≤ 4) (p .rules)
+
+-- the constraints of an overlap's goal
+constraints-eight : (p : Program) {o : Overlap} → Few p → Listed p o → length (o .goal .constraints) ≤ 8
+constraints-eight p {o} few l =
+    let parts = overlap-parts (o .first) (o .second) (o .partners) (l .made) in
+    let first = all-member (few .heads) (at-member (p .rules) (o .first .number) (l .firstRule)) in
+    let second = all-member (few .heads) (at-member (p .rules) (o .second .number) (l .secondRule)) in
+    omega (
+      arith,
+      first,
+      second,
+      ap length (goal-constraints parts),
+      length-append (goalFirst parts) (leftover 1 (goalSecond parts) (o .partners)),
+      length-map (o .first .rule .heads) (mapTerms (goalTerm parts)),
+      leftover-few 1 (goalSecond parts) (o .partners),
+      length-map (secondHeads (o .second)) (mapTerms (goalTerm parts)),
+      length-map (o .second .rule .heads) (mapTerms apart),
+    )
+
+pub overlap-few : (p : Program) {o : Overlap} → Few p → Listed p o → GoalFew (p .symbols) (o .goal)
+unfolding goalState
+overlap-few p {o} few l =
+    let goal = listed-goal p (few .formed) l in
+    let spoken = reached-spoken p AnyConstant (o .goal) (few .formed) goal (rules-any (p .rules))
+    (constraints-any (o .goal .constraints)) arrived in
+    let declared : All (λ c. isDeclared (p .symbols) c ≡ true) (o .goal .constraints) = spoken .declared in
+    let eight = constraints-eight p few l in
+    let appear = order-few [] (o .goal .constraints) (all-mono (declared-few (p .symbols) (few .symbols)) declared) in
+    record {
+      few = eight;
+      few-variables = omega (
+        arith,
+        eight,
+        appear,
+        ap length (listed-appearance p l),
+        tabled-length (λ i. i) (o .goal .variables),
+      );
+      light = omega (arith, eight, constraints-light (p .symbols) (o .goal .constraints) (few .symbols) declared);
+      declared = declared;
+      below = spoken .scoped .constraints;
+    }
+
+-- the name of a goal variable without a letter
+goal-variable-short : (x : ℕ) → x < 9999 → Short (variableName [] x)
+unfolding variableName ascii
+goal-variable-short x h = rw (le-ltb x 0 (omega arith)) (number-short 86 x h)
+
+-- the bytes of the end of a side of an overlap
+side-few :
+    (p : Program) (naming : Naming) (g : Goal) (k : ℕ) (r : Rule) (ps : List ℕ) → Few p → ((n : ℕ) → Short (naming n))
+    → isGoalOf p g ≡ true → GoalFew (p .symbols) g → getElem? (p .rules) k ≡ some r
+    → length (endListing naming (variableName []) (sideEnd p g r ps)) ≤ 12309
+unfolding endListing goalState stateWeight
+side-few p naming g k r ps few names goal small e =
+    let end = sideEnd p g r ps in
+    let spoken = side-spoken p AnyConstant g k r ps (few .formed) goal (rules-any (p .rules))
+    (constraints-any (g .constraints)) e in
+    let weighs : stateWeight (p .symbols) (end .state) + end .firings ≤ weight (p .symbols) (g .constraints) =
+    reach-weighs p (few .formed) (side-reach p g k r ps e) in
+    let low = small .few-variables in
+    omega (
+      arith,
+      low,
+      final-few (p .symbols) naming (variableName []) (end .firings) AnyConstant (g .variables) 248 _ (end .state) names
+          (λ x h. goal-variable-short x (omega (arith, low))) (few .symbols) spoken (omega (arith, weighs, small .light))
+          (omega arith) (omega (arith, low)),
+    )
+
+-- the bytes of the P lines
+pairs-few : (n : ℕ) (ds : List ℕ) → n + length ds ≤ 100 → All (λ d. d ≤ 4) ds → length (pairLines n ds) ≤ 20 * length ds
+unfolding pairLines ascii
+pairs-few n [] h C.none = omega arith
+pairs-few n (zero ∷ ds) h (also low all) = omega (arith, pairs-few (suc n) ds (omega arith) all)
+pairs-few n (suc d ∷ ds) h (also low all) =
+    let digits : (m : ℕ) → m ≤ 100 → Short (decimal m) = λ m k. omega (arith, four-digits m (omega arith)) in
+    let fields = decimal n ∷ decimal (suc d) ∷ [] in
+    omega (
+      arith,
+      length-append (lineOf (ascii "P") fields) (pairLines (suc n) ds),
+      line-few (ascii "P") fields (also (digits n (omega arith)) (also (digits (suc d) (omega arith)) C.none)),
+      pairs-few (suc n) ds (omega arith) all,
+    )
+
+-- the G lines
+module _ (naming : Naming) (names : (n : ℕ) → Short (naming n)) where
+  term-short : (v : ℕ) → v ≤ 32 → (t : Term) → TermBelow v t → Short (termShown naming (variableName []) t)
+  unfolding termShown
+  term-short v low (con c) h = names c
+  term-short v low (var x) h = goal-variable-short x (omega arith)
+
+  goal-few :
+      (symbols : List Symbol) (g : Goal) → All SymbolSmall symbols → GoalFew symbols g
+      → length (constraintLines (ascii "G") naming (variableName []) (g .constraints)) ≤ 376
+  unfolding ascii
+  goal-few symbols g small few =
+      let short : All (ShortRow naming (variableName []) names) (g .constraints) =
+      all-of-members (g .constraints) (λ c m. (
+        declared-few symbols small c (all-member (few .declared) m),
+        all-mono (term-short (g .variables) (few .few-variables)) (all-member (few .below) m),
+      )) in
+      omega (arith, few .few, rows-few naming (variableName []) names (ascii "G") (g .constraints) (omega arith) short)
+
+  -- the listing of an overlap that does not join
+  unjoined-few :
+      (p : Program) {o : Overlap} → Few p → All (λ r. Short (r .name)) (p .rules) → Listed p o
+      → length (verdictListing naming (unjoined o (firstEnd p o) (secondEnd p o))) ≤ 25101
+  unfolding verdictListing firstEnd secondEnd ascii
+  unjoined-few p {o} few short l =
+      let i = at-member (p .rules) (o .first .number) (l .firstRule) in
+      let j = at-member (p .rules) (o .second .number) (l .secondRule) in
+      let paired = pairings-member _ _ (o .partners) (l .paired) in
+      let small = overlap-few p few l in
+      let goal = listed-goal p (few .formed) l in
+      let first = o .first .rule .name ∷ o .second .rule .name ∷ [] in
+      let head = lineOf (ascii "UNJOINED") first in
+      let pairs = pairLines 1 (o .partners) in
+      let rows = constraintLines (ascii "G") naming (variableName []) (o .goal .constraints) in
+      let one = endListing naming (variableName []) (firstEnd p o) in
+      let two = endListing naming (variableName []) (secondEnd p o) in
+      let four : length (o .partners) ≤ 4 = omega (arith, paired .long, all-member (few .heads) i) in
+      let low : All (λ d. d ≤ 4) (o .partners) =
+      let most = all-member (few .heads) j in all-mono (λ d h. omega (arith, h, most)) (paired .within) in
+      let few-one : length one ≤ 12309 =
+      side-few p naming (o .goal) (o .first .number) (o .first .rule) _ few names goal small (l .firstRule) in
+      let few-two : length two ≤ 12309 =
+      side-few p naming (o .goal) (o .second .number) (o .second .rule) _ few names goal small (l .secondRule) in
+      omega (
+        arith,
+        four,
+        few-one,
+        few-two,
+        length-append head (pairs ++ (rows ++ (one ++ two))),
+        length-append pairs (rows ++ (one ++ two)),
+        length-append rows (one ++ two),
+        length-append one two,
+        line-few (ascii "UNJOINED") first (also (all-member short i) (also (all-member short j) C.none)),
+        pairs-few 1 (o .partners) (omega (arith, four)) low,
+        goal-few (p .symbols) (o .goal) (few .symbols) small,
+      )
+
+  -- the listing of a pass
+  pass-few : (n : ℕ) → n ≤ 640000 → length (verdictListing naming (confluent n)) ≤ 25101
+  unfolding verdictListing ascii
+  pass-few n h =
+      let six : length (decimal n) ≤ 6 = digits-more 5 100000 (digits-more 4 10000 four-digits) n (omega arith) in
+      let digits : Short (decimal n) = omega (arith, six) in
+      omega (arith, line-few (ascii "CONFLUENT") (decimal n ∷ []) (also digits C.none))
+
+-- the listing of a check has at most 27 + 80 + 376 + 2 · (13 + 32 · 20 + 248 · 47) bytes
+pub check-few : (program : List ℕ) (p : Reading) → readProgram program ≡ accepted p → length (checkListing p) ≤ 25101
+unfolding checkListing
+check-few program p reads = go (verdict (p .program)) refl
+  where
+    small : ReadSmall p
+    small = read-small program reads
+
+    short : ShortProgram p
+    short = reads-accepted ShortProgram (readProgram program) (program-short program) reads
+
+    heads : All (λ r. length (r .heads) ≤ 4) (p .program .rules)
+    heads = all-mono (λ r h. h .heads-few) (small .rules)
+
+    few : Few (p .program)
+    few = record { formed = read-wellFormed program reads; symbols = small .symbols; heads = heads }
+
+    names : (n : ℕ) → Short (namingOf (p .program .symbols) (p .constants) n)
+    names = naming-short (p .program .symbols) (p .constants) (short .symbols) (short .constants)
+
+    go :
+        (v : Verdict) → verdict (p .program) ≡ v
+        → length (verdictListing (namingOf (p .program .symbols) (p .constants)) v) ≤ 25101
+    go (confluent n) e =
+        let counted : n ≡ length (overlaps (p .program)) = verdict-confluent (p .program) e .1 in
+        pass-few (namingOf (p .program .symbols) (p .constants)) names n
+        (omega (arith, counted, overlaps-few (p .program) (small .few-rules) heads))
+    go (unjoined o one two) e =
+        let (first, a, b) = verdict-unjoined (p .program) e in
+        let l = overlaps-member (p .program) (at-member (overlaps (p .program)) (first .number) (first .listed)) in
+        rw (a, b) (unjoined-few (namingOf (p .program .symbols) (p .constants)) names (p .program) few (short .rules) l)
+
+-- so it fits the room that the programs lend
+pub check-fits : (program : List ℕ) (p : Reading) → readProgram program ≡ accepted p → length (checkListing p) ≤ ample
+unfolding ample
+check-fits program p e = omega (arith, check-few program p e)
+
+-- a listing of a verdict does not begin as a refusal does
+verdict-begins : (naming : Naming) (v : Verdict) → getD (verdictListing naming v) 0 0 ≡ 82 → ⊥
+unfolding verdictListing lineOf ascii
+verdict-begins naming (confluent n) e = omega arith
+verdict-begins naming (unjoined o one two) e = omega arith
+
+check-begins : (p : Reading) → getD (checkListing p) 0 0 ≡ 82 → ⊥
+unfolding checkListing
+check-begins p = verdict-begins (namingOf (p .program .symbols) (p .constants)) (verdict (p .program))
+
+-- every reply of a check is a refusal that reading may answer, or the listing of a program
+pub check-answered : (program : List ℕ) → Answered (checkReply program ample)
+unfolding checkReply replyOf
+check-answered program = go (readProgram program) refl
+  where
+    go :
+        (a : Answer Reading) → readProgram program ≡ a
+        → Answered (replyOf programText a (λ p. fitted programText ample (checkListing p)))
+    go (refused n l) k = refusedBy n programText l (reads-refused ShortProgram (readProgram program) (program-short program) k)
+    go (accepted p) k =
+        subst Answered (sym (fitted-listed programText ample (checkListing p) (check-fits program p k)))
+        (listed (checkListing p) (check-begins p))
+
+-- `sheetcheck` never prints number 11
+pub check-never-eleven : (input : List ℕ) (text : Text) (line : ℕ) → sheetcheck input ≡ printed (refusal 11 text line) → ⊥
+unfolding sheetcheck
+check-never-eleven input text line e = eleven (checkReply input ample) text line (check-answered input) e
