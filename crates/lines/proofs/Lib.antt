@@ -7,3 +7,4 @@ pub mod TermLaws
 pub mod HeadLaws
 pub mod ConstraintLaws
 pub mod Weighing
+pub mod Spelling
