@@ -46,7 +46,7 @@ use Rattle.replies.specs.Replies.{runListing, runReply, printed, ample, 
 use Rattle.replies.proofs.Elements.{all-at}
 use Rattle.replies.proofs.Demand3.{fitted-listed}
 use Rattle.replies.proofs.ShortNames.{Short, Turned, ShortProgram, ShortGoal, program-short, goal-short, reads-accepted}
-use Rattle.replies.proofs.ShortNames.{reads-refused}
+use Rattle.replies.proofs.ShortNames.{TermedProgram, program-termed, reads-refused}
 
 -- ten times as many numbers have one digit more
 pub digits-more :
@@ -313,6 +313,7 @@ run-few program goal p g reads reads-goal =
     let small : ReadSmall p = read-small program reads in
     let of-goal : ReadGoal p g = goal-small p goal (small .few-constants) reads-goal in
     let short : ShortProgram p = reads-accepted ShortProgram (readProgram program) (program-short program) reads in
+    let termed : TermedProgram p = reads-accepted TermedProgram (readProgram program) (program-termed program) reads in
     let short-goal : ShortGoal (p .constants) g =
     reads-accepted (ShortGoal (p .constants)) (readGoal symbols (p .constants) goal) (goal-short symbols (p .constants) goal)
     reads-goal in
@@ -320,7 +321,7 @@ run-few program goal p g reads reads-goal =
     let spoken =
     run-spoken (p .program) AnyConstant (g .goal) formed (of-goal .is-goal) (rules-any (p .program .rules))
     (constraints-any (g .goal .constraints)) in
-    let names = naming-short symbols (g .constants) (short .symbols) (short-goal .constants (short .constants)) in
+    let names = naming-short symbols (g .constants) (short .symbols) (short-goal .constants (termed .constants)) in
     let letters : g .goal .variables ≤ 26 = omega (arith, of-goal .lettered, of-goal .few-letters) in
     omega (
       arith,

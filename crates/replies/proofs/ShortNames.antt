@@ -2,10 +2,11 @@
 --   Short             at most 8 bytes
 --   Turned            a refusal that reading may answer
 --   Reads             what holds of an answer: of a refusal that it is such, or something of the value
---   program-short     the names of symbols, rules and constants (the main law for programs)
---   goal-short        the letters and constants (the main law for goals)
+--   program-termed    the names of symbols, rules and constants are terms (the main law for programs)
+--   goal-termed       so are the letters and constants (the main law for goals)
+--   program-short, goal-short      and they are short
 -- Assumes nothing.
-use Prim.Native.Nat.{ℕ, suc, _+_, _≤_}
+use Prim.Native.Nat.{ℕ, suc, _+_, _≤_, _<_}
 use native.Mathlib.Omega.{arith}
 use mathlib.Core.Bool.{Bool, true, false, cond, not, _&&_, _||_}
 use mathlib.Core.List.{List, [], _∷_, _++_, map}
@@ -59,38 +60,52 @@ term-short f h = go (isName f) refl h
     go true e k = name-short f e
     go false e k = variable-short f k
 
--- names with a short one more
-with-short : (f : List ℕ) (names : List (List ℕ)) → Short f → All Short names → All Short (withName f names)
+-- a term has some bytes
+pub term-some : (f : List ℕ) → isTerm f ≡ true → 0 < length f
+unfolding isTerm isName isVariable between
+term-some [] h = absurd (let z : _≡_ {A = ℕ} 0 1 = cc in omega arith)
+term-some (b ∷ f) h = omega arith
+
+-- a name or a letter
+abbrev pub Termed : List ℕ → Type 0
+Termed f = isTerm f ≡ true
+
+name-termed : (f : List ℕ) → isName f ≡ true → Termed f
+unfolding isTerm
+name-termed f h = rw h
+
+-- names with one more
+with-termed : (f : List ℕ) (names : List (List ℕ)) → Termed f → All Termed names → All Termed (withName f names)
 unfolding withName
-with-short f names h all = go (isKnown f names)
+with-termed f names h all = go (isKnown f names)
   where
-    go : (b : Bool) → All Short (cond b names (names ++ (f ∷ [])))
+    go : (b : Bool) → All Termed (cond b names (names ++ (f ∷ [])))
     go true = all
     go false = all-append all (also h C.none)
 
 -- the constants and the letters after a line
-constants-short : (fs names : List (List ℕ)) → All Short names → All Short (constantsAfter fs names)
+constants-termed : (fs names : List (List ℕ)) → All Termed names → All Termed (constantsAfter fs names)
 unfolding constantsAfter
-constants-short [] names all = all
-constants-short (f ∷ fs) names all = constants-short fs (cond (isName f) (withName f names) names) (go (isName f) refl)
+constants-termed [] names all = all
+constants-termed (f ∷ fs) names all = constants-termed fs (cond (isName f) (withName f names) names) (go (isName f) refl)
   where
-    go : (b : Bool) → isName f ≡ b → All Short (cond b (withName f names) names)
-    go true e = with-short f names (name-short f e) all
+    go : (b : Bool) → isName f ≡ b → All Termed (cond b (withName f names) names)
+    go true e = with-termed f names (name-termed f e) all
     go false e = all
 
-letters-short : (fs names : List (List ℕ)) → every isTerm fs ≡ true → All Short names → All Short (lettersAfter fs names)
+letters-termed : (fs names : List (List ℕ)) → every isTerm fs ≡ true → All Termed names → All Termed (lettersAfter fs names)
 unfolding lettersAfter
-letters-short [] names terms all = all
-letters-short (f ∷ fs) names terms all =
+letters-termed [] names terms all = all
+letters-termed (f ∷ fs) names terms all =
     let (term, more) = and-parts (isTerm f) (every isTerm fs) terms in
-    letters-short fs (cond (isName f) names (withName f names)) more (go (isName f) term)
+    letters-termed fs (cond (isName f) names (withName f names)) more (go (isName f) term)
   where
-    go : (b : Bool) → isTerm f ≡ true → All Short (cond b names (withName f names))
+    go : (b : Bool) → isTerm f ≡ true → All Termed (cond b names (withName f names))
     go true e = all
-    go false e = with-short f names (term-short f e) all
+    go false e = with-termed f names e all
 
 -- the name of a K line and of an R line, and the terms of an H, B or G line, of the right form
-symbol-named : (fs : List (List ℕ)) → isSymbolFaulty fs ≡ false → Short (fieldAt 1 fs)
+symbol-named : (fs : List (List ℕ)) → isSymbolFaulty fs ≡ false → Termed (fieldAt 1 fs)
 unfolding isSymbolFaulty
 symbol-named fs fine =
     let a = not (eqb (length fs) 4) in
@@ -98,14 +113,14 @@ symbol-named fs fine =
     let c = not (isNumberIn 0 4 (fieldAt 2 fs)) in
     let e = not (isNumberIn 1 31 (fieldAt 3 fs)) in
     let ab = or-neither (a || b) c (or-neither (a || b || c) e fine .0) .0 in
-    name-short (fieldAt 1 fs) (not-false (isName (fieldAt 1 fs)) (or-neither a b ab .1))
+    name-termed (fieldAt 1 fs) (not-false (isName (fieldAt 1 fs)) (or-neither a b ab .1))
 
-rule-named : (fs : List (List ℕ)) → isRuleFaulty fs ≡ false → Short (fieldAt 1 fs)
+rule-named : (fs : List (List ℕ)) → isRuleFaulty fs ≡ false → Termed (fieldAt 1 fs)
 unfolding isRuleFaulty
 rule-named fs fine =
     let a = not (eqb (length fs) 2) in
     let b = not (isName (fieldAt 1 fs)) in
-    name-short (fieldAt 1 fs) (not-false (isName (fieldAt 1 fs)) (or-neither a b fine .1))
+    name-termed (fieldAt 1 fs) (not-false (isName (fieldAt 1 fs)) (or-neither a b fine .1))
 
 line-terms : (fs : List (List ℕ)) → isConstraintFaulty fs ≡ false → every isTerm (drop 2 fs) ≡ true
 unfolding isConstraintFaulty
@@ -142,59 +157,59 @@ reads-andThen :
 reads-andThen P R (refused number line) next h k = h
 reads-andThen P R (accepted a) next h k = k a h
 
--- a rule of a short name, whose R line is one that a refusal may have
-record ShortRule (r : RuleRead) : Type 0 where
-  named : Short (r .rule .name)
+-- a rule of a good name, whose R line is one that a refusal may have
+record TermedRule (r : RuleRead) : Type 0 where
+  named : Termed (r .rule .name)
   within : r .line ≤ 16384
 
 -- a draft, and a program as read, whose names are short
-record ShortDraft (d : Draft) : Type 0 where
-  symbols : All (λ s. Short (s .name)) (d .symbols)
-  rules : All ShortRule (d .rules)
-  constants : All Short (d .constants)
+record TermedDraft (d : Draft) : Type 0 where
+  symbols : All (λ s. Termed (s .name)) (d .symbols)
+  rules : All TermedRule (d .rules)
+  constants : All Termed (d .constants)
 
-pub record ShortProgram (p : Reading) : Type 0 where
-  pub symbols : All (λ s. Short (s .name)) (p .program .symbols)
-  pub rules : All (λ r. Short (r .name)) (p .program .rules)
-  pub constants : All Short (p .constants)
+pub record TermedProgram (p : Reading) : Type 0 where
+  pub symbols : All (λ s. Termed (s .name)) (p .program .symbols)
+  pub rules : All (λ r. Termed (r .name)) (p .program .rules)
+  pub constants : All Termed (p .constants)
 
 -- a change of the last rule that keeps its name
-last-short :
-    (f : Rule → Rule) (rs : List RuleRead) → ((r : Rule) → f r .name ≡ r .name) → All ShortRule rs → All ShortRule (onLast f rs)
+last-termed :
+    (f : Rule → Rule) (rs : List RuleRead) → ((r : Rule) → f r .name ≡ r .name) → All TermedRule rs → All TermedRule (onLast f rs)
 unfolding onLast
-last-short f [] k C.none = C.none
-last-short f (r ∷ []) k (also h C.none) =
-    let named : Short (f (r .rule) .name) = rw (k (r .rule)) (h .named) in
+last-termed f [] k C.none = C.none
+last-termed f (r ∷ []) k (also h C.none) =
+    let named : Termed (f (r .rule) .name) = rw (k (r .rule)) (h .named) in
     also (record { named = named; within = h .within }) C.none
-last-short f (r ∷ q ∷ rs) k (also h all) = also h (last-short f (q ∷ rs) k all)
+last-termed f (r ∷ q ∷ rs) k (also h all) = also h (last-termed f (q ∷ rs) k all)
 
-change-short :
-    (f : Rule → Rule) (constants : List (List ℕ)) (d : Draft) → ((r : Rule) → f r .name ≡ r .name) → ShortDraft d
-    → All Short constants → ShortDraft (withRule f constants d)
+change-termed :
+    (f : Rule → Rule) (constants : List (List ℕ)) (d : Draft) → ((r : Rule) → f r .name ≡ r .name) → TermedDraft d
+    → All Termed constants → TermedDraft (withRule f constants d)
 unfolding withRule
-change-short f constants d k s all =
-    record { symbols = s .symbols; rules = last-short f (d .rules) k (s .rules); constants = all }
+change-termed f constants d k s all =
+    record { symbols = s .symbols; rules = last-termed f (d .rules) k (s .rules); constants = all }
 
 -- each line, of a number of at most 16,384, keeps a draft so
 module _ (n : ℕ) (low : n ≤ 16384) where
-  symbol-reads : (fs : List (List ℕ)) (d : Draft) → ShortDraft d → Reads ShortDraft (readSymbol n fs d)
+  symbol-reads : (fs : List (List ℕ)) (d : Draft) → TermedDraft d → Reads TermedDraft (readSymbol n fs d)
   unfolding readSymbol
   symbol-reads fs d s =
-      reads-refuseIf ShortDraft (isSymbolFaulty fs) 4 n _ refl low
-      λ fine. reads-refuseIf ShortDraft (isKnown (fieldAt 1 fs) (map (λ s. s .name) (d .symbols))) 5 n _ refl low
-      λ _. reads-refuseIf ShortDraft (leb maxSymbols (length (d .symbols))) 7 n _ refl low
+      reads-refuseIf TermedDraft (isSymbolFaulty fs) 4 n _ refl low
+      λ fine. reads-refuseIf TermedDraft (isKnown (fieldAt 1 fs) (map (λ s. s .name) (d .symbols))) 5 n _ refl low
+      λ _. reads-refuseIf TermedDraft (leb maxSymbols (length (d .symbols))) 7 n _ refl low
       λ _. record {
         symbols = all-append (s .symbols) (also (symbol-named fs fine) C.none);
         rules = s .rules;
         constants = s .constants;
       }
 
-  rule-reads : (fs : List (List ℕ)) (d : Draft) → ShortDraft d → Reads ShortDraft (readRule n fs d)
+  rule-reads : (fs : List (List ℕ)) (d : Draft) → TermedDraft d → Reads TermedDraft (readRule n fs d)
   unfolding readRule
   rule-reads fs d s =
-      reads-refuseIf ShortDraft (isRuleFaulty fs) 4 n _ refl low
-      λ fine. reads-refuseIf ShortDraft (isKnown (fieldAt 1 fs) (map (λ r. r .rule .name) (d .rules))) 5 n _ refl low
-      λ _. reads-refuseIf ShortDraft (leb maxRules (length (d .rules))) 7 n _ refl low
+      reads-refuseIf TermedDraft (isRuleFaulty fs) 4 n _ refl low
+      λ fine. reads-refuseIf TermedDraft (isKnown (fieldAt 1 fs) (map (λ r. r .rule .name) (d .rules))) 5 n _ refl low
+      λ _. reads-refuseIf TermedDraft (leb maxRules (length (d .rules))) 7 n _ refl low
       λ _. record {
         symbols = s .symbols;
         rules = all-append (s .rules) (also (record { named = rule-named fs fine; within = low }) C.none);
@@ -219,26 +234,26 @@ module _ (n : ℕ) (low : n ≤ 16384) where
 
   constraint-reads :
       (count most : ℕ) (add : Constraint → Rule → Rule) (fs : List (List ℕ)) (d : Draft)
-      → ((c : Constraint) (r : Rule) → add c r .name ≡ r .name) → ShortDraft d
-      → Reads ShortDraft (readConstraint count most add n fs d)
+      → ((c : Constraint) (r : Rule) → add c r .name ≡ r .name) → TermedDraft d
+      → Reads TermedDraft (readConstraint count most add n fs d)
   unfolding readConstraint
   constraint-reads count most add fs d k s =
-      reads-andThen (λ found. All Short (found .constants)) ShortDraft
+      reads-andThen (λ found. All Termed (found .constants)) TermedDraft
       (constraintLine (leb most count) (d .symbols) letterNumber (d .constants) n fs) _
       (found-reads _ (leb most count) (d .symbols) letterNumber (d .constants) fs
-      λ _. constants-short (drop 2 fs) (d .constants) (s .constants))
-      λ found h. change-short (add (found .constraint)) (found .constants) d (k (found .constraint)) s h
+      λ _. constants-termed (drop 2 fs) (d .constants) (s .constants))
+      λ found h. change-termed (add (found .constraint)) (found .constants) d (k (found .constraint)) s h
 
-  equation-reads : (fs : List (List ℕ)) (d : Draft) → ShortDraft d → Reads ShortDraft (readEquation n fs d)
+  equation-reads : (fs : List (List ℕ)) (d : Draft) → TermedDraft d → Reads TermedDraft (readEquation n fs d)
   unfolding readEquation withEquation
   equation-reads fs d s =
       let constants = constantsAfter (drop 1 fs) (d .constants) in
       let full = leb maxEquations (length (lastRule (d .rules) .equations)) in
-      reads-refuseIf ShortDraft (isEquationFaulty fs) 4 n _ refl low
-      λ _. reads-refuseIf ShortDraft (full || ltb maxConstants (length constants)) 7 n _ refl low
-      λ _. change-short _ constants d (λ r. refl) s (constants-short (drop 1 fs) (d .constants) (s .constants))
+      reads-refuseIf TermedDraft (isEquationFaulty fs) 4 n _ refl low
+      λ _. reads-refuseIf TermedDraft (full || ltb maxConstants (length constants)) 7 n _ refl low
+      λ _. change-termed _ constants d (λ r. refl) s (constants-termed (drop 1 fs) (d .constants) (s .constants))
 
-  form-reads : (form : Form) (fs : List (List ℕ)) (d : Draft) → ShortDraft d → Reads ShortDraft (readForm form n fs d)
+  form-reads : (form : Form) (fs : List (List ℕ)) (d : Draft) → TermedDraft d → Reads TermedDraft (readForm form n fs d)
   unfolding readForm withHead withBody
   form-reads symbolForm fs d s = symbol-reads fs d s
   form-reads ruleForm fs d s = rule-reads fs d s
@@ -250,35 +265,35 @@ module _ (n : ℕ) (low : n ≤ 16384) where
   form-reads goalForm fs d s = turned 3 n refl low
   form-reads noForm fs d s = turned 3 n refl low
 
-  moved-short : (place : Place) (d : Draft) → ShortDraft d → ShortDraft (atPlace place d)
+  moved-termed : (place : Place) (d : Draft) → TermedDraft d → TermedDraft (atPlace place d)
   unfolding atPlace
-  moved-short place d s = record { symbols = s .symbols; rules = s .rules; constants = s .constants }
+  moved-termed place d s = record { symbols = s .symbols; rules = s .rules; constants = s .constants }
 
-  fields-read : (fs : List (List ℕ)) (d : Draft) → ShortDraft d → Reads ShortDraft (readFields n fs d)
+  fields-read : (fs : List (List ℕ)) (d : Draft) → TermedDraft d → Reads TermedDraft (readFields n fs d)
   unfolding readFields
   fields-read fs d s = go (placeAfter (formOf (fieldAt 0 fs)) (d .place))
     where
       go :
           (o : Option Place)
-          → Reads ShortDraft (onward o (refused 3 n) (λ place. readForm (formOf (fieldAt 0 fs)) n fs (atPlace place d)))
+          → Reads TermedDraft (onward o (refused 3 n) (λ place. readForm (formOf (fieldAt 0 fs)) n fs (atPlace place d)))
       go none = turned 3 n refl low
-      go (some place) = form-reads (formOf (fieldAt 0 fs)) fs (atPlace place d) (moved-short place d s)
+      go (some place) = form-reads (formOf (fieldAt 0 fs)) fs (atPlace place d) (moved-termed place d s)
 
-  line-reads : (l : Line) (d : Draft) → ShortDraft d → Reads ShortDraft (readLine n l d)
+  line-reads : (l : Line) (d : Draft) → TermedDraft d → Reads TermedDraft (readLine n l d)
   unfolding readLine
   line-reads l d s =
-      reads-refuseIf ShortDraft (lineIsFaulty l) 2 n _ refl low λ _. fields-read (fields (l .bytes)) d s
+      reads-refuseIf TermedDraft (lineIsFaulty l) 2 n _ refl low λ _. fields-read (fields (l .bytes)) d s
 
-lines-read : (n : ℕ) (d : Draft) (ls : List Line) → n + length ls ≤ 16385 → ShortDraft d → Reads ShortDraft (readLines n d ls)
+lines-read : (n : ℕ) (d : Draft) (ls : List Line) → n + length ls ≤ 16385 → TermedDraft d → Reads TermedDraft (readLines n d ls)
 unfolding readLines
 lines-read n d [] h s = s
 lines-read n d (l ∷ ls) h s =
-    reads-andThen ShortDraft ShortDraft (readLine n l d) _ (line-reads n (omega arith) l d s)
+    reads-andThen TermedDraft TermedDraft (readLine n l d) _ (line-reads n (omega arith) l d s)
     (λ e t. lines-read (suc n) e ls (omega arith) t)
 
 -- the rules, each at its R line
 rules-read :
-    {A : Type 0} (P : A → Type 0) (symbols : List Symbol) (rs : List RuleRead) (otherwise : Answer A) → All ShortRule rs
+    {A : Type 0} (P : A → Type 0) (symbols : List Symbol) (rs : List RuleRead) (otherwise : Answer A) → All TermedRule rs
     → Reads P otherwise → Reads P (checkRules symbols rs otherwise)
 unfolding checkRules
 rules-read P symbols [] otherwise all h = h
@@ -301,70 +316,70 @@ lines-few (b ∷ s) = go (eqb b 10) (lines s) (lines-few s)
     go false (l ∷ ls) h = omega arith
 
 -- a program's text
-pub program-short : (s : List ℕ) → Reads ShortProgram (readProgram s)
+pub program-termed : (s : List ℕ) → Reads TermedProgram (readProgram s)
 unfolding readProgram blank
-program-short s =
-    reads-refuseIf ShortProgram (ltb maxText (length s)) 1 0 _ refl (omega arith)
-    λ short. reads-andThen ShortDraft ShortProgram (readLines 1 blank (lines s)) _
+program-termed s =
+    reads-refuseIf TermedProgram (ltb maxText (length s)) 1 0 _ refl (omega arith)
+    λ short. reads-andThen TermedDraft TermedProgram (readLines 1 blank (lines s)) _
     (lines-read 1 blank (lines s) (omega (arith, lines-few s, ltb-false 16384 (length s) short))
     (record { symbols = C.none; rules = C.none; constants = C.none }))
-    λ d t. rules-read ShortProgram (d .symbols) (d .rules) _ (t .rules)
+    λ d t. rules-read TermedProgram (d .symbols) (d .rules) _ (t .rules)
     (record { symbols = t .symbols; rules = all-map _ (all-mono (λ r h. h .named) (t .rules)); constants = t .constants })
 
--- a goal's draft, and a goal as read, whose names are short where the constants before it are
-record ShortGoalDraft (before : List (List ℕ)) (d : GoalDraft) : Type 0 where
-  letters : All Short (d .letters)
-  constants : All Short before → All Short (d .constants)
+-- a goal's draft, and a goal as read, whose names are terms where the constants before it are
+record TermedGoalDraft (before : List (List ℕ)) (d : GoalDraft) : Type 0 where
+  letters : All Termed (d .letters)
+  constants : All Termed before → All Termed (d .constants)
 
-pub record ShortGoal (before : List (List ℕ)) (g : GoalReading) : Type 0 where
-  pub letters : All Short (g .letters)
-  pub constants : All Short before → All Short (g .constants)
+pub record TermedGoal (before : List (List ℕ)) (g : GoalReading) : Type 0 where
+  pub letters : All Termed (g .letters)
+  pub constants : All Termed before → All Termed (g .constants)
 
 -- what a G line finds
-record ShortFound (before fs : List (List ℕ)) (found : Found) : Type 0 where
+record TermedFound (before fs : List (List ℕ)) (found : Found) : Type 0 where
   terms : every isTerm (drop 2 fs) ≡ true
-  constants : All Short before → All Short (found .constants)
+  constants : All Termed before → All Termed (found .constants)
 
 goal-line-reads :
-    (before : List (List ℕ)) (symbols : List Symbol) (n : ℕ) (l : Line) (d : GoalDraft) → n ≤ 16384 → ShortGoalDraft before d
-    → Reads (ShortGoalDraft before) (readGoalLine symbols n l d)
+    (before : List (List ℕ)) (symbols : List Symbol) (n : ℕ) (l : Line) (d : GoalDraft) → n ≤ 16384 → TermedGoalDraft before d
+    → Reads (TermedGoalDraft before) (readGoalLine symbols n l d)
 unfolding readGoalLine readGoalFields readConstraintOfGoal
 goal-line-reads before symbols n l d low s =
     let fs = fields (l .bytes) in
     let letters = lettersAfter (drop 2 fs) (d .letters) in
     let variable : List ℕ → ℕ = λ f. placeOf f letters in
     let full = leb maxGoal (length (d .constraints)) in
-    let P = ShortGoalDraft before in
+    let P = TermedGoalDraft before in
     reads-refuseIf P (lineIsFaulty l) 2 n _ refl low
     λ _. reads-refuseIf P (not (isGoalForm (formOf (fieldAt 0 fs)))) 3 n _ refl low
-    λ _. reads-andThen (ShortFound before fs) P (constraintLine full symbols variable (d .constants) n fs) _
+    λ _. reads-andThen (TermedFound before fs) P (constraintLine full symbols variable (d .constants) n fs) _
     (found-reads n low _ full symbols variable (d .constants) fs
-    λ terms. record { terms = terms; constants = λ h. constants-short (drop 2 fs) (d .constants) (s .constants h) })
+    λ terms. record { terms = terms; constants = λ h. constants-termed (drop 2 fs) (d .constants) (s .constants h) })
     λ found h. record {
-      letters = letters-short (drop 2 fs) (d .letters) (h .terms) (s .letters);
+      letters = letters-termed (drop 2 fs) (d .letters) (h .terms) (s .letters);
       constants = h .constants;
     }
 
 goal-lines-read :
     (before : List (List ℕ)) (symbols : List Symbol) (n : ℕ) (d : GoalDraft) (ls : List Line) → n + length ls ≤ 16385
-    → ShortGoalDraft before d → Reads (ShortGoalDraft before) (readGoalLines symbols n d ls)
+    → TermedGoalDraft before d → Reads (TermedGoalDraft before) (readGoalLines symbols n d ls)
 unfolding readGoalLines
 goal-lines-read before symbols n d [] h s = s
 goal-lines-read before symbols n d (l ∷ ls) h s =
-    reads-andThen (ShortGoalDraft before) (ShortGoalDraft before) (readGoalLine symbols n l d) _
+    reads-andThen (TermedGoalDraft before) (TermedGoalDraft before) (readGoalLine symbols n l d) _
     (goal-line-reads before symbols n l d (omega arith) s)
     (λ e t. goal-lines-read before symbols (suc n) e ls (omega arith) t)
 
 -- a goal's text over symbols and constants
-pub goal-short :
+pub goal-termed :
     (symbols : List Symbol) (constants : List (List ℕ)) (s : List ℕ)
-    → Reads (ShortGoal constants) (readGoal symbols constants s)
+    → Reads (TermedGoal constants) (readGoal symbols constants s)
 unfolding readGoal
-goal-short symbols constants s =
+goal-termed symbols constants s =
     let start : GoalDraft = record { constraints = []; letters = []; constants = constants } in
-    let P = ShortGoal constants in
+    let P = TermedGoal constants in
     reads-refuseIf P (ltb maxText (length s)) 1 0 _ refl (omega arith)
-    λ short. reads-andThen (ShortGoalDraft constants) P (readGoalLines symbols 1 start (lines s)) _
+    λ short. reads-andThen (TermedGoalDraft constants) P (readGoalLines symbols 1 start (lines s)) _
     (goal-lines-read constants symbols 1 start (lines s) (omega (arith, lines-few s, ltb-false 16384 (length s) short))
     (record { letters = C.none; constants = λ h. h }))
     λ d t. reads-refuseIf P (ltb maxWeight (weight symbols (d .constraints))) 10 0 _ refl (omega arith)
@@ -377,3 +392,38 @@ reads-accepted P r h e = subst (Reads P) e h
 pub reads-refused :
     {A : Type 0} (P : A → Type 0) (r : Answer A) {number line : ℕ} → Reads P r → r ≡ refused number line → Turned number line
 reads-refused P r h e = subst (Reads P) e h
+
+-- names and letters are short
+reads-mono :
+    {A : Type 0} (P Q : A → Type 0) → ((a : A) → P a → Q a) → (r : Answer A) → Reads P r → Reads Q r
+reads-mono P Q f (refused number line) h = h
+reads-mono P Q f (accepted a) h = f a h
+
+pub record ShortProgram (p : Reading) : Type 0 where
+  pub symbols : All (λ s. Short (s .name)) (p .program .symbols)
+  pub rules : All (λ r. Short (r .name)) (p .program .rules)
+  pub constants : All Short (p .constants)
+
+pub program-short : (s : List ℕ) → Reads ShortProgram (readProgram s)
+program-short s =
+    reads-mono TermedProgram ShortProgram
+    (λ p t. record {
+      symbols = all-mono (λ y. term-short (y .name)) (t .symbols);
+      rules = all-mono (λ y. term-short (y .name)) (t .rules);
+      constants = all-mono term-short (t .constants);
+    }) (readProgram s) (program-termed s)
+
+-- a goal as read, whose names are short where the constants before it are terms
+pub record ShortGoal (before : List (List ℕ)) (g : GoalReading) : Type 0 where
+  pub letters : All Short (g .letters)
+  pub constants : All Termed before → All Short (g .constants)
+
+pub goal-short :
+    (symbols : List Symbol) (constants : List (List ℕ)) (s : List ℕ)
+    → Reads (ShortGoal constants) (readGoal symbols constants s)
+goal-short symbols constants s =
+    reads-mono (TermedGoal constants) (ShortGoal constants)
+    (λ g t. record {
+      letters = all-mono term-short (t .letters);
+      constants = λ h. all-mono term-short (t .constants h);
+    }) (readGoal symbols constants s) (goal-termed symbols constants s)
