@@ -1,5 +1,3 @@
--- Laws of this crate's definitions. Assumes nothing.
+-- The laws of this crate. Assumes nothing.
 pub mod GoalLetters
-pub mod GoalCells
-pub mod GoalTerms
-pub mod GoalSteps
+pub mod GoalLaws

@@ -3,6 +3,7 @@
 --   constraint-full          there are as many constraints as there may be
 --   constraint-many          the constants pass the limit
 --   constraint-read          the constraint
+--   line-other               a line whose variables have other numbers
 -- Assumes nothing.
 use mathlib.Core.Path.{_≡_, refl, sym, ap, ap₂, _∙_}
 use mathlib.Core.Bool.{Bool, true, false, cond, _||_}
@@ -125,6 +126,7 @@ module _ (f : Fields) (full : Bool) (base count : ℕ) (symbols names places : L
             ∙ ap (λ (a : Answer ℕ). andThen a (behind full letterNumber (constantsOf names count) n fs))
             (rw q at (told fs n k h e))
             ∙ sym (line-parts full (symbolsOf names symbols k) letterNumber (constantsOf names count) n fs);
+        flat = λ fs k h e z. absurd (omega arith);
         keeps = record { keeps = λ program goal fs h s d. d };
       }
 
@@ -158,6 +160,7 @@ module _ (f : Fields) (full : Bool) (base count : ℕ) (symbols names places : L
               refused-answer names n 7 (omega arith)
               ∙ sym (onward fs n k h e
               ∙ ap (λ (b : Bool). behind b letterNumber (constantsOf names count) n fs s) t);
+          flat = λ fs k h e z. absurd (omega arith);
           keeps = record { keeps = λ program goal fs h z d. d };
         }
 
@@ -178,6 +181,7 @@ module _ (f : Fields) (full : Bool) (base count : ℕ) (symbols names places : L
                 refused-answer names′ n 7 (omega arith)
                 ∙ sym (onward fs n k h e
                 ∙ rw (least, lt-ltb 64 (length (constantsAfter (drop 2 fs) (constantsOf names count))) (means .full z)) refl));
+            flat = λ fs k h e y. absurd (omega arith);
             keeps = u .keeps;
           }
 
@@ -209,5 +213,50 @@ module _ (f : Fields) (full : Bool) (base count : ℕ) (symbols names places : L
                 ap₂ (λ (ts : List Term) (cs : List (List ℕ)).
                 accepted (record { constraint = record { symbol = s; terms = ts }; constants = cs })) cells (means .after z)
                 ∙ sym (onward fs n k h e ∙ rw (least, le-ltb 64 (length after) (omega (arith, size, u .few))) refl));
+            flat = λ fs k h e y. (let means = u .means fs h (terms fs k h e) in
+                record {
+                  terms = terms fs k h e;
+                  few = omega (arith, length-drop 2 fs, h .counted);
+                  after = means .after z;
+                  cells = four-cells (t .cells) (u .size) ∙ means .cells z;
+                });
             keeps = u .keeps;
           }
+
+-- what is found of a line, with other numbers for its variables
+abbrev other : (List ℕ → ℕ) → List (List ℕ) → Found → Answer Found
+other w fs x =
+    accepted (record {
+      constraint = record { symbol = x .constraint .symbol; terms = map (termOf w (x .constants)) (drop 2 fs) };
+      constants = x .constants;
+    })
+
+-- a line whose variables have other numbers
+pub line-other :
+    (full : Bool) (symbols : List Symbol) (v w : List ℕ → ℕ) (constants : List (List ℕ)) (n : ℕ) (fs : List (List ℕ))
+    → constraintLine full symbols w constants n fs
+    ≡ andThen (constraintLine full symbols v constants n fs)
+    (λ x. accepted (record {
+      constraint = record { symbol = x .constraint .symbol; terms = map (termOf w (x .constants)) (drop 2 fs) };
+      constants = x .constants;
+    }))
+line-other full symbols v w constants n fs =
+    line-parts full symbols w constants n fs ∙ go (constraintHead symbols n fs)
+    ∙ sym (ap (λ (a : Answer Found). andThen a (other w fs)) (line-parts full symbols v constants n fs))
+  where
+    more : (s : ℕ) (b : Bool)
+        → refuseIf b 7 n (accepted (record {
+          constraint = record { symbol = s; terms = map (termOf w (constantsAfter (drop 2 fs) constants)) (drop 2 fs) };
+          constants = constantsAfter (drop 2 fs) constants;
+        }))
+        ≡ andThen (refuseIf b 7 n (accepted (record {
+          constraint = record { symbol = s; terms = map (termOf v (constantsAfter (drop 2 fs) constants)) (drop 2 fs) };
+          constants = constantsAfter (drop 2 fs) constants;
+        }))) (other w fs)
+    more s true = refl
+    more s false = refl
+
+    go : (h : Answer ℕ)
+        → andThen h (behind full w constants n fs) ≡ andThen (andThen h (behind full v constants n fs)) (other w fs)
+    go (refused x m) = refl
+    go (accepted s) = more s (full || ltb 64 (length (constantsAfter (drop 2 fs) constants)))

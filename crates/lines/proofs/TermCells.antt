@@ -37,7 +37,7 @@ use Rattle.lines.proofs.Held.{key-at}
 
 -- a term that is no name is a letter, with a key from 2 to 27
 module _ (f : List ℕ) (t : isTerm f ≡ true) (n : isName f ≡ false) where
-  letter-is : isVariable f ≡ true
+  pub letter-is : isVariable f ≡ true
   unfolding isTerm
   letter-is = sym (ap (λ (b : Bool). b || isVariable f) n) ∙ t
 

@@ -218,7 +218,7 @@ low-set (y ∷ cells) zero x h k (suc j) = h (suc j)
 low-set (y ∷ cells) (suc i) x h k zero = h 0
 low-set (y ∷ cells) (suc i) x h k (suc j) = low-set cells i x (λ m. h (suc m)) k j
 
-outside-trans : {a b c : List ℕ} → Outside a b → Outside b c → Outside a c
+pub outside-trans : {a b c : List ℕ} → Outside a b → Outside b c → Outside a c
 outside-trans p q =
     record {
       size = q .size ∙ p .size;

@@ -1,5 +1,6 @@
 -- Laws of the weight of constraints in cells, five to each.
 --   constraints-append, constraints-length    whole constraints in front of more cells, and how many they are
+--   five-is                                   five cells are one constraint
 --   weight-known, weight-none                 the weight of a symbol by the table
 --   weight-step, weight-end                   the weight of the constraints from a place on, and from the next on
 -- Assumes nothing.
@@ -11,7 +12,7 @@ use native.Mathlib.Omega.{arith}
 use lib.ListN.{length, drop, getD, length-drop, List·getD-eq-default}
 use lib.Seq.{getD-drop, drop-drop}
 use Rattle.semantics.specs.Terms.{Symbol, Constraint, noSymbol, symbolAt, weight}
-use Rattle.tables.specs.Cells.{cellTerms, cellConstraints}
+use Rattle.tables.specs.Cells.{cellTerms, rowConstraint, cellConstraints}
 use Rattle.tables.specs.Rows.{symbolOf, symbolsOf}
 use Rattle.lines.proofs.HeadLaws.{symbols-length, symbol-at}
 
@@ -39,6 +40,17 @@ constraints-length (suc h) (a ∷ b ∷ []) e = absurd (omega arith)
 constraints-length (suc h) (a ∷ b ∷ c ∷ []) e = absurd (omega arith)
 constraints-length (suc h) (a ∷ b ∷ c ∷ d ∷ []) e = absurd (omega arith)
 constraints-length (suc h) (a ∷ b ∷ c ∷ d ∷ f ∷ xs) e = ap suc (constraints-length h xs (omega arith))
+
+-- five cells are one constraint
+pub five-is : (vs : List ℕ) → length vs ≡ 5 → cellConstraints vs ≡ rowConstraint vs ∷ []
+unfolding cellConstraints rowConstraint
+five-is [] h = absurd (omega arith)
+five-is (k ∷ []) h = absurd (omega arith)
+five-is (k ∷ a ∷ []) h = absurd (omega arith)
+five-is (k ∷ a ∷ b ∷ []) h = absurd (omega arith)
+five-is (k ∷ a ∷ b ∷ c ∷ []) h = absurd (omega arith)
+five-is (k ∷ a ∷ b ∷ c ∷ d ∷ []) h = refl
+five-is (k ∷ a ∷ b ∷ c ∷ d ∷ e ∷ vs) h = absurd (omega arith)
 
 module _ (names symbols : List ℕ) (k : ℕ) (size : length symbols ≡ 2 * k) (s : ℕ) where
   pub weight-known : 2 * s + 1 < length symbols → getD symbols (2 * s + 1) 0 ≡ symbolAt (symbolsOf names symbols k) s .weight

@@ -4,6 +4,7 @@
 --   termCell, padded                        the cell of a term, and cells with zeros behind them
 --   Lent, Outside, Spelled, KeepsPlaces     the tables lent, and what a line does to names and places
 --   TermIn, TermsIn, ConstraintIn           what is promised of a term, of the terms of a line and of its constraint
+--   CellsMean                               the cells of a constraint, by its term fields
 -- Assumes nothing.
 use mathlib.Core.Path.{_≡_}
 use Prim.Native.Nat.{ℕ, zero, suc, _+_, _*_, _≤_, _<_}
@@ -153,7 +154,14 @@ constraintAnswer names n r =
     (accepted (record { constraint = rowConstraint (r .cells); constants = constantsOf names (r .count) }))
     (refused (r .refusal) n)
 
--- what is promised of an H, B or G line: the constraint whose variables are letters
+-- the cells of a constraint that is not refused, by its term fields
+pub record CellsMean (gs before : List (List ℕ)) (names′ : List ℕ) (r : ConstraintRead) : Type 0 where
+  pub terms : every isTerm gs ≡ true
+  pub few : length gs ≤ 4
+  pub after : constantsOf names′ (r .count) ≡ constantsAfter gs before
+  pub cells : drop 1 (r .cells) ≡ padded 4 (map (termCell (constantsAfter gs before)) gs)
+
+-- what is promised of an H, B or G line: the constraint whose variables are letters, and its cells
 pub record ConstraintIn (f : Fields) (full : Bool) (base count : ℕ) (symbols names places names′ places′ : List ℕ)
     (r : ConstraintRead) : Type 0 where
   pub few : r .count ≤ 64
@@ -165,4 +173,7 @@ pub record ConstraintIn (f : Fields) (full : Bool) (base count : ℕ) (symbols n
   pub answers :
       (fs : List (List ℕ)) (n k : ℕ) → Holds fs f → length symbols ≡ 2 * k
       → constraintAnswer names′ n r ≡ constraintLine full (symbolsOf names symbols k) letterNumber (constantsOf names count) n fs
+  pub flat :
+      (fs : List (List ℕ)) (k : ℕ) → Holds fs f → length symbols ≡ 2 * k → r .refusal ≡ 0
+      → CellsMean (drop 2 fs) (constantsOf names count) names′ r
   pub keeps : KeepsPlaces base f names places names′ places′

@@ -19,7 +19,7 @@ use Rattle.syntax.proofs.Tabled.{tabled-same}
 use Rattle.tables.specs.Layout.{firstRule}
 use Rattle.tables.specs.Cells.{cellTerm, cellTerms, rowConstraint, cellConstraints, cellEquations}
 use Rattle.tables.specs.Rows.{nameOf, ruleOfRow, rowOf, ruleOf}
-use Rattle.lines.proofs.Weighing.{constraints-append, constraints-length}
+use Rattle.lines.proofs.Weighing.{constraints-append, constraints-length, five-is}
 use Rattle.programs.specs.declared.Stage.{Stage}
 use Rattle.programs.specs.Read.{ruleRead, rulesRead, RowFits, Sound, Begun}
 use Rattle.programs.proofs.Pasted.{cut-pasted, cut-before, drop-behind, at-before, new-length}
@@ -207,16 +207,6 @@ ruleWith name heads body equations = record { name = name; heads = heads; body =
 rule-path : {n n′ : List ℕ} {h h′ b b′ : List Constraint} {e e′ : List Equation} → n ≡ n′ → h ≡ h′ → b ≡ b′ → e ≡ e′
     → ruleWith n h b e ≡ ruleWith n′ h′ b′ e′
 rule-path p q r s = cc
-
-five-is : (vs : List ℕ) → length vs ≡ 5 → cellConstraints vs ≡ rowConstraint vs ∷ []
-unfolding cellConstraints rowConstraint
-five-is [] h = absurd (omega arith)
-five-is (k ∷ []) h = absurd (omega arith)
-five-is (k ∷ a ∷ []) h = absurd (omega arith)
-five-is (k ∷ a ∷ b ∷ []) h = absurd (omega arith)
-five-is (k ∷ a ∷ b ∷ c ∷ []) h = absurd (omega arith)
-five-is (k ∷ a ∷ b ∷ c ∷ d ∷ []) h = refl
-five-is (k ∷ a ∷ b ∷ c ∷ d ∷ e ∷ vs) h = absurd (omega arith)
 
 two-are : (a b : ℕ) → cellEquations (a ∷ b ∷ []) ≡ record { left = cellTerm a; right = cellTerm b } ∷ []
 unfolding cellEquations

@@ -1,112 +1,112 @@
--- `goals::goal::goal_lines` meets its contract: what is left, read from here, is the answer. Assumes nothing.
+-- `goals::goal::goal_lines` meets its contract: what is left of the text, read from here, is the answer. Assumes nothing.
 use borrow.Author.Needs.{needs}
 use mathlib.Core.Path.{_≡_, refl, _∙_}
-use mathlib.Core.List.{[]}
-use Prim.Native.Nat.{_+_, _-_, _≤_}
-use native.Mathlib.Numerals.{add-one}
+use Prim.Native.Nat.{_-_}
 use native.Mathlib.Omega.{arith}
-use lib.ListN.{length, drop}
-use Rattle.text.specs.Lines.{lines}
-use Rattle.syntax.specs.Goals.{readGoalLines}
-use Rattle.syntax.specs.Tables.{symbolsOf, constantsOf}
-use Rattle.goals.specs.ReadGoal.{GoalRoom, GoalFits, goalDraftOf, goalLineAnswer, goalLinesAnswer}
-use Rattle.goals.proofs.GoalSteps.{lines-refused, lines-next, lines-end, start-fits, start-read, room-kept}
+use lib.ListN.{length}
+use Rattle.goals.proofs.GoalLaws.{LinesSoFar, lines-start, lines-faulty, lines-refused, lines-next, lines-end}
 use Rattle.goals.proofs.goal.goal_lines.Statement.{statement}
 use Rattle.goals.proofs.goal.goal_lines.Tie as tie
 
 abbrev Inv-loop : tie.InvT-loop
-Inv-loop classes program goal symbols k constants₀ n cells₀ letters₀ counts₀ number₀ at₀ constants cells letters counts number
-    at =
-    GoalRoom symbols k constants n cells letters × (length constants ≡ length constants₀) × (length cells ≡ length cells₀)
-    × (length letters ≡ length letters₀) × GoalFits symbols k n cells letters counts × (number ≤ at + 1)
-    × (readGoalLines (symbolsOf program symbols k) number (goalDraftOf program goal constants n cells letters counts)
-    (lines (drop at goal))
-    ≡ readGoalLines (symbolsOf program symbols k) 1
-    (record { constraints = []; letters = []; constants = constantsOf program goal constants₀ n 0 })
-    (lines goal))
+Inv-loop goal symbols names₀ places₀ constants cells₀ letters₀ classes at₀ number₀ counts₀ names places cells letters at number counts =
+    LinesSoFar goal symbols names₀ places₀ constants names places cells letters at number counts × (length cells ≡ length cells₀)
 
 abbrev μ-loop : tie.MeasureT-loop
-μ-loop classes program goal symbols k constants₀ n cells₀ letters₀ counts₀ number₀ at₀ constants cells letters counts number at =
+μ-loop goal symbols names₀ places₀ constants cells₀ letters₀ classes at₀ number₀ counts₀ names places cells letters at number counts =
     length goal - at
 
-loop-holds : tie.Need-loop-holds Inv-loop μ-loop
-loop-holds c =
-    let pre = c .before .before .before .before .before .before .before .pre in
-    (pre .2, refl, refl, refl, start-fits _ _ _ _ _ (pre .2 .few-constants), omega arith, start-read _ _ _ _ _ _ _)
+classes-requires : tie.Need-classes-requires Inv-loop μ-loop
+classes-requires c κs = search needs
 
-line-end-requires : tie.Need-line-end-requires Inv-loop μ-loop
-line-end-requires c κs = search needs
+loop-holds : tie.Need-loop-holds Inv-loop μ-loop
+loop-holds c = (lines-start _ _ _ _ _ _ _ ((c .before .before .before .before .before .before .before .pre) .0) ((c .before .before .before .before .before .before .before .pre) .1), refl)
+
+slice-aggregate-split : tie.Need-slice-aggregate-split Inv-loop μ-loop
+slice-aggregate-split c = search needs
+
+split-requires : tie.Need-split-requires Inv-loop μ-loop
+split-requires c κs = ((c .before .before .before .classes) .ensures, (c .before .loop-test) .taken, (c .before .before .before .before .before .before .before .before .before .before .pre) .2)
+
+same-length : tie.Need-same-length Inv-loop μ-loop
+same-length c = omega (arith, (c .before .before .before .before .loop) .inv .0 .room .names-size, (c .before .before .before .before .before .before .before .before .before .before .before .before .pre) .0 .names-size)
+
+same-length-2 : tie.Need-same-length-2 Inv-loop μ-loop
+same-length-2 c = omega (arith, (c .before .before .before .before .loop) .inv .0 .room .places-size, (c .before .before .before .before .before .before .before .before .before .before .before .before .pre) .0 .places-size)
+
+same-length-3 : tie.Need-same-length-3 Inv-loop μ-loop
+same-length-3 c = (c .before .before .before .before .loop) .inv .1
+
+same-length-4 : tie.Need-same-length-4 Inv-loop μ-loop
+same-length-4 c = omega (arith, (c .before .before .before .before .loop) .inv .0 .room .letters-size, (c .before .before .before .before .before .before .before .before .before .before .before .before .pre) .0 .letters-size)
+
+returns : tie.Need-returns Inv-loop μ-loop
+returns c = lines-faulty _ _ _ _ _ _ _ _ _ _ _ _ ((c .before .before .before .before .loop) .inv .0) ((c .before .before .before .loop-test) .taken) _ ((c .before .split) .ensures) ((c .if1) .taken)
 
 goal-line-requires : tie.Need-goal-line-requires Inv-loop μ-loop
-goal-line-requires c κs =
-    let line = c .before .before .before in
-    let loop = line .before .before .loop in
-    let pre = line .before .before .before .before .before .before .before .before .before .before .pre in
-    (pre .0, line .line-end .ensures .1, line .line-end .ensures .2, pre .1, loop .inv .0, loop .inv .4)
+goal-line-requires c κs = (
+      record {
+        near = (c .before .before .before .before .before .split) .ensures .near;
+        low = omega arith;
+        names-size = (c .before .before .before .before .before .before .before .before .loop) .inv .0 .room .names-size;
+        places-size = (c .before .before .before .before .before .before .before .before .loop) .inv .0 .room .places-size;
+      },
+      (c .before .before .before .before .before .before .before .before .loop) .inv .0 .room,
+      (c .before .before .before .before .before .before .before .before .loop) .inv .0 .fits,
+    )
 
 enum-known-x : tie.Need-enum-known-x Inv-loop μ-loop
 enum-known-x c = search needs
 
-same-length : tie.Need-same-length Inv-loop μ-loop
-same-length c = search needs
-
-same-length-2 : tie.Need-same-length-2 Inv-loop μ-loop
-same-length-2 c = search needs
-
-same-length-3 : tie.Need-same-length-3 Inv-loop μ-loop
-same-length-3 c = search needs
-
-returns : tie.Need-returns Inv-loop μ-loop
-unfolding goalLinesAnswer goalLineAnswer
-returns c =
-    let read = c .before .before .before .before .before .before .before .before .before in
-    let line = read .before .before .before .before in
-    let loop = line .before .before .loop in
-    let refused = rw (c .before .x .given .1) at (read .goal-line .ensures .0 (loop .number)) in
-    (search (lines-refused, refused, loop .inv .6, line .before .loop-test .taken, line .line-end .ensures .0), omega arith)
-
-enum-known-s : tie.Need-enum-known-s Inv-loop μ-loop
-enum-known-s c = search needs
-
-add-number : tie.Need-add-number Inv-loop μ-loop
-add-number c = search needs
-
-add-at : tie.Need-add-at Inv-loop μ-loop
-add-at c = search needs
-
-loop-less : tie.Need-loop-less Inv-loop μ-loop
-loop-less c = search needs
-
-loop-again : tie.Need-loop-again Inv-loop μ-loop
-unfolding goalLineAnswer
-loop-again c =
-    let read = c .before .before .before .before .before .before .before .before .before in
-    let kept = read .goal-line .kept .1 .1 .1 .1 .1 .1 .1 in
-    let line = read .before .before .before .before in
-    let loop = line .before .before .loop in
-    let next = rw (c .before .s .given .1) at (read .goal-line .ensures .0 (loop .number)) in (
-      room-kept _ _ _ _ _ _ _ _ _ (loop .inv .0) (kept .0) (kept .1 .1 .0) (kept .1 .1 .1 .0),
-      kept .0 ∙ loop .inv .1,
-      kept .1 .1 .0 ∙ loop .inv .2,
-      kept .1 .1 .1 .0 ∙ loop .inv .3,
-      rw (c .before .s .given .1) at (read .goal-line .ensures .1),
-      omega (arith, loop .inv .5, line .line-end .ensures .1),
-      rw (add-one (loop .number), add-one (line .line-end .result))
-          (search (lines-next, next, loop .inv .6, line .before .loop-test .taken, line .line-end .ensures .0)),
-    )
-
-same-length-4 : tie.Need-same-length-4 Inv-loop μ-loop
-same-length-4 c = search needs
-
 same-length-5 : tie.Need-same-length-5 Inv-loop μ-loop
-same-length-5 c = search needs
+same-length-5 c = omega (arith, (c .before .before .before .before .before .before .before .before .before .before .before .goal-line) .ensures .outside .size, (c .before .before .before .before .before .before .before .before .before .before .before .before .before .before .before .before .before .before .before .before .loop) .inv .0 .room .names-size, (c .before .before .before .before .before .before .before .before .before .before .before .before .before .before .before .before .before .before .before .before .before .before .before .before .before .before .before .before .pre) .0 .names-size)
 
 same-length-6 : tie.Need-same-length-6 Inv-loop μ-loop
-same-length-6 c = search needs
+same-length-6 c = omega (arith, (c .before .before .before .before .before .before .before .before .before .before .before .goal-line) .ensures .places-size, (c .before .before .before .before .before .before .before .before .before .before .before .before .before .before .before .before .before .before .before .before .loop) .inv .0 .room .places-size, (c .before .before .before .before .before .before .before .before .before .before .before .before .before .before .before .before .before .before .before .before .before .before .before .before .before .before .before .before .pre) .0 .places-size)
+
+same-length-7 : tie.Need-same-length-7 Inv-loop μ-loop
+same-length-7 c = (c .before .before .before .before .before .before .before .before .before .before .before .goal-line) .ensures .cells-size ∙ (c .before .before .before .before .before .before .before .before .before .before .before .before .before .before .before .before .before .before .before .before .loop) .inv .1
+
+same-length-8 : tie.Need-same-length-8 Inv-loop μ-loop
+same-length-8 c = omega (arith, (c .before .before .before .before .before .before .before .before .before .before .before .goal-line) .ensures .letters-size, (c .before .before .before .before .before .before .before .before .before .before .before .before .before .before .before .before .before .before .before .before .loop) .inv .0 .room .letters-size, (c .before .before .before .before .before .before .before .before .before .before .before .before .before .before .before .before .before .before .before .before .before .before .before .before .before .before .before .before .pre) .0 .letters-size)
 
 returns-2 : tie.Need-returns-2 Inv-loop μ-loop
-unfolding goalLinesAnswer
-returns-2 c = (search lines-end, c .before .loop .inv .4)
+returns-2 c = lines-refused _ _ _ _ _ _ _ _ _ _ _ _ ((c .before .before .before .before .before .before .before .before .before .before .before .before .before .before .before .before .before .before .before .before .loop) .inv .0) ((c .before .before .before .before .before .before .before .before .before .before .before .before .before .before .before .before .before .before .before .loop-test) .taken) _ ((c .before .before .before .before .before .before .before .before .before .before .before .before .before .before .before .before .before .split) .ensures) ((c .before .before .before .before .before .before .before .before .before .before .before .before .before .before .before .before .if1) .left) _ _ _ _ _
+    ((c .before .before .before .before .before .before .before .before .before .before .before .goal-line) .ensures) _ ((c .before .x) .given .1)
+
+enum-known-next : tie.Need-enum-known-next Inv-loop μ-loop
+enum-known-next c = search needs
+
+add-at : tie.Need-add-at Inv-loop μ-loop
+add-at c = record { fits = omega (arith, (c .before .before .before .before .before .before .before .before .before .before .before .before .before .before .before .before .before .before .split) .ensures .inside ((c .before .before .before .before .before .before .before .before .before .before .before .before .before .before .before .before .before .if1) .left), (c .before .before .before .before .before .before .before .before .before .before .before .before .before .before .before .before .before .before .before .before .before .before .before .before .before .before .before .before .before .pre) .2) }
+
+add-number : tie.Need-add-number Inv-loop μ-loop
+add-number c = record { fits = omega (arith, (c .before .before .before .before .before .before .before .before .before .before .before .before .before .before .before .before .before .before .before .before .before .loop) .inv .0 .numbered, (c .before .before .before .before .before .before .before .before .before .before .before .before .before .before .before .before .before .before .before .before .loop-test) .taken, (c .before .before .before .before .before .before .before .before .before .before .before .before .before .before .before .before .before .before .before .before .before .before .before .before .before .before .before .before .before .pre) .2) }
+
+loop-less : tie.Need-loop-less Inv-loop μ-loop
+loop-less c = omega (arith, (c .before .before .before .before .before .before .before .before .before .before .before .before .before .before .before .before .before .before .split) .ensures .begun ((c .before .before .before .before .before .before .before .before .before .before .before .before .before .before .before .before .before .if1) .left), (c .before .before .before .before .before .before .before .before .before .before .before .before .before .before .before .before .before .before .before .before .loop-test) .taken)
+
+loop-again : tie.Need-loop-again Inv-loop μ-loop
+loop-again c = (
+      lines-next _ _ _ _ _ _ _ _ _ _ _ _ ((c .before .before .before .before .before .before .before .before .before .before .before .before .before .before .before .before .before .before .before .before .before .loop) .inv .0) ((c .before .before .before .before .before .before .before .before .before .before .before .before .before .before .before .before .before .before .before .before .loop-test) .taken) _ ((c .before .before .before .before .before .before .before .before .before .before .before .before .before .before .before .before .before .before .split) .ensures) ((c .before .before .before .before .before .before .before .before .before .before .before .before .before .before .before .before .before .if1) .left) _ _ _ _ _
+          ((c .before .before .before .before .before .before .before .before .before .before .before .before .goal-line) .ensures) _ ((c .before .before .next) .given .1),
+      (c .before .before .before .before .before .before .before .before .before .before .before .before .goal-line) .ensures .cells-size ∙ (c .before .before .before .before .before .before .before .before .before .before .before .before .before .before .before .before .before .before .before .before .before .loop) .inv .1,
+    )
+
+same-length-9 : tie.Need-same-length-9 Inv-loop μ-loop
+same-length-9 c = search needs
+
+same-length-10 : tie.Need-same-length-10 Inv-loop μ-loop
+same-length-10 c = search needs
+
+same-length-11 : tie.Need-same-length-11 Inv-loop μ-loop
+same-length-11 c = (c .before .loop) .inv .1
+
+same-length-12 : tie.Need-same-length-12 Inv-loop μ-loop
+same-length-12 c = search needs
+
+returns-3 : tie.Need-returns-3 Inv-loop μ-loop
+returns-3 c = lines-end _ _ _ _ _ _ _ _ _ _ _ _ ((c .before .loop) .inv .0) ((c .loop-test) .left)
 
 pub goal-lines-spec : {M : Type 1} → statement M
 goal-lines-spec =
@@ -114,20 +114,29 @@ goal-lines-spec =
     (tie.spec
     Inv-loop
     μ-loop
+    classes-requires
     loop-holds
-    line-end-requires
-    goal-line-requires
-    enum-known-x
+    slice-aggregate-split
+    split-requires
     same-length
     same-length-2
     same-length-3
-    returns
-    enum-known-s
-    add-number
-    add-at
-    loop-less
-    loop-again
     same-length-4
+    returns
+    goal-line-requires
+    enum-known-x
     same-length-5
     same-length-6
-    returns-2)
+    same-length-7
+    same-length-8
+    returns-2
+    enum-known-next
+    add-at
+    add-number
+    loop-less
+    loop-again
+    same-length-9
+    same-length-10
+    same-length-11
+    same-length-12
+    returns-3)

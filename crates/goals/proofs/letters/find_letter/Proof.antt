@@ -1,0 +1,63 @@
+-- `goals::letters::find_letter` meets its contract: no letter passed is the one sought. Assumes nothing.
+use borrow.Author.Needs.{needs}
+use mathlib.Core.Path.{_≡_, refl, sym, _∙_}
+use Prim.Native.Nat.{_≤_, _-_}
+use native.Mathlib.Numerals.{add-one}
+use native.Mathlib.Omega.{arith}
+use borrow.Author.Tests.{eq-eqb, ne-eqb}
+use lib.Dec.{eqb}
+use lib.ListN.{length, drop}
+use Rattle.text.specs.Lists.{placeFrom}
+use Rattle.syntax.proofs.Tabled.{place-here, place-step, place-end}
+use Rattle.goals.proofs.letters.find_letter.Statement.{statement}
+use Rattle.goals.proofs.letters.find_letter.Tie as tie
+
+abbrev Inv-loop : tie.InvT-loop
+Inv-loop letters b i₀ i = (i ≤ length letters) × (placeFrom (eqb b) i (drop i letters) ≡ placeFrom (eqb b) 0 letters)
+
+abbrev μ-loop : tie.MeasureT-loop
+μ-loop letters b i₀ i = length letters - i
+
+loop-holds : tie.Need-loop-holds Inv-loop μ-loop
+loop-holds c = (omega arith, refl)
+
+shared-slice-read-if1 : tie.Need-shared-slice-read-if1 Inv-loop μ-loop
+shared-slice-read-if1 c = search needs
+
+returns : tie.Need-returns Inv-loop μ-loop
+returns c = (
+      sym (place-here (eqb ((c .before .before .before .before .args) .b)) 0 ((c .before .before .before .before .args) .letters .now) ((c .before .before .before .loop) .i) ((c .before .before .loop-test) .taken) (eq-eqb _ _ ((c .if1) .taken)))
+          ∙ (c .before .before .before .loop) .inv .1,
+      omega arith,
+    )
+
+add-i : tie.Need-add-i Inv-loop μ-loop
+add-i c = search needs
+
+loop-less : tie.Need-loop-less Inv-loop μ-loop
+loop-less c = search needs
+
+loop-again : tie.Need-loop-again Inv-loop μ-loop
+loop-again c = (
+      omega arith,
+      rw add-one
+          (sym (place-step (eqb ((c .before .before .before .before .args) .b)) 0 ((c .before .before .before .before .args) .letters .now) ((c .before .before .before .loop) .i) ((c .before .before .loop-test) .taken) (ne-eqb _ _ ((c .if1) .left)))
+          ∙ (c .before .before .before .loop) .inv .1),
+    )
+
+returns-2 : tie.Need-returns-2 Inv-loop μ-loop
+returns-2 c = (sym (place-end (eqb ((c .before .before .args) .b)) ((c .before .before .args) .letters .now) ((c .before .loop) .i) ((c .loop-test) .left)) ∙ (c .before .loop) .inv .1, omega arith)
+
+pub find-letter-spec : {M : Type 1} → statement M
+find-letter-spec =
+    tie.close
+    (tie.spec
+    Inv-loop
+    μ-loop
+    loop-holds
+    shared-slice-read-if1
+    returns
+    add-i
+    loop-less
+    loop-again
+    returns-2)
