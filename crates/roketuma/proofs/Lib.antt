@@ -1,3 +1,4 @@
 -- Laws of the answers and of the stages of a run. Assumes nothing.
 pub mod ReplyLaws
 pub mod ReadyLaws
+pub mod ReadingLaws

@@ -11,8 +11,8 @@ use mathlib.Core.List.{List, [], _∷_, _++_, map}
 use mathlib.Core.Option.{Option, none, some}
 use mathlib.Core.Path.{_≡_, refl, sym, ap, subst, _∙_}
 use lib.Dec.{leb, ltb}
-use lib.ListN.{length, getD, take, length-append}
-use lib.Seq.{length-take-le}
+use lib.ListN.{length, getD, take, drop, length-append}
+use lib.Seq.{take-at, length-take-le}
 use borrow.Author.Tests.{le-leb, lt-ltb, ltb-true, ltb-false, leb-true}
 use Rattle.text.specs.Lists.{onward, every, tabled}
 use Rattle.text.proofs.Laws.{tabled-length, tabled-at}
@@ -438,3 +438,52 @@ lives-listable {bound} {cells} {e} {w} l h k =
 pub failed-listable : {bound cells : List ℕ} → Listable false 0 bound cells
 failed-listable =
     record { few = omega arith; live = λ h. absurd (let w : _≡_ {A = ℕ} 0 1 = cc in omega arith) }
+
+-- the run of a goal as read, whose variables' cells are the front of an array
+module _ {program goal places rules letters cells : List ℕ} {z : Sizes} (r : Ready program goal places rules letters cells z)
+    (array : List ℕ) (size : length array ≡ 26)
+  where
+    abbrev v : ℕ
+    v = length letters
+
+    front-few : v ≤ 26
+    front-few = few-variables r
+
+    pub front-size : v ≡ length (take v array)
+    front-size = sym (length-take-le v array (omega (arith, front-few, size)))
+
+    pub front-starts : Startable rules (z .rules) cells (z .constraints) (length (take v array)) × (length (take v array) ≤ 26)
+    front-starts = (
+      subst (λ (n : ℕ). Startable rules (z .rules) cells (z .constraints) n) front-size (ready-starts r),
+      omega (arith, front-size, front-few),
+    )
+
+    module _ {b cells′ : List ℕ} (kept : length b ≡ length (take v array)) (f : FinalCells)
+        (e : Entered rules z (length (take v array)) cells b cells′ (f .alive) (f .count) (f .next) (f .firings)) where
+      pub back-few : v ≤ length (b ++ drop v array)
+      back-few = omega (arith, kept, front-size, length-append b (drop v array))
+
+      pub back-size : v ≡ length (take v (b ++ drop v array))
+      back-size = sym (length-take-le v (b ++ drop v array) back-few)
+
+      again : take v (b ++ drop v array) ≡ b
+      again = take-at b (drop v array) v (kept ∙ sym front-size)
+
+      entered : Entered rules z v cells b cells′ (f .alive) (f .count) (f .next) (f .firings)
+      entered =
+          subst (λ (n : ℕ). Entered rules z n cells b cells′ (f .alive) (f .count) (f .next) (f .firings)) (sym front-size) e
+
+      pub back-listable : length cells′ ≡ length cells → FinalListable (take v (b ++ drop v array)) cells′ f
+      back-listable same =
+          subst (λ (l : List ℕ). FinalListable l cells′ f) (sym again)
+          (ready-listable r f entered (kept ∙ sym front-size) (same ∙ r .cells-size))
+
+      pub back-replies :
+          {before after : List ℕ} {reply : RunReply}
+          → Replied (fitted goalText (length before)
+          (finalBytes program goal places letters (take v (b ++ drop v array)) cells′ f)) before after reply
+          → Replied (runReply program goal (length before)) before after reply
+      back-replies {before} {after} {reply} l =
+          ready-replies r f entered
+          (subst (λ (p : List ℕ). Replied (fitted goalText (length before) (finalBytes program goal places letters p cells′ f))
+          before after reply) again l)

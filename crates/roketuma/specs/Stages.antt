@@ -2,6 +2,7 @@
 --   programTable       the program that the tables hold
 --   isKnown            whether the tables name a number
 --   ProgramReady       a program as read, in its tables
+--   GoalReady          what reading a goal asks: the same, with the program's constants
 --   Ready              a program and a goal as read, in their tables
 --   Entered            a goal has entered, and its derivation has ended
 --   finalBytes, FinalListable   the listing of a final state in cells, and what it asks
@@ -18,11 +19,12 @@ use Rattle.syntax.specs.Answers.{accepted}
 use Rattle.syntax.specs.Forms.{firstConstant}
 use Rattle.syntax.specs.Programs.{Reading, readProgram}
 use Rattle.syntax.specs.Goals.{GoalReading, readGoal}
-use Rattle.tables.specs.Layout.{constraintSize, headsCell, bodyCell}
+use Rattle.tables.specs.Layout.{maxNames, constraintSize, headsCell, bodyCell}
 use Rattle.tables.specs.Cells.{cellTerm, cellConstraints, stateOf}
 use Rattle.tables.specs.Rows.{symbolsOf, constantsOf, rowOf, rulesOf, lettersOf}
 use Rattle.tables.specs.Names.{nameIn, Placed}
 use Rattle.tables.specs.Numbers.{Renumberable}
+use Rattle.programs.specs.declared.Counts.{Counts}
 use Rattle.engine.specs.Runs.{Ended}
 use Rattle.engine.specs.declared.derivation.Final.{Final}
 use Rattle.listing.specs.Listing.{variableName, endListing}
@@ -43,6 +45,16 @@ pub record ProgramReady (program names symbols rules : List ℕ) (k n : ℕ) (p 
   pub rules-size : length rules ≡ 2048
   pub heads-few : (i : ℕ) → i < n → getD (rowOf rules i) headsCell 0 ≤ 4
   pub body-few : (i : ℕ) → i < n → getD (rowOf rules i) bodyCell 0 ≤ 6
+
+-- a program as read, in its tables and that of its constants; each name stands where its place says
+pub record GoalReady (program names places symbols rules : List ℕ) (c : Counts) : Type 0 where
+  pub p : Reading
+  pub first : ProgramReady program names symbols rules (c .symbols) (c .rules) p
+  pub spelled : p .constants ≡ constantsOf names (c .constants)
+  pub placed : (goal : List ℕ) → Placed program goal names places
+  pub names-size : length names ≡ maxNames
+  pub places-size : length places ≡ maxNames
+  pub symbols-size : length symbols ≡ 128
 
 -- a program and a goal as read, in their tables; each name stands where its place says
 pub record Ready (program goal places rules letters cells : List ℕ) (z : Sizes) : Type 0 where
