@@ -194,7 +194,15 @@ pub fn put_bounds<'a>(
     let mut i = 0;
     while i < bound.len() {
         let start = behind(end, out.len());
-        let size = put_bound(&mut out[start..], program, goal, places, letters, i, bound[i]);
+        let size = put_bound(
+            &mut out[start..],
+            program,
+            goal,
+            places,
+            letters,
+            i,
+            bound[i],
+        );
         end += size;
         i += 1;
     }
