@@ -10,7 +10,7 @@
 use mathlib.Core.Path.{_≡_, refl, sym, ap, _∙_}
 use mathlib.Core.Bool.{Bool, true, false, cond}
 use mathlib.Core.List.{List, [], _∷_, _++_, append-assoc, append-nil, map}
-use Prim.Native.Nat.{ℕ, suc, _+_, _-_, _*_, _/_, _%_, _≤_, _<_}
+use Prim.Native.Nat.{ℕ, suc, _+_, _-_, _*_, _/_, _%_, _≤_, _<_, min}
 use native.Mathlib.Omega.{arith}
 use native.Mathlib.Numerals.{add-one}
 use borrow.Author.Tests.{lt-ltb, le-ltb}
@@ -26,10 +26,11 @@ use Rattle.tables.proofs.NumberLaws.{used-terms}
 use Rattle.listing.specs.Listing.{Naming, decimal, fieldsBehind, lineOf, termShown, constraintShown, constraintLines}
 use Rattle.listing.specs.Listing.{numberedAs, variableName, boundLines}
 use Rattle.listing.specs.Writing.{Countable, Writes}
-use Rattle.listing.specs.Ends.{cellShown}
+use Rattle.listing.specs.Ends.{cellShown, boundLine}
 use Rattle.listing.proofs.Decimals.{decimal-low, decimal-high}
 use Rattle.listing.proofs.WriteLaws.{wrote-then, wrote-is, count-is, count-first, count-next}
-use Rattle.listing.proofs.WriteLaws.{Writing, writing-count, writing-next, writing-end, writing-last}
+use Rattle.listing.proofs.WriteLaws.{Writing, writing-count, writing-next, writing-line, writing-end}
+use Rattle.listing.proofs.WriteLaws.{writing-last, partFrom, partBack}
 
 -- a part of a text, one byte on
 module _ {part o p : List ℕ} {at end : ℕ} (i : ℕ) (w : Writing part at o p end (drop i part)) where
@@ -256,15 +257,44 @@ module _ (naming : Naming) (line letter : ℕ) (cells : List ℕ) {o p : List �
       → Countable end cutLine
   row-count h c = count-first (rowsFrom naming line letter cells (suc i)) (count-is (row-here h) (writing-count c w))
 
-  pub rows-next : {q : List ℕ} {n : ℕ} → 5 * i + 5 ≤ length cells → Writes cutLine end p q n → length q ≡ length p
-      → Writing (constraintLines (line ∷ []) naming (numberedAs (letter ∷ [])) (cellConstraints cells)) at o q n
-      (rowsFrom naming line letter cells (i + 1))
-  rows-next h v k = rw (add-one i) (writing-next (rowsFrom naming line letter cells (suc i)) (row-here h) w v k)
+  pub rows-next : {part : List ℕ} {k : ℕ} (from : ℕ) → 5 * i + 5 ≤ length cells → from ≡ min end (length p)
+      → Writes cutLine 0 (partFrom from p) part k → length part ≡ length (partFrom from p)
+      → Writing (constraintLines (line ∷ []) naming (numberedAs (letter ∷ [])) (cellConstraints cells)) at o
+      (partBack from p part) (end + k) (rowsFrom naming line letter cells (i + 1))
+  rows-next from h b v l =
+      rw (add-one i) (writing-line from (rowsFrom naming line letter cells (suc i)) (row-here h) w b v l)
 
   pub rows-wrote : length cells < 5 * i + 5
       → Writes (constraintLines (line ∷ []) naming (numberedAs (letter ∷ [])) (cellConstraints cells)) at o p end
   unfolding constraintLines
   rows-wrote h = writing-end w (rw (constraints-short cells i h))
+
+-- a goal variable's line: its front, a comma, what it became, and the line feed
+module _ (naming : Naming) (letters : List ℕ) (i x : ℕ) where
+  bound-pieces : boundLine naming letters i x
+      ≡ (ascii "A," ++ variableName letters i) ++ ((44 ∷ []) ++ (cellShown naming 85 x ++ (10 ∷ [])))
+  unfolding boundLine lineOf fieldsBehind ascii
+  bound-pieces = refl
+
+  module _ (c : Countable 0 (boundLine naming letters i x)) where
+    pub bound-front : Countable 0 (ascii "A," ++ variableName letters i)
+    bound-front = count-first _ (count-is bound-pieces c)
+
+    module _ {o p : List ℕ} {m : ℕ} (w : Writes (ascii "A," ++ variableName letters i) 0 o p m) where
+      pub bound-comma : Countable m (44 ∷ [])
+      bound-comma = count-first _ (count-next (count-is bound-pieces c) w)
+
+      pub bound-cell : {q : List ℕ} {n : ℕ} → Writes (44 ∷ []) m p q n → Countable n (cellShown naming 85 x)
+      bound-cell v = count-first _ (count-next (count-next (count-is bound-pieces c) w) v)
+
+      pub bound-feed : {q r : List ℕ} {n l : ℕ} → Writes (44 ∷ []) m p q n → Writes (cellShown naming 85 x) n q r l
+          → Countable l (10 ∷ [])
+      bound-feed v u = count-next (count-next (count-next (count-is bound-pieces c) w) v) u
+
+  pub bound-wrote : {o p q r s : List ℕ} {m n l end : ℕ} → Writes (ascii "A," ++ variableName letters i) 0 o p m
+      → Writes (44 ∷ []) m p q n → Writes (cellShown naming 85 x) n q r l → Writes (10 ∷ []) l r s end → length p ≡ length o
+      → length q ≡ length p → length r ≡ length q → Writes (boundLine naming letters i x) 0 o s end
+  bound-wrote w v u t h j k = wrote-is (sym bound-pieces) (wrote-then w (wrote-then v (wrote-then u t k) j) h)
 
 -- a line for each goal variable, from x on
 abbrev pub boundsFrom : Naming → List ℕ → List ℕ → ℕ → List ℕ
@@ -274,42 +304,24 @@ boundsFrom naming letters bound i =
 module _ (naming : Naming) (letters bound : List ℕ) {o p : List ℕ} {at end : ℕ} (i : ℕ)
     (w : Writing (boundLines naming (numberedAs (ascii "U")) (variableName letters) 0 (map cellTerm bound)) at o p end
     (boundsFrom naming letters bound i)) where
-  abbrev boundFields : List ℕ
-  boundFields = fieldsBehind (map (cellShown naming 85) (take ((i + 1) - i) (drop i bound)))
-
   bound-here : i < length bound
       → boundsFrom naming letters bound i
-      ≡ (ascii "A," ++ variableName letters i) ++ (boundFields ++ boundsFrom naming letters bound (suc i))
-  unfolding boundLines lineOf fieldsBehind cellShown ascii
-  bound-here h =
-      let one : (i + 1) - i ≡ 1 = omega arith in
-      let term = termShown naming (numberedAs (85 ∷ [])) (cellTerm (getD bound i 0)) in
-      let more = boundsFrom naming letters bound (suc i) in
-      rw (drop-cons bound i 0 h, one)
-      (ap (λ (l : List ℕ). 65 ∷ 44 ∷ l) (append-assoc (variableName letters i) (44 ∷ (term ++ (10 ∷ []))) more))
+      ≡ boundLine naming letters i (getD bound i 0) ++ boundsFrom naming letters bound (suc i)
+  unfolding boundLines boundLine cellShown ascii
+  bound-here h = rw (drop-cons bound i 0 h)
 
   pub bound-count : i < length bound
       → Countable at (boundLines naming (numberedAs (ascii "U")) (variableName letters) 0 (map cellTerm bound))
-      → Countable end (ascii "A," ++ variableName letters i)
-  bound-count h c = count-first (boundFields ++ boundsFrom naming letters bound (suc i)) (count-is (bound-here h)
-      (writing-count c w))
+      → Countable end (boundLine naming letters i (getD bound i 0))
+  bound-count h c = count-first (boundsFrom naming letters bound (suc i)) (count-is (bound-here h) (writing-count c w))
 
-  pub bound-fields : {q : List ℕ} {m : ℕ} → i < length bound
-      → Countable at (boundLines naming (numberedAs (ascii "U")) (variableName letters) 0 (map cellTerm bound))
-      → Writes (ascii "A," ++ variableName letters i) end p q m → Countable m boundFields
-  bound-fields h c v =
-      count-first (boundsFrom naming letters bound (suc i)) (count-next (count-is (bound-here h) (writing-count c w)) v)
-
-  pub bounds-next : {q r : List ℕ} {m n : ℕ} → i < length bound → Writes (ascii "A," ++ variableName letters i) end p q m
-      → Writes boundFields m q r n → length q ≡ length p → length r ≡ length q
-      → Writing (boundLines naming (numberedAs (ascii "U")) (variableName letters) 0 (map cellTerm bound)) at o r n
-      (boundsFrom naming letters bound (i + 1))
-  bounds-next h v u k l =
-      rw (add-one i)
-      (writing-next (boundsFrom naming letters bound (suc i))
-      (bound-here h ∙ sym (append-assoc (ascii "A," ++ variableName letters i) boundFields (boundsFrom naming letters bound
-      (suc i))))
-      w (wrote-then v u k) (l ∙ k))
+  pub bounds-next : {part : List ℕ} {k : ℕ} (from : ℕ) → i < length bound → from ≡ min end (length p)
+      → Writes (boundLine naming letters i (getD bound i 0)) 0 (partFrom from p) part k
+      → length part ≡ length (partFrom from p)
+      → Writing (boundLines naming (numberedAs (ascii "U")) (variableName letters) 0 (map cellTerm bound)) at o
+      (partBack from p part) (end + k) (boundsFrom naming letters bound (i + 1))
+  bounds-next from h b v l =
+      rw (add-one i) (writing-line from (boundsFrom naming letters bound (suc i)) (bound-here h) w b v l)
 
   pub bounds-wrote : length bound ≤ i
       → Writes (boundLines naming (numberedAs (ascii "U")) (variableName letters) 0 (map cellTerm bound)) at o p end

@@ -2,16 +2,17 @@
 --   wrote-none, wrote-byte, wrote-over      no bytes, one byte that fits, one that does not
 --   wrote-then         a piece behind another
 --   wrote-is           the same bytes by another name
+--   wrote-behind       bytes at the front of the part of an output from a place on
 --   count-first, count-next     the pieces of bytes that can be counted
 --   Writing, writing-…  a loop that writes: what is written so far, and what is left
 -- Assumes nothing.
 use mathlib.Core.Path.{_≡_, refl, sym, ap, _∙_, subst}
 use mathlib.Core.List.{List, [], _∷_, _++_, append-assoc, append-nil}
-use Prim.Native.Nat.{ℕ, suc, _+_, _-_, _≤_, _<_}
+use Prim.Native.Nat.{ℕ, suc, _+_, _-_, _≤_, _<_, min}
 use native.Mathlib.Omega.{arith}
 use native.Mathlib.Numerals.{add-one}
-use lib.ListN.{length, take, drop, getD, set, length-append, take-append-drop}
-use lib.Seq.{take-at, drop-at, set-at, drop-cons, drop-drop, length-take-le}
+use lib.ListN.{length, take, drop, getD, set, length-append, length-drop, length-take, take-append-drop, drop-of-length-le}
+use lib.Seq.{take-at, drop-at, set-at, drop-cons, drop-drop, take-all, length-take-le}
 use Rattle.listing.specs.Writing.{laid, Countable, Writes}
 
 -- no bytes change nothing
@@ -76,7 +77,56 @@ wrote-then {a} {b} {o} {p} {q} {at} {m} {n} w v e =
 pub wrote-is : {a b o p : List ℕ} {at n : ℕ} → a ≡ b → Writes a at o p n → Writes b at o p n
 wrote-is {a} {b} {o} {p} {at} {n} e w = subst (λ (l : List ℕ). Writes l at o p n) e w
 
+-- the part of an output from a place on, and the output once the part is back
+abbrev pub partFrom : ℕ → List ℕ → List ℕ
+partFrom from o = take (length o - from) (drop from o)
+
+abbrev pub partBack : ℕ → List ℕ → List ℕ → List ℕ
+partBack from o part = take from o ++ (part ++ drop (length o - from) (drop from o))
+
+laid-behind : (bytes o part : List ℕ) (end from : ℕ) → from ≡ min end (length o) → end + length bytes ≤ length o
+    → part ≡ laid 0 bytes (partFrom from o) → partBack from o part ≡ laid end bytes o
+unfolding laid
+laid-behind bytes o part end from e h p =
+    let here : from ≡ end = omega arith in
+    let short : length (drop from o) ≤ length o - from = omega (arith, length-drop from o) in
+    let none : drop (length o - from) (drop from o) ≡ [] = drop-of-length-le (drop from o) short in
+    let all : partFrom from o ≡ drop from o =
+    take-all (length o - from) (drop from o) (omega (arith, length-drop from o)) in
+    let zero : 0 + length bytes ≡ length bytes = omega arith in
+    let cut : part ≡ bytes ++ drop (length bytes) (drop from o) = p ∙ rw (all, zero) in
+    rw (none, append-nil part, cut, drop-drop (length bytes) from o, here)
+
+-- bytes at the front of the part of an output from a place on; where the output does not reach there the part is empty
+pub wrote-behind : {bytes o part : List ℕ} {end k : ℕ} (from : ℕ) → from ≡ min end (length o)
+    → Writes bytes 0 (partFrom from o) part k → Writes bytes end o (partBack from o part) (end + k)
+wrote-behind {bytes} {o} {part} {end} {k} from e w =
+    record {
+      counted = omega (arith, w .counted);
+      placed = λ h.
+          laid-behind bytes o part end from e h
+          (w .placed (omega (arith, length-take (length o - from) (drop from o), length-drop from o)));
+    }
+
+-- a part that is as long as it was leaves the output as long as it was
+pub size-behind : (from : ℕ) (o part : List ℕ) → length part ≡ length (partFrom from o)
+    → length (partBack from o part) ≡ length o
+size-behind from o part h =
+    omega (
+      arith,
+      h,
+      length-take (length o - from) (drop from o),
+      length-drop from o,
+      length-append (take from o) (part ++ drop (length o - from) (drop from o)),
+      length-append part (drop (length o - from) (drop from o)),
+      length-drop (length o - from) (drop from o),
+      length-take from o,
+    )
+
 -- the pieces of bytes that can be counted
+pub count-front : {bytes : List ℕ} {end : ℕ} → Countable end bytes → Countable 0 bytes
+count-front {bytes} {end} c = record { few = omega (arith, c .few) }
+
 pub count-is : {a b : List ℕ} {at : ℕ} → a ≡ b → Countable at a → Countable at b
 count-is {a} {b} {at} e c = subst (λ (l : List ℕ). Countable at l) e c
 
@@ -111,6 +161,13 @@ writing-next {whole} {o} {p} {q} {left} {s} {at} {end} {more} rest e w v k =
       wrote = wrote-then (w .wrote) v (w .size);
       size = k ∙ w .size;
     }
+
+-- one line more, written at the front of the part behind those before it
+pub writing-line : {whole o p part left s : List ℕ} {at end k : ℕ} (from : ℕ) (rest : List ℕ) → left ≡ s ++ rest
+    → Writing whole at o p end left → from ≡ min end (length p) → Writes s 0 (partFrom from p) part k
+    → length part ≡ length (partFrom from p) → Writing whole at o (partBack from p part) (end + k) rest
+writing-line {whole} {o} {p} {part} {left} {s} {at} {end} {k} from rest e w b v l =
+    writing-next rest e w (wrote-behind from b v) (size-behind from p part l)
 
 -- nothing is left
 pub writing-end : {whole o p left : List ℕ} {at end : ℕ} → Writing whole at o p end left → left ≡ [] → Writes whole at o p end

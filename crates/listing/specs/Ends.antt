@@ -1,6 +1,7 @@
 -- The listing of a final state in cells: what its functions show, ask and promise.
---   shownAs          variables shown by a letter and their number
---   stateBytes       the A and S lines of a state whose variables are numbered
+--   cellShown        a cell as a field
+--   boundLine        a goal variable's line
+--   liveBytes        the first line, the A and the S lines of a state whose variables are numbered
 --   endBytes         the listing of a final state
 --   Listable         what listing a final state asks
 -- Assumes nothing.
@@ -19,6 +20,10 @@ use Rattle.listing.specs.declared.End.{End}
 -- a cell as a field, its variable by a letter and its number
 unfoldable pub cellShown : Naming → ℕ → ℕ → List ℕ
 cellShown naming letter x = termShown naming (numberedAs (letter ∷ [])) (cellTerm x)
+
+-- the line of goal variable i, which became a cell
+unfoldable pub boundLine : Naming → List ℕ → ℕ → ℕ → List ℕ
+boundLine naming letters i x = lineOf (ascii "A") (variableName letters i ∷ cellShown naming 85 x ∷ [])
 
 -- the first line, and the A and S lines, of a state whose variables are numbered by first appearance
 unfoldable pub liveBytes : Naming → List ℕ → List ℕ → List ℕ → ℕ → List ℕ

@@ -37,11 +37,11 @@ fn list_failed(out: &mut [u8], firings: usize) -> Listed
     ensures { λ r. ⌜ ListedAs (lineOf (ascii "FAILED") (decimal firings ∷ [])) (now (out .entry)) (now (out .exit)) r ⌝ }
 {
     let mut none = [0; 1];
-    let count = put_head(&mut none[..0], 0, b"FAILED,", firings);
+    let count = put_head(&mut none[..0], b"FAILED,", firings);
     if out.len() < count {
         return Listed::TooShort;
     }
-    put_head(out, 0, b"FAILED,", firings);
+    put_head(out, b"FAILED,", firings);
     Listed::Written(count)
 }
 
@@ -63,7 +63,7 @@ fn put_live<'a>(
         (liveBytes (nameIn (now (program .entry)) (now (goal .entry)) (now (places .entry))) (now (letters .entry))
         (now (bound .entry)) (now (cells .entry)) firings) 0 (now (out .entry)) (now (out .exit)) r ⌝ }
 {
-    let head = put_head(out, 0, b"END,", firings);
+    let head = put_head(out, b"END,", firings);
     let at = put_bounds(out, head, program, goal, places, letters, bound);
     let mark = Mark {
         line: b'S',

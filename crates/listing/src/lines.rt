@@ -1,4 +1,6 @@
 // The lines of a listing: fields, the first line, A lines, and a line for each constraint.
+// A function that writes a line is lent the part of the output behind the lines already placed, and writes at its front.
+use crate::writing::behind;
 use crate::writing::copy;
 use crate::writing::put_byte;
 use crate::writing::put_decimal;
@@ -18,7 +20,7 @@ ghost use Rattle.tables.specs.Names.{nameIn};
 ghost use Rattle.listing.specs.Listing.{decimal, fieldsBehind, lineOf, constraintShown, constraintLines, numberedAs};
 ghost use Rattle.listing.specs.Listing.{variableName, boundLines};
 ghost use Rattle.listing.specs.Writing.{Countable, Writes};
-ghost use Rattle.listing.specs.Ends.{cellShown};
+ghost use Rattle.listing.specs.Ends.{cellShown, boundLine};
 
 // The letter that a constraint's line begins with, and the letter that its variables are shown by.
 pub struct Mark {
@@ -27,11 +29,11 @@ pub struct Mark {
 }
 
 // The first line: a word with its comma, and a number.
-pub fn put_head(out: &mut [u8], at: usize, word: &[u8], n: usize) -> usize
-    requires { ⌜ Countable at (now word ++ (decimal n ++ (10 ∷ []))) ⌝ }
-    ensures { λ r. ⌜ Writes (now (word .entry) ++ (decimal n ++ (10 ∷ []))) at (now (out .entry)) (now (out .exit)) r ⌝ }
+pub fn put_head(out: &mut [u8], word: &[u8], n: usize) -> usize
+    requires { ⌜ Countable 0 (now word ++ (decimal n ++ (10 ∷ []))) ⌝ }
+    ensures { λ r. ⌜ Writes (now (word .entry) ++ (decimal n ++ (10 ∷ []))) 0 (now (out .entry)) (now (out .exit)) r ⌝ }
 {
-    let digits = copy(out, at, word);
+    let digits = copy(out, 0, word);
     let feed = put_decimal(out, digits, n);
     put_byte(out, feed, b'\n')
 }
@@ -87,7 +89,6 @@ pub fn put_fields<'a>(
 // The line of a constraint's five cells: its symbol's name and its terms.
 pub fn put_row<'a>(
     out: &mut [u8],
-    at: usize,
     program: &'a [u8],
     goal: &'a [u8],
     places: &[u16],
@@ -95,13 +96,13 @@ pub fn put_row<'a>(
     row: &[u16],
 ) -> usize
     requires { ⌜ (length (now row) ≡ constraintSize)
-        × Countable at (lineOf (mark .line ∷ []) (constraintShown (nameIn (now program) (now goal) (now places))
+        × Countable 0 (lineOf (mark .line ∷ []) (constraintShown (nameIn (now program) (now goal) (now places))
         (numberedAs (mark .variable ∷ [])) (rowConstraint (now row)))) ⌝ }
     ensures { λ r. ⌜ Writes
         (lineOf (mark .line ∷ []) (constraintShown (nameIn (now (program .entry)) (now (goal .entry)) (now (places .entry)))
-        (numberedAs (mark .variable ∷ [])) (rowConstraint (now (row .entry))))) at (now (out .entry)) (now (out .exit)) r ⌝ }
+        (numberedAs (mark .variable ∷ [])) (rowConstraint (now (row .entry))))) 0 (now (out .entry)) (now (out .exit)) r ⌝ }
 {
-    let comma = put_byte(out, at, mark.line);
+    let comma = put_byte(out, 0, mark.line);
     let start = put_byte(out, comma, b',');
     let s = name(program, goal, places, wide(row[0]));
     let end = copy(out, start, s);
@@ -131,7 +132,9 @@ pub fn put_rows<'a>(
     while CONSTRAINT_SIZE * i + CONSTRAINT_SIZE <= cells.len() {
         let a = CONSTRAINT_SIZE * i;
         let e = a + CONSTRAINT_SIZE;
-        end = put_row(out, end, program, goal, places, mark, &cells[a..e]);
+        let from = behind(end, out.len());
+        let size = put_row(&mut out[from..], program, goal, places, mark, &cells[a..e]);
+        end += size;
         i += 1;
     }
     end
@@ -150,7 +153,28 @@ pub fn put_variable(out: &mut [u8], at: usize, letters: &[u8], x: usize) -> usiz
     put_decimal(out, digits, x + 1)
 }
 
-// A line for each goal variable: its name and what it became.
+// A goal variable's line: its name and what it became.
+pub fn put_bound<'a>(
+    out: &mut [u8],
+    program: &'a [u8],
+    goal: &'a [u8],
+    places: &[u16],
+    letters: &[u8],
+    i: usize,
+    x: u16,
+) -> usize
+    requires { ⌜ Countable 0 (boundLine (nameIn (now program) (now goal) (now places)) (now letters) i x) × (i < 65536) ⌝ }
+    ensures { λ r. ⌜ Writes
+        (boundLine (nameIn (now (program .entry)) (now (goal .entry)) (now (places .entry))) (now (letters .entry)) i x)
+        0 (now (out .entry)) (now (out .exit)) r ⌝ }
+{
+    let comma = put_variable(out, 0, letters, i);
+    let field = put_byte(out, comma, b',');
+    let feed = put_cell(out, field, program, goal, places, b'U', x);
+    put_byte(out, feed, b'\n')
+}
+
+// A line for each goal variable.
 pub fn put_bounds<'a>(
     out: &mut [u8],
     at: usize,
@@ -169,9 +193,17 @@ pub fn put_bounds<'a>(
     let mut end = at;
     let mut i = 0;
     while i < bound.len() {
-        let field = put_variable(out, end, letters, i);
-        let e = i + 1;
-        end = put_fields(out, field, program, goal, places, b'U', &bound[i..e]);
+        let start = behind(end, out.len());
+        let size = put_bound(
+            &mut out[start..],
+            program,
+            goal,
+            places,
+            letters,
+            i,
+            bound[i],
+        );
+        end += size;
         i += 1;
     }
     end

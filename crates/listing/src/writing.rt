@@ -1,8 +1,17 @@
 // Bytes, parts of a text and numbers, put into an output from a place on; each answers the place behind them.
 // Where they do not fit nothing is said of the output, and the place is answered all the same.
 ghost use mathlib.Core.List.{[], _∷_};
+ghost use mathlib.Core.Path.{_≡_};
+ghost use Prim.Native.Nat.{min};
 ghost use Rattle.listing.specs.Listing.{decimal};
 ghost use Rattle.listing.specs.Writing.{Countable, Writes};
+
+// Where the part of an output behind those lines begins that end at a place: at the output's end if it is full.
+pub fn behind(end: usize, room: usize) -> usize
+    ensures { λ r. ⌜ r ≡ min end room ⌝ }
+{
+    if end < room { end } else { room }
+}
 
 // One byte.
 pub fn put_byte(out: &mut [u8], at: usize, b: u8) -> usize

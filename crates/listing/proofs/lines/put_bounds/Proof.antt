@@ -8,8 +8,8 @@ use Rattle.text.specs.Bytes.{ascii}
 use Rattle.tables.specs.Cells.{cellTerm}
 use Rattle.tables.specs.Names.{nameIn}
 use Rattle.listing.specs.Listing.{numberedAs, variableName, boundLines}
-use Rattle.listing.proofs.WriteLaws.{Writing, writing-start}
-use Rattle.listing.proofs.LineLaws.{boundsFrom, bound-count, bound-fields, bounds-next, bounds-wrote}
+use Rattle.listing.proofs.WriteLaws.{Writing, writing-start, count-front}
+use Rattle.listing.proofs.LineLaws.{boundsFrom, bound-count, bounds-next, bounds-wrote}
 use Rattle.listing.proofs.lines.put_bounds.Statement.{statement}
 use Rattle.listing.proofs.lines.put_bounds.Tie as tie
 
@@ -25,30 +25,40 @@ abbrev μ-loop : tie.MeasureT-loop
 loop-holds : tie.Need-loop-holds Inv-loop μ-loop
 loop-holds c = (omega arith, writing-start _ _ _)
 
-put-variable-requires : tie.Need-put-variable-requires Inv-loop μ-loop
-put-variable-requires c κs =
-    let at-test = c .before in
-    let at-loop = at-test .before in
+behind-requires : tie.Need-behind-requires Inv-loop μ-loop
+behind-requires c κs = search needs
+
+sub-put-bound : tie.Need-sub-put-bound Inv-loop μ-loop
+sub-put-bound c = omega (arith, c .behind .ensures)
+
+part-put-bound-start : tie.Need-part-put-bound-start Inv-loop μ-loop
+part-put-bound-start c = omega (arith, c .behind .ensures)
+
+part-put-bound-end : tie.Need-part-put-bound-end Inv-loop μ-loop
+part-put-bound-end c = search needs
+
+mul-put-bound : tie.Need-mul-put-bound Inv-loop μ-loop
+mul-put-bound c = search needs
+
+shared-slice-read-put-bound : tie.Need-shared-slice-read-put-bound Inv-loop μ-loop
+shared-slice-read-put-bound c = search needs
+
+put-bound-requires : tie.Need-put-bound-requires Inv-loop μ-loop
+put-bound-requires c κs =
+    let at-loop-test = c .before .before .before in
+    let at-loop = at-loop-test .before in
     let start = at-loop .before .before .before .before .before .before .before in
-    (bound-count _ _ _ _ (at-loop .loop .inv .1) (at-test .loop-test .taken) (start .pre .0), omega (arith, start .pre .1))
+    let here = at-loop-test .loop-test .taken in
+    (count-front (bound-count _ _ _ _ (at-loop .loop .inv .1) here (start .pre .0)), omega (arith, here, start .pre .1))
 
-add-e : tie.Need-add-e Inv-loop μ-loop
-add-e c = search needs
-
-mul-put-fields : tie.Need-mul-put-fields Inv-loop μ-loop
-mul-put-fields c = search needs
-
-sub-put-fields : tie.Need-sub-put-fields Inv-loop μ-loop
-sub-put-fields c = search needs
-
-part-put-fields-start : tie.Need-part-put-fields-start Inv-loop μ-loop
-part-put-fields-start c = search needs
-
-part-put-fields-end : tie.Need-part-put-fields-end Inv-loop μ-loop
-part-put-fields-end c = search needs
-
-put-fields-requires : tie.Need-put-fields-requires Inv-loop μ-loop
-put-fields-requires c κs = search bound-fields
+add-end : tie.Need-add-end Inv-loop μ-loop
+add-end c =
+    let at-put-bound = c .before .before in
+    let at-loop-test = at-put-bound .before .before .before .before in
+    let at-loop = at-loop-test .before in
+    let start = at-loop .before .before .before .before .before .before .before in
+    let few = bound-count _ _ _ _ (at-loop .loop .inv .1) (at-loop-test .loop-test .taken) (start .pre .0) .few in
+    omega (arith, few, at-put-bound .put-bound .ensures .counted)
 
 add-i : tie.Need-add-i Inv-loop μ-loop
 add-i c = search needs
@@ -57,7 +67,16 @@ loop-less : tie.Need-loop-less Inv-loop μ-loop
 loop-less c = search needs
 
 loop-again : tie.Need-loop-again Inv-loop μ-loop
-loop-again c = (omega arith, search bounds-next)
+loop-again c =
+    let at-put-bound = c .before .before in
+    let at-behind = at-put-bound .before .before .before in
+    let at-loop-test = at-behind .before in
+    let at-loop = at-loop-test .before in
+    let line = at-put-bound .put-bound in (
+      omega arith,
+      bounds-next _ _ _ _ (at-loop .loop .inv .1) _ (at-loop-test .loop-test .taken) (at-behind .behind .ensures)
+          (line .ensures) (line .kept .0),
+    )
 
 same-length : tie.Need-same-length Inv-loop μ-loop
 same-length c = search needs
@@ -72,13 +91,14 @@ put-bounds-spec =
     Inv-loop
     μ-loop
     loop-holds
-    put-variable-requires
-    add-e
-    mul-put-fields
-    sub-put-fields
-    part-put-fields-start
-    part-put-fields-end
-    put-fields-requires
+    behind-requires
+    sub-put-bound
+    part-put-bound-start
+    part-put-bound-end
+    mul-put-bound
+    shared-slice-read-put-bound
+    put-bound-requires
+    add-end
     add-i
     loop-less
     loop-again

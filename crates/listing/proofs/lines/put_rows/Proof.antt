@@ -7,7 +7,7 @@ use lib.ListN.{length}
 use Rattle.tables.specs.Cells.{cellConstraints}
 use Rattle.tables.specs.Names.{nameIn}
 use Rattle.listing.specs.Listing.{constraintLines, numberedAs}
-use Rattle.listing.proofs.WriteLaws.{Writing, writing-start}
+use Rattle.listing.proofs.WriteLaws.{Writing, writing-start, count-front}
 use Rattle.listing.proofs.LineLaws.{rowsFrom, cut-size, row-count, rows-next, rows-wrote}
 use Rattle.listing.proofs.lines.put_rows.Statement.{statement}
 use Rattle.listing.proofs.lines.put_rows.Tie as tie
@@ -36,25 +36,47 @@ mul-a c = search needs
 add-e : tie.Need-add-e Inv-loop μ-loop
 add-e c = search needs
 
-mul-put-row : tie.Need-mul-put-row Inv-loop μ-loop
-mul-put-row c = search needs
+behind-requires : tie.Need-behind-requires Inv-loop μ-loop
+behind-requires c κs = search needs
 
 sub-put-row : tie.Need-sub-put-row Inv-loop μ-loop
-sub-put-row c = search needs
+sub-put-row c = omega (arith, c .behind .ensures)
 
 part-put-row-start : tie.Need-part-put-row-start Inv-loop μ-loop
-part-put-row-start c = search needs
+part-put-row-start c = omega (arith, c .behind .ensures)
 
 part-put-row-end : tie.Need-part-put-row-end Inv-loop μ-loop
 part-put-row-end c = search needs
 
+mul-put-row : tie.Need-mul-put-row Inv-loop μ-loop
+mul-put-row c = search needs
+
+sub-put-row-2 : tie.Need-sub-put-row-2 Inv-loop μ-loop
+sub-put-row-2 c = search needs
+
+part-put-row-start-2 : tie.Need-part-put-row-start-2 Inv-loop μ-loop
+part-put-row-start-2 c = search needs
+
+part-put-row-end-2 : tie.Need-part-put-row-end-2 Inv-loop μ-loop
+part-put-row-end-2 c = search needs
+
 put-row-requires : tie.Need-put-row-requires Inv-loop μ-loop
 put-row-requires c κs =
-    let at-test = c .before .before in
-    let at-loop = at-test .before in
+    let at-loop-test = c .before .before .before in
+    let at-loop = at-loop-test .before in
     let start = at-loop .before .before .before .before .before .before in
     let w = at-loop .loop .inv .1 in
-    (cut-size _ _ _ _ _ w (at-test .loop-test .taken), row-count _ _ _ _ _ w (at-test .loop-test .taken) (start .pre))
+    let here = at-loop-test .loop-test .taken in
+    (cut-size _ _ _ _ _ w here, count-front (row-count _ _ _ _ _ w here (start .pre)))
+
+add-end : tie.Need-add-end Inv-loop μ-loop
+add-end c =
+    let at-put-row = c .before .before in
+    let at-loop-test = at-put-row .before .before .before .before in
+    let at-loop = at-loop-test .before in
+    let start = at-loop .before .before .before .before .before .before in
+    let few = row-count _ _ _ _ _ (at-loop .loop .inv .1) (at-loop-test .loop-test .taken) (start .pre) .few in
+    omega (arith, few, at-put-row .put-row .ensures .counted)
 
 add-i : tie.Need-add-i Inv-loop μ-loop
 add-i c = search needs
@@ -63,7 +85,16 @@ loop-less : tie.Need-loop-less Inv-loop μ-loop
 loop-less c = search needs
 
 loop-again : tie.Need-loop-again Inv-loop μ-loop
-loop-again c = (omega arith, search rows-next)
+loop-again c =
+    let at-put-row = c .before .before in
+    let at-behind = at-put-row .before .before .before in
+    let at-loop-test = at-behind .before in
+    let at-loop = at-loop-test .before in
+    let line = at-put-row .put-row in (
+      omega arith,
+      rows-next _ _ _ _ _ (at-loop .loop .inv .1) _ (at-loop-test .loop-test .taken) (at-behind .behind .ensures)
+          (line .ensures) (line .kept .0),
+    )
 
 same-length : tie.Need-same-length Inv-loop μ-loop
 same-length c = search needs
@@ -82,11 +113,16 @@ put-rows-spec =
     add-loop
     mul-a
     add-e
-    mul-put-row
+    behind-requires
     sub-put-row
     part-put-row-start
     part-put-row-end
+    mul-put-row
+    sub-put-row-2
+    part-put-row-start-2
+    part-put-row-end-2
     put-row-requires
+    add-end
     add-i
     loop-less
     loop-again
