@@ -1,4 +1,5 @@
--- `programs::adds::constraint_line` meets its contract: the line is refused, or the last rule has one constraint more. Assumes nothing.
+-- `programs::adds::constraint_line` meets its contract: the line is refused, or the last rule has one constraint more.
+-- Assumes nothing.
 use borrow.Author.Needs.{needs}
 use native.Mathlib.Omega.{arith}
 use Rattle.programs.proofs.AddLaws.{adds-refused, adds-fit, adds-next}
@@ -33,7 +34,9 @@ add-most : tie.Need-add-most
 add-most c = search needs
 
 read-constraint-requires : tie.Need-read-constraint-requires
-read-constraint-requires c κs = ((c .before .before .before .before .before .before .before .before .before .pre) .0, (c .before .before .before .before .before .before .before .before .before .pre) .3 .few-constants, omega (arith, (c .before .before .before .before .before .before .before .before .before .pre) .1, (c .before .before .before .before .before .before .before .before .before .pre) .3 .few-symbols))
+read-constraint-requires c κs =
+    let start = c .before .before .before .before .before .before .before .before .before in
+    (start .pre .0, start .pre .3 .few-constants, omega (arith, start .pre .1, start .pre .3 .few-symbols))
 
 same-length : tie.Need-same-length
 same-length c = search needs
@@ -42,8 +45,13 @@ same-length-2 : tie.Need-same-length-2
 same-length-2 c = search needs
 
 returns : tie.Need-returns
-returns c = adds-refused _ _ _ _ _ ((c .before .before .before .before .before .before .before .before .before .before .before .before .before .before .before .before .pre) .2) ((c .before .before .before .before .before .before .before .before .before .before .before .before .before .before .before .before .pre) .3) ((c .before .before .before .before .before .before .before .before .before .before .before .before .before .before .before .before .pre) .4) _ _ ((c .before .before .before .before .before .before .before .before .before .before .before .before .before .before .before .before .pre) .5) ((c .before .before .before .before .before .before .before .before .before .wide) .ensures .0) _ _ _ ((c .before .before .before .before .before .before .before .before .before .before .before .before .before .before .before .before .pre) .1) _ ((c .before .before .before .before .before .before .read-constraint) .ensures)
-    ((c .if1) .taken)
+returns c =
+    let at-read-constraint = c .before .before .before .before .before .before in
+    let at-wide = at-read-constraint .before .before .before in
+    let start = at-wide .before .before .before .before .before .before .before in
+    adds-refused _ _ _ _ _ (start .pre .2) (start .pre .3) (start .pre .4) _ _ (start .pre .5) (at-wide .wide .ensures .0) _
+    _ _ (start .pre .1) _ (at-read-constraint .read-constraint .ensures)
+    (c .if1 .taken)
 
 mul-start : tie.Need-mul-start
 mul-start c = search needs
@@ -67,8 +75,14 @@ slice-aggregate-add-cells : tie.Need-slice-aggregate-add-cells
 slice-aggregate-add-cells c = search needs
 
 add-cells-requires : tie.Need-add-cells-requires
-add-cells-requires c κs = adds-fit _ _ _ _ _ ((c .before .before .before .before .before .before .before .before .before .before .before .before .before .before .before .before .before .before .before .pre) .2) ((c .before .before .before .before .before .before .before .before .before .before .before .before .before .before .before .before .before .before .before .pre) .3) ((c .before .before .before .before .before .before .before .before .before .before .before .before .before .before .before .before .before .before .before .pre) .4) _ _ ((c .before .before .before .before .before .before .before .before .before .before .before .before .before .before .before .before .before .before .before .pre) .5) ((c .before .before .before .before .before .before .before .before .before .before .before .before .wide) .ensures .0) _ _ _ ((c .before .before .before .before .before .before .before .before .before .before .before .before .before .before .before .before .before .before .before .pre) .1) _ ((c .before .before .before .before .before .before .before .before .before .read-constraint) .ensures)
-    ((c .before .before .before .if1) .left)
+add-cells-requires c κs =
+    let at-if1 = c .before .before .before in
+    let at-read-constraint = at-if1 .before .before .before .before .before .before in
+    let at-wide = at-read-constraint .before .before .before in
+    let start = at-wide .before .before .before .before .before .before .before in
+    adds-fit _ _ _ _ _ (start .pre .2) (start .pre .3) (start .pre .4) _ _ (start .pre .5) (at-wide .wide .ensures .0) _ _ _
+    (start .pre .1) _ (at-read-constraint .read-constraint .ensures)
+    (at-if1 .if1 .left)
 
 same-length-3 : tie.Need-same-length-3
 same-length-3 c = search needs
@@ -80,8 +94,15 @@ same-length-5 : tie.Need-same-length-5
 same-length-5 c = search needs
 
 returns-2 : tie.Need-returns-2
-returns-2 c = adds-next _ _ _ _ _ ((c .before .before .before .before .before .before .before .before .before .before .before .before .before .before .before .before .before .before .before .before .before .before .pre) .2) ((c .before .before .before .before .before .before .before .before .before .before .before .before .before .before .before .before .before .before .before .before .before .before .pre) .3) ((c .before .before .before .before .before .before .before .before .before .before .before .before .before .before .before .before .before .before .before .before .before .before .pre) .4) _ _ ((c .before .before .before .before .before .before .before .before .before .before .before .before .before .before .before .before .before .before .before .before .before .before .pre) .5) ((c .before .before .before .before .before .before .before .before .before .before .before .before .before .before .before .wide) .ensures .0) _ _ _ ((c .before .before .before .before .before .before .before .before .before .before .before .before .before .before .before .before .before .before .before .before .before .before .pre) .1) _ ((c .before .before .before .before .before .before .before .before .before .before .before .before .read-constraint) .ensures)
-    ((c .before .before .before .before .before .before .if1) .left) _ ((c .before .before .add-cells) .ensures)
+returns-2 c =
+    let at-add-cells = c .before .before in
+    let at-if1 = at-add-cells .before .before .before .before in
+    let at-read-constraint = at-if1 .before .before .before .before .before .before in
+    let at-wide = at-read-constraint .before .before .before in
+    let start = at-wide .before .before .before .before .before .before .before in
+    adds-next _ _ _ _ _ (start .pre .2) (start .pre .3) (start .pre .4) _ _ (start .pre .5) (at-wide .wide .ensures .0) _ _ _
+    (start .pre .1) _ (at-read-constraint .read-constraint .ensures)
+    (at-if1 .if1 .left) _ (at-add-cells .add-cells .ensures)
 
 pub constraint-line-spec : {M : Type 1} → statement M
 constraint-line-spec =

@@ -1,4 +1,5 @@
--- `programs::adds::equation_line` meets its contract: the line is refused, or the last rule has one equation more. Assumes nothing.
+-- `programs::adds::equation_line` meets its contract: the line is refused, or the last rule has one equation more.
+-- Assumes nothing.
 use borrow.Author.Needs.{needs}
 use mathlib.Core.Path.{sym, _∙_}
 use mathlib.Core.List.{[]}
@@ -11,8 +12,12 @@ is-equation-faulty-requires : tie.Need-is-equation-faulty-requires
 is-equation-faulty-requires c κs = search needs
 
 returns : tie.Need-returns
-returns c = λ used.
-    sides-faulty _ _ _ _ _ ((c .before .before .before .before .before .pre) .1) ((c .before .before .before .before .before .pre) .2) ((c .before .before .before .before .before .pre) .3) used (λ fs h. sym ((c .if1) .taken) ∙ (c .before .is-equation-faulty) .ensures .0 fs h)
+returns c =
+    let at-is-equation-faulty = c .before in
+    let start = at-is-equation-faulty .before .before .before .before in
+    λ used.
+    sides-faulty _ _ _ _ _ (start .pre .1) (start .pre .2) (start .pre .3) used (λ fs h. sym (c .if1 .taken) ∙
+    at-is-equation-faulty .is-equation-faulty .ensures .0 fs h)
 
 sub-row : tie.Need-sub-row
 sub-row c = search needs
@@ -33,13 +38,24 @@ wide-requires : tie.Need-wide-requires
 wide-requires c κs = search needs
 
 returns-2 : tie.Need-returns-2
-returns-2 c = λ used.
-    sides-full _ _ _ _ _ ((c .before .before .before .before .before .before .before .before .before .pre) .1) ((c .before .before .before .before .before .before .before .before .before .pre) .2) ((c .before .before .before .before .before .before .before .before .before .pre) .3) used (λ fs h. sym ((c .before .before .before .before .if1) .left) ∙ (c .before .before .before .before .before .is-equation-faulty) .ensures .0 fs h)
-    ((c .before .before .before .before .before .is-equation-faulty) .ensures .1 ((c .before .before .before .before .if1) .left)) _ ((c .before .wide) .ensures .0) ((c .if2) .taken)
+returns-2 c =
+    let at-wide = c .before in
+    let at-if1 = at-wide .before .before .before in
+    let at-is-equation-faulty = at-if1 .before in
+    let start = at-is-equation-faulty .before .before .before .before in
+    λ used.
+    sides-full _ _ _ _ _ (start .pre .1) (start .pre .2) (start .pre .3) used (λ fs h. sym (at-if1 .if1 .left) ∙
+    at-is-equation-faulty .is-equation-faulty .ensures .0 fs h)
+    (at-is-equation-faulty .is-equation-faulty .ensures .1 (at-if1 .if1 .left)) _ (at-wide .wide .ensures .0) (c .if2 .taken)
 
 read-terms-requires : tie.Need-read-terms-requires
-read-terms-requires c κs = ((c .before .before .before .before .before .before .before .before .before .before .before .pre) .0, (c .before .before .before .before .before .before .before .before .before .before .before .pre) .2 .few-constants, omega (arith, (c .before .before .before .before .before .before .before .is-equation-faulty) .ensures .1 ((c .before .before .before .before .before .before .if1) .left)),
-    omega (arith, (c .before .before .before .before .before .before .before .is-equation-faulty) .ensures .1 ((c .before .before .before .before .before .before .if1) .left)))
+read-terms-requires c κs =
+    let at-if1 = c .before .before .before .before .before .before in
+    let at-is-equation-faulty = at-if1 .before in
+    let start = at-is-equation-faulty .before .before .before .before in
+    (start .pre .0, start .pre .2 .few-constants, omega (arith, at-is-equation-faulty .is-equation-faulty .ensures .1
+    (at-if1 .if1 .left)),
+    omega (arith, at-is-equation-faulty .is-equation-faulty .ensures .1 (at-if1 .if1 .left)))
 
 same-length : tie.Need-same-length
 same-length c = search needs
@@ -48,10 +64,19 @@ same-length-2 : tie.Need-same-length-2
 same-length-2 c = search needs
 
 returns-3 : tie.Need-returns-3
-returns-3 c = λ used.
-    sides-many _ _ _ _ _ ((c .before .before .before .before .before .before .before .before .before .before .before .before .before .before .before .before .before .pre) .1) ((c .before .before .before .before .before .before .before .before .before .before .before .before .before .before .before .before .before .pre) .2) ((c .before .before .before .before .before .before .before .before .before .before .before .before .before .before .before .before .before .pre) .3) used (λ fs h. sym ((c .before .before .before .before .before .before .before .before .before .before .before .before .if1) .left) ∙ (c .before .before .before .before .before .before .before .before .before .before .before .before .before .is-equation-faulty) .ensures .0 fs h)
-    ((c .before .before .before .before .before .before .before .before .before .before .before .before .before .is-equation-faulty) .ensures .1 ((c .before .before .before .before .before .before .before .before .before .before .before .before .if1) .left)) _ ((c .before .before .before .before .before .before .before .before .before .wide) .ensures .0) ((c .before .before .before .before .before .before .before .before .if2) .left) _ _ _ ((c .before .before .before .before .before .read-terms) .ensures)
-    ((c .if3) .taken)
+returns-3 c =
+    let at-read-terms = c .before .before .before .before .before in
+    let at-if2 = at-read-terms .before .before .before in
+    let at-wide = at-if2 .before in
+    let at-if1 = at-wide .before .before .before in
+    let at-is-equation-faulty = at-if1 .before in
+    let start = at-is-equation-faulty .before .before .before .before in
+    λ used.
+    sides-many _ _ _ _ _ (start .pre .1) (start .pre .2) (start .pre .3) used (λ fs h. sym (at-if1 .if1 .left) ∙
+    at-is-equation-faulty .is-equation-faulty .ensures .0 fs h)
+    (at-is-equation-faulty .is-equation-faulty .ensures .1 (at-if1 .if1 .left)) _ (at-wide .wide .ensures .0)
+    (at-if2 .if2 .left) _ _ _ (at-read-terms .read-terms .ensures)
+    (c .if3 .taken)
 
 array-read-t16 : tie.Need-array-read-t16
 array-read-t16 c = search needs
@@ -72,9 +97,19 @@ slice-aggregate-add-cells : tie.Need-slice-aggregate-add-cells
 slice-aggregate-add-cells c = search needs
 
 add-cells-requires : tie.Need-add-cells-requires
-add-cells-requires c κs = sides-fit _ _ _ _ _ ((c .before .before .before .before .before .before .before .before .before .before .before .before .before .before .before .before .before .before .before .before .pre) .1) ((c .before .before .before .before .before .before .before .before .before .before .before .before .before .before .before .before .before .before .before .before .pre) .2) ((c .before .before .before .before .before .before .before .before .before .before .before .before .before .before .before .before .before .before .before .before .pre) .3) [] (λ fs h. sym ((c .before .before .before .before .before .before .before .before .before .before .before .before .before .before .before .if1) .left) ∙ (c .before .before .before .before .before .before .before .before .before .before .before .before .before .before .before .before .is-equation-faulty) .ensures .0 fs h)
-    ((c .before .before .before .before .before .before .before .before .before .before .before .before .before .before .before .before .is-equation-faulty) .ensures .1 ((c .before .before .before .before .before .before .before .before .before .before .before .before .before .before .before .if1) .left)) _ ((c .before .before .before .before .before .before .before .before .before .before .before .before .wide) .ensures .0) ((c .before .before .before .before .before .before .before .before .before .before .before .if2) .left) _ _ _ ((c .before .before .before .before .before .before .before .before .read-terms) .ensures)
-    ((c .before .before .before .if3) .left)
+add-cells-requires c κs =
+    let at-if3 = c .before .before .before in
+    let at-read-terms = at-if3 .before .before .before .before .before in
+    let at-if2 = at-read-terms .before .before .before in
+    let at-wide = at-if2 .before in
+    let at-if1 = at-wide .before .before .before in
+    let at-is-equation-faulty = at-if1 .before in
+    let start = at-is-equation-faulty .before .before .before .before in
+    sides-fit _ _ _ _ _ (start .pre .1) (start .pre .2) (start .pre .3) [] (λ fs h. sym (at-if1 .if1 .left) ∙
+    at-is-equation-faulty .is-equation-faulty .ensures .0 fs h)
+    (at-is-equation-faulty .is-equation-faulty .ensures .1 (at-if1 .if1 .left)) _ (at-wide .wide .ensures .0)
+    (at-if2 .if2 .left) _ _ _ (at-read-terms .read-terms .ensures)
+    (at-if3 .if3 .left)
 
 same-length-3 : tie.Need-same-length-3
 same-length-3 c = search needs
@@ -86,10 +121,21 @@ same-length-5 : tie.Need-same-length-5
 same-length-5 c = search needs
 
 returns-4 : tie.Need-returns-4
-returns-4 c = λ used.
-    sides-next _ _ _ _ _ ((c .before .before .before .before .before .before .before .before .before .before .before .before .before .before .before .before .before .before .before .before .before .before .before .pre) .1) ((c .before .before .before .before .before .before .before .before .before .before .before .before .before .before .before .before .before .before .before .before .before .before .before .pre) .2) ((c .before .before .before .before .before .before .before .before .before .before .before .before .before .before .before .before .before .before .before .before .before .before .before .pre) .3) used (λ fs h. sym ((c .before .before .before .before .before .before .before .before .before .before .before .before .before .before .before .before .before .before .if1) .left) ∙ (c .before .before .before .before .before .before .before .before .before .before .before .before .before .before .before .before .before .before .before .is-equation-faulty) .ensures .0 fs h)
-    ((c .before .before .before .before .before .before .before .before .before .before .before .before .before .before .before .before .before .before .before .is-equation-faulty) .ensures .1 ((c .before .before .before .before .before .before .before .before .before .before .before .before .before .before .before .before .before .before .if1) .left)) _ ((c .before .before .before .before .before .before .before .before .before .before .before .before .before .before .before .wide) .ensures .0) ((c .before .before .before .before .before .before .before .before .before .before .before .before .before .before .if2) .left) _ _ _ ((c .before .before .before .before .before .before .before .before .before .before .before .read-terms) .ensures)
-    ((c .before .before .before .before .before .before .if3) .left) _ ((c .before .before .add-cells) .ensures)
+returns-4 c =
+    let at-add-cells = c .before .before in
+    let at-if3 = at-add-cells .before .before .before .before in
+    let at-read-terms = at-if3 .before .before .before .before .before in
+    let at-if2 = at-read-terms .before .before .before in
+    let at-wide = at-if2 .before in
+    let at-if1 = at-wide .before .before .before in
+    let at-is-equation-faulty = at-if1 .before in
+    let start = at-is-equation-faulty .before .before .before .before in
+    λ used.
+    sides-next _ _ _ _ _ (start .pre .1) (start .pre .2) (start .pre .3) used (λ fs h. sym (at-if1 .if1 .left) ∙
+    at-is-equation-faulty .is-equation-faulty .ensures .0 fs h)
+    (at-is-equation-faulty .is-equation-faulty .ensures .1 (at-if1 .if1 .left)) _ (at-wide .wide .ensures .0)
+    (at-if2 .if2 .left) _ _ _ (at-read-terms .read-terms .ensures)
+    (at-if3 .if3 .left) _ (at-add-cells .add-cells .ensures)
 
 pub equation-line-spec : {M : Type 1} → statement M
 equation-line-spec =

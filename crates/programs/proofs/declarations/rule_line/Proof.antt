@@ -1,4 +1,5 @@
--- `programs::declarations::rule_line` meets its contract: numbers 4, 5 and 7, or one rule more. Assumes nothing.
+-- `programs::declarations::rule_line` meets its contract: numbers 4, 5 and 7, or one rule more.
+-- Assumes nothing.
 use borrow.Author.Needs.{needs}
 use mathlib.Core.Path.{refl, sym, _∙_}
 use native.Mathlib.Omega.{arith}
@@ -10,7 +11,11 @@ is-rule-faulty-requires : tie.Need-is-rule-faulty-requires
 is-rule-faulty-requires c κs = search needs
 
 returns : tie.Need-returns
-returns c = rule-faulty _ _ _ _ _ _ ((c .before .before .before .before .before .pre) .0) ((c .before .before .before .before .before .pre) .2) (λ fs h. sym ((c .if1) .taken) ∙ (c .before .is-rule-faulty) .ensures fs h)
+returns c =
+    let at-is-rule-faulty = c .before in
+    let start = at-is-rule-faulty .before .before .before .before in
+    rule-faulty _ _ _ _ _ _ (start .pre .0) (start .pre .2) (λ fs h. sym (c .if1 .taken) ∙
+    at-is-rule-faulty .is-rule-faulty .ensures fs h)
 
 add-at : tie.Need-add-at
 add-at c = search needs
@@ -22,7 +27,9 @@ part-find-key-start : tie.Need-part-find-key-start
 part-find-key-start c = search needs
 
 part-find-key-end : tie.Need-part-find-key-end
-part-find-key-end c = omega (arith, (c .before .before .before .before .before .before .before .before .pre) .0 .names-size, (c .before .before .before .before .before .before .before .before .pre) .2 .few-rules)
+part-find-key-end c =
+    let start = c .before .before .before .before .before .before .before .before in
+    omega (arith, start .pre .0 .names-size, start .pre .2 .few-rules)
 
 array-read-find-key : tie.Need-array-read-find-key
 array-read-find-key c = search needs
@@ -34,17 +41,30 @@ same-length : tie.Need-same-length
 same-length c = search needs
 
 returns-2 : tie.Need-returns-2
-returns-2 c = 
-    rule-repeated _ _ _ _ _ _ ((c .before .before .before .before .before .before .before .before .before .before .before .pre) .0) ((c .before .before .before .before .before .before .before .before .before .before .before .pre) .2) (λ fs h. sym ((c .before .before .before .before .before .before .if1) .left) ∙ (c .before .before .before .before .before .before .before .is-rule-faulty) .ensures fs h) (λ i. omega (arith, (c .before .before .before .before .before .before .before .before .before .before .slice-known) .given i)) _
-    ((c .before .find-key) .ensures .0) ((c .if2) .taken)
+returns-2 c =
+    let at-find-key = c .before in
+    let at-if1 = at-find-key .before .before .before .before .before in
+    let at-is-rule-faulty = at-if1 .before in
+    let at-slice-known = at-is-rule-faulty .before .before .before in
+    let start = at-slice-known .before in
+    rule-repeated _ _ _ _ _ _ (start .pre .0) (start .pre .2) (λ fs h. sym (at-if1 .if1 .left) ∙
+    at-is-rule-faulty .is-rule-faulty .ensures fs h) (λ i. omega (arith, at-slice-known .slice-known .given i)) _
+    (at-find-key .find-key .ensures .0) (c .if2 .taken)
 
 same-length-2 : tie.Need-same-length-2
 same-length-2 c = search needs
 
 returns-3 : tie.Need-returns-3
-returns-3 c = 
-    rule-full _ _ _ _ _ _ ((c .before .before .before .before .before .before .before .before .before .before .before .before .pre) .0) ((c .before .before .before .before .before .before .before .before .before .before .before .before .pre) .2) (λ fs h. sym ((c .before .before .before .before .before .before .before .if1) .left) ∙ (c .before .before .before .before .before .before .before .before .is-rule-faulty) .ensures fs h) (λ i. omega (arith, (c .before .before .before .before .before .before .before .before .before .before .before .slice-known) .given i)) _
-    ((c .before .before .find-key) .ensures .0) ((c .before .if2) .left) ((c .if3) .taken)
+returns-3 c =
+    let at-if2 = c .before in
+    let at-find-key = at-if2 .before in
+    let at-if1 = at-find-key .before .before .before .before .before in
+    let at-is-rule-faulty = at-if1 .before in
+    let at-slice-known = at-is-rule-faulty .before .before .before in
+    let start = at-slice-known .before in
+    rule-full _ _ _ _ _ _ (start .pre .0) (start .pre .2) (λ fs h. sym (at-if1 .if1 .left) ∙
+    at-is-rule-faulty .is-rule-faulty .ensures fs h) (λ i. omega (arith, at-slice-known .slice-known .given i)) _
+    (at-find-key .find-key .ensures .0) (at-if2 .if2 .left) (c .if3 .taken)
 
 mul-write-cells : tie.Need-mul-write-cells
 mul-write-cells c = search needs
@@ -68,7 +88,10 @@ array-read-places : tie.Need-array-read-places
 array-read-places c = search needs
 
 cast-places : tie.Need-cast-places
-cast-places c = omega (arith, (c .before .before .before .before .before .before .before .before .before .before .before .before .before .before .before .before .before .pre) .0 .near 1)
+cast-places c =
+    let at-names = c .before .before .before .before .before .before .before .before .before in
+    let start = at-names .before .before .before .before .before .before .before .before in
+    omega (arith, start .pre .0 .near 1)
 
 mul-places : tie.Need-mul-places
 mul-places c = search needs
@@ -89,9 +112,19 @@ same-length-5 : tie.Need-same-length-5
 same-length-5 c = search needs
 
 returns-4 : tie.Need-returns-4
-returns-4 c = 
-    rule-new _ _ _ _ _ _ ((c .before .before .before .before .before .before .before .before .before .before .before .before .before .before .before .before .before .pre) .0) ((c .before .before .before .before .before .before .before .before .before .before .before .before .before .before .before .before .before .pre) .2) (λ fs h. sym ((c .before .before .before .before .before .before .before .before .before .before .before .before .if1) .left) ∙ (c .before .before .before .before .before .before .before .before .before .before .before .before .before .is-rule-faulty) .ensures fs h) (λ i. omega (arith, (c .before .before .before .before .before .before .before .before .before .before .before .before .before .before .before .before .slice-known) .given i)) _
-    ((c .before .before .before .before .before .before .before .find-key) .ensures .0) ((c .before .before .before .before .before .before .if2) .left) _ _ ((c .before .before .before .before .before .if3) .left) ((c .before .before .before .before .before .before .before .before .before .before .before .before .before .before .before .before .before .pre) .1) refl ((c .before .before .write-cells) .ensures)
+returns-4 c =
+    let at-write-cells = c .before .before in
+    let at-if3 = at-write-cells .before .before .before in
+    let at-if2 = at-if3 .before in
+    let at-find-key = at-if2 .before in
+    let at-if1 = at-find-key .before .before .before .before .before in
+    let at-is-rule-faulty = at-if1 .before in
+    let at-slice-known = at-is-rule-faulty .before .before .before in
+    let start = at-slice-known .before in
+    rule-new _ _ _ _ _ _ (start .pre .0) (start .pre .2) (λ fs h. sym (at-if1 .if1 .left) ∙
+    at-is-rule-faulty .is-rule-faulty .ensures fs h) (λ i. omega (arith, at-slice-known .slice-known .given i)) _
+    (at-find-key .find-key .ensures .0) (at-if2 .if2 .left) _ _ (at-if3 .if3 .left) (start .pre .1) refl
+    (at-write-cells .write-cells .ensures)
 
 pub rule-line-spec : {M : Type 1} → statement M
 rule-line-spec =

@@ -1,4 +1,5 @@
--- `programs::rules::check_rules` meets its contract: the rules before here meet neither number. Assumes nothing.
+-- `programs::rules::check_rules` meets its contract: the rules before here meet neither number.
+-- Assumes nothing.
 use borrow.Author.Needs.{needs}
 use mathlib.Core.Path.{refl}
 use Prim.Native.Nat.{_-_, _+_}
@@ -36,8 +37,13 @@ part-rule-fault-end : tie.Need-part-rule-fault-end Inv-loop μ-loop
 part-rule-fault-end c = search needs
 
 rule-fault-requires : tie.Need-rule-fault-requires Inv-loop μ-loop
-rule-fault-requires c κs = omega (arith, (c .before .loop-test) .taken, length-take ((c .before .before .loop) .at + 64 - (c .before .before .loop) .at) (drop ((c .before .before .loop) .at) ((c .before .before .before .before .before .args) .rules .now)),
-    length-drop ((c .before .before .loop) .at) ((c .before .before .before .before .before .args) .rules .now))
+rule-fault-requires c κs =
+    let at-loop-test = c .before in
+    let at-loop = at-loop-test .before in
+    let start = at-loop .before .before .before in
+    omega (arith, at-loop-test .loop-test .taken, length-take (at-loop .loop .at + 64 - at-loop .loop .at) (drop
+    (at-loop .loop .at) (start .args .rules .now)),
+    length-drop (at-loop .loop .at) (start .args .rules .now))
 
 add-t12 : tie.Need-add-t12 Inv-loop μ-loop
 add-t12 c = search needs
@@ -49,16 +55,29 @@ shared-slice-read-t15 : tie.Need-shared-slice-read-t15 Inv-loop μ-loop
 shared-slice-read-t15 c = search needs
 
 returns : tie.Need-returns Inv-loop μ-loop
-returns c = check-refused _ _ _ ((c .before .before .before .before .before .loop) .inv) _ ((c .before .before .before .before .loop-test) .taken) ((c .before .before .rule-fault) .ensures) _ refl ((c .before .if1) .taken)
+returns c =
+    let at-if1 = c .before in
+    let at-rule-fault = at-if1 .before in
+    let at-loop-test = at-rule-fault .before .before in
+    let at-loop = at-loop-test .before in
+    check-refused _ _ _ (at-loop .loop .inv) _ (at-loop-test .loop-test .taken) (at-rule-fault .rule-fault .ensures) _ refl
+    (at-if1 .if1 .taken)
 
 loop-less : tie.Need-loop-less Inv-loop μ-loop
 loop-less c = search needs
 
 loop-again : tie.Need-loop-again Inv-loop μ-loop
-loop-again c = check-next _ _ _ ((c .before .before .before .before .loop) .inv) _ ((c .before .before .before .loop-test) .taken) ((c .before .rule-fault) .ensures) ((c .if1) .left)
+loop-again c =
+    let at-rule-fault = c .before in
+    let at-loop-test = at-rule-fault .before .before in
+    let at-loop = at-loop-test .before in
+    check-next _ _ _ (at-loop .loop .inv) _ (at-loop-test .loop-test .taken) (at-rule-fault .rule-fault .ensures)
+    (c .if1 .left)
 
 returns-2 : tie.Need-returns-2 Inv-loop μ-loop
-returns-2 c = check-end _ _ _ ((c .before .loop) .inv) ((c .loop-test) .left)
+returns-2 c =
+    let at-loop = c .before in
+    check-end _ _ _ (at-loop .loop .inv) (c .loop-test .left)
 
 pub check-rules-spec : {M : Type 1} → statement M
 check-rules-spec =
