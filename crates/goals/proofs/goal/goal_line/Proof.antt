@@ -6,12 +6,6 @@ use Rattle.goals.proofs.GoalLaws.{line-other-form, line-refused, line-r
 use Rattle.goals.proofs.goal.goal_line.Statement.{statement}
 use Rattle.goals.proofs.goal.goal_line.Tie as tie
 
-array-read-is-goal : tie.Need-array-read-is-goal
-array-read-is-goal c = search needs
-
-is-goal-requires : tie.Need-is-goal-requires
-is-goal-requires c κs = search needs
-
 returns : tie.Need-returns
 returns c =
     let at-is-goal = c .before in
@@ -22,12 +16,6 @@ read-constraint-requires c κs =
     let at-shared-slice-known = c .before .before .before .before .before .before .before .before .before in
     let start = at-shared-slice-known .before in
     (start .pre .0, start .pre .2 .few-constants, start .pre .1 .few-symbols)
-
-same-length : tie.Need-same-length
-same-length c = search needs
-
-same-length-2 : tie.Need-same-length-2
-same-length-2 c = search needs
 
 returns-2 : tie.Need-returns-2
 returns-2 c =
@@ -53,9 +41,6 @@ mul-write-cells c =
     let start = at-if1 .before .before .before .before .before .before .before .before in
     record { fits = omega (arith, start .pre .2 .few) }
 
-slice-aggregate-write-cells : tie.Need-slice-aggregate-write-cells
-slice-aggregate-write-cells c = search needs
-
 write-cells-requires : tie.Need-write-cells-requires
 write-cells-requires c κs =
     let at-number-letters = c .before .before .before .before .before in
@@ -75,18 +60,6 @@ add-t28 c =
     let start = at-keys .before .before .before .before .before .before in
     record { fits = omega (arith, start .pre .2 .few) }
 
-same-length-3 : tie.Need-same-length-3
-same-length-3 c = search needs
-
-same-length-4 : tie.Need-same-length-4
-same-length-4 c = search needs
-
-same-length-5 : tie.Need-same-length-5
-same-length-5 c = search needs
-
-same-length-6 : tie.Need-same-length-6
-same-length-6 c = search needs
-
 returns-3 : tie.Need-returns-3
 returns-3 c =
     let at-write-cells = c .before .before in
@@ -104,20 +77,6 @@ pub goal-line-spec : {M : Type 1} → statement M
 goal-line-spec =
     tie.close
     (tie.spec
-    array-read-is-goal
-    is-goal-requires
-    returns
-    read-constraint-requires
-    same-length
-    same-length-2
-    returns-2
-    number-letters-requires
-    mul-write-cells
-    slice-aggregate-write-cells
-    write-cells-requires
-    add-t28
-    same-length-3
-    same-length-4
-    same-length-5
-    same-length-6
-    returns-3)
+    (λ c. search needs) (λ c κs. search needs) returns read-constraint-requires (λ c. search needs)
+    (λ c. search needs) returns-2 number-letters-requires mul-write-cells (λ c. search needs) write-cells-requires
+    add-t28 (λ c. search needs) (λ c. search needs) (λ c. search needs) (λ c. search needs) returns-3)

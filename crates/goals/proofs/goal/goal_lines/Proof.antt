@@ -20,16 +20,10 @@ abbrev μ-loop : tie.MeasureT-loop
     counts =
     length goal - at
 
-classes-requires : tie.Need-classes-requires Inv-loop μ-loop
-classes-requires c κs = search needs
-
 loop-holds : tie.Need-loop-holds Inv-loop μ-loop
 loop-holds c =
     let start = c .before .before .before .before .before .before .before in
     (lines-start _ _ _ _ _ _ _ (start .pre .0) (start .pre .1), refl)
-
-slice-aggregate-split : tie.Need-slice-aggregate-split Inv-loop μ-loop
-slice-aggregate-split c = search needs
 
 split-requires : tie.Need-split-requires Inv-loop μ-loop
 split-requires c κs =
@@ -84,9 +78,6 @@ goal-line-requires c κs =
       at-loop .loop .inv .0 .fits,
     )
 
-enum-known-x : tie.Need-enum-known-x Inv-loop μ-loop
-enum-known-x c = search needs
-
 same-length-5 : tie.Need-same-length-5 Inv-loop μ-loop
 same-length-5 c =
     let at-places = c .before .before .before .before .before .before .before .before in
@@ -134,9 +125,6 @@ returns-2 c =
     (at-split .split .ensures) (at-if1 .if1 .left) _ _ _ _ _
     (at-goal-line .goal-line .ensures) _ (at-x .x .given .1)
 
-enum-known-next : tie.Need-enum-known-next Inv-loop μ-loop
-enum-known-next c = search needs
-
 add-at : tie.Need-add-at Inv-loop μ-loop
 add-at c =
     let at-places = c .before .before .before .before .before .before .before .before .before in
@@ -179,19 +167,10 @@ loop-again c =
       at-goal-line .goal-line .ensures .cells-size ∙ at-loop .loop .inv .1,
     )
 
-same-length-9 : tie.Need-same-length-9 Inv-loop μ-loop
-same-length-9 c = search needs
-
-same-length-10 : tie.Need-same-length-10 Inv-loop μ-loop
-same-length-10 c = search needs
-
 same-length-11 : tie.Need-same-length-11 Inv-loop μ-loop
 same-length-11 c =
     let at-loop = c .before in
     at-loop .loop .inv .1
-
-same-length-12 : tie.Need-same-length-12 Inv-loop μ-loop
-same-length-12 c = search needs
 
 returns-3 : tie.Need-returns-3 Inv-loop μ-loop
 returns-3 c =
@@ -202,31 +181,7 @@ pub goal-lines-spec : {M : Type 1} → statement M
 goal-lines-spec =
     tie.close
     (tie.spec
-    Inv-loop
-    μ-loop
-    classes-requires
-    loop-holds
-    slice-aggregate-split
-    split-requires
-    same-length
-    same-length-2
-    same-length-3
-    same-length-4
-    returns
-    goal-line-requires
-    enum-known-x
-    same-length-5
-    same-length-6
-    same-length-7
-    same-length-8
-    returns-2
-    enum-known-next
-    add-at
-    add-number
-    loop-less
-    loop-again
-    same-length-9
-    same-length-10
-    same-length-11
-    same-length-12
-    returns-3)
+    Inv-loop μ-loop (λ c κs. search needs) loop-holds (λ c. search needs) split-requires same-length same-length-2
+    same-length-3 same-length-4 returns goal-line-requires (λ c. search needs) same-length-5 same-length-6
+    same-length-7 same-length-8 returns-2 (λ c. search needs) add-at add-number loop-less loop-again
+    (λ c. search needs) (λ c. search needs) same-length-11 (λ c. search needs) returns-3)

@@ -21,12 +21,6 @@ goal-lines-requires c κs =
     let start = at-if1 .before .before .before .before .before .before .before in
     (start .pre .0, start .pre .1, at-if1 .if1 .left)
 
-enum-known-x : tie.Need-enum-known-x
-enum-known-x c = search needs
-
-enum-known-counts : tie.Need-enum-known-counts
-enum-known-counts c = search needs
-
 mul-end : tie.Need-mul-end
 mul-end c =
     let at-counts = c .before .before in
@@ -58,18 +52,6 @@ weight-of-requires c κs =
     omega (arith, counts-fit _ (at-counts .counts .given .1) (at-goal-lines .goal-lines .ensures) .few,
     length-take (5 * at-counts .counts .given .0 .0 .constraints) (at-goal-lines .goal-lines .last .1 .1 .1 .1 .1 .0))
 
-same-length : tie.Need-same-length
-same-length c = search needs
-
-same-length-2 : tie.Need-same-length-2
-same-length-2 c = search needs
-
-same-length-3 : tie.Need-same-length-3
-same-length-3 c = search needs
-
-same-length-4 : tie.Need-same-length-4
-same-length-4 c = search needs
-
 returns-2 : tie.Need-returns-2
 returns-2 c =
     let at-weight-of = c .before in
@@ -80,18 +62,6 @@ returns-2 c =
     goal-heavy _ _ _ _ _ _ _ _ _ (omega (arith, at-if1 .if1 .left)) _ (at-goal-lines .goal-lines .ensures) _
     (at-counts .counts .given .1) _ (at-weight-of .weight-of .ensures) (c .if2 .taken)
 
-same-length-5 : tie.Need-same-length-5
-same-length-5 c = search needs
-
-same-length-6 : tie.Need-same-length-6
-same-length-6 c = search needs
-
-same-length-7 : tie.Need-same-length-7
-same-length-7 c = search needs
-
-same-length-8 : tie.Need-same-length-8
-same-length-8 c = search needs
-
 returns-3 : tie.Need-returns-3
 returns-3 c =
     let at-x = c .before in
@@ -100,18 +70,6 @@ returns-3 c =
     let at-if1 = at-goal-lines .before .before .before .before .before in
     goal-lines _ _ _ _ _ _ _ _ _ (omega (arith, at-if1 .if1 .left)) _ (at-goal-lines .goal-lines .ensures) _ _
     (at-x .x .given .1)
-
-same-length-9 : tie.Need-same-length-9
-same-length-9 c = search needs
-
-same-length-10 : tie.Need-same-length-10
-same-length-10 c = search needs
-
-same-length-11 : tie.Need-same-length-11
-same-length-11 c = search needs
-
-same-length-12 : tie.Need-same-length-12
-same-length-12 c = search needs
 
 returns-4 : tie.Need-returns-4
 returns-4 c =
@@ -127,26 +85,7 @@ pub read-goal-spec : {M : Type 1} → statement M
 read-goal-spec =
     tie.close
     (tie.spec
-    returns
-    goal-lines-requires
-    enum-known-x
-    enum-known-counts
-    mul-end
-    slice-reshare-prefix-weight-of
-    slice-aggregate-weight-of
-    weight-of-requires
-    same-length
-    same-length-2
-    same-length-3
-    same-length-4
-    returns-2
-    same-length-5
-    same-length-6
-    same-length-7
-    same-length-8
-    returns-3
-    same-length-9
-    same-length-10
-    same-length-11
-    same-length-12
-    returns-4)
+    returns goal-lines-requires (λ c. search needs) (λ c. search needs) mul-end slice-reshare-prefix-weight-of
+    slice-aggregate-weight-of weight-of-requires (λ c. search needs) (λ c. search needs) (λ c. search needs)
+    (λ c. search needs) returns-2 (λ c. search needs) (λ c. search needs) (λ c. search needs) (λ c. search needs)
+    returns-3 (λ c. search needs) (λ c. search needs) (λ c. search needs) (λ c. search needs) returns-4)

@@ -13,9 +13,6 @@ returns c =
     let start = c .before .before in
     letter-low _ _ _ (start .pre .0) (start .pre .1) (start .pre .2) (c .if1 .taken)
 
-sub-b : tie.Need-sub-b
-sub-b c = search needs
-
 cast-b : tie.Need-cast-b
 cast-b c =
     let start = c .before .before in
@@ -31,9 +28,6 @@ slice-aggregate-find-letter c =
     let start = c .before .before .before in
     sym (length-take-le _ (start .args .letters .now) (omega (arith, start .pre .1, start .pre .2 .few)))
 
-find-letter-requires : tie.Need-find-letter-requires
-find-letter-requires c κs = search needs
-
 cast-t10 : tie.Need-cast-t10
 cast-t10 c =
     let start = c .before .before .before .before .before in
@@ -43,9 +37,6 @@ add-t11 : tie.Need-add-t11
 add-t11 c =
     let start = c .before .before .before .before .before in
     record { fits = omega (arith, c .if2 .taken, start .pre .2 .few) }
-
-same-length : tie.Need-same-length
-same-length c = search needs
 
 returns-2 : tie.Need-returns-2
 returns-2 c =
@@ -79,9 +70,6 @@ add-t14 c =
     let start = c .before .before .before .before .before in
     record { fits = omega (arith, start .pre .2 .few) }
 
-same-length-2 : tie.Need-same-length-2
-same-length-2 c = search needs
-
 returns-3 : tie.Need-returns-3
 returns-3 c =
     let at-find-letter = c .before in
@@ -94,19 +82,6 @@ pub number-letter-spec : {M : Type 1} → statement M
 number-letter-spec =
     tie.close
     (tie.spec
-    returns
-    sub-b
-    cast-b
-    slice-reshare-prefix-find-letter
-    slice-aggregate-find-letter
-    find-letter-requires
-    cast-t10
-    add-t11
-    same-length
-    returns-2
-    slice-write-letters
-    cast-t7
-    add-t13
-    add-t14
-    same-length-2
-    returns-3)
+    returns (λ c. search needs) cast-b slice-reshare-prefix-find-letter slice-aggregate-find-letter
+    (λ c κs. search needs) cast-t10 add-t11 (λ c. search needs) returns-2 slice-write-letters cast-t7 add-t13 add-t14
+    (λ c. search needs) returns-3)

@@ -7,16 +7,10 @@ use Rattle.goals.proofs.GoalLetters.{row-read}
 use Rattle.goals.proofs.letters.number_letters.Statement.{statement}
 use Rattle.goals.proofs.letters.number_letters.Tie as tie
 
-array-read-number-letter : tie.Need-array-read-number-letter
-array-read-number-letter c = search needs
-
 number-letter-requires : tie.Need-number-letter-requires
 number-letter-requires c κs =
     let start = c .before .before in
     (start .pre .0 1, start .pre .1, start .pre .2)
-
-array-read-number-letter-2 : tie.Need-array-read-number-letter-2
-array-read-number-letter-2 c = search needs
 
 number-letter-requires-2 : tie.Need-number-letter-requires-2
 number-letter-requires-2 c κs =
@@ -25,9 +19,6 @@ number-letter-requires-2 c κs =
     (start .pre .0 2, at-number-letter .number-letter .ensures .size ∙ start .pre .1,
     at-number-letter .number-letter .ensures .fits)
 
-array-read-number-letter-3 : tie.Need-array-read-number-letter-3
-array-read-number-letter-3 c = search needs
-
 number-letter-requires-3 : tie.Need-number-letter-requires-3
 number-letter-requires-3 c κs =
     let at-number-letter2 = c .before .before .before in
@@ -35,9 +26,6 @@ number-letter-requires-3 c κs =
     let start = at-number-letter .before .before .before in
     (start .pre .0 3, at-number-letter2 .number-letter2 .ensures .size ∙ at-number-letter .number-letter .ensures .size ∙
     start .pre .1, at-number-letter2 .number-letter2 .ensures .fits)
-
-array-read-number-letter-4 : tie.Need-array-read-number-letter-4
-array-read-number-letter-4 c = search needs
 
 number-letter-requires-4 : tie.Need-number-letter-requires-4
 number-letter-requires-4 c κs =
@@ -51,12 +39,6 @@ number-letter-requires-4 c κs =
       at-number-letter .number-letter .ensures .size ∙ start .pre .1,
       at-number-letter3 .number-letter3 .ensures .fits,
     )
-
-array-read-t11 : tie.Need-array-read-t11
-array-read-t11 c = search needs
-
-same-length : tie.Need-same-length
-same-length c = search needs
 
 returns : tie.Need-returns
 returns c =
@@ -73,14 +55,6 @@ pub number-letters-spec : {M : Type 1} → statement M
 number-letters-spec =
     tie.close
     (tie.spec
-    array-read-number-letter
-    number-letter-requires
-    array-read-number-letter-2
-    number-letter-requires-2
-    array-read-number-letter-3
-    number-letter-requires-3
-    array-read-number-letter-4
-    number-letter-requires-4
-    array-read-t11
-    same-length
+    (λ c. search needs) number-letter-requires (λ c. search needs) number-letter-requires-2 (λ c. search needs)
+    number-letter-requires-3 (λ c. search needs) number-letter-requires-4 (λ c. search needs) (λ c. search needs)
     returns)

@@ -8,9 +8,6 @@ use Rattle.programs.proofs.AddLaws.{sides-faulty, sides-full, sides-man
 use Rattle.programs.proofs.adds.equation_line.Statement.{statement}
 use Rattle.programs.proofs.adds.equation_line.Tie as tie
 
-is-equation-faulty-requires : tie.Need-is-equation-faulty-requires
-is-equation-faulty-requires c κs = search needs
-
 returns : tie.Need-returns
 returns c =
     let at-is-equation-faulty = c .before in
@@ -18,24 +15,6 @@ returns c =
     λ used.
     sides-faulty _ _ _ _ _ (start .pre .1) (start .pre .2) (start .pre .3) used (λ fs h. sym (c .if1 .taken) ∙
     at-is-equation-faulty .is-equation-faulty .ensures .0 fs h)
-
-sub-row : tie.Need-sub-row
-sub-row c = search needs
-
-mul-row : tie.Need-mul-row
-mul-row c = search needs
-
-add-slot : tie.Need-add-slot
-add-slot c = search needs
-
-mul-wide : tie.Need-mul-wide
-mul-wide c = search needs
-
-slice-read-wide : tie.Need-slice-read-wide
-slice-read-wide c = search needs
-
-wide-requires : tie.Need-wide-requires
-wide-requires c κs = search needs
 
 returns-2 : tie.Need-returns-2
 returns-2 c =
@@ -57,12 +36,6 @@ read-terms-requires c κs =
     (at-if1 .if1 .left)),
     omega (arith, at-is-equation-faulty .is-equation-faulty .ensures .1 (at-if1 .if1 .left)))
 
-same-length : tie.Need-same-length
-same-length c = search needs
-
-same-length-2 : tie.Need-same-length-2
-same-length-2 c = search needs
-
 returns-3 : tie.Need-returns-3
 returns-3 c =
     let at-read-terms = c .before .before .before .before .before in
@@ -78,24 +51,6 @@ returns-3 c =
     (at-if2 .if2 .left) _ _ _ (at-read-terms .read-terms .ensures)
     (c .if3 .taken)
 
-array-read-t16 : tie.Need-array-read-t16
-array-read-t16 c = search needs
-
-array-read-t26 : tie.Need-array-read-t26
-array-read-t26 c = search needs
-
-mul-start : tie.Need-mul-start
-mul-start c = search needs
-
-add-start : tie.Need-add-start
-add-start c = search needs
-
-add-add-cells : tie.Need-add-add-cells
-add-add-cells c = search needs
-
-slice-aggregate-add-cells : tie.Need-slice-aggregate-add-cells
-slice-aggregate-add-cells c = search needs
-
 add-cells-requires : tie.Need-add-cells-requires
 add-cells-requires c κs =
     let at-if3 = c .before .before .before in
@@ -110,15 +65,6 @@ add-cells-requires c κs =
     (at-is-equation-faulty .is-equation-faulty .ensures .1 (at-if1 .if1 .left)) _ (at-wide .wide .ensures .0)
     (at-if2 .if2 .left) _ _ _ (at-read-terms .read-terms .ensures)
     (at-if3 .if3 .left)
-
-same-length-3 : tie.Need-same-length-3
-same-length-3 c = search needs
-
-same-length-4 : tie.Need-same-length-4
-same-length-4 c = search needs
-
-same-length-5 : tie.Need-same-length-5
-same-length-5 c = search needs
 
 returns-4 : tie.Need-returns-4
 returns-4 c =
@@ -141,27 +87,7 @@ pub equation-line-spec : {M : Type 1} → statement M
 equation-line-spec =
     tie.close
     (tie.spec
-    is-equation-faulty-requires
-    returns
-    sub-row
-    mul-row
-    add-slot
-    mul-wide
-    slice-read-wide
-    wide-requires
-    returns-2
-    read-terms-requires
-    same-length
-    same-length-2
-    returns-3
-    array-read-t16
-    array-read-t26
-    mul-start
-    add-start
-    add-add-cells
-    slice-aggregate-add-cells
-    add-cells-requires
-    same-length-3
-    same-length-4
-    same-length-5
-    returns-4)
+    (λ c κs. search needs) returns (λ c. search needs) (λ c. search needs) (λ c. search needs) (λ c. search needs)
+    (λ c. search needs) (λ c κs. search needs) returns-2 read-terms-requires (λ c. search needs) (λ c. search needs)
+    returns-3 (λ c. search needs) (λ c. search needs) (λ c. search needs) (λ c. search needs) (λ c. search needs)
+    (λ c. search needs) add-cells-requires (λ c. search needs) (λ c. search needs) (λ c. search needs) returns-4)

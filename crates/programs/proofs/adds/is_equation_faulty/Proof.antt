@@ -13,9 +13,6 @@ returns : tie.Need-returns
 returns c = (λ fs h. sym (sides-few fs (λ z. c .if1 .taken (h .counted ∙ z))), λ e. absurd (let z : _≡_ {A = ℕ} 0 1 = cc in
     omega arith))
 
-are-terms-requires : tie.Need-are-terms-requires
-are-terms-requires c κs = search needs
-
 returns-2 : tie.Need-returns-2
 returns-2 c =
     let at-are-terms = c .before in
@@ -37,4 +34,5 @@ returns-3 c =
 )
 
 pub is-equation-faulty-spec : {M : Type 1} → statement M
-is-equation-faulty-spec = tie.close (tie.spec returns are-terms-requires returns-2 returns-3)
+is-equation-faulty-spec = tie.close (tie.spec
+    returns (λ c κs. search needs) returns-2 returns-3)

@@ -10,19 +10,10 @@ use Rattle.programs.proofs.declarations.is_symbol_faulty.Tie as tie
 returns : tie.Need-returns
 returns c = λ fs h. sym (symbol-few fs _ (h .keyed) (λ z. c .if1 .taken (h .counted ∙ z)))
 
-array-read-if2 : tie.Need-array-read-if2
-array-read-if2 c = search needs
-
 returns-2 : tie.Need-returns-2
 returns-2 c =
     let at-if1 = c .before in
     λ fs h. sym (symbol-nameless fs _ (h .keyed) (omega (arith, h .counted, at-if1 .if1 .left)) (c .if2 .taken))
-
-array-read-number-of : tie.Need-array-read-number-of
-array-read-number-of c = search needs
-
-number-of-requires : tie.Need-number-of-requires
-number-of-requires c κs = search needs
 
 returns-3 : tie.Need-returns-3
 returns-3 c =
@@ -32,12 +23,6 @@ returns-3 c =
     λ fs h.
     sym (symbol-terms fs _ (h .keyed) (omega (arith, h .counted, at-if1 .if1 .left)) (at-if2 .if2 .left) _ _
     (at-number-of .number-of .ensures) refl (c .if3 .taken))
-
-array-read-number-of-2 : tie.Need-array-read-number-of-2
-array-read-number-of-2 c = search needs
-
-number-of-requires-2 : tie.Need-number-of-requires-2
-number-of-requires-2 c κs = search needs
 
 returns-4 : tie.Need-returns-4
 returns-4 c =
@@ -67,13 +52,5 @@ pub is-symbol-faulty-spec : {M : Type 1} → statement M
 is-symbol-faulty-spec =
     tie.close
     (tie.spec
-    returns
-    array-read-if2
-    returns-2
-    array-read-number-of
-    number-of-requires
-    returns-3
-    array-read-number-of-2
-    number-of-requires-2
-    returns-4
-    returns-5)
+    returns (λ c. search needs) returns-2 (λ c. search needs) (λ c κs. search needs) returns-3 (λ c. search needs)
+    (λ c κs. search needs) returns-4 returns-5)

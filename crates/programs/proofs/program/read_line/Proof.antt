@@ -11,15 +11,6 @@ use Rattle.programs.proofs.Whole.{goal-form, no-form}
 use Rattle.programs.proofs.program.read_line.Statement.{statement}
 use Rattle.programs.proofs.program.read_line.Tie as tie
 
-array-read-form-of : tie.Need-array-read-form-of
-array-read-form-of c = search needs
-
-form-of-requires : tie.Need-form-of-requires
-form-of-requires c κs = search needs
-
-place-after-requires : tie.Need-place-after-requires
-place-after-requires c κs = search needs
-
 returns : tie.Need-returns
 returns c =
     let at-place-after = c .before in
@@ -31,26 +22,17 @@ mul-used c =
     let start = c .before .before .before .before .before .before .before .before .before in
     record { fits = omega (arith, start .pre .3 .few-symbols) }
 
-enum-told : tie.Need-enum-told
-enum-told c = search needs
-
 symbol-line-requires : tie.Need-symbol-line-requires
 symbol-line-requires c κs =
     let at-keys = c .before .before .before .before .before .before .before .before .before in
     let start = at-keys .before .before .before .before .before in
     (start .pre .0, start .pre .1, start .pre .3 .few-symbols)
 
-enum-told-2 : tie.Need-enum-told-2
-enum-told-2 c = search needs
-
 rule-line-requires : tie.Need-rule-line-requires
 rule-line-requires c κs =
     let at-keys = c .before .before .before .before .before .before .before .before .before in
     let start = at-keys .before .before .before .before .before in
     (start .pre .0, start .pre .2, sound-moved _ _ _ (start .pre .3))
-
-enum-told-3 : tie.Need-enum-told-3
-enum-told-3 c = search needs
 
 slice-reshare-prefix-constraint-line : tie.Need-slice-reshare-prefix-constraint-line
 slice-reshare-prefix-constraint-line c =
@@ -81,9 +63,6 @@ constraint-line-requires c κs =
       omega arith,
     )
 
-enum-told-4 : tie.Need-enum-told-4
-enum-told-4 c = search needs
-
 slice-reshare-prefix-constraint-line-2 : tie.Need-slice-reshare-prefix-constraint-line-2
 slice-reshare-prefix-constraint-line-2 c =
     let at-keys = c .before .before .before .before .before .before in
@@ -113,9 +92,6 @@ constraint-line-requires-2 c κs =
       omega arith,
     )
 
-enum-told-5 : tie.Need-enum-told-5
-enum-told-5 c = search needs
-
 equation-line-requires : tie.Need-equation-line-requires
 unfolding formMeant
 equation-line-requires c κs =
@@ -131,21 +107,6 @@ equation-line-requires c κs =
       formMeant (at-enum-told5 .enum-told5 .given .1))),
     )
 
-enum-told-6 : tie.Need-enum-told-6
-enum-told-6 c = search needs
-
-enum-told-7 : tie.Need-enum-told-7
-enum-told-7 c = search needs
-
-same-length : tie.Need-same-length
-same-length c = search needs
-
-same-length-2 : tie.Need-same-length-2
-same-length-2 c = search needs
-
-same-length-3 : tie.Need-same-length-3
-same-length-3 c = search needs
-
 returns-2 : tie.Need-returns-2
 unfolding formMeant
 returns-2 c =
@@ -159,15 +120,6 @@ returns-2 c =
     (omega (arith, at-if1 .if1 .left)) (ap formMeant (at-enum-told .enum-told .given .1)) (start .pre .3) (start .pre .4)
     (at-symbol-line .symbol-line .ensures)
 
-same-length-4 : tie.Need-same-length-4
-same-length-4 c = search needs
-
-same-length-5 : tie.Need-same-length-5
-same-length-5 c = search needs
-
-same-length-6 : tie.Need-same-length-6
-same-length-6 c = search needs
-
 returns-3 : tie.Need-returns-3
 unfolding formMeant
 returns-3 c =
@@ -178,18 +130,6 @@ returns-3 c =
     let at-form-of = at-place-after .before in
     line-rule _ _ _ _ _ _ _ _ _ (at-form-of .form-of .ensures) (at-place-after .place-after .ensures)
     (omega (arith, at-if1 .if1 .left)) (ap formMeant (at-enum-told2 .enum-told2 .given .1)) (at-rule-line .rule-line .ensures)
-
-same-length-7 : tie.Need-same-length-7
-same-length-7 c = search needs
-
-same-length-8 : tie.Need-same-length-8
-same-length-8 c = search needs
-
-same-length-9 : tie.Need-same-length-9
-same-length-9 c = search needs
-
-same-length-10 : tie.Need-same-length-10
-same-length-10 c = search needs
 
 returns-4 : tie.Need-returns-4
 unfolding formMeant partForm
@@ -203,18 +143,6 @@ returns-4 c =
     (omega (arith, at-if1 .if1 .left)) (ap formMeant (at-enum-told3 .enum-told3 .given .1))
     (at-constraint-line .constraint-line .ensures)
 
-same-length-11 : tie.Need-same-length-11
-same-length-11 c = search needs
-
-same-length-12 : tie.Need-same-length-12
-same-length-12 c = search needs
-
-same-length-13 : tie.Need-same-length-13
-same-length-13 c = search needs
-
-same-length-14 : tie.Need-same-length-14
-same-length-14 c = search needs
-
 returns-5 : tie.Need-returns-5
 unfolding formMeant partForm
 returns-5 c =
@@ -226,15 +154,6 @@ returns-5 c =
     line-adds _ _ _ _ _ _ _ _ _ (at-form-of .form-of .ensures) (at-place-after .place-after .ensures)
     (omega (arith, at-if1 .if1 .left)) (ap formMeant (at-enum-told4 .enum-told4 .given .1))
     (at-constraint-line2 .constraint-line2 .ensures)
-
-same-length-15 : tie.Need-same-length-15
-same-length-15 c = search needs
-
-same-length-16 : tie.Need-same-length-16
-same-length-16 c = search needs
-
-same-length-17 : tie.Need-same-length-17
-same-length-17 c = search needs
 
 returns-6 : tie.Need-returns-6
 unfolding formMeant
@@ -270,48 +189,12 @@ pub read-line-spec : {M : Type 1} → statement M
 read-line-spec =
     tie.close
     (tie.spec
-    array-read-form-of
-    form-of-requires
-    place-after-requires
-    returns
-    mul-used
-    enum-told
-    symbol-line-requires
-    enum-told-2
-    rule-line-requires
-    enum-told-3
-    slice-reshare-prefix-constraint-line
-    slice-aggregate-constraint-line
-    constraint-line-requires
-    enum-told-4
-    slice-reshare-prefix-constraint-line-2
-    slice-aggregate-constraint-line-2
-    constraint-line-requires-2
-    enum-told-5
-    equation-line-requires
-    enum-told-6
-    enum-told-7
-    same-length
-    same-length-2
-    same-length-3
-    returns-2
-    same-length-4
-    same-length-5
-    same-length-6
-    returns-3
-    same-length-7
-    same-length-8
-    same-length-9
-    same-length-10
-    returns-4
-    same-length-11
-    same-length-12
-    same-length-13
-    same-length-14
-    returns-5
-    same-length-15
-    same-length-16
-    same-length-17
-    returns-6
-    returns-7
-    returns-8)
+    (λ c. search needs) (λ c κs. search needs) (λ c κs. search needs) returns mul-used (λ c. search needs)
+    symbol-line-requires (λ c. search needs) rule-line-requires (λ c. search needs)
+    slice-reshare-prefix-constraint-line slice-aggregate-constraint-line constraint-line-requires (λ c. search needs)
+    slice-reshare-prefix-constraint-line-2 slice-aggregate-constraint-line-2 constraint-line-requires-2
+    (λ c. search needs) equation-line-requires (λ c. search needs) (λ c. search needs) (λ c. search needs)
+    (λ c. search needs) (λ c. search needs) returns-2 (λ c. search needs) (λ c. search needs) (λ c. search needs)
+    returns-3 (λ c. search needs) (λ c. search needs) (λ c. search needs) (λ c. search needs) returns-4
+    (λ c. search needs) (λ c. search needs) (λ c. search needs) (λ c. search needs) returns-5 (λ c. search needs)
+    (λ c. search needs) (λ c. search needs) returns-6 returns-7 returns-8)

@@ -16,16 +16,10 @@ abbrev μ-loop : tie.MeasureT-loop
 μ-loop text names₀ places₀ symbols₀ rules₀ classes at₀ number₀ stage₀ names places symbols rules at number stage =
     length text - at
 
-classes-requires : tie.Need-classes-requires Inv-loop μ-loop
-classes-requires c κs = search needs
-
 loop-holds : tie.Need-loop-holds Inv-loop μ-loop
 loop-holds c =
     let start = c .before .before .before .before .before .before in
     lines-start _ _ _ _ _ (start .pre .0)
-
-slice-aggregate-split : tie.Need-slice-aggregate-split Inv-loop μ-loop
-slice-aggregate-split c = search needs
 
 split-requires : tie.Need-split-requires Inv-loop μ-loop
 split-requires c κs =
@@ -33,18 +27,6 @@ split-requires c κs =
     let at-classes = at-loop-test .before .before in
     let start = at-classes .before .before .before .before .before .before in
     (at-classes .classes .ensures, at-loop-test .loop-test .taken, start .pre .1)
-
-same-length : tie.Need-same-length Inv-loop μ-loop
-same-length c = search needs
-
-same-length-2 : tie.Need-same-length-2 Inv-loop μ-loop
-same-length-2 c = search needs
-
-same-length-3 : tie.Need-same-length-3 Inv-loop μ-loop
-same-length-3 c = search needs
-
-same-length-4 : tie.Need-same-length-4 Inv-loop μ-loop
-same-length-4 c = search needs
 
 returns : tie.Need-returns Inv-loop μ-loop
 returns c =
@@ -70,9 +52,6 @@ read-line-requires c κs =
       at-loop .loop .inv .sound,
       at-loop .loop .inv .started,
     )
-
-enum-known-x : tie.Need-enum-known-x Inv-loop μ-loop
-enum-known-x c = search needs
 
 same-length-5 : tie.Need-same-length-5 Inv-loop μ-loop
 same-length-5 c =
@@ -123,9 +102,6 @@ returns-2 c =
     (at-if1 .if1 .left) _ _ _ _ _
     (at-read-line .read-line .ensures) _ (at-x .x .given .1)
 
-enum-known-next : tie.Need-enum-known-next Inv-loop μ-loop
-enum-known-next c = search needs
-
 add-at : tie.Need-add-at Inv-loop μ-loop
 add-at c =
     let at-places = c .before .before .before .before .before .before .before .before .before in
@@ -165,18 +141,6 @@ loop-again c =
     (at-if1 .if1 .left) _ _ _ _ _
     (at-read-line .read-line .ensures) _ (at-next .next .given .1)
 
-same-length-9 : tie.Need-same-length-9 Inv-loop μ-loop
-same-length-9 c = search needs
-
-same-length-10 : tie.Need-same-length-10 Inv-loop μ-loop
-same-length-10 c = search needs
-
-same-length-11 : tie.Need-same-length-11 Inv-loop μ-loop
-same-length-11 c = search needs
-
-same-length-12 : tie.Need-same-length-12 Inv-loop μ-loop
-same-length-12 c = search needs
-
 returns-3 : tie.Need-returns-3 Inv-loop μ-loop
 returns-3 c =
     let at-loop = c .before in
@@ -186,31 +150,7 @@ pub read-lines-spec : {M : Type 1} → statement M
 read-lines-spec =
     tie.close
     (tie.spec
-    Inv-loop
-    μ-loop
-    classes-requires
-    loop-holds
-    slice-aggregate-split
-    split-requires
-    same-length
-    same-length-2
-    same-length-3
-    same-length-4
-    returns
-    read-line-requires
-    enum-known-x
-    same-length-5
-    same-length-6
-    same-length-7
-    same-length-8
-    returns-2
-    enum-known-next
-    add-at
-    add-number
-    loop-less
-    loop-again
-    same-length-9
-    same-length-10
-    same-length-11
-    same-length-12
-    returns-3)
+    Inv-loop μ-loop (λ c κs. search needs) loop-holds (λ c. search needs) split-requires (λ c. search needs)
+    (λ c. search needs) (λ c. search needs) (λ c. search needs) returns read-line-requires (λ c. search needs)
+    same-length-5 same-length-6 same-length-7 same-length-8 returns-2 (λ c. search needs) add-at add-number loop-less
+    loop-again (λ c. search needs) (λ c. search needs) (λ c. search needs) (λ c. search needs) returns-3)

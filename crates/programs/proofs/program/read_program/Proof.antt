@@ -14,15 +14,6 @@ returns c =
     let start = c .before .before .before .before .before .before in
     program-long _ _ _ _ _ (c .if1 .taken) (start .pre)
 
-read-lines-requires : tie.Need-read-lines-requires
-read-lines-requires c κs = search needs
-
-enum-known-x : tie.Need-enum-known-x
-enum-known-x c = search needs
-
-enum-known-stage : tie.Need-enum-known-stage
-enum-known-stage c = search needs
-
 mul-k : tie.Need-mul-k
 mul-k c =
     let at-stage = c .before .before in
@@ -78,24 +69,6 @@ check-rules-requires c κs =
     used-short (64 * at-stage .stage .given .0 .0 .rules) (at-read-lines .read-lines .last .1 .1 .1 .1 .0)
     (at-read-lines .read-lines .ensures .room .rules-size)
 
-enum-known-x-2 : tie.Need-enum-known-x-2
-enum-known-x-2 c = search needs
-
-enum-told : tie.Need-enum-told
-enum-told c = search needs
-
-same-length : tie.Need-same-length
-same-length c = search needs
-
-same-length-2 : tie.Need-same-length-2
-same-length-2 c = search needs
-
-same-length-3 : tie.Need-same-length-3
-same-length-3 c = search needs
-
-same-length-4 : tie.Need-same-length-4
-same-length-4 c = search needs
-
 returns-2 : tie.Need-returns-2
 returns-2 c =
     let at-x = c .before in
@@ -104,18 +77,6 @@ returns-2 c =
     let at-if1 = at-read-lines .before .before .before .before .before in
     program-lines _ _ _ _ _ _ _ (omega (arith, at-if1 .if1 .left)) _ (at-read-lines .read-lines .ensures) _ _
     (at-x .x .given .1)
-
-same-length-5 : tie.Need-same-length-5
-same-length-5 c = search needs
-
-same-length-6 : tie.Need-same-length-6
-same-length-6 c = search needs
-
-same-length-7 : tie.Need-same-length-7
-same-length-7 c = search needs
-
-same-length-8 : tie.Need-same-length-8
-same-length-8 c = search needs
 
 returns-3 : tie.Need-returns-3
 returns-3 c =
@@ -128,18 +89,6 @@ returns-3 c =
     program-rules _ _ _ _ _ _ _ (omega (arith, at-if1 .if1 .left)) _ (at-read-lines .read-lines .ensures) _
     (at-stage .stage .given .1) _
     (at-check-rules .check-rules .ensures) _ _ (at-x2 .x2 .given .1)
-
-same-length-9 : tie.Need-same-length-9
-same-length-9 c = search needs
-
-same-length-10 : tie.Need-same-length-10
-same-length-10 c = search needs
-
-same-length-11 : tie.Need-same-length-11
-same-length-11 c = search needs
-
-same-length-12 : tie.Need-same-length-12
-same-length-12 c = search needs
 
 returns-4 : tie.Need-returns-4
 returns-4 c =
@@ -156,31 +105,9 @@ pub read-program-spec : {M : Type 1} → statement M
 read-program-spec =
     tie.close
     (tie.spec
-    returns
-    read-lines-requires
-    enum-known-x
-    enum-known-stage
-    mul-k
-    mul-n
-    slice-reshare-prefix-check-rules
-    slice-aggregate-check-rules
-    slice-reshare-prefix-check-rules-2
-    slice-aggregate-check-rules-2
-    check-rules-requires
-    enum-known-x-2
-    enum-told
-    same-length
-    same-length-2
-    same-length-3
-    same-length-4
-    returns-2
-    same-length-5
-    same-length-6
-    same-length-7
-    same-length-8
-    returns-3
-    same-length-9
-    same-length-10
-    same-length-11
-    same-length-12
-    returns-4)
+    returns (λ c κs. search needs) (λ c. search needs) (λ c. search needs) mul-k mul-n
+    slice-reshare-prefix-check-rules slice-aggregate-check-rules slice-reshare-prefix-check-rules-2
+    slice-aggregate-check-rules-2 check-rules-requires (λ c. search needs) (λ c. search needs) (λ c. search needs)
+    (λ c. search needs) (λ c. search needs) (λ c. search needs) returns-2 (λ c. search needs) (λ c. search needs)
+    (λ c. search needs) (λ c. search needs) returns-3 (λ c. search needs) (λ c. search needs) (λ c. search needs)
+    (λ c. search needs) returns-4)

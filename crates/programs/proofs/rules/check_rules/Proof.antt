@@ -18,24 +18,6 @@ abbrev μ-loop : tie.MeasureT-loop
 loop-holds : tie.Need-loop-holds Inv-loop μ-loop
 loop-holds c = check-start _ _
 
-add-loop : tie.Need-add-loop Inv-loop μ-loop
-add-loop c = search needs
-
-add-stop : tie.Need-add-stop Inv-loop μ-loop
-add-stop c = search needs
-
-mul-rule-fault : tie.Need-mul-rule-fault Inv-loop μ-loop
-mul-rule-fault c = search needs
-
-sub-rule-fault : tie.Need-sub-rule-fault Inv-loop μ-loop
-sub-rule-fault c = search needs
-
-part-rule-fault-start : tie.Need-part-rule-fault-start Inv-loop μ-loop
-part-rule-fault-start c = search needs
-
-part-rule-fault-end : tie.Need-part-rule-fault-end Inv-loop μ-loop
-part-rule-fault-end c = search needs
-
 rule-fault-requires : tie.Need-rule-fault-requires Inv-loop μ-loop
 rule-fault-requires c κs =
     let at-loop-test = c .before in
@@ -45,15 +27,6 @@ rule-fault-requires c κs =
     (at-loop .loop .at) (start .args .rules .now)),
     length-drop (at-loop .loop .at) (start .args .rules .now))
 
-add-t12 : tie.Need-add-t12 Inv-loop μ-loop
-add-t12 c = search needs
-
-mul-t13 : tie.Need-mul-t13 Inv-loop μ-loop
-mul-t13 c = search needs
-
-shared-slice-read-t15 : tie.Need-shared-slice-read-t15 Inv-loop μ-loop
-shared-slice-read-t15 c = search needs
-
 returns : tie.Need-returns Inv-loop μ-loop
 returns c =
     let at-if1 = c .before in
@@ -62,9 +35,6 @@ returns c =
     let at-loop = at-loop-test .before in
     check-refused _ _ _ (at-loop .loop .inv) _ (at-loop-test .loop-test .taken) (at-rule-fault .rule-fault .ensures) _ refl
     (at-if1 .if1 .taken)
-
-loop-less : tie.Need-loop-less Inv-loop μ-loop
-loop-less c = search needs
 
 loop-again : tie.Need-loop-again Inv-loop μ-loop
 loop-again c =
@@ -83,20 +53,6 @@ pub check-rules-spec : {M : Type 1} → statement M
 check-rules-spec =
     tie.close
     (tie.spec
-    Inv-loop
-    μ-loop
-    loop-holds
-    add-loop
-    add-stop
-    mul-rule-fault
-    sub-rule-fault
-    part-rule-fault-start
-    part-rule-fault-end
-    rule-fault-requires
-    add-t12
-    mul-t13
-    shared-slice-read-t15
-    returns
-    loop-less
-    loop-again
-    returns-2)
+    Inv-loop μ-loop loop-holds (λ c. search needs) (λ c. search needs) (λ c. search needs) (λ c. search needs)
+    (λ c. search needs) (λ c. search needs) rule-fault-requires (λ c. search needs) (λ c. search needs)
+    (λ c. search needs) returns (λ c. search needs) loop-again returns-2)

@@ -13,13 +13,11 @@ slice-aggregate-result c =
     let start = at-if1 .before in
     sym (length-take-le (start .args .n) (start .args .cells .now) (omega (arith, at-if1 .if1 .taken)))
 
-returns : tie.Need-returns
-returns c = search needs
-
 returns-2 : tie.Need-returns-2
 returns-2 c =
     let start = c .before in
     sym (take-all (start .args .n) (start .args .cells .now) (c .if1 .left))
 
 pub prefix-of-spec : {M : Type 1} → statement M
-prefix-of-spec = tie.close (tie.spec slice-aggregate-result returns returns-2)
+prefix-of-spec = tie.close (tie.spec
+    slice-aggregate-result (λ c. search needs) returns-2)

@@ -6,18 +6,6 @@ use Rattle.programs.proofs.RuleLaws.{part-short, fault-eight, fault-nin
 use Rattle.programs.proofs.rules.rule_fault.Statement.{statement}
 use Rattle.programs.proofs.rules.rule_fault.Tie as tie
 
-shared-slice-read-wide : tie.Need-shared-slice-read-wide
-shared-slice-read-wide c = search needs
-
-wide-requires : tie.Need-wide-requires
-wide-requires c κs = search needs
-
-shared-slice-read-wide-2 : tie.Need-shared-slice-read-wide-2
-shared-slice-read-wide-2 c = search needs
-
-wide-requires-2 : tie.Need-wide-requires-2
-wide-requires-2 c κs = search needs
-
 returns : tie.Need-returns
 returns c =
     let at-wide2 = c .before in
@@ -25,41 +13,11 @@ returns c =
     let start = at-wide .before .before .before .before in
     fault-eight _ _ _ _ (at-wide .wide .ensures .0) (at-wide2 .wide2 .ensures .0) (start .pre) (c .if1 .taken)
 
-sub-prefix-of : tie.Need-sub-prefix-of
-sub-prefix-of c = search needs
-
-part-prefix-of-start : tie.Need-part-prefix-of-start
-part-prefix-of-start c = search needs
-
-part-prefix-of-end : tie.Need-part-prefix-of-end
-part-prefix-of-end c = search needs
-
-mul-prefix-of : tie.Need-mul-prefix-of
-mul-prefix-of c = search needs
-
-prefix-of-requires : tie.Need-prefix-of-requires
-prefix-of-requires c κs = search needs
-
 weight-of-requires : tie.Need-weight-of-requires
 weight-of-requires c κs =
     let at-wide = c .before .before .before .before .before in
     let start = at-wide .before .before .before .before in
     part-short (start .args .row .now) _ (at-wide .wide .result) 6 (c .prefix-of .ensures) (start .pre)
-
-sub-prefix-of-2 : tie.Need-sub-prefix-of-2
-sub-prefix-of-2 c = search needs
-
-part-prefix-of-start-2 : tie.Need-part-prefix-of-start-2
-part-prefix-of-start-2 c = search needs
-
-part-prefix-of-end-2 : tie.Need-part-prefix-of-end-2
-part-prefix-of-end-2 c = search needs
-
-mul-prefix-of-2 : tie.Need-mul-prefix-of-2
-mul-prefix-of-2 c = search needs
-
-prefix-of-requires-2 : tie.Need-prefix-of-requires-2
-prefix-of-requires-2 c κs = search needs
 
 weight-of-requires-2 : tie.Need-weight-of-requires-2
 weight-of-requires-2 c κs =
@@ -99,22 +57,7 @@ pub rule-fault-spec : {M : Type 1} → statement M
 rule-fault-spec =
     tie.close
     (tie.spec
-    shared-slice-read-wide
-    wide-requires
-    shared-slice-read-wide-2
-    wide-requires-2
-    returns
-    sub-prefix-of
-    part-prefix-of-start
-    part-prefix-of-end
-    mul-prefix-of
-    prefix-of-requires
-    weight-of-requires
-    sub-prefix-of-2
-    part-prefix-of-start-2
-    part-prefix-of-end-2
-    mul-prefix-of-2
-    prefix-of-requires-2
-    weight-of-requires-2
-    returns-2
-    returns-3)
+    (λ c. search needs) (λ c κs. search needs) (λ c. search needs) (λ c κs. search needs) returns (λ c. search needs)
+    (λ c. search needs) (λ c. search needs) (λ c. search needs) (λ c κs. search needs) weight-of-requires
+    (λ c. search needs) (λ c. search needs) (λ c. search needs) (λ c. search needs) (λ c κs. search needs)
+    weight-of-requires-2 returns-2 returns-3)
