@@ -28,7 +28,7 @@ pub zeros-unassigned : assigned (replicate 26 0) ≡ unassigned
 unfolding assigned unassigned
 zeros-unassigned = fun-ext (λ x. rw (zeros-zero 26 x))
 
-module _ (row cells : List ℕ) (m w : ℕ) (r : Row row) (k : length cells ≡ 5 * m) (e : w ≡ getD row 3 0) where
+module _ (row cells : List ℕ) (w : ℕ) (r : Row row) (e : w ≡ getD row 3 0) where
   none-placed : w - w ≡ 0
   none-placed = omega arith
 
@@ -36,7 +36,7 @@ module _ (row cells : List ℕ) (m w : ℕ) (r : Row row) (k : length cells ≡ 
   heads-cells = omega arith
 
   -- what the search for a rule's heads asks
-  pub rule-seeking : Seeking (take (6 + 5 * w - 6) (drop 6 row)) w w cells m (replicate 4 0) (replicate 26 0)
+  pub rule-seeking : Seeking (take (6 + 5 * w - 6) (drop 6 row)) w w (replicate 4 0) (replicate 26 0)
   unfolding ruleOfRow
   rule-seeking =
       record {
@@ -44,7 +44,6 @@ module _ (row cells : List ℕ) (m w : ℕ) (r : Row row) (k : length cells ≡ 
             (omega (arith, length-drop 6 row, r .size, r .heads-few)) ∙ omega arith;
         few = omega (arith, r .heads-few);
         there = omega arith;
-        cells-size = k;
         chosen-size = refl;
         bindings-size = refl;
         letters = rw (heads-cells, none-placed) (r .heads);
@@ -96,9 +95,9 @@ pub choosing-start : (rules : List ℕ) (n : ℕ) (cells : List ℕ) → Choosin
 unfolding choose
 choosing-start rules n cells = record { within = omega arith; same = λ names. refl }
 
-module _ (rules : List ℕ) (n : ℕ) (cells : List ℕ) (m i : ℕ) (given : Table rules n) (w : Choosing rules n cells i) where
+module _ (rules : List ℕ) (n : ℕ) (cells : List ℕ) (i : ℕ) (given : Table rules n) (w : Choosing rules n cells i) where
   -- no rule is left
-  pub choosing-none : n ≤ i → Chosen rules n cells false n (replicate 4 0) (replicate 26 0)
+  pub choosing-none : n ≤ i → Chosen rules n cells false i (replicate 4 0) (replicate 26 0)
   unfolding choiceOf foundOf rulesOf chooseFrom
   choosing-none l =
       record {
@@ -112,8 +111,8 @@ module _ (rules : List ℕ) (n : ℕ) (cells : List ℕ) (m i : ℕ) (given : Ta
 
   module _ (l : i < n) where
     -- what the search for the rule asks
-    pub choosing-row : length cells ≡ 5 * m → Row (lentRow rules i) × (length cells ≡ 5 * m)
-    choosing-row k = (rw (row-cells i) (given .rows i l), k)
+    pub choosing-row : Row (lentRow rules i)
+    choosing-row = rw (row-cells i) (given .rows i l)
 
     module _ (f : Bool) (ps b : List ℕ)
         (t : Located f (getD (lentRow rules i) 3 0) ps b
