@@ -5,18 +5,17 @@ use native.Mathlib.Omega.{arith}
 use native.Mathlib.Numerals.{add-one}
 use mathlib.Core.Bool.{Bool, true, false}
 use mathlib.Core.List.{List, [], _∷_}
-use mathlib.Core.Logic.{⊎-elim}
 use mathlib.Core.Path.{_≡_, refl, fun-ext, _∙_}
-use lib.ListN.{length, getD, take, drop, replicate, length-append, length-drop, drop-of-length-le, List·getD-append}
-use lib.Seq.{drop-cons, length-take-le, getD-at}
+use lib.ListN.{getD, take, drop, replicate, length-drop, drop-of-length-le}
+use lib.Seq.{drop-cons, length-take-le}
 use Rattle.text.specs.Lists.{orElse, tabled}
+use Rattle.text.proofs.Laws.{tabled-length, tabled-at}
 use Rattle.semantics.specs.Matching.{unassigned}
 use Rattle.semantics.specs.Strategy.{find, chooseFrom, choose}
 use Rattle.tables.specs.Cells.{cellConstraints}
 use Rattle.tables.specs.Rows.{ruleOfRow, ruleOf, rulesOf, rowOf}
 use Rattle.engine.specs.Cells.{assigned}
 use Rattle.engine.specs.Places.{foundOf, Seeking, Located, Row, Table, choiceOf, Chosen}
-use Rattle.tables.proofs.CellLaws.{le-or-lt}
 
 -- no cell of zeros is settled
 zeros-zero : (n x : ℕ) → _≡_ {A = ℕ} (getD (replicate n 0) x 0) 0
@@ -59,22 +58,10 @@ module _ (row cells : List ℕ) (w : ℕ) (r : Row row) (e : w ≡ getD row 3 0)
   unfolding ruleOfRow
   rule-located f ps b l = let k : 6 + 5 * w - 6 ≡ 5 * w = omega arith in rw (← e) (rw (k, none-placed, zeros-unassigned) at l)
 
--- the entries of a table
-pub length-tabled : {A : Type 0} (f : ℕ → A) (n : ℕ) → length (tabled f n) ≡ n
-length-tabled f zero = refl
-length-tabled f (suc n) = length-append (tabled f n) (f n ∷ []) ∙ rw (length-tabled f n) (omega arith)
-
-pub getD-tabled : {A : Type 0} (f : ℕ → A) (n i : ℕ) (d : A) → i < n → getD (tabled f n) i d ≡ f i
-getD-tabled f zero i d h = absurd (omega arith)
-getD-tabled f (suc n) i d h =
-    ⊎-elim
-    (λ l. let e : i ≡ n = omega arith in rw e (getD-at (tabled f n) (f n) [] d n (length-tabled f n)))
-    (λ l. List·getD-append (tabled f n) (f n ∷ []) d i (omega (arith, length-tabled f n)) ∙ getD-tabled f n i d l)
-    (le-or-lt n i)
-
+-- the entries of a table from i on
 drop-tabled : {A : Type 0} (f : ℕ → A) (n i : ℕ) → i < n → drop i (tabled f n) ≡ f i ∷ drop (suc i) (tabled f n)
 drop-tabled f n i h =
-    drop-cons (tabled f n) i (f i) (omega (arith, length-tabled f n)) ∙ rw (getD-tabled f n i (f i) h)
+    drop-cons (tabled f n) i (f i) (omega (arith, tabled-length f n)) ∙ rw (tabled-at f n i (f i) h)
 
 -- a rule's row as the code lends it
 abbrev pub lentRow : List ℕ → ℕ → List ℕ
@@ -102,7 +89,7 @@ module _ (rules : List ℕ) (n : ℕ) (cells : List ℕ) (i : ℕ) (given : Tabl
   choosing-none l =
       record {
         same = λ names. rw (drop-of-length-le (tabled (ruleOf names rules) n) {i = i}
-            (omega (arith, length-tabled (ruleOf names rules) n))) at (w .same names);
+            (omega (arith, tabled-length (ruleOf names rules) n))) at (w .same names);
         within = λ (z : false ≡ true). let y : _≡_ {A = ℕ} 0 1 = cc in absurd (omega arith);
         fits = λ (z : false ≡ true). let y : _≡_ {A = ℕ} 0 1 = cc in absurd (omega arith);
         positions-size = refl;

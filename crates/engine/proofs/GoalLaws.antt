@@ -14,21 +14,7 @@ use lib.ListN.{length, getD, take, drop, length-drop}
 use lib.Seq.{length-take-le}
 use borrow.Author.Tests.{lt-ltb, ltb-true}
 use Rattle.text.specs.Lists.{every, tabled}
-use Rattle.semantics.specs.Terms.{
-  Term,
-  con,
-  var,
-  Constraint,
-  Equation,
-  Symbol,
-  Rule,
-  Program,
-  Goal,
-  live,
-  noSymbol,
-  symbolAt,
-  weight,
-}
+use Rattle.semantics.specs.Terms.{Term, con, var, Constraint, Equation, Symbol, Program, Goal, noSymbol, symbolAt, weight}
 use Rattle.semantics.specs.Terms.{isDeclared, isBelow, isGoalOf, alphabet, isOfRule, isRuleOf, isWellFormed}
 use Rattle.semantics.specs.Strategy.{entered, run}
 use Rattle.tables.specs.Layout.{firstRule}
@@ -37,7 +23,7 @@ use Rattle.tables.specs.Rows.{symbolOf, symbolsOf, ruleOfRow, ruleOf, rulesOf, 
 use Rattle.engine.specs.Places.{isLettered, isSide, Row, Table}
 use Rattle.engine.specs.Runs.{weightBy, Lowers, storeOf, Startable, Ended}
 use Rattle.semantics.proofs.Bools.{and-true}
-use Rattle.engine.proofs.ChooseLaws.{length-tabled, getD-tabled}
+use Rattle.text.proofs.Laws.{tabled-length, tabled-at}
 
 -- whether a term is no constant 0, which stands for no term
 unfoldable pub isUsed : Term → Bool
@@ -102,12 +88,12 @@ module _ (names symbols : List ℕ) (s : ℕ) (rules : List ℕ) (n : ℕ) (r : 
 
   length-known : length known ≡ s
   unfolding symbolsOf
-  length-known = length-tabled (symbolOf names symbols) s
+  length-known = tabled-length (symbolOf names symbols) s
 
   weigh-same : (k : ℕ) → k < s → weigh k ≡ symbolAt known k .weight
   unfolding weigh symbolAt symbolsOf symbolOf
   weigh-same k l =
-      rw (getD-tabled (symbolOf names symbols) s k noSymbol l)
+      rw (tabled-at (symbolOf names symbols) s k noSymbol l)
       (let one : 1 ≤ getD symbols (2 * k + 1) 0 = r .heavy k l in omega arith)
 
   -- a declared constraint's symbol
@@ -141,9 +127,9 @@ module _ (names symbols : List ℕ) (s : ℕ) (rules : List ℕ) (n : ℕ) (r : 
     rule-of : isRuleOf known (ruleOfRow (nameOf names (firstRule + i)) row) ≡ true
     unfolding isWellFormed programOf rulesOf ruleOf
     rule-of =
-        rw (getD-tabled (ruleOf names rules) n i (ruleOf names rules i) l) at
+        rw (tabled-at (ruleOf names rules) n i (ruleOf names rules i) l) at
         (every-at (isRuleOf known) (tabled (ruleOf names rules) n) i (ruleOf names rules i) (r .well-formed)
-        (omega (arith, length-tabled (ruleOf names rules) n)))
+        (omega (arith, tabled-length (ruleOf names rules) n)))
 
     -- what its being well formed says, part by part
     parts :

@@ -82,12 +82,12 @@ pub record Sought (heads : List ℕ) (h : ℕ) (cells chosen bindings : List ℕ
       ≡ answer heads h cells chosen bindings
 
 -- nothing either way is nothing
-cond-none : {A : Type 0} (t : Bool) → _≡_ {A = Option A} (cond t none none) none
+pub cond-none : {A : Type 0} (t : Bool) → _≡_ {A = Option A} (cond t none none) none
 cond-none true = refl
 cond-none false = refl
 
 -- a test before the first answer is a test before the second
-cond-bind :
+pub cond-bind :
     {A B : Type 0} (t : Bool) (o : Option A) (k : A → Option B) → cond t none (bind o k) ≡ bind (cond t none o) k
 cond-bind true o k = refl
 cond-bind false o k = refl

@@ -8,17 +8,14 @@
 --   bound-…, bounds-…      an A line, and a line for each goal variable
 -- Assumes nothing.
 use mathlib.Core.Path.{_≡_, refl, sym, ap, _∙_}
-use mathlib.Core.Bool.{Bool, true, false, cond}
-use mathlib.Core.List.{List, [], _∷_, _++_, append-assoc, append-nil, map}
+use mathlib.Core.List.{List, [], _∷_, _++_, append-assoc, map}
 use Prim.Native.Nat.{ℕ, suc, _+_, _-_, _*_, _/_, _%_, _≤_, _<_}
 use native.Mathlib.Omega.{arith}
 use native.Mathlib.Numerals.{add-one}
 use borrow.Author.Tests.{lt-ltb, le-ltb}
-use lib.Dec.{ltb}
-use lib.ListN.{length, take, drop, getD, length-append, length-drop, length-take, drop-of-length-le}
-use lib.Seq.{drop-cons, take-all, drop-drop}
+use lib.ListN.{length, take, drop, getD, length-drop, length-take, drop-of-length-le}
+use lib.Seq.{drop-cons, take-all}
 use Rattle.text.specs.Bytes.{ascii}
-use Rattle.semantics.specs.Terms.{Term, Constraint}
 use Rattle.tables.specs.Cells.{cellTerm, cellTerms, cellConstraints, rowConstraint}
 use Rattle.tables.specs.Numbers.{usedCells}
 use Rattle.tables.proofs.CellLaws.{cell-low, cell-high, constraints-at, constraints-short}

@@ -1,6 +1,5 @@
 -- `listing::list_end` meets its contract: a failed state, or a live one whose variables are numbered first. Assumes nothing.
 use borrow.Author.Needs.{needs}
-use mathlib.Core.Path.{subst, sym}
 use native.Mathlib.Omega.{arith}
 use borrow.Author.Tests.{not-true, not-false}
 use Rattle.listing.proofs.EndLaws.{failed-end, renumbered-is, listed-is}

@@ -1,7 +1,7 @@
 -- `listing::lines::put_bounds` meets its contract: the lines before i are written. Assumes nothing.
 use borrow.Author.Needs.{needs}
-use mathlib.Core.List.{List, map}
-use Prim.Native.Nat.{ℕ, _≤_, _-_}
+use mathlib.Core.List.{map}
+use Prim.Native.Nat.{_≤_, _-_}
 use native.Mathlib.Omega.{arith}
 use lib.ListN.{length}
 use Rattle.text.specs.Bytes.{ascii}

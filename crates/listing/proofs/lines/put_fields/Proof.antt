@@ -1,9 +1,9 @@
 -- `listing::lines::put_fields` meets its contract: the fields before i are written. Assumes nothing.
 use borrow.Author.Needs.{needs}
-use mathlib.Core.List.{List, map}
-use Prim.Native.Nat.{ℕ, _≤_, _-_}
+use mathlib.Core.List.{map}
+use Prim.Native.Nat.{_≤_, _-_}
 use native.Mathlib.Omega.{arith}
-use lib.ListN.{length, drop}
+use lib.ListN.{length}
 use Rattle.tables.specs.Names.{nameIn}
 use Rattle.listing.specs.Listing.{fieldsBehind}
 use Rattle.listing.specs.Ends.{cellShown}

@@ -1,7 +1,7 @@
 -- `listing::lines::put_rows` meets its contract: the lines before i are written. Assumes nothing.
 use borrow.Author.Needs.{needs}
-use mathlib.Core.List.{List, [], _∷_}
-use Prim.Native.Nat.{ℕ, _≤_, _*_, _-_}
+use mathlib.Core.List.{[], _∷_}
+use Prim.Native.Nat.{_≤_, _*_, _-_}
 use native.Mathlib.Omega.{arith}
 use lib.ListN.{length}
 use Rattle.tables.specs.Cells.{cellConstraints}

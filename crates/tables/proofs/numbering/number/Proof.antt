@@ -1,6 +1,5 @@
 -- `tables::numbering::number` meets its contract. Assumes nothing.
 use borrow.Author.Needs.{needs}
-use native.Mathlib.Omega.{arith}
 use Rattle.tables.proofs.Renumbering.{renumbers, rows-asks}
 use Rattle.tables.proofs.numbering.number.Statement.{statement}
 use Rattle.tables.proofs.numbering.number.Tie as tie
