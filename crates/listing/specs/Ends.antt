@@ -1,6 +1,6 @@
 -- The listing of a final state in cells: what its functions show, ask and promise.
---   shownAs          variables shown by a letter and their number
---   stateBytes       the A and S lines of a state whose variables are numbered
+--   cellShown        a cell as a field
+--   liveBytes        the listing of a live state whose variables are numbered
 --   endBytes         the listing of a final state
 --   Listable         what listing a final state asks
 -- Assumes nothing.
