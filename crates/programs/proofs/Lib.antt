@@ -1,7 +1,7 @@
--- Laws of this crate's definitions. Assumes nothing.
+-- The laws of this crate. Assumes nothing.
 pub mod Pasted
 pub mod Drafts
 pub mod Grown
-pub mod Lasts
+pub mod AddLaws
+pub mod RuleLaws
 pub mod Whole
-pub mod Weights

@@ -1,92 +1,64 @@
--- Laws of a line by number 2, its form and its place, and of all lines.
---   line-faulty, line-placeless, line-formed    a line, by the tests that decide it
---   some-bytes            a line that is not faulty has a byte
---   begun, first-place   where a line of a form stands
---   lines-refused, lines-next, lines-end    the lines from a place on, one line on
+-- Laws of a line by its form and its place, of all lines, and of a program's text.
+--   line-placeless, line-symbol, line-rule, line-adds, line-none    a line, by what decides it
+--   begun-.., first-place                 where a line of a form stands
+--   LinesSoFar, lines-..                  the lines of a text, as far as they are read
+--   program-..                            a program's text
 -- Assumes nothing.
 use mathlib.Core.Path.{_≡_, refl, sym, ap, ap₂, _∙_}
 use mathlib.Core.Bool.{Bool, true, false, cond}
-use mathlib.Core.List.{List}
+use mathlib.Core.List.{List, [], _∷_, map}
 use mathlib.Core.Option.{Option, none, some}
-use Prim.Native.Nat.{ℕ, zero, suc, _+_, _≤_, _<_}
-use native.Mathlib.Nat.{zero-add}
-use native.Mathlib.Decide.{decLt}
+use Prim.Native.Nat.{ℕ, zero, suc, _+_, _-_, _*_, _≤_, _<_}
+use native.Mathlib.Numerals.{add-one}
 use native.Mathlib.Omega.{arith}
 use borrow.Author.Tests.{lt-ltb, le-ltb}
 use lib.Dec.{ltb}
-use lib.ListN.{length, take, drop, drop-of-length-le}
-use lib.Seq.{length-take-le, length-slice}
+use lib.ListN.{length, take, drop, getD, length-take}
+use lib.Seq.{take-take, length-take-le}
 use Rattle.text.specs.Lists.{onward, tabled}
-use Rattle.text.specs.Lines.{lines, lineIsFaulty}
+use Rattle.text.specs.Lines.{Line, lines, lineIsFaulty}
 use Rattle.text.specs.Fields.{fields}
-use Rattle.text.specs.Places.{before, lineAt, fieldsFrom}
-use Rattle.text.proofs.Cursors.{line-at, fields-in}
-use Rattle.text.proofs.Forms.{faulty-empty}
+use Rattle.text.specs.Keys.{keyOf}
+use Rattle.text.specs.Splits.{lineFrom, Holds, SplitAt}
+use Rattle.text.specs.declared.fields.Fields.{Fields}
+use Rattle.text.proofs.Cursors.{drop-take, fields-some}
+use Rattle.text.proofs.SplitLaws.{lines-at, lines-split, lines-done, line-fine}
+use Rattle.semantics.specs.Terms.{Symbol, Rule}
 use Rattle.syntax.specs.Answers.{Answer, refused, accepted, refuseIf, andThen}
-use Rattle.syntax.specs.Forms.{Form, Place, inSymbols, inHeads, inBody, inEquations, symbolForm, formOf}
-use Rattle.syntax.specs.Forms.{placeAfter, fieldAt}
-use Rattle.syntax.specs.Programs.{Draft, Reading, maxText, blank, readForm, readLine, readLines, checkRules, readProgram}
-use Rattle.syntax.specs.Tables.{constantOf, constantsOf}
+use Rattle.syntax.specs.Forms.{Form, symbolForm, ruleForm, headForm, bodyForm, equationForm, goalForm, noForm, formOf}
+use Rattle.syntax.specs.Forms.{Place, inSymbols, inHeads, inBody, inEquations, placeAfter, fieldAt}
+use Rattle.syntax.specs.Programs.{RuleRead, Draft, Reading, blank, atPlace, readForm, readFields, readLine, readLines, checkRules}
+use Rattle.syntax.specs.Programs.{readProgram}
+use Rattle.syntax.proofs.Tabled.{tabled-same, map-tabled}
+use Rattle.tables.specs.Rows.{symbolsOf, constantsOf, rowOf, ruleOf, rulesOf}
+use Rattle.tables.specs.Names.{Placed}
 use Rattle.lines.specs.declared.LineForm.{LineForm}
-use Rattle.lines.specs.Read.{formMeant, placeMeant, placeAnswer}
-use Rattle.syntax.proofs.Tabled.{tabled-same}
-
-pub some-bytes : (s : List ℕ) (start end : ℕ) → start ≤ end → end ≤ length s → lineIsFaulty (lineAt s start end) ≡ false
-    → start < end
-unfolding lineAt
-some-bytes s start end h k e = elim (decLt start end) [
-  | yes p ↦ p
-  | no p ↦
-      let z : true ≡ false =
-      sym (faulty-empty (drop start (take end s)) (ltb end (length s)) (omega (arith, length-slice start end s k, p))) ∙ e in
-      absurd (let y : _≡_ {A = ℕ} 0 1 = cc in omega arith)
-]
-
-module _ (s : List ℕ) (start end n : ℕ) (d : Draft) where
-  pub line-faulty : lineIsFaulty (lineAt s start end) ≡ true → refused 2 n ≡ readLine n (lineAt s start end) d
-  unfolding readLine
-  line-faulty e = rw e
-
-  module _ (h : start ≤ end) (k : end ≤ length s) (e : lineIsFaulty (lineAt s start end) ≡ false) (form : Form)
-      (f : form ≡ formOf (fieldAt 0 (fieldsFrom (take end s) start))) where
-    fields-are : fields (drop start (take end s)) ≡ fieldsFrom (take end s) start
-    fields-are = sym (fields-in (take end s) start (omega (arith, length-take-le end s k)))
-
-    opened : readLine n (lineAt s start end) d
-        ≡ onward (placeAfter form (d .place)) (refused 3 n) (λ place. readForm form n place (fieldsFrom (take end s) start) d)
-    unfolding readLine lineAt
-    opened =
-        let same : formOf (fieldAt 0 (fields (drop start (take end s)))) ≡ form =
-        ap (λ (fs : List (List ℕ)). formOf (fieldAt 0 fs)) fields-are ∙ sym f in
-        ap (λ (b : Bool). refuseIf b 2 n (onward (placeAfter (formOf (fieldAt 0 (fields (drop start (take end s))))) (d .place))
-        (refused 3 n)
-        (λ place. readForm (formOf (fieldAt 0 (fields (drop start (take end s))))) n place (fields (drop start (take end s))) d)))
-        e
-        ∙ ap₂ (λ (g : Form) (fs : List (List ℕ)). onward (placeAfter g (d .place)) (refused 3 n)
-        (λ place. readForm g n place fs d)) same fields-are
-
-    pub line-placeless : (p : ℕ) → placeAnswer p ≡ placeAfter form (d .place) → 3 < p
-        → refused 3 n ≡ readLine n (lineAt s start end) d
-    unfolding placeAnswer
-    line-placeless p q r =
-        let none-is : placeAfter form (d .place) ≡ none =
-        sym q ∙ ap (λ (b : Bool). cond b (some (placeMeant p)) none) (le-ltb p 4 (omega arith)) in
-        sym (opened ∙ ap (λ (o : Option Place). onward o (refused 3 n)
-        (λ place. readForm form n place (fieldsFrom (take end s) start) d)) none-is)
-
-    pub line-formed : (p : ℕ) → placeAnswer p ≡ placeAfter form (d .place) → p ≤ 3
-        → readForm form n (placeMeant p) (fieldsFrom (take end s) start) d ≡ readLine n (lineAt s start end) d
-    unfolding placeAnswer
-    line-formed p q r =
-        let some-is : placeAfter form (d .place) ≡ some (placeMeant p) =
-        sym q ∙ ap (λ (b : Bool). cond b (some (placeMeant p)) none) (lt-ltb p 4 (omega arith)) in
-        sym (opened ∙ ap (λ (o : Option Place). onward o (refused 3 n)
-        (λ place. readForm form n place (fieldsFrom (take end s) start) d)) some-is)
+use Rattle.lines.specs.Read.{formMeant, placeMeant, placeAnswer, KeepsPlaces}
+use Rattle.lines.proofs.Held.{key-at}
+use Rattle.lines.proofs.Spelling.{spelled-program}
+use Rattle.programs.specs.declared.Stage.{Stage}
+use Rattle.programs.specs.declared.Counts.{Counts}
+use Rattle.programs.specs.declared.LineRead.{LineRead}
+use Rattle.programs.specs.declared.LineRead.the-variants.{Refused, Next}
+use Rattle.programs.specs.declared.LinesRead.{LinesRead}
+use Rattle.programs.specs.declared.LinesRead.the-variants.{Refused as linesRefused, Read as linesRead}
+use Rattle.programs.specs.declared.RulesRead.{RulesRead}
+use Rattle.programs.specs.declared.RulesRead.the-variants.{Refused as rulesRefused, Fine}
+use Rattle.programs.specs.declared.ProgramRead.the-variants.{Refused as programRefused, Accepted}
+use Rattle.programs.specs.Read.{ruleRead, rulesRead, draftOf, lineAnswer, soundAfter, Sound, Begun, Room, Kept, SymbolIn}
+use Rattle.programs.specs.Read.{RuleIn, AddsIn, LineIn, linesAnswer, linesSound, LinesIn, rulesAnswer, RulesIn, readingOf}
+use Rattle.programs.specs.Read.{programAnswer, programFits, ProgramIn}
+use Rattle.programs.proofs.Drafts.{kept-same}
+use Rattle.programs.proofs.AddLaws.{symbols-used}
 
 -- a place that a line leads to
 place-some : (p : ℕ) (o : Option Place) → placeAnswer p ≡ o → p < 4 → o ≡ some (placeMeant p)
 unfolding placeAnswer
 place-some p o q r = sym q ∙ ap (λ (b : Bool). cond b (some (placeMeant p)) none) (lt-ltb p 4 r)
+
+place-none : (p : ℕ) (o : Option Place) → placeAnswer p ≡ o → 3 < p → o ≡ none
+unfolding placeAnswer
+place-none p o q r = sym q ∙ ap (λ (b : Bool). cond b (some (placeMeant p)) none) (le-ltb p 4 (omega arith))
 
 -- a K line leads to the place of symbols
 symbols-only : (w v : Place) → placeAfter symbolForm w ≡ some v → v ≡ inSymbols
@@ -107,73 +79,331 @@ pub first-place : (p q : ℕ) → placeAnswer p ≡ placeAfter symbolForm (place
 first-place p q e h =
     place-zero p (symbols-only (placeMeant q) (placeMeant p) (place-some p (placeAfter symbolForm (placeMeant q)) e h))
 
-pub begun : (form f : LineForm) (p q : ℕ) → placeAfter (formMeant f) inSymbols ≡ none
-    → placeAnswer p ≡ placeAfter (formMeant form) (placeMeant q)
-    → form ≡ f → p < 4 → 0 < q
+begun : (form : Form) (p q : ℕ) → placeAfter form inSymbols ≡ none → placeAnswer p ≡ placeAfter form (placeMeant q) → p < 4
+    → 0 < q
 unfolding placeMeant
-begun form f p zero x e g h =
-    let z : none ≡ some (placeMeant p) =
-    sym (ap (λ (o : LineForm). placeAfter (formMeant o) inSymbols) g ∙ x)
-    ∙ place-some p (placeAfter (formMeant form) inSymbols) e h in
+begun form p zero x e h =
+    let z : none ≡ some (placeMeant p) = sym x ∙ place-some p (placeAfter form inSymbols) e h in
     absurd (let y : _≡_ {A = ℕ} 0 1 = cc in omega arith)
-begun form f p (suc q) x e g h = omega arith
+begun form p (suc q) x e h = omega arith
 
--- the lines from a place on, which answer for all
-module _ (s : List ℕ) (start n : ℕ) (d : Draft) (all : Answer Draft) (k : readLines n d (lines (drop start s)) ≡ all) where
-  pub lines-end : length s ≤ start → accepted d ≡ all
-  unfolding readLines lines
-  lines-end h = let z : accepted d ≡ readLines n d (lines (drop start s)) = rw (drop-of-length-le s h) in z ∙ k
+module _ (form : Form) (p q : ℕ) (led : placeAnswer p ≡ placeAfter form (placeMeant q)) (l : p < 4) where
+  pub begun-head : form ≡ headForm → 0 < q
+  unfolding placeAfter
+  begun-head e = begun form p q (rw e) led l
 
-  module _ (end : ℕ) (h : start < length s) (e : end ≡ start + before 10 (drop start s)) where
-    unrolled : andThen (readLine n (lineAt s start end) d) (λ x. readLines (suc n) x (lines (drop (suc end) s))) ≡ all
-    unfolding readLines
-    unrolled = let z : readLines n d (lines (drop start s))
-        ≡ andThen (readLine n (lineAt s start end) d) (λ x. readLines (suc n) x (lines (drop (suc end) s))) =
-        rw (line-at s start end h e) in sym z ∙ k
+  pub begun-body : form ≡ bodyForm → 0 < q
+  unfolding placeAfter
+  begun-body e = begun form p q (rw e) led l
 
-    pub lines-refused : (x m : ℕ) → refused x m ≡ readLine n (lineAt s start end) d → refused x m ≡ all
-    lines-refused x m q =
-        ap (λ (a : Answer Draft). andThen a (λ y. readLines (suc n) y (lines (drop (suc end) s)))) q ∙ unrolled
+  pub begun-equation : form ≡ equationForm → 0 < q
+  unfolding placeAfter
+  begun-equation e = begun form p q (rw e) led l
 
-    pub lines-next : (x : Draft) → accepted x ≡ readLine n (lineAt s start end) d
-        → readLines (suc n) x (lines (drop (suc end) s)) ≡ all
-    lines-next x q = ap (λ (a : Answer Draft). andThen a (λ y. readLines (suc n) y (lines (drop (suc end) s)))) q ∙ unrolled
+-- counts do not depend on the place
+pub sound-moved : (rules : List ℕ) (s : Stage) (p : ℕ) → Sound rules s
+    → Sound rules (record { place = p; symbols = s .symbols; rules = s .rules; constants = s .constants })
+sound-moved rules s p d =
+    record { few-symbols = d .few-symbols; few-rules = d .few-rules; few-constants = d .few-constants; rows = d .rows }
 
--- the program that a draft holds
-unfoldable pub readingFrom : Draft → Reading
-readingFrom d = record { program = record { symbols = d .symbols; rules = d .rules }; constants = d .constants }
+-- a line of a form that leads to a place
+module _ (f : Fields) (n : ℕ) (s : Stage) (names places symbols rules : List ℕ) (form : Form) (p : ℕ)
+    (formed : (g : List ℕ) → getD (f .keys) 0 0 ≡ keyOf g → form ≡ formOf g)
+    (led : placeAnswer p ≡ placeAfter form (placeMeant (s .place))) where
+  abbrev at : Stage
+  at = record { place = p; symbols = s .symbols; rules = s .rules; constants = s .constants }
+
+  first-form : (fs : List (List ℕ)) → Holds fs f → 0 < length fs → form ≡ formOf (fieldAt 0 fs)
+  unfolding fieldAt
+  first-form fs h some-field = formed (getD fs 0 []) (key-at fs (f .keys) (h .keyed) 0 some-field (omega arith))
+
+  onward-is : (fs : List (List ℕ)) (d : Draft) → Holds fs f → 0 < length fs → d .place ≡ placeMeant (s .place)
+      → readFields n fs d
+      ≡ onward (placeAfter form (placeMeant (s .place))) (refused 3 n) (λ place. readForm form n fs (atPlace place d))
+  unfolding readFields
+  onward-is fs d h some-field e = rw (← first-form fs h some-field, e)
+
+  -- a line that may not stand there
+  pub line-placeless : 3 < p → LineIn f n s names places symbols rules names places symbols rules (Refused 3)
+  unfolding lineAnswer draftOf
+  line-placeless l =
+      record {
+        answers = λ fs h some-field.
+            sym (onward-is fs (draftOf names symbols rules s) h some-field refl
+            ∙ ap (λ (o : Option Place). onward o (refused 3 n) (λ place. readForm form n fs (atPlace place
+            (draftOf names symbols rules s)))) (place-none p (placeAfter form (placeMeant (s .place))) led l));
+        sound = tt;
+        kept = kept-same f names places;
+        symbols-size = refl;
+        rules-size = refl;
+      }
+
+  module _ (l : p < 4) where
+    moved : (fs : List (List ℕ)) → Holds fs f → 0 < length fs
+        → readForm form n fs (draftOf names symbols rules at) ≡ readFields n fs (draftOf names symbols rules s)
+    unfolding draftOf atPlace
+    moved fs h some-field =
+        sym (onward-is fs (draftOf names symbols rules s) h some-field refl
+        ∙ ap (λ (o : Option Place). onward o (refused 3 n) (λ place. readForm form n fs (atPlace place
+        (draftOf names symbols rules s)))) (place-some p (placeAfter form (placeMeant (s .place))) led l))
+
+    -- a form that no line of a program has
+    pub line-none : ((fs : List (List ℕ)) (d : Draft) → readForm form n fs d ≡ refused 3 n)
+        → LineIn f n s names places symbols rules names places symbols rules (Refused 3)
+    unfolding lineAnswer
+    line-none e =
+        record {
+          answers = λ fs h some-field. sym (e fs (draftOf names symbols rules at)) ∙ moved fs h some-field;
+          sound = tt;
+          kept = kept-same f names places;
+          symbols-size = refl;
+          rules-size = refl;
+        }
+
+    pub line-symbol : {names′ places′ symbols′ : List ℕ} {r : LineRead} → form ≡ symbolForm → Sound rules s → Begun s
+        → SymbolIn f at names places symbols names′ places′ symbols′ r
+        → LineIn f n s names places symbols rules names′ places′ symbols′ rules r
+    unfolding readForm
+    line-symbol e d b c =
+        record {
+          answers = λ fs h some-field.
+              c .answers fs rules n h
+              ∙ ap (λ (x : Form). readForm x n fs (draftOf names symbols rules at)) (sym e) ∙ moved fs h some-field;
+          sound = c .sound rules (sound-moved rules s p d) (λ z. absurd (omega (arith, z, first-place p (s .place) (rw e at led) l)));
+          kept = c .kept;
+          symbols-size = c .size;
+          rules-size = refl;
+        }
+
+    pub line-rule : {names′ places′ rules′ : List ℕ} {r : LineRead} → form ≡ ruleForm
+        → RuleIn f n at names places rules names′ places′ rules′ r
+        → LineIn f n s names places symbols rules names′ places′ symbols rules′ r
+    unfolding readForm
+    line-rule e c =
+        record {
+          answers = λ fs h some-field.
+              c .answers fs symbols h
+              ∙ ap (λ (x : Form). readForm x n fs (draftOf names symbols rules at)) (sym e) ∙ moved fs h some-field;
+          sound = c .sound;
+          kept = c .kept;
+          symbols-size = refl;
+          rules-size = c .size;
+        }
+
+    pub line-adds : {form′ : Form} {names′ places′ rules′ : List ℕ} {r : LineRead} → form ≡ form′
+        → AddsIn form′ f at (take (2 * s .symbols) symbols) names places rules names′ places′ rules′ r
+        → LineIn f n s names places symbols rules names′ places′ symbols rules′ r
+    line-adds e c =
+        record {
+          answers = λ fs h some-field.
+              c .answers fs symbols n h refl
+              ∙ ap (λ (x : Form). readForm x n fs (draftOf names symbols rules at)) (sym e) ∙ moved fs h some-field;
+          sound = c .sound;
+          kept = c .kept;
+          symbols-size = refl;
+          rules-size = c .size;
+        }
+
+pub goal-form : (n : ℕ) (fs : List (List ℕ)) (d : Draft) → readForm goalForm n fs d ≡ refused 3 n
+unfolding readForm
+goal-form n fs d = refl
+
+pub no-form : (n : ℕ) (fs : List (List ℕ)) (d : Draft) → readForm noForm n fs d ≡ refused 3 n
+unfolding readForm
+no-form n fs d = refl
+
+-- the lines of a text, as far as they are read
+pub record LinesSoFar (text names₀ places₀ names places symbols rules : List ℕ) (at n : ℕ) (s : Stage) : Type 0 where
+  pub within : at ≤ length text
+  pub numbered : n ≤ at + 1
+  pub sound : Sound rules s
+  pub started : Begun s
+  pub room : Room names places symbols rules
+  pub left : readLines n (draftOf names symbols rules s) (lines (drop at text)) ≡ readLines 1 blank (lines text)
+  pub placed : (goal : List ℕ) → Placed text goal names₀ places₀ → Placed text goal names places
+
+pub lines-start : (text names places symbols rules : List ℕ) → Room names places symbols rules
+    → LinesSoFar text names places names places symbols rules 0 1
+    (record { place = 0; symbols = 0; rules = 0; constants = 0 })
+unfolding draftOf blank symbolsOf rulesRead constantsOf placeMeant
+lines-start text names places symbols rules room =
+    record {
+      within = omega arith;
+      numbered = omega arith;
+      sound = record {
+        few-symbols = omega arith;
+        few-rules = omega arith;
+        few-constants = omega arith;
+        rows = λ i h. absurd (omega arith);
+      };
+      started = λ h. absurd (omega arith);
+      room = room;
+      left = refl;
+      placed = λ goal d. d;
+    }
+
+module _ (text names₀ places₀ names places symbols rules : List ℕ) (at n : ℕ) (s : Stage)
+    (w : LinesSoFar text names₀ places₀ names places symbols rules at n s) where
+  pub lines-end : length text ≤ at → LinesIn text names₀ places₀ names places symbols rules (linesRead s)
+  unfolding linesAnswer readLines
+  lines-end h =
+      record {
+        answers =
+            ap (readLines n (draftOf names symbols rules s)) (sym (lines-done text at h)) ∙ w .left;
+        sound = w .sound;
+        placed = w .placed;
+        room = w .room;
+      }
+
+  module _ (h : at < length text) (f : Fields) (split : SplitAt text at f) where
+    -- a line that is faulty
+    pub lines-faulty : f .faulty ≡ true → LinesIn text names₀ places₀ names places symbols rules (linesRefused 2 n)
+    unfolding linesAnswer readLines readLine
+    lines-faulty e =
+        record {
+          answers =
+              sym (ap (λ (ls : List Line). readLines n (draftOf names symbols rules s) ls) (lines-at text at h)
+              ∙ rw (sym (split .faulty) ∙ e) refl) ∙ w .left;
+          sound = tt;
+          placed = w .placed;
+          room = w .room;
+        }
+
+    module _ (fine : f .faulty ≡ false) where
+      abbrev fs : List (List ℕ)
+      fs = fields (lineFrom text at .bytes)
+
+      line-is : readLines n (draftOf names symbols rules s) (lines (drop at text))
+          ≡ andThen (readFields n fs (draftOf names symbols rules s)) (λ e. readLines (suc n) e (lines (drop (f .end + 1) text)))
+      unfolding readLines readLine
+      line-is = rw (lines-split text at f split h fine, line-fine text at f split fine)
+
+      module _ (names′ places′ symbols′ rules′ : List ℕ) (r : LineRead)
+          (c : LineIn f n s names places symbols rules names′ places′ symbols′ rules′ r) where
+        answered : andThen (lineAnswer names′ symbols′ rules′ n r) (λ e. readLines (suc n) e (lines (drop (f .end + 1) text)))
+            ≡ readLines 1 blank (lines text)
+        answered =
+            ap (λ (a : Answer Draft). andThen a (λ e. readLines (suc n) e (lines (drop (f .end + 1) text))))
+            (c .answers fs (split .holds fine) (fields-some (lineFrom text at .bytes)))
+            ∙ sym line-is ∙ w .left
+
+        placed-on : (goal : List ℕ) → Placed text goal names₀ places₀ → Placed text goal names′ places′
+        placed-on goal d =
+            c .kept .keeps .keeps text goal fs (split .holds fine)
+            (spelled-program fs f (split .near) text goal (split .stands fine)) (w .placed goal d)
+
+        room-on : Room names′ places′ symbols′ rules′
+        room-on =
+            record {
+              names-size = c .kept .names-size ∙ w .room .names-size;
+              places-size = c .kept .places-size ∙ w .room .places-size;
+              symbols-size = c .symbols-size ∙ w .room .symbols-size;
+              rules-size = c .rules-size ∙ w .room .rules-size;
+            }
+
+        pub lines-refused : (x : ℕ) → r ≡ Refused x → LinesIn text names₀ places₀ names′ places′ symbols′ rules′ (linesRefused x n)
+        unfolding linesAnswer lineAnswer
+        lines-refused x e = record { answers = rw e at answered; sound = tt; placed = placed-on; room = room-on }
+
+        pub lines-next : (next : Stage) → r ≡ Next next
+            → LinesSoFar text names₀ places₀ names′ places′ symbols′ rules′ (f .end + 1) (n + 1) next
+        unfolding lineAnswer
+        lines-next next e =
+            let after : Sound rules′ next × Begun next = rw e at (c .sound) in
+            record {
+              within = omega (arith, split .inside fine);
+              numbered = omega (arith, w .numbered, split .begun fine);
+              sound = after .0;
+              started = after .1;
+              room = room-on;
+              left = rw (add-one n) (rw e at answered);
+              placed = placed-on;
+            }
+
+-- the counts behind all lines, where none is refused
+pub stage-sound :
+    {text names places names′ places′ symbols′ rules′ : List ℕ} {r : LinesRead} (s : Stage) → r ≡ linesRead s
+    → LinesIn text names places names′ places′ symbols′ rules′ r → Sound rules′ s
+stage-sound s e c = rw e at (c .sound)
+
+-- a row of the used part of a table
+row-used : (rules : List ℕ) (i n : ℕ) → i < n → rowOf (take (64 * n) rules) i ≡ rowOf rules i
+row-used rules i n h =
+    ap (take 64) (drop-take (64 * i) (64 * n) rules (omega arith))
+    ∙ take-take 64 (64 * n - 64 * i) (drop (64 * i) rules) (omega arith)
+
+pub used-short : (n : ℕ) (l : List ℕ) → length l ≡ 2048 → length (take n l) ≤ 2048
+used-short n l h = omega (arith, length-take n l)
 
 -- a program's text, by what decides it
-program-short : (s : List ℕ) → length s ≤ 16384
-    → readProgram s ≡ andThen (readLines 1 blank (lines s))
-    (λ d. andThen (checkRules (d .symbols) (d .rules) (d .starts)) (λ _. accepted (readingFrom d)))
-unfolding readProgram maxText readingFrom
-program-short s h = rw (le-ltb 16384 (length s) h)
+pub program-long : (text names places symbols rules : List ℕ) → 16384 < length text → Room names places symbols rules
+    → ProgramIn text names places names places symbols rules (programRefused 1 0)
+unfolding programAnswer readProgram
+program-long text names places symbols rules h room =
+    record { answers = rw (lt-ltb 16384 (length text) h); fits = tt; placed = λ goal d. d; room = room }
 
-pub program-long : (s : List ℕ) → 16384 < length s → refused 1 0 ≡ readProgram s
-unfolding readProgram maxText
-program-long s h = rw (lt-ltb 16384 (length s) h)
+module _ (text names places names′ places′ symbols′ rules′ : List ℕ) where
+  module _ (h : length text ≤ 16384) (r : LinesRead) (c : LinesIn text names places names′ places′ symbols′ rules′ r) where
+    abbrev reading : Draft → Reading
+    reading d = record { program = record { symbols = d .symbols; rules = map (λ q. q .rule) (d .rules) }; constants = d .constants }
 
-module _ (s : List ℕ) (h : length s ≤ 16384) where
-  abbrev checked : Draft → Answer Reading
-  checked d = andThen (checkRules (d .symbols) (d .rules) (d .starts)) (λ _. accepted (readingFrom d))
+    short : readProgram text
+        ≡ andThen (linesAnswer names′ symbols′ rules′ r) (λ d. checkRules (d .symbols) (d .rules) (accepted (reading d)))
+    unfolding readProgram
+    short = rw (le-ltb 16384 (length text) h, c .answers)
 
-  pub program-lines : (x n : ℕ) → refused x n ≡ readLines 1 blank (lines s) → refused x n ≡ readProgram s
-  program-lines x n e = ap (λ (a : Answer Draft). andThen a checked) e ∙ sym (program-short s h)
+    pub program-lines : (x n : ℕ) → r ≡ linesRefused x n
+        → ProgramIn text names places names′ places′ symbols′ rules′ (programRefused x n)
+    unfolding programAnswer linesAnswer
+    program-lines x n e = record { answers = sym (rw e at short); fits = tt; placed = c .placed; room = c .room }
 
-  module _ (d : Draft) (e : accepted d ≡ readLines 1 blank (lines s)) where
-    checks : checked d ≡ readProgram s
-    checks = ap (λ (a : Answer Draft). andThen a checked) e ∙ sym (program-short s h)
+    module _ (s : Stage) (e : r ≡ linesRead s) (q : RulesRead)
+        (g : RulesIn (take (2 * s .symbols) symbols′) (take (64 * s .rules) rules′) q) where
+      abbrev counts : Counts
+      counts = record { symbols = s .symbols; rules = s .rules; constants = s .constants }
 
-    pub program-rules : (x n : ℕ) → refused x n ≡ checkRules (d .symbols) (d .rules) (d .starts) → refused x n ≡ readProgram s
-    program-rules x n q = ap (λ (a : Answer ℕ). andThen a (λ _. accepted (readingFrom d))) q ∙ checks
+      sound : Sound rules′ s
+      sound = stage-sound s e c
 
-    pub program-read : (y : ℕ) → accepted y ≡ checkRules (d .symbols) (d .rules) (d .starts)
-        → accepted (readingFrom d) ≡ readProgram s
-    program-read y q = ap (λ (a : Answer ℕ). andThen a (λ _. accepted (readingFrom d))) q ∙ checks
+      -- the rules of the used part are those of the table
+      rules-used : rulesRead names′ (take (64 * s .rules) rules′) (s .rules) ≡ rulesRead names′ rules′ (s .rules)
+      unfolding rulesRead ruleRead ruleOf
+      rules-used =
+          tabled-same (ruleRead names′ (take (64 * s .rules) rules′)) (ruleRead names′ rules′) (s .rules)
+          (λ i l. rw (row-used rules′ i (s .rules) l))
 
--- the constants of a program, as one table
-pub constants-alone : (text cells : List ℕ) (m : ℕ) → constantsOf text text cells 0 m ≡ tabled (constantOf text cells) m
-unfolding constantsOf
-constants-alone text cells m =
-    tabled-same (λ i. constantOf text cells (0 + i)) (constantOf text cells) m (λ i h. ap (constantOf text cells) (zero-add i))
+      rules-are : map (λ x. x .rule) (rulesRead names′ rules′ (s .rules)) ≡ rulesOf names′ rules′ (s .rules)
+      unfolding rulesRead ruleRead rulesOf
+      rules-are = map-tabled (λ (x : RuleRead). x .rule) (ruleRead names′ rules′) (s .rules)
+
+      checked : rulesAnswer q (accepted (readingOf names′ symbols′ rules′ counts)) ≡ readProgram text
+      unfolding linesAnswer draftOf readingOf
+      checked =
+          let S = symbolsOf names′ symbols′ (s .symbols) in
+          g .answers names′ (s .symbols) (s .rules) (accepted (readingOf names′ symbols′ rules′ counts))
+          (length-take-le (2 * s .symbols) symbols′ (omega (arith, c .room .symbols-size, sound .few-symbols)))
+          (length-take-le (64 * s .rules) rules′ (omega (arith, c .room .rules-size, sound .few-rules)))
+          ∙ ap₂ (λ (l : List Symbol) (m : List RuleRead). checkRules l m (accepted (readingOf names′ symbols′ rules′ counts)))
+          (symbols-used names′ symbols′ (s .symbols)) rules-used
+          ∙ ap (λ (rs : List Rule). checkRules S (rulesRead names′ rules′ (s .rules))
+          (accepted (record { program = record { symbols = S; rules = rs }; constants = constantsOf names′ (s .constants) })))
+          (sym rules-are)
+          ∙ sym (rw e at short)
+
+      fits : programFits rules′ (Accepted counts)
+      fits =
+          record {
+            few-symbols = sound .few-symbols;
+            few-rules = sound .few-rules;
+            few-constants = sound .few-constants;
+            rows = sound .rows;
+          }
+
+      pub program-rules : (x n : ℕ) → q ≡ rulesRefused x n
+          → ProgramIn text names places names′ places′ symbols′ rules′ (programRefused x n)
+      unfolding programAnswer rulesAnswer
+      program-rules x n z = record { answers = rw z at checked; fits = tt; placed = c .placed; room = c .room }
+
+      pub program-read : q ≡ Fine → ProgramIn text names places names′ places′ symbols′ rules′ (Accepted counts)
+      unfolding programAnswer rulesAnswer
+      program-read z = record { answers = rw z at checked; fits = fits; placed = c .placed; room = c .room }

@@ -1,32 +1,30 @@
--- What the program reader's answers and tables mean: one decoding for each.
---   termsAnswer                           the code's answer to an H or B line
---   SymbolIn, RuleIn, SidesIn             what is found of a K, R or E line: number 4
---   partForm                              the forms that add a constraint
---   draftOf, lineAnswer, Sound            what the tables hold behind a line, and the code's answer to a line
---   linesAnswer, rulesAnswer              the code's answer to all lines, and to the rules
---   programAnswer                         the code's answer to a program's text
+-- What the program reader's answers and tables mean: one decoding for each, and what is promised of each line.
+--   ruleRead, rulesRead, draftOf           what the tables hold behind a line
+--   RowFits, Sound, Begun, Room            tables whose counts are within their room
+--   lineAnswer, Kept                       the code's answer to a line, and what every line keeps
+--   SymbolIn, RuleIn, AddsIn, LineIn       what is promised of a K line, an R line, an H, B or E line, and any line
+--   LinesIn, FaultIn, RulesIn              of all lines, and of the rules
+--   programAnswer, ProgramIn               of a program's text
 -- Assumes nothing.
 use mathlib.Core.Path.{_≡_}
-use Prim.Native.Nat.{ℕ, zero, suc, _+_, _-_, _*_, _≤_, _<_}
-use mathlib.Core.Bool.{true, false}
-use mathlib.Core.List.{List, [], _∷_}
+use Prim.Native.Nat.{ℕ, zero, suc, _*_, _≤_, _<_}
+use mathlib.Core.Bool.{cond}
+use mathlib.Core.List.{List}
 use lib.Dec.{leb, eqb}
-use lib.ListN.{length, getD, take, drop}
-use Rattle.text.specs.Lists.{every, tabled}
-use Rattle.text.specs.Fields.{isTerm}
-use Rattle.text.specs.Places.{fieldsFrom}
-use Rattle.semantics.specs.Terms.{Constraint}
+use lib.ListN.{length, getD, take}
+use Rattle.text.specs.Lists.{tabled}
+use Rattle.text.specs.Lines.{lines}
+use Rattle.text.specs.Splits.{Holds}
+use Rattle.text.specs.declared.fields.Fields.{Fields}
 use Rattle.semantics.specs.Terms as terms
-use Rattle.lines.specs.declared.Named.{Named}
-use Rattle.lines.specs.declared.Named.the-variants.{Faulty, At}
-use Rattle.syntax.specs.Forms.{Form, headForm, bodyForm, fieldAt}
-use Rattle.programs.specs.declared.ConstraintCells.{ConstraintCells}
-use Rattle.programs.specs.declared.TermsRead.{TermsRead}
-use Rattle.programs.specs.declared.TermsRead.the-variants.{Refused as termsRefused, Read as termsRead}
-use Rattle.programs.specs.declared.SymbolFields.{SymbolFields}
-use Rattle.programs.specs.declared.SymbolFields.the-variants.{Faulty as symbolFaulty, Fields}
-use Rattle.programs.specs.declared.Sides.{Sides}
-use Rattle.programs.specs.declared.Sides.the-variants.{Faulty as sidesFaulty, From}
+use Rattle.syntax.specs.Answers.{Answer, refused, accepted}
+use Rattle.syntax.specs.Forms.{Form, headForm, bodyForm}
+use Rattle.syntax.specs.Programs.{RuleRead, Draft, Reading, blank, readSymbol, readRule, readForm, readFields, readLines, checkRules}
+use Rattle.syntax.specs.Programs.{readProgram}
+use Rattle.tables.specs.Layout.{maxNames, symbolSize, rowSize, lineCell, headsCell, bodyCell, equationsCell}
+use Rattle.tables.specs.Rows.{symbolsOf, constantsOf, ruleOfRow, rowOf, ruleOf, rulesOf}
+use Rattle.tables.specs.Names.{Placed}
+use Rattle.lines.specs.Read.{placeMeant, KeepsPlaces}
 use Rattle.programs.specs.declared.Stage.{Stage}
 use Rattle.programs.specs.declared.LineRead.{LineRead}
 use Rattle.programs.specs.declared.LineRead.the-variants.{Refused as lineRefused, Next}
@@ -37,140 +35,176 @@ use Rattle.programs.specs.declared.RulesRead.the-variants.{Refused as ru
 use Rattle.programs.specs.declared.Counts.{Counts}
 use Rattle.programs.specs.declared.ProgramRead.{ProgramRead}
 use Rattle.programs.specs.declared.ProgramRead.the-variants.{Refused as programRefused, Accepted}
-use Rattle.syntax.specs.Answers.{Answer, refused, accepted, refuseIf}
-use Rattle.syntax.specs.Programs.{Draft, Reading}
-use Rattle.syntax.specs.Tables.{cellTerms, symbolsOf, rulesOf, startsOf, constantOf, constantsOf}
-use Rattle.lines.specs.Read.{Found, isEquationFaulty, isRuleFaulty, isSymbolFaulty, placeMeant}
 
--- the constraint that cells hold
-unfoldable pub cellsMeant : ConstraintCells → Constraint
-cellsMeant r = record { symbol = r .symbol; terms = cellTerms (r .a ∷ r .b ∷ r .c ∷ r .d ∷ []) }
+-- rule i of a table, with its R line
+unfoldable pub ruleRead : List ℕ → List ℕ → ℕ → RuleRead
+ruleRead names rules i = record { rule = ruleOf names rules i; line = getD (rowOf rules i) lineCell 0 }
 
--- the code's answer to an H or B line
-unfoldable pub termsAnswer : List ℕ → List ℕ → ℕ → TermsRead → Answer Found
-termsAnswer text constants n (termsRefused x) = refused x n
-termsAnswer text constants n (termsRead r m) =
-    accepted (record { constraint = cellsMeant r; constants = constantsOf text text constants 0 m })
+-- the first n rules, with their R lines
+unfoldable pub rulesRead : List ℕ → List ℕ → ℕ → List RuleRead
+rulesRead names rules n = tabled (ruleRead names rules) n
 
--- the constants counted are within the limit
-abbrev pub termsFit : TermsRead → Type 0
-termsFit (termsRefused x) = 0 ≤ x
-termsFit (termsRead r m) = m ≤ 64
+-- what the tables hold where reading stands
+unfoldable pub draftOf : List ℕ → List ℕ → List ℕ → Stage → Draft
+draftOf names symbols rules s =
+    record {
+      place = placeMeant (s .place);
+      symbols = symbolsOf names symbols (s .symbols);
+      rules = rulesRead names rules (s .rules);
+      constants = constantsOf names (s .constants);
+    }
 
--- a K line of the right form, and where its fields stand
-pub record SymbolAt (line : List ℕ) (at start stop next last : ℕ) : Type 0 where
-  pub fine : isSymbolFaulty (fieldsFrom line at) ≡ false
-  pub name : fieldAt 1 (fieldsFrom line at) ≡ drop start (take stop line)
-  pub arity : fieldAt 2 (fieldsFrom line at) ≡ drop (suc stop) (take next line)
-  pub weight : fieldAt 3 (fieldsFrom line at) ≡ drop (suc next) (take last line)
-  pub starts : start ≤ stop
-  pub nexts : suc stop ≤ next
-  pub lasts : suc next ≤ last
-  pub stops : last ≤ length line
-  pub short-arity : next ≤ suc stop + 2
-  pub short-weight : last ≤ suc next + 2
+-- the counts of a rule's row are within its room
+pub record RowFits (row : List ℕ) : Type 0 where
+  pub heads : getD row headsCell 0 ≤ 4
+  pub body : getD row bodyCell 0 ≤ 6
+  pub equations : getD row equationsCell 0 ≤ 4
 
--- what is found of a K line's form
-abbrev pub SymbolIn : List ℕ → ℕ → SymbolFields → Type 0
-SymbolIn line at symbolFaulty = isSymbolFaulty (fieldsFrom line at) ≡ true
-SymbolIn line at (Fields start stop next last) = SymbolAt line at start stop next last
+-- the counts are within the tables, and each rule's counts within its row
+pub record Sound (rules : List ℕ) (s : Stage) : Type 0 where
+  pub few-symbols : s .symbols ≤ 32
+  pub few-rules : s .rules ≤ 32
+  pub few-constants : s .constants ≤ 64
+  pub rows : (i : ℕ) → i < s .rules → RowFits (rowOf rules i)
 
--- an R line of the right form, and where its name stands
-pub record RuleAt (line : List ℕ) (at start stop : ℕ) : Type 0 where
-  pub fine : isRuleFaulty (fieldsFrom line at) ≡ false
-  pub name : fieldAt 1 (fieldsFrom line at) ≡ drop start (take stop line)
-  pub starts : start ≤ stop
-  pub stops : stop ≤ length line
+-- behind the K lines a rule has begun
+abbrev pub Begun : Stage → Type 0
+Begun s = 0 < s .place → 0 < s .rules
 
--- what is found of an R line's form
-abbrev pub RuleIn : List ℕ → ℕ → Named → Type 0
-RuleIn line at Faulty = isRuleFaulty (fieldsFrom line at) ≡ true
-RuleIn line at (At start stop) = RuleAt line at start stop
+-- the tables that a program fills, by their lengths
+pub record Room (names places symbols rules : List ℕ) : Type 0 where
+  pub names-size : length names ≡ maxNames
+  pub places-size : length places ≡ maxNames
+  pub symbols-size : length symbols ≡ 128
+  pub rules-size : length rules ≡ 2048
 
--- an E line of the right form, and where its terms start
-pub record SidesAt (line : List ℕ) (at start : ℕ) : Type 0 where
-  pub fine : isEquationFaulty (fieldsFrom line at) ≡ false
-  pub others : drop 1 (fieldsFrom line at) ≡ fieldsFrom line start
-  pub terms : every isTerm (fieldsFrom line start) ≡ true
-  pub two : length (fieldsFrom line start) ≡ 2
-  pub within : start ≤ length line
+-- the code's answer to line n
+unfoldable pub lineAnswer : List ℕ → List ℕ → List ℕ → ℕ → LineRead → Answer Draft
+lineAnswer names symbols rules n (lineRefused x) = refused x n
+lineAnswer names symbols rules n (Next s) = accepted (draftOf names symbols rules s)
 
--- what is found of an E line's form
-abbrev pub SidesIn : List ℕ → ℕ → Sides → Type 0
-SidesIn line at sidesFaulty = isEquationFaulty (fieldsFrom line at) ≡ true
-SidesIn line at (From start) = SidesAt line at start
+-- the counts behind a line that is not refused
+abbrev pub soundAfter : List ℕ → LineRead → Type 0
+soundAfter rules (lineRefused x) = Unit {0}
+soundAfter rules (Next s) = Sound rules s × Begun s
+
+-- what every line keeps of the names and places: their lengths, and that names stand where their places say
+pub record Kept (f : Fields) (names places names′ places′ : List ℕ) : Type 0 where
+  pub names-size : length names′ ≡ length names
+  pub places-size : length places′ ≡ length places
+  pub keeps : KeepsPlaces 0 f names places names′ places′
+
+-- what is promised of a K line
+pub record SymbolIn (f : Fields) (s : Stage) (names places symbols names′ places′ symbols′ : List ℕ) (r : LineRead) : Type 0 where
+  pub answers :
+      (fs : List (List ℕ)) (rules : List ℕ) (n : ℕ) → Holds fs f
+      → lineAnswer names′ symbols′ rules n r ≡ readSymbol n fs (draftOf names symbols rules s)
+  pub sound : (rules : List ℕ) → Sound rules s → Begun s → soundAfter rules r
+  pub kept : Kept f names places names′ places′
+  pub size : length symbols′ ≡ length symbols
+
+-- what is promised of an R line at line n
+pub record RuleIn (f : Fields) (n : ℕ) (s : Stage) (names places rules names′ places′ rules′ : List ℕ) (r : LineRead)
+    : Type 0 where
+  pub answers :
+      (fs : List (List ℕ)) (symbols : List ℕ) → Holds fs f
+      → lineAnswer names′ symbols rules′ n r ≡ readRule n fs (draftOf names symbols rules s)
+  pub sound : soundAfter rules′ r
+  pub kept : Kept f names places names′ places′
+  pub size : length rules′ ≡ length rules
 
 -- the form of a line that adds to part 0 of a rule, its heads, or to part 1, its body
 unfoldable pub partForm : ℕ → Form
 partForm zero = headForm
 partForm (suc w) = bodyForm
 
--- what the tables hold where reading stands
-unfoldable pub draftOf : List ℕ → List ℕ → List ℕ → List ℕ → Stage → Draft
-draftOf text symbols rules constants s =
-    record {
-      place = placeMeant (s .place);
-      symbols = symbolsOf text symbols (s .symbols);
-      rules = rulesOf text rules (s .rules);
-      starts = startsOf rules (s .rules);
-      constants = constantsOf text text constants 0 (s .constants);
-    }
+-- what is promised of an H, B or E line, over the used part of the table of symbols
+pub record AddsIn (form : Form) (f : Fields) (s : Stage) (used names places rules names′ places′ rules′ : List ℕ) (r : LineRead)
+    : Type 0 where
+  pub answers :
+      (fs : List (List ℕ)) (symbols : List ℕ) (n : ℕ) → Holds fs f → take (symbolSize * s .symbols) symbols ≡ used
+      → lineAnswer names′ symbols rules′ n r ≡ readForm form n fs (draftOf names symbols rules s)
+  pub sound : soundAfter rules′ r
+  pub kept : Kept f names places names′ places′
+  pub size : length rules′ ≡ length rules
 
--- the code's answer to line n
-unfoldable pub lineAnswer : List ℕ → List ℕ → List ℕ → List ℕ → ℕ → LineRead → Answer Draft
-lineAnswer text symbols rules constants n (lineRefused x) = refused x n
-lineAnswer text symbols rules constants n (Next s) = accepted (draftOf text symbols rules constants s)
-
--- the counts are within the tables, a rule has begun where one is added to, and the last rule's counts are within its row
-pub record Sound (rules : List ℕ) (s : Stage) : Type 0 where
-  pub few-symbols : s .symbols ≤ 32
-  pub few-rules : s .rules ≤ 32
-  pub few-constants : s .constants ≤ 64
-  pub begun : 0 < s .place → 0 < s .rules
-  pub few-heads : 0 < s .rules → getD rules (64 * (s .rules - 1) + 3) 0 ≤ 4
-  pub few-body : 0 < s .rules → getD rules (64 * (s .rules - 1) + 4) 0 ≤ 6
-  pub few-sides : 0 < s .rules → getD rules (64 * (s .rules - 1) + 5) 0 ≤ 4
-
--- the same behind a line
-abbrev pub soundAfter : List ℕ → LineRead → Type 0
-soundAfter rules (lineRefused x) = 0 ≤ x
-soundAfter rules (Next s) = Sound rules s
+-- what is promised of line n
+pub record LineIn (f : Fields) (n : ℕ) (s : Stage) (names places symbols rules names′ places′ symbols′ rules′ : List ℕ)
+    (r : LineRead) : Type 0 where
+  pub answers :
+      (fs : List (List ℕ)) → Holds fs f → 0 < length fs
+      → lineAnswer names′ symbols′ rules′ n r ≡ readFields n fs (draftOf names symbols rules s)
+  pub sound : soundAfter rules′ r
+  pub kept : Kept f names places names′ places′
+  pub symbols-size : length symbols′ ≡ length symbols
+  pub rules-size : length rules′ ≡ length rules
 
 -- the code's answer to all lines of a text
-unfoldable pub linesAnswer : List ℕ → List ℕ → List ℕ → List ℕ → LinesRead → Answer Draft
-linesAnswer text symbols rules constants (linesRefused x n) = refused x n
-linesAnswer text symbols rules constants (linesRead s) = accepted (draftOf text symbols rules constants s)
+unfoldable pub linesAnswer : List ℕ → List ℕ → List ℕ → LinesRead → Answer Draft
+linesAnswer names symbols rules (linesRefused x n) = refused x n
+linesAnswer names symbols rules (linesRead s) = accepted (draftOf names symbols rules s)
 
--- the counts behind all lines
+-- the counts behind all lines, if none is refused
 abbrev pub linesSound : List ℕ → LinesRead → Type 0
-linesSound rules (linesRefused x n) = 0 ≤ x
+linesSound rules (linesRefused x n) = Unit {0}
 linesSound rules (linesRead s) = Sound rules s
 
--- a number met at line n, or 0 for none
-unfoldable pub met : ℕ → ℕ → Answer ℕ
-met zero n = accepted 0
-met (suc x) n = refused (suc x) n
+-- what is promised of all lines of a text
+pub record LinesIn (text names places names′ places′ symbols′ rules′ : List ℕ) (r : LinesRead) : Type 0 where
+  pub answers : linesAnswer names′ symbols′ rules′ r ≡ readLines 1 blank (lines text)
+  pub sound : linesSound rules′ r
+  pub placed : (goal : List ℕ) → Placed text goal names places → Placed text goal names′ places′
+  pub room : Room names′ places′ symbols′ rules′
 
--- a rule with its R line: number 8, then 9
-unfoldable pub ruleTests : List terms.Symbol → terms.Rule → ℕ → Answer ℕ
-ruleTests symbols r n =
-    refuseIf (eqb (length (r .heads)) 0) 8 n
-    (refuseIf (leb (terms.weight symbols (r .heads)) (terms.weight symbols (r .body))) 9 n (accepted 0))
+-- the number that a rule meets: 8, then 9; 0 where it meets neither
+unfoldable pub ruleFault : List terms.Symbol → terms.Rule → ℕ
+ruleFault symbols r =
+    cond (eqb (length (r .heads)) 0) 8 (cond (leb (terms.weight symbols (r .heads)) (terms.weight symbols (r .body))) 9 0)
 
--- the code's answer to the rules
-unfoldable pub rulesAnswer : RulesRead → Answer ℕ
-rulesAnswer (rulesRefused x n) = refused x n
-rulesAnswer Fine = accepted 0
+-- what is promised of a rule's row, whatever its name: x is the number that it meets
+pub record FaultIn (symbols row : List ℕ) (x : ℕ) : Type 0 where
+  pub fault : (names name : List ℕ) (k : ℕ) → length symbols ≡ symbolSize * k
+      → x ≡ ruleFault (symbolsOf names symbols k) (ruleOfRow name row)
+
+-- the code's answer to the rules, with what follows where none is refused
+unfoldable pub rulesAnswer : RulesRead → Answer Reading → Answer Reading
+rulesAnswer (rulesRefused x n) otherwise = refused x n
+rulesAnswer Fine otherwise = otherwise
+
+-- what is promised of the rules of a table
+pub record RulesIn (symbols rules : List ℕ) (r : RulesRead) : Type 0 where
+  pub answers :
+      (names : List ℕ) (k m : ℕ) (otherwise : Answer Reading) → length symbols ≡ symbolSize * k → length rules ≡ rowSize * m
+      → rulesAnswer r otherwise ≡ checkRules (symbolsOf names symbols k) (rulesRead names rules m) otherwise
 
 -- the program that the tables hold
-unfoldable pub readingOf : List ℕ → List ℕ → List ℕ → List ℕ → Counts → Reading
-readingOf text symbols rules constants c =
+unfoldable pub readingOf : List ℕ → List ℕ → List ℕ → Counts → Reading
+readingOf names symbols rules c =
     record {
-      program = record { symbols = symbolsOf text symbols (c .symbols); rules = rulesOf text rules (c .rules) };
-      constants = tabled (constantOf text constants) (c .constants);
+      program = record { symbols = symbolsOf names symbols (c .symbols); rules = rulesOf names rules (c .rules) };
+      constants = constantsOf names (c .constants);
     }
 
 -- the code's answer to a program's text
-unfoldable pub programAnswer : List ℕ → List ℕ → List ℕ → List ℕ → ProgramRead → Answer Reading
-programAnswer text symbols rules constants (programRefused x n) = refused x n
-programAnswer text symbols rules constants (Accepted c) = accepted (readingOf text symbols rules constants c)
+unfoldable pub programAnswer : List ℕ → List ℕ → List ℕ → ProgramRead → Answer Reading
+programAnswer names symbols rules (programRefused x n) = refused x n
+programAnswer names symbols rules (Accepted c) = accepted (readingOf names symbols rules c)
+
+-- what a program's tables keep to
+pub record ProgramFits (rules : List ℕ) (c : Counts) : Type 0 where
+  pub few-symbols : c .symbols ≤ 32
+  pub few-rules : c .rules ≤ 32
+  pub few-constants : c .constants ≤ 64
+  pub rows : (i : ℕ) → i < c .rules → RowFits (rowOf rules i)
+
+-- the same of a program that is not refused
+abbrev pub programFits : List ℕ → ProgramRead → Type 0
+programFits rules (programRefused x n) = Unit {0}
+programFits rules (Accepted c) = ProgramFits rules c
+
+-- what is promised of a program's text, whatever goal the names that were there before are of
+pub record ProgramIn (text names places names′ places′ symbols′ rules′ : List ℕ) (r : ProgramRead) : Type 0 where
+  pub answers : programAnswer names′ symbols′ rules′ r ≡ readProgram text
+  pub fits : programFits rules′ r
+  pub placed : (goal : List ℕ) → Placed text goal names places → Placed text goal names′ places′
+  pub room : Room names′ places′ symbols′ rules′

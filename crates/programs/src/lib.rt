@@ -1,36 +1,10 @@
-// The reader of a program: it fills flat tables that the caller lends; names stay where they stand in the text.
+// The reader of a program: it fills flat tables that the caller lends; a name is kept by its key and by the place where it stands.
 mod adds;
 mod declarations;
 mod program;
+mod rules;
 
 pub use program::read_program;
-
-// A constraint as cells: its symbol and up to four terms, with 0 behind the last.
-pub struct ConstraintCells {
-    pub symbol: u16,
-    pub a: u16,
-    pub b: u16,
-    pub c: u16,
-    pub d: u16,
-}
-
-// An H or B line as read, with the count of constants after it; or the number that it meets.
-pub enum TermsRead {
-    Refused(u8),
-    Read(ConstraintCells, usize),
-}
-
-// Where the fields of a K line end and its name starts, or that the line is not of its form.
-pub enum SymbolFields {
-    Faulty,
-    Fields(usize, usize, usize, usize),
-}
-
-// Where the terms of an E line start, or that the line is not of its form.
-pub enum Sides {
-    Faulty,
-    From(usize),
-}
 
 // Where reading stands behind a line: the place, and how many symbols, rules and constants there are.
 pub struct Stage {

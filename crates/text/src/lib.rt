@@ -1,5 +1,7 @@
 // Bytes, lines, fields, names and numbers: the code over the definitions in specs/.
 // A text or a line is lent as a slice; a line is the part of its text up to the line's end, so places in it are places in the text.
+pub mod fields;
+
 ghost use mathlib.Core.Path.{_≡_};
 ghost use mathlib.Core.Bool.{not, _&&_};
 ghost use Prim.Native.Nat.{_+_, _-_, _≤_, _<_};

@@ -1,21 +1,15 @@
--- `programs::adds::constraint_line` meets its contract: what is found of the line is added to the last rule's row.
--- Assumes nothing.
+-- `programs::adds::constraint_line` meets its contract: the line is refused, or the last rule has one constraint more. Assumes nothing.
 use borrow.Author.Needs.{needs}
 use native.Mathlib.Omega.{arith}
-use Rattle.programs.specs.Read.{termsAnswer, cellsMeant, lineAnswer}
-use Rattle.programs.proofs.Lasts.{constraint-refused, constraint-fits, constraint-next}
+use Rattle.programs.proofs.AddLaws.{adds-refused, adds-fit, adds-next}
 use Rattle.programs.proofs.adds.constraint_line.Statement.{statement}
 use Rattle.programs.proofs.adds.constraint_line.Tie as tie
 
--- where the terms are read
-abbrev entry : tie.After-read-terms → tie.Start
-entry read = read .before .before .before .before .before .before .before .before .before .before
+sub-row : tie.Need-sub-row
+sub-row c = search needs
 
-sub-base : tie.Need-sub-base
-sub-base c = search needs
-
-mul-base : tie.Need-mul-base
-mul-base c = search needs
+mul-row : tie.Need-mul-row
+mul-row c = search needs
 
 add-slot : tie.Need-add-slot
 add-slot c = search needs
@@ -38,14 +32,18 @@ mul-most c = search needs
 add-most : tie.Need-add-most
 add-most c = search needs
 
-read-terms-requires : tie.Need-read-terms-requires
-read-terms-requires c κs = search needs
+read-constraint-requires : tie.Need-read-constraint-requires
+read-constraint-requires c κs = ((c .before .before .before .before .before .before .before .before .before .pre) .0, (c .before .before .before .before .before .before .before .before .before .pre) .3 .few-constants, omega (arith, (c .before .before .before .before .before .before .before .before .before .pre) .1, (c .before .before .before .before .before .before .before .before .before .pre) .3 .few-symbols))
 
-enum-known-x : tie.Need-enum-known-x
-enum-known-x c = search needs
+same-length : tie.Need-same-length
+same-length c = search needs
 
-enum-known-cells : tie.Need-enum-known-cells
-enum-known-cells c = search needs
+same-length-2 : tie.Need-same-length-2
+same-length-2 c = search needs
+
+returns : tie.Need-returns
+returns c = adds-refused _ _ _ _ _ ((c .before .before .before .before .before .before .before .before .before .before .before .before .before .before .before .before .pre) .2) ((c .before .before .before .before .before .before .before .before .before .before .before .before .before .before .before .before .pre) .3) ((c .before .before .before .before .before .before .before .before .before .before .before .before .before .before .before .before .pre) .4) _ _ ((c .before .before .before .before .before .before .before .before .before .before .before .before .before .before .before .before .pre) .5) ((c .before .before .before .before .before .before .before .before .before .wide) .ensures .0) _ _ _ ((c .before .before .before .before .before .before .before .before .before .before .before .before .before .before .before .before .pre) .1) _ ((c .before .before .before .before .before .before .read-constraint) .ensures)
+    ((c .if1) .taken)
 
 mul-start : tie.Need-mul-start
 mul-start c = search needs
@@ -69,55 +67,28 @@ slice-aggregate-add-cells : tie.Need-slice-aggregate-add-cells
 slice-aggregate-add-cells c = search needs
 
 add-cells-requires : tie.Need-add-cells-requires
-unfolding termsAnswer
-add-cells-requires c κs =
-    let read = c .before .before .before .before .before .before .before in
-    let args = entry read .args in
-    let pre = entry read .pre in
-    constraint-fits (args .text .now) (args .symbols .now) (args .rules .now) (args .constants .now) (args .stage) (args .place) _
-    (pre .6) (pre .8) (pre .9) (args .part) _ (pre .10) (read .before .before .wide .ensures .0) _
-    (rw (c .before .before .before .cells .given .1) at (read .read-terms .ensures .0 0))
-
-same-length : tie.Need-same-length
-same-length c = search needs
-
-returns : tie.Need-returns
-unfolding termsAnswer lineAnswer
-returns c =
-    let read = c .before .before .before .before .before in
-    let args = entry read .args in
-    let pre = entry read .pre in (
-      λ n. constraint-refused (args .text .now) (args .symbols .now) (args .rules .now) (args .constants .now) (args .stage)
-          (args .place) _
-          (pre .6) (pre .8) (pre .9) (args .part) _ (pre .10) (read .before .before .wide .ensures .0) n _
-          (rw (c .before .x .given .1) at (read .read-terms .ensures .0 n)),
-      omega arith,
-    )
-
-same-length-2 : tie.Need-same-length-2
-same-length-2 c = search needs
+add-cells-requires c κs = adds-fit _ _ _ _ _ ((c .before .before .before .before .before .before .before .before .before .before .before .before .before .before .before .before .before .before .before .pre) .2) ((c .before .before .before .before .before .before .before .before .before .before .before .before .before .before .before .before .before .before .before .pre) .3) ((c .before .before .before .before .before .before .before .before .before .before .before .before .before .before .before .before .before .before .before .pre) .4) _ _ ((c .before .before .before .before .before .before .before .before .before .before .before .before .before .before .before .before .before .before .before .pre) .5) ((c .before .before .before .before .before .before .before .before .before .before .before .before .wide) .ensures .0) _ _ _ ((c .before .before .before .before .before .before .before .before .before .before .before .before .before .before .before .before .before .before .before .pre) .1) _ ((c .before .before .before .before .before .before .before .before .before .read-constraint) .ensures)
+    ((c .before .before .before .if1) .left)
 
 same-length-3 : tie.Need-same-length-3
 same-length-3 c = search needs
 
+same-length-4 : tie.Need-same-length-4
+same-length-4 c = search needs
+
+same-length-5 : tie.Need-same-length-5
+same-length-5 c = search needs
+
 returns-2 : tie.Need-returns-2
-unfolding termsAnswer lineAnswer cellsMeant
-returns-2 c =
-    let read = c .before .before .before .before .before .before .before .before .before .before in
-    let cells = c .before .before .before .before .before .before .cells in
-    let args = entry read .args in
-    let pre = entry read .pre in
-    constraint-next (args .text .now) (args .symbols .now) (args .rules .now) (args .constants .now) (args .stage) (args .place) _
-    (pre .6) (pre .8) (pre .9) (args .part) _ (pre .10) (read .before .before .wide .ensures .0)
-    _ _ _ _ _ _ _ _ (rw (cells .given .1) at (read .read-terms .ensures .1)) (c .before .before .add-cells .ensures)
-    (λ n. rw (cells .given .1) at (read .read-terms .ensures .0 n))
+returns-2 c = adds-next _ _ _ _ _ ((c .before .before .before .before .before .before .before .before .before .before .before .before .before .before .before .before .before .before .before .before .before .before .pre) .2) ((c .before .before .before .before .before .before .before .before .before .before .before .before .before .before .before .before .before .before .before .before .before .before .pre) .3) ((c .before .before .before .before .before .before .before .before .before .before .before .before .before .before .before .before .before .before .before .before .before .before .pre) .4) _ _ ((c .before .before .before .before .before .before .before .before .before .before .before .before .before .before .before .before .before .before .before .before .before .before .pre) .5) ((c .before .before .before .before .before .before .before .before .before .before .before .before .before .before .before .wide) .ensures .0) _ _ _ ((c .before .before .before .before .before .before .before .before .before .before .before .before .before .before .before .before .before .before .before .before .before .before .pre) .1) _ ((c .before .before .before .before .before .before .before .before .before .before .before .before .read-constraint) .ensures)
+    ((c .before .before .before .before .before .before .if1) .left) _ ((c .before .before .add-cells) .ensures)
 
 pub constraint-line-spec : {M : Type 1} → statement M
 constraint-line-spec =
     tie.close
     (tie.spec
-    sub-base
-    mul-base
+    sub-row
+    mul-row
     add-slot
     add-wide
     mul-wide
@@ -125,9 +96,10 @@ constraint-line-spec =
     wide-requires
     mul-most
     add-most
-    read-terms-requires
-    enum-known-x
-    enum-known-cells
+    read-constraint-requires
+    same-length
+    same-length-2
+    returns
     mul-start
     add-start
     mul-start-2
@@ -136,8 +108,7 @@ constraint-line-spec =
     add-add-cells-2
     slice-aggregate-add-cells
     add-cells-requires
-    same-length
-    returns
-    same-length-2
     same-length-3
+    same-length-4
+    same-length-5
     returns-2)

@@ -1,88 +1,50 @@
--- `programs::declarations::rule_line` meets its contract: numbers 4, 5 and 7, else the rule is stored behind the others.
--- Assumes nothing.
+-- `programs::declarations::rule_line` meets its contract: numbers 4, 5 and 7, or one rule more. Assumes nothing.
 use borrow.Author.Needs.{needs}
-use mathlib.Core.Path.{sym}
-use Prim.Native.Nat.{_≤_}
+use mathlib.Core.Path.{refl, sym, _∙_}
 use native.Mathlib.Omega.{arith}
-use lib.ListN.{take}
-use lib.Seq.{length-take-le}
-use Rattle.programs.specs.Read.{RuleAt}
-use Rattle.programs.proofs.Drafts.{rule-faulty, rule-repeated, rule-full, rule-new, rule-sound}
+use Rattle.programs.proofs.Drafts.{rule-faulty, rule-repeated, rule-full, rule-new}
 use Rattle.programs.proofs.declarations.rule_line.Statement.{statement}
 use Rattle.programs.proofs.declarations.rule_line.Tie as tie
 
--- where the name stands that `rule_form` found, and that it is inside the text
-abbrev entry : tie.After-start → tie.Start
-entry s = s .before .before .before .before .before .before .before
+is-rule-faulty-requires : tie.Need-is-rule-faulty-requires
+is-rule-faulty-requires c κs = search needs
 
-name : (s : tie.After-start) → RuleAt (take (entry s .args .end) (entry s .args .text .now)) (entry s .args .at)
-    (s .start .given .0 .0) (s .start .given .0 .1 .0)
-name s = rw (s .start .given .1) at (s .before .before .rule-form .ensures)
+returns : tie.Need-returns
+returns c = rule-faulty _ _ _ _ _ _ ((c .before .before .before .before .before .pre) .0) ((c .before .before .before .before .before .pre) .2) (λ fs h. sym ((c .if1) .taken) ∙ (c .before .is-rule-faulty) .ensures fs h)
 
-bounded : (s : tie.After-start) → s .start .given .0 .1 .0 ≤ 16384
-bounded s =
-    let start = entry s in
-    let sized = length-take-le (start .args .end) (start .args .text .now) (start .pre .2) in
-    omega (arith, name s .stops, start .pre .2, start .pre .3, sized)
+add-at : tie.Need-add-at
+add-at c = search needs
 
-slice-aggregate-line : tie.Need-slice-aggregate-line
-slice-aggregate-line c =
-    let start = c .before .before .before .before in
-    sym (length-take-le (start .args .end) (start .args .text .now) (start .pre .2))
+sub-find-key : tie.Need-sub-find-key
+sub-find-key c = search needs
 
-rule-form-requires : tie.Need-rule-form-requires
-rule-form-requires c κs =
-    let start = c .before .before .before .before in
-    (start .pre .0, omega (arith, length-take-le (start .args .end) (start .args .text .now) (start .pre .2)))
+part-find-key-start : tie.Need-part-find-key-start
+part-find-key-start c = search needs
 
-enum-told : tie.Need-enum-told
-enum-told c = search needs
+part-find-key-end : tie.Need-part-find-key-end
+part-find-key-end c = omega (arith, (c .before .before .before .before .before .before .before .before .pre) .0 .names-size, (c .before .before .before .before .before .before .before .before .pre) .2 .few-rules)
 
-enum-known-start : tie.Need-enum-known-start
-enum-known-start c = search needs
+array-read-find-key : tie.Need-array-read-find-key
+array-read-find-key c = search needs
 
-sub-find-name : tie.Need-sub-find-name
-sub-find-name c = name (c .before .before) .starts
-
-part-find-name-start : tie.Need-part-find-name-start
-part-find-name-start c = sub-find-name c
-
-part-find-name-end : tie.Need-part-find-name-end
-part-find-name-end c = name (c .before .before) .stops
-
-find-name-requires : tie.Need-find-name-requires
-find-name-requires c κs = search needs
+find-key-requires : tie.Need-find-key-requires
+find-key-requires c κs = search needs
 
 same-length : tie.Need-same-length
 same-length c = search needs
 
-returns : tie.Need-returns
-returns c =
-    let p = c .before .before .before .before .before in
-    let start = entry p in (
-      rule-repeated (start .args .text .now) (start .args .rules .now) (start .args .stage) (start .args .place)
-          (start .args .number) (start .args .at) (start .args .end) _ _ _ (name p) (c .before .find-name .ensures .0)
-          (c .if1 .taken),
-      λ d. omega arith,
-    )
+returns-2 : tie.Need-returns-2
+returns-2 c = 
+    rule-repeated _ _ _ _ _ _ ((c .before .before .before .before .before .before .before .before .before .before .before .pre) .0) ((c .before .before .before .before .before .before .before .before .before .before .before .pre) .2) (λ fs h. sym ((c .before .before .before .before .before .before .if1) .left) ∙ (c .before .before .before .before .before .before .before .is-rule-faulty) .ensures fs h) (λ i. omega (arith, (c .before .before .before .before .before .before .before .before .before .before .slice-known) .given i)) _
+    ((c .before .find-key) .ensures .0) ((c .if2) .taken)
 
 same-length-2 : tie.Need-same-length-2
 same-length-2 c = search needs
 
-returns-2 : tie.Need-returns-2
-returns-2 c =
-    (λ symbols constants. search (rule-full, name (c .before .before .before .before .before .before)), λ d. omega arith)
-
-cast-t25 : tie.Need-cast-t25
-cast-t25 c =
-    let s = c .before .before .before .before .before .before in record { fits = omega (arith, name s .starts, bounded s) }
-
-sub-t21 : tie.Need-sub-t21
-sub-t21 c = name (c .before .before .before .before .before .before) .starts
-
-cast-t26 : tie.Need-cast-t26
-cast-t26 c =
-    let s = c .before .before .before .before .before .before in record { fits = omega (arith, name s .starts, bounded s) }
+returns-3 : tie.Need-returns-3
+returns-3 c = 
+    rule-full _ _ _ _ _ _ ((c .before .before .before .before .before .before .before .before .before .before .before .before .pre) .0) ((c .before .before .before .before .before .before .before .before .before .before .before .before .pre) .2) (λ fs h. sym ((c .before .before .before .before .before .before .before .if1) .left) ∙ (c .before .before .before .before .before .before .before .before .is-rule-faulty) .ensures fs h) (λ i. omega (arith, (c .before .before .before .before .before .before .before .before .before .before .before .slice-known) .given i)) _
+    ((c .before .before .find-key) .ensures .0) ((c .before .if2) .left) ((c .if3) .taken)
 
 mul-write-cells : tie.Need-mul-write-cells
 mul-write-cells c = search needs
@@ -93,50 +55,72 @@ slice-aggregate-write-cells c = search needs
 write-cells-requires : tie.Need-write-cells-requires
 write-cells-requires c κs = search needs
 
-add-t21 : tie.Need-add-t21
-add-t21 c = search needs
+array-read-names : tie.Need-array-read-names
+array-read-names c = search needs
 
-returns-3 : tie.Need-returns-3
-returns-3 c = (
-  (λ symbols constants. search (rule-faulty, rw (c .enum-told .given .1) at (c .before .before .rule-form .ensures))),
-  λ d. omega arith,
-)
+mul-names : tie.Need-mul-names
+mul-names c = search needs
+
+slice-write-names : tie.Need-slice-write-names
+slice-write-names c = search needs
+
+array-read-places : tie.Need-array-read-places
+array-read-places c = search needs
+
+cast-places : tie.Need-cast-places
+cast-places c = omega (arith, (c .before .before .before .before .before .before .before .before .before .before .before .before .before .before .before .before .before .pre) .0 .near 1)
+
+mul-places : tie.Need-mul-places
+mul-places c = search needs
+
+slice-write-places : tie.Need-slice-write-places
+slice-write-places c = search needs
+
+add-t13 : tie.Need-add-t13
+add-t13 c = search needs
 
 same-length-3 : tie.Need-same-length-3
 same-length-3 c = search needs
 
+same-length-4 : tie.Need-same-length-4
+same-length-4 c = search needs
+
+same-length-5 : tie.Need-same-length-5
+same-length-5 c = search needs
+
 returns-4 : tie.Need-returns-4
-returns-4 c =
-    let full = c .before .before .before .before .before in
-    let s = full .before .before .before .before .before .before in
-    let pre = entry s .pre in (
-      (λ symbols constants. search (rule-new, name s, full .if2 .left, full .before .if1 .left, pre .2, pre .4)),
-      λ d. search (rule-sound, name s, full .if2 .left, pre .4),
-    )
+returns-4 c = 
+    rule-new _ _ _ _ _ _ ((c .before .before .before .before .before .before .before .before .before .before .before .before .before .before .before .before .before .pre) .0) ((c .before .before .before .before .before .before .before .before .before .before .before .before .before .before .before .before .before .pre) .2) (λ fs h. sym ((c .before .before .before .before .before .before .before .before .before .before .before .before .if1) .left) ∙ (c .before .before .before .before .before .before .before .before .before .before .before .before .before .is-rule-faulty) .ensures fs h) (λ i. omega (arith, (c .before .before .before .before .before .before .before .before .before .before .before .before .before .before .before .before .slice-known) .given i)) _
+    ((c .before .before .before .before .before .before .before .find-key) .ensures .0) ((c .before .before .before .before .before .before .if2) .left) _ _ ((c .before .before .before .before .before .if3) .left) ((c .before .before .before .before .before .before .before .before .before .before .before .before .before .before .before .before .before .pre) .1) refl ((c .before .before .write-cells) .ensures)
 
 pub rule-line-spec : {M : Type 1} → statement M
 rule-line-spec =
     tie.close
     (tie.spec
-    slice-aggregate-line
-    rule-form-requires
-    enum-told
-    enum-known-start
-    sub-find-name
-    part-find-name-start
-    part-find-name-end
-    find-name-requires
-    same-length
+    is-rule-faulty-requires
     returns
-    same-length-2
+    add-at
+    sub-find-key
+    part-find-key-start
+    part-find-key-end
+    array-read-find-key
+    find-key-requires
+    same-length
     returns-2
-    cast-t25
-    sub-t21
-    cast-t26
+    same-length-2
+    returns-3
     mul-write-cells
     slice-aggregate-write-cells
     write-cells-requires
-    add-t21
-    returns-3
+    array-read-names
+    mul-names
+    slice-write-names
+    array-read-places
+    cast-places
+    mul-places
+    slice-write-places
+    add-t13
     same-length-3
+    same-length-4
+    same-length-5
     returns-4)

@@ -1,63 +1,31 @@
 -- `programs::program::read_lines` meets its contract: what is left of the text, read from here, is the answer. Assumes nothing.
 use borrow.Author.Needs.{needs}
-use mathlib.Core.Path.{_≡_, refl, _∙_}
-use Prim.Native.Nat.{_≤_, _+_, _-_}
-use native.Mathlib.Numerals.{add-one}
+use Prim.Native.Nat.{_-_}
 use native.Mathlib.Omega.{arith}
-use lib.ListN.{length, drop}
-use Rattle.text.specs.Lines.{lines}
-use Rattle.syntax.specs.Programs.{blank, readLines}
-use Rattle.syntax.specs.Tables.{symbolsOf, rulesOf, startsOf, constantsOf}
-use Rattle.lines.specs.Read.{placeMeant}
-use Rattle.programs.specs.Read.{draftOf, lineAnswer, linesAnswer, Sound}
-use Rattle.programs.proofs.Whole.{lines-refused, lines-next, lines-end}
+use lib.ListN.{length}
+use Rattle.programs.proofs.Whole.{LinesSoFar, lines-start, lines-faulty, lines-refused, lines-next, lines-end}
 use Rattle.programs.proofs.program.read_lines.Statement.{statement}
 use Rattle.programs.proofs.program.read_lines.Tie as tie
 
 abbrev Inv-loop : tie.InvT-loop
-Inv-loop classes letters text symbols₀ rules₀ constants₀ at₀ number₀ stage₀ symbols rules constants at number stage =
-    (length symbols ≡ 128) × (length rules ≡ 2048) × (length constants ≡ 128) × (at ≤ length text + 1) × (number ≤ at + 1)
-    × Sound rules stage
-    × (readLines number (draftOf text symbols rules constants stage) (lines (drop at text)) ≡ readLines 1 blank (lines text))
+Inv-loop text names₀ places₀ symbols₀ rules₀ classes at₀ number₀ stage₀ names places symbols rules at number stage = 
+    LinesSoFar text names₀ places₀ names places symbols rules at number stage
 
 abbrev μ-loop : tie.MeasureT-loop
-μ-loop classes letters text symbols₀ rules₀ constants₀ at₀ number₀ stage₀ symbols rules constants at number stage =
-    length text + 1 - at
+μ-loop text names₀ places₀ symbols₀ rules₀ classes at₀ number₀ stage₀ names places symbols rules at number stage = 
+    length text - at
+
+classes-requires : tie.Need-classes-requires Inv-loop μ-loop
+classes-requires c κs = search needs
 
 loop-holds : tie.Need-loop-holds Inv-loop μ-loop
-unfolding draftOf blank symbolsOf rulesOf startsOf constantsOf placeMeant
-loop-holds c =
-    let pre′ = c .before .before .before .before .before .before .pre in (
-      pre′ .3,
-      pre′ .4,
-      pre′ .5,
-      omega arith,
-      omega arith,
-      record {
-        few-symbols = omega arith;
-        few-rules = omega arith;
-        few-constants = omega arith;
-        begun = λ h. absurd (omega (arith, h));
-        few-heads = λ h. absurd (omega (arith, h));
-        few-body = λ h. absurd (omega (arith, h));
-        few-sides = λ h. absurd (omega (arith, h));
-      },
-      refl,
-    )
+loop-holds c = lines-start _ _ _ _ _ ((c .before .before .before .before .before .before .pre) .0)
 
-line-end-requires : tie.Need-line-end-requires Inv-loop μ-loop
-line-end-requires c κs = search needs
+slice-aggregate-split : tie.Need-slice-aggregate-split Inv-loop μ-loop
+slice-aggregate-split c = search needs
 
-read-line-requires : tie.Need-read-line-requires Inv-loop μ-loop
-read-line-requires c κs =
-    let line = c .before .before .before in
-    let loop = line .before .before .loop in
-    let pre = line .before .before .before .before .before .before .before .before .before .pre in
-    let ends = line .line-end .ensures in
-    (pre .0, pre .1, ends .1, ends .2, pre .2, loop .inv .0, loop .inv .1, loop .inv .2, loop .inv .5)
-
-enum-known-x : tie.Need-enum-known-x Inv-loop μ-loop
-enum-known-x c = search needs
+split-requires : tie.Need-split-requires Inv-loop μ-loop
+split-requires c κs = ((c .before .before .before .classes) .ensures, (c .before .loop-test) .taken, (c .before .before .before .before .before .before .before .before .before .pre) .1)
 
 same-length : tie.Need-same-length Inv-loop μ-loop
 same-length c = search needs
@@ -68,58 +36,75 @@ same-length-2 c = search needs
 same-length-3 : tie.Need-same-length-3 Inv-loop μ-loop
 same-length-3 c = search needs
 
+same-length-4 : tie.Need-same-length-4 Inv-loop μ-loop
+same-length-4 c = search needs
+
 returns : tie.Need-returns Inv-loop μ-loop
-unfolding lineAnswer linesAnswer
-returns c =
-    let read = c .before .before .before .before .before .before .before .before .before in
-    let line = read .before .before .before .before in
-    let refused = rw (c .before .x .given .1) at (read .read-line .ensures .0) in
-    let loop = line .before in
-    let ends = line .line-end .ensures in
-    (search (lines-refused, refused, loop .before .loop .inv .6, loop .loop-test .taken, ends .0), omega arith)
+returns c = lines-faulty _ _ _ _ _ _ _ _ _ _ ((c .before .before .before .before .loop) .inv) ((c .before .before .before .loop-test) .taken) _ ((c .before .split) .ensures) ((c .if1) .taken)
+
+read-line-requires : tie.Need-read-line-requires Inv-loop μ-loop
+read-line-requires c κs = (
+      record {
+        near = (c .before .before .before .before .before .split) .ensures .near;
+        low = omega arith;
+        names-size = (c .before .before .before .before .before .before .before .before .loop) .inv .room .names-size;
+        places-size = (c .before .before .before .before .before .before .before .before .loop) .inv .room .places-size;
+      },
+      (c .before .before .before .before .before .before .before .before .loop) .inv .room .symbols-size,
+      (c .before .before .before .before .before .before .before .before .loop) .inv .room .rules-size,
+      (c .before .before .before .before .before .before .before .before .loop) .inv .sound,
+      (c .before .before .before .before .before .before .before .before .loop) .inv .started,
+    )
+
+enum-known-x : tie.Need-enum-known-x Inv-loop μ-loop
+enum-known-x c = search needs
+
+same-length-5 : tie.Need-same-length-5 Inv-loop μ-loop
+same-length-5 c = omega (arith, (c .before .before .before .before .before .before .before .before .before .before .before .read-line) .ensures .kept .names-size, (c .before .before .before .before .before .before .before .before .before .before .before .before .before .before .before .before .before .before .before .before .loop) .inv .room .names-size, (c .before .before .before .before .before .before .before .before .before .before .before .before .before .before .before .before .before .before .before .before .before .before .before .before .before .before .before .pre) .0 .names-size)
+
+same-length-6 : tie.Need-same-length-6 Inv-loop μ-loop
+same-length-6 c = omega (arith, (c .before .before .before .before .before .before .before .before .before .before .before .read-line) .ensures .kept .places-size, (c .before .before .before .before .before .before .before .before .before .before .before .before .before .before .before .before .before .before .before .before .loop) .inv .room .places-size, (c .before .before .before .before .before .before .before .before .before .before .before .before .before .before .before .before .before .before .before .before .before .before .before .before .before .before .before .pre) .0 .places-size)
+
+same-length-7 : tie.Need-same-length-7 Inv-loop μ-loop
+same-length-7 c = omega (arith, (c .before .before .before .before .before .before .before .before .before .before .before .read-line) .ensures .symbols-size, (c .before .before .before .before .before .before .before .before .before .before .before .before .before .before .before .before .before .before .before .before .loop) .inv .room .symbols-size, (c .before .before .before .before .before .before .before .before .before .before .before .before .before .before .before .before .before .before .before .before .before .before .before .before .before .before .before .pre) .0 .symbols-size)
+
+same-length-8 : tie.Need-same-length-8 Inv-loop μ-loop
+same-length-8 c = omega (arith, (c .before .before .before .before .before .before .before .before .before .before .before .read-line) .ensures .rules-size, (c .before .before .before .before .before .before .before .before .before .before .before .before .before .before .before .before .before .before .before .before .loop) .inv .room .rules-size, (c .before .before .before .before .before .before .before .before .before .before .before .before .before .before .before .before .before .before .before .before .before .before .before .before .before .before .before .pre) .0 .rules-size)
+
+returns-2 : tie.Need-returns-2 Inv-loop μ-loop
+returns-2 c = lines-refused _ _ _ _ _ _ _ _ _ _ ((c .before .before .before .before .before .before .before .before .before .before .before .before .before .before .before .before .before .before .before .before .loop) .inv) ((c .before .before .before .before .before .before .before .before .before .before .before .before .before .before .before .before .before .before .before .loop-test) .taken) _ ((c .before .before .before .before .before .before .before .before .before .before .before .before .before .before .before .before .before .split) .ensures) ((c .before .before .before .before .before .before .before .before .before .before .before .before .before .before .before .before .if1) .left) _ _ _ _ _
+    ((c .before .before .before .before .before .before .before .before .before .before .before .read-line) .ensures) _ ((c .before .x) .given .1)
 
 enum-known-next : tie.Need-enum-known-next Inv-loop μ-loop
 enum-known-next c = search needs
 
 add-at : tie.Need-add-at Inv-loop μ-loop
-add-at c = search needs
+add-at c = record { fits = omega (arith, (c .before .before .before .before .before .before .before .before .before .before .before .before .before .before .before .before .before .before .split) .ensures .inside ((c .before .before .before .before .before .before .before .before .before .before .before .before .before .before .before .before .before .if1) .left), (c .before .before .before .before .before .before .before .before .before .before .before .before .before .before .before .before .before .before .before .before .before .before .before .before .before .before .before .before .pre) .1) }
 
 add-number : tie.Need-add-number Inv-loop μ-loop
-add-number c = search needs
+add-number c = record { fits = omega (arith, (c .before .before .before .before .before .before .before .before .before .before .before .before .before .before .before .before .before .before .before .before .before .loop) .inv .numbered, (c .before .before .before .before .before .before .before .before .before .before .before .before .before .before .before .before .before .before .before .before .loop-test) .taken, (c .before .before .before .before .before .before .before .before .before .before .before .before .before .before .before .before .before .before .before .before .before .before .before .before .before .before .before .before .pre) .1) }
 
 loop-less : tie.Need-loop-less Inv-loop μ-loop
-loop-less c = search needs
+loop-less c = omega (arith, (c .before .before .before .before .before .before .before .before .before .before .before .before .before .before .before .before .before .before .split) .ensures .begun ((c .before .before .before .before .before .before .before .before .before .before .before .before .before .before .before .before .before .if1) .left), (c .before .before .before .before .before .before .before .before .before .before .before .before .before .before .before .before .before .before .before .before .loop-test) .taken)
 
 loop-again : tie.Need-loop-again Inv-loop μ-loop
-unfolding lineAnswer
-loop-again c =
-    let read = c .before .before .before .before .before .before .before .before .before in
-    let line = read .before .before .before .before in
-    let loop = line .before .before .loop in
-    let ends = line .line-end .ensures in
-    let next = rw (c .before .next .given .1) at (read .read-line .ensures .0) in
-    rw (add-one (line .line-end .result), add-one (loop .number)) (
-      read .read-line .kept .1 .1 .1 .1 .1 .1 .0 ∙ loop .inv .0,
-      read .read-line .kept .1 .1 .1 .1 .1 .1 .1 .0 ∙ loop .inv .1,
-      read .read-line .kept .1 .1 .1 .1 .1 .1 .1 .1 .0 ∙ loop .inv .2,
-      omega (arith, ends .2),
-      omega (arith, ends .1, loop .inv .4),
-      rw (c .before .next .given .1) at (read .read-line .ensures .1),
-      search (lines-next, next, loop .inv .6, line .before .loop-test .taken, ends .0),
-    )
+loop-again c = lines-next _ _ _ _ _ _ _ _ _ _ ((c .before .before .before .before .before .before .before .before .before .before .before .before .before .before .before .before .before .before .before .before .before .loop) .inv) ((c .before .before .before .before .before .before .before .before .before .before .before .before .before .before .before .before .before .before .before .before .loop-test) .taken) _ ((c .before .before .before .before .before .before .before .before .before .before .before .before .before .before .before .before .before .before .split) .ensures) ((c .before .before .before .before .before .before .before .before .before .before .before .before .before .before .before .before .before .if1) .left) _ _ _ _ _
+    ((c .before .before .before .before .before .before .before .before .before .before .before .before .read-line) .ensures) _ ((c .before .before .next) .given .1)
 
-same-length-4 : tie.Need-same-length-4 Inv-loop μ-loop
-same-length-4 c = search needs
+same-length-9 : tie.Need-same-length-9 Inv-loop μ-loop
+same-length-9 c = search needs
 
-same-length-5 : tie.Need-same-length-5 Inv-loop μ-loop
-same-length-5 c = search needs
+same-length-10 : tie.Need-same-length-10 Inv-loop μ-loop
+same-length-10 c = search needs
 
-same-length-6 : tie.Need-same-length-6 Inv-loop μ-loop
-same-length-6 c = search needs
+same-length-11 : tie.Need-same-length-11 Inv-loop μ-loop
+same-length-11 c = search needs
 
-returns-2 : tie.Need-returns-2 Inv-loop μ-loop
-unfolding linesAnswer
-returns-2 c = (search lines-end, c .before .loop .inv .5)
+same-length-12 : tie.Need-same-length-12 Inv-loop μ-loop
+same-length-12 c = search needs
+
+returns-3 : tie.Need-returns-3 Inv-loop μ-loop
+returns-3 c = lines-end _ _ _ _ _ _ _ _ _ _ ((c .before .loop) .inv) ((c .loop-test) .left)
 
 pub read-lines-spec : {M : Type 1} → statement M
 read-lines-spec =
@@ -127,20 +112,29 @@ read-lines-spec =
     (tie.spec
     Inv-loop
     μ-loop
+    classes-requires
     loop-holds
-    line-end-requires
-    read-line-requires
-    enum-known-x
+    slice-aggregate-split
+    split-requires
     same-length
     same-length-2
     same-length-3
+    same-length-4
     returns
+    read-line-requires
+    enum-known-x
+    same-length-5
+    same-length-6
+    same-length-7
+    same-length-8
+    returns-2
     enum-known-next
     add-at
     add-number
     loop-less
     loop-again
-    same-length-4
-    same-length-5
-    same-length-6
-    returns-2)
+    same-length-9
+    same-length-10
+    same-length-11
+    same-length-12
+    returns-3)
