@@ -5,18 +5,17 @@ use native.Mathlib.Omega.{arith}
 use native.Mathlib.Numerals.{add-one}
 use mathlib.Core.Bool.{Bool, true, false}
 use mathlib.Core.List.{List, [], _∷_}
-use mathlib.Core.Logic.{⊎-elim}
 use mathlib.Core.Path.{_≡_, refl, fun-ext, _∙_}
-use lib.ListN.{length, getD, take, drop, replicate, length-append, length-drop, drop-of-length-le, List·getD-append}
-use lib.Seq.{drop-cons, length-take-le, getD-at}
+use lib.ListN.{getD, take, drop, replicate, length-drop, drop-of-length-le}
+use lib.Seq.{drop-cons, length-take-le}
 use Rattle.text.specs.Lists.{orElse, tabled}
+use Rattle.text.proofs.Laws.{tabled-length, tabled-at}
 use Rattle.semantics.specs.Matching.{unassigned}
 use Rattle.semantics.specs.Strategy.{find, chooseFrom, choose}
 use Rattle.tables.specs.Cells.{cellConstraints}
 use Rattle.tables.specs.Rows.{ruleOfRow, ruleOf, rulesOf, rowOf}
 use Rattle.engine.specs.Cells.{assigned}
 use Rattle.engine.specs.Places.{foundOf, Seeking, Located, Row, Table, choiceOf, Chosen}
-use Rattle.tables.proofs.CellLaws.{le-or-lt}
 
 -- no cell of zeros is settled
 zeros-zero : (n x : ℕ) → _≡_ {A = ℕ} (getD (replicate n 0) x 0) 0
@@ -28,7 +27,7 @@ pub zeros-unassigned : assigned (replicate 26 0) ≡ unassigned
 unfolding assigned unassigned
 zeros-unassigned = fun-ext (λ x. rw (zeros-zero 26 x))
 
-module _ (row cells : List ℕ) (m w : ℕ) (r : Row row) (k : length cells ≡ 5 * m) (e : w ≡ getD row 3 0) where
+module _ (row cells : List ℕ) (w : ℕ) (r : Row row) (e : w ≡ getD row 3 0) where
   none-placed : w - w ≡ 0
   none-placed = omega arith
 
@@ -36,7 +35,7 @@ module _ (row cells : List ℕ) (m w : ℕ) (r : Row row) (k : length cells ≡ 
   heads-cells = omega arith
 
   -- what the search for a rule's heads asks
-  pub rule-seeking : Seeking (take (6 + 5 * w - 6) (drop 6 row)) w w cells m (replicate 4 0) (replicate 26 0)
+  pub rule-seeking : Seeking (take (6 + 5 * w - 6) (drop 6 row)) w w (replicate 4 0) (replicate 26 0)
   unfolding ruleOfRow
   rule-seeking =
       record {
@@ -44,7 +43,6 @@ module _ (row cells : List ℕ) (m w : ℕ) (r : Row row) (k : length cells ≡ 
             (omega (arith, length-drop 6 row, r .size, r .heads-few)) ∙ omega arith;
         few = omega (arith, r .heads-few);
         there = omega arith;
-        cells-size = k;
         chosen-size = refl;
         bindings-size = refl;
         letters = rw (heads-cells, none-placed) (r .heads);
@@ -60,22 +58,10 @@ module _ (row cells : List ℕ) (m w : ℕ) (r : Row row) (k : length cells ≡ 
   unfolding ruleOfRow
   rule-located f ps b l = let k : 6 + 5 * w - 6 ≡ 5 * w = omega arith in rw (← e) (rw (k, none-placed, zeros-unassigned) at l)
 
--- the entries of a table
-pub length-tabled : {A : Type 0} (f : ℕ → A) (n : ℕ) → length (tabled f n) ≡ n
-length-tabled f zero = refl
-length-tabled f (suc n) = length-append (tabled f n) (f n ∷ []) ∙ rw (length-tabled f n) (omega arith)
-
-pub getD-tabled : {A : Type 0} (f : ℕ → A) (n i : ℕ) (d : A) → i < n → getD (tabled f n) i d ≡ f i
-getD-tabled f zero i d h = absurd (omega arith)
-getD-tabled f (suc n) i d h =
-    ⊎-elim
-    (λ l. let e : i ≡ n = omega arith in rw e (getD-at (tabled f n) (f n) [] d n (length-tabled f n)))
-    (λ l. List·getD-append (tabled f n) (f n ∷ []) d i (omega (arith, length-tabled f n)) ∙ getD-tabled f n i d l)
-    (le-or-lt n i)
-
+-- the entries of a table from i on
 drop-tabled : {A : Type 0} (f : ℕ → A) (n i : ℕ) → i < n → drop i (tabled f n) ≡ f i ∷ drop (suc i) (tabled f n)
 drop-tabled f n i h =
-    drop-cons (tabled f n) i (f i) (omega (arith, length-tabled f n)) ∙ rw (getD-tabled f n i (f i) h)
+    drop-cons (tabled f n) i (f i) (omega (arith, tabled-length f n)) ∙ rw (tabled-at f n i (f i) h)
 
 -- a rule's row as the code lends it
 abbrev pub lentRow : List ℕ → ℕ → List ℕ
@@ -96,14 +82,14 @@ pub choosing-start : (rules : List ℕ) (n : ℕ) (cells : List ℕ) → Choosin
 unfolding choose
 choosing-start rules n cells = record { within = omega arith; same = λ names. refl }
 
-module _ (rules : List ℕ) (n : ℕ) (cells : List ℕ) (m i : ℕ) (given : Table rules n) (w : Choosing rules n cells i) where
+module _ (rules : List ℕ) (n : ℕ) (cells : List ℕ) (i : ℕ) (given : Table rules n) (w : Choosing rules n cells i) where
   -- no rule is left
-  pub choosing-none : n ≤ i → Chosen rules n cells false n (replicate 4 0) (replicate 26 0)
+  pub choosing-none : n ≤ i → Chosen rules n cells false i (replicate 4 0) (replicate 26 0)
   unfolding choiceOf foundOf rulesOf chooseFrom
   choosing-none l =
       record {
         same = λ names. rw (drop-of-length-le (tabled (ruleOf names rules) n) {i = i}
-            (omega (arith, length-tabled (ruleOf names rules) n))) at (w .same names);
+            (omega (arith, tabled-length (ruleOf names rules) n))) at (w .same names);
         within = λ (z : false ≡ true). let y : _≡_ {A = ℕ} 0 1 = cc in absurd (omega arith);
         fits = λ (z : false ≡ true). let y : _≡_ {A = ℕ} 0 1 = cc in absurd (omega arith);
         positions-size = refl;
@@ -112,8 +98,8 @@ module _ (rules : List ℕ) (n : ℕ) (cells : List ℕ) (m i : ℕ) (given : Ta
 
   module _ (l : i < n) where
     -- what the search for the rule asks
-    pub choosing-row : length cells ≡ 5 * m → Row (lentRow rules i) × (length cells ≡ 5 * m)
-    choosing-row k = (rw (row-cells i) (given .rows i l), k)
+    pub choosing-row : Row (lentRow rules i)
+    choosing-row = rw (row-cells i) (given .rows i l)
 
     module _ (f : Bool) (ps b : List ℕ)
         (t : Located f (getD (lentRow rules i) 3 0) ps b

@@ -14,21 +14,7 @@ use lib.ListN.{length, getD, take, drop, length-drop}
 use lib.Seq.{length-take-le}
 use borrow.Author.Tests.{lt-ltb, ltb-true}
 use Rattle.text.specs.Lists.{every, tabled}
-use Rattle.semantics.specs.Terms.{
-  Term,
-  con,
-  var,
-  Constraint,
-  Equation,
-  Symbol,
-  Rule,
-  Program,
-  Goal,
-  live,
-  noSymbol,
-  symbolAt,
-  weight,
-}
+use Rattle.semantics.specs.Terms.{Term, con, var, Constraint, Equation, Symbol, Program, Goal, noSymbol, symbolAt, weight}
 use Rattle.semantics.specs.Terms.{isDeclared, isBelow, isGoalOf, alphabet, isOfRule, isRuleOf, isWellFormed}
 use Rattle.semantics.specs.Strategy.{entered, run}
 use Rattle.tables.specs.Layout.{firstRule}
@@ -37,7 +23,7 @@ use Rattle.tables.specs.Rows.{symbolOf, symbolsOf, ruleOfRow, ruleOf, rulesOf, 
 use Rattle.engine.specs.Places.{isLettered, isSide, Row, Table}
 use Rattle.engine.specs.Runs.{weightBy, Lowers, storeOf, Startable, Ended}
 use Rattle.semantics.proofs.Bools.{and-true}
-use Rattle.engine.proofs.ChooseLaws.{length-tabled, getD-tabled}
+use Rattle.text.proofs.Laws.{tabled-length, tabled-at}
 
 -- whether a term is no constant 0, which stands for no term
 unfoldable pub isUsed : Term → Bool
@@ -93,44 +79,44 @@ side-of (var x) h k = h
 
 module _ (names symbols : List ℕ) (s : ℕ) (rules : List ℕ) (n : ℕ) (r : AsRead names symbols s rules n) where
   -- the program's symbols
-  abbrev declaredTable : List Symbol
-  declaredTable = symbolsOf names symbols s
+  abbrev known : List Symbol
+  known = symbolsOf names symbols s
 
   -- a weighing of every number: a symbol's weight, and 1 for a number that no symbol has
   unfoldable pub weigh : ℕ → ℕ
-  weigh k = max 1 (symbolAt declaredTable k .weight)
+  weigh k = max 1 (symbolAt known k .weight)
 
-  length-table : length declaredTable ≡ s
+  length-known : length known ≡ s
   unfolding symbolsOf
-  length-table = length-tabled (symbolOf names symbols) s
+  length-known = tabled-length (symbolOf names symbols) s
 
-  weigh-same : (k : ℕ) → k < s → weigh k ≡ symbolAt declaredTable k .weight
+  weigh-same : (k : ℕ) → k < s → weigh k ≡ symbolAt known k .weight
   unfolding weigh symbolAt symbolsOf symbolOf
   weigh-same k l =
-      rw (getD-tabled (symbolOf names symbols) s k noSymbol l)
+      rw (tabled-at (symbolOf names symbols) s k noSymbol l)
       (let one : 1 ≤ getD symbols (2 * k + 1) 0 = r .heavy k l in omega arith)
 
   -- a declared constraint's symbol
-  declared-below : (c : Constraint) → isDeclared declaredTable c ≡ true → c .symbol < s
+  declared-below : (c : Constraint) → isDeclared known c ≡ true → c .symbol < s
   unfolding isDeclared
   declared-below c h =
-      let l : c .symbol < length declaredTable =
-      ltb-true (c .symbol) (length declaredTable)
-      (and-true (ltb (c .symbol) (length declaredTable)) (eqb (length (c .terms)) (symbolAt declaredTable (c .symbol) .arity)) h .0) in
-      omega (arith, length-table)
+      let l : c .symbol < length known =
+      ltb-true (c .symbol) (length known)
+      (and-true (ltb (c .symbol) (length known)) (eqb (length (c .terms)) (symbolAt known (c .symbol) .arity)) h .0) in
+      omega (arith, length-known)
 
-  declared-low : (c : Constraint) → isDeclared declaredTable c ≡ true → isLow c ≡ true
+  declared-low : (c : Constraint) → isDeclared known c ≡ true → isLow c ≡ true
   unfolding isLow
   declared-low c h = lt-ltb (c .symbol) 256 (omega (arith, declared-below c h, r .few-symbols))
 
   -- declared constraints weigh what their symbols do
-  weight-same : (cs : List Constraint) → every (isDeclared declaredTable) cs ≡ true → weightBy weigh cs ≡ weight declaredTable cs
+  weight-same : (cs : List Constraint) → every (isDeclared known) cs ≡ true → weightBy weigh cs ≡ weight known cs
   unfolding weightBy weight
   weight-same [] h = refl
   weight-same (c ∷ cs) h =
       rw (
-        weigh-same (c .symbol) (declared-below c (and-true (isDeclared declaredTable c) (every (isDeclared declaredTable) cs) h .0)),
-        weight-same cs (and-true (isDeclared declaredTable c) (every (isDeclared declaredTable) cs) h .1),
+        weigh-same (c .symbol) (declared-below c (and-true (isDeclared known c) (every (isDeclared known) cs) h .0)),
+        weight-same cs (and-true (isDeclared known c) (every (isDeclared known) cs) h .1),
       )
 
   -- a rule of the program
@@ -138,42 +124,42 @@ module _ (names symbols : List ℕ) (s : ℕ) (rules : List ℕ) (n : ℕ) (r : 
     abbrev row : List ℕ
     row = rowOf rules i
 
-    rule-of : isRuleOf declaredTable (ruleOfRow (nameOf names (firstRule + i)) row) ≡ true
+    rule-of : isRuleOf known (ruleOfRow (nameOf names (firstRule + i)) row) ≡ true
     unfolding isWellFormed programOf rulesOf ruleOf
     rule-of =
-        rw (getD-tabled (ruleOf names rules) n i (ruleOf names rules i) l) at
-        (every-at (isRuleOf declaredTable) (tabled (ruleOf names rules) n) i (ruleOf names rules i) (r .well-formed)
-        (omega (arith, length-tabled (ruleOf names rules) n)))
+        rw (tabled-at (ruleOf names rules) n i (ruleOf names rules i) l) at
+        (every-at (isRuleOf known) (tabled (ruleOf names rules) n) i (ruleOf names rules i) (r .well-formed)
+        (omega (arith, tabled-length (ruleOf names rules) n)))
 
     -- what its being well formed says, part by part
     parts :
-        (every (isOfRule declaredTable) (ruleOfRow [] row .heads) ≡ true) × (every (isOfRule declaredTable) (ruleOfRow [] row .body) ≡ true)
+        (every (isOfRule known) (ruleOfRow [] row .heads) ≡ true) × (every (isOfRule known) (ruleOfRow [] row .body) ≡ true)
         × (every (λ (e : Equation). isBelow alphabet (e .left) && isBelow alphabet (e .right))
         (ruleOfRow [] row .equations) ≡ true)
-        × (weight declaredTable (ruleOfRow [] row .body) < weight declaredTable (ruleOfRow [] row .heads))
+        × (weight known (ruleOfRow [] row .body) < weight known (ruleOfRow [] row .heads))
     unfolding isRuleOf ruleOfRow
     parts =
-        let three = and-true (every (isOfRule declaredTable) (ruleOfRow [] row .heads) && every (isOfRule declaredTable)
+        let three = and-true (every (isOfRule known) (ruleOfRow [] row .heads) && every (isOfRule known)
         (ruleOfRow [] row .body)
         && every (λ (e : Equation). isBelow alphabet (e .left) && isBelow alphabet (e .right)) (ruleOfRow [] row .equations))
-        (ltb (weight declaredTable (ruleOfRow [] row .body)) (weight declaredTable (ruleOfRow [] row .heads))) rule-of in
-        let two = and-true (every (isOfRule declaredTable) (ruleOfRow [] row .heads) && every (isOfRule declaredTable) (ruleOfRow [] row .body))
+        (ltb (weight known (ruleOfRow [] row .body)) (weight known (ruleOfRow [] row .heads))) rule-of in
+        let two = and-true (every (isOfRule known) (ruleOfRow [] row .heads) && every (isOfRule known) (ruleOfRow [] row .body))
         (every (λ (e : Equation). isBelow alphabet (e .left) && isBelow alphabet (e .right)) (ruleOfRow [] row .equations))
         (three .0) in
-        let one = and-true (every (isOfRule declaredTable) (ruleOfRow [] row .heads)) (every (isOfRule declaredTable) (ruleOfRow [] row .body))
+        let one = and-true (every (isOfRule known) (ruleOfRow [] row .heads)) (every (isOfRule known) (ruleOfRow [] row .body))
         (two .0) in (
           one .0,
           one .1,
           two .1,
-          ltb-true (weight declaredTable (ruleOfRow [] row .body)) (weight declaredTable (ruleOfRow [] row .heads))
+          ltb-true (weight known (ruleOfRow [] row .body)) (weight known (ruleOfRow [] row .heads))
               (three .1),
         )
 
-    of-rule : (c : Constraint) → isOfRule declaredTable c ≡ true → (isDeclared declaredTable c ≡ true) × (isLettered c ≡ true)
+    of-rule : (c : Constraint) → isOfRule known c ≡ true → (isDeclared known c ≡ true) × (isLettered c ≡ true)
     unfolding isOfRule isLettered
-    of-rule c h = and-true (isDeclared declaredTable c) (every (isBelow alphabet) (c .terms)) h
+    of-rule c h = and-true (isDeclared known c) (every (isBelow alphabet) (c .terms)) h
 
-    of-body : (c : Constraint) → isOfRule declaredTable c ≡ true → (isLow c && isLettered c) ≡ true
+    of-body : (c : Constraint) → isOfRule known c ≡ true → (isLow c && isLettered c) ≡ true
     of-body c h = rw (declared-low c (of-rule c h .0), of-rule c h .1)
 
     of-equations :
@@ -190,8 +176,8 @@ module _ (names symbols : List ℕ) (s : ℕ) (rules : List ℕ) (n : ℕ) (r : 
           size = length-take-le 64 (drop (64 * i) rules) (omega (arith, r .size, length-drop (64 * i) rules));
           heads-few = r .heads-few i l;
           body-few = r .body-few i l;
-          heads = every-weaker (isOfRule declaredTable) isLettered (ruleOfRow [] row .heads) (λ c h. of-rule c h .1) (parts .0);
-          body = every-weaker (isOfRule declaredTable) (λ (c : Constraint). isLow c && isLettered c) (ruleOfRow [] row .body) of-body
+          heads = every-weaker (isOfRule known) isLettered (ruleOfRow [] row .heads) (λ c h. of-rule c h .1) (parts .0);
+          body = every-weaker (isOfRule known) (λ (c : Constraint). isLow c && isLettered c) (ruleOfRow [] row .body) of-body
               (parts .1);
           equations = every-both (λ (e : Equation). isBelow alphabet (e .left) && isBelow alphabet (e .right))
               (λ (e : Equation). isUsed (e .left) && isUsed (e .right)) (λ (e : Equation). isSide (e .left) && isSide
@@ -202,9 +188,9 @@ module _ (names symbols : List ℕ) (s : ℕ) (rules : List ℕ) (n : ℕ) (r : 
     falls : weightBy weigh (ruleOfRow [] row .body) < weightBy weigh (ruleOfRow [] row .heads)
     falls =
         let body = weight-same (ruleOfRow [] row .body)
-        (every-weaker (isOfRule declaredTable) (isDeclared declaredTable) (ruleOfRow [] row .body) (λ c h. of-rule c h .0) (parts .1)) in
+        (every-weaker (isOfRule known) (isDeclared known) (ruleOfRow [] row .body) (λ c h. of-rule c h .0) (parts .1)) in
         let heads = weight-same (ruleOfRow [] row .heads)
-        (every-weaker (isOfRule declaredTable) (isDeclared declaredTable) (ruleOfRow [] row .heads) (λ c h. of-rule c h .0) (parts .0)) in
+        (every-weaker (isOfRule known) (isDeclared known) (ruleOfRow [] row .heads) (λ c h. of-rule c h .0) (parts .0)) in
         omega (arith, parts .3, body, heads)
 
   -- the engine runs the rules of such a table
@@ -217,18 +203,18 @@ module _ (names symbols : List ℕ) (s : ℕ) (rules : List ℕ) (n : ℕ) (r : 
 
   module _ (g : Goal) (is-goal : isGoalOf (programOf names symbols s rules n) g ≡ true) (cells : List ℕ) (m : ℕ)
       (holds : storeOf cells m ≡ g .constraints) where
-    declared : every (isDeclared declaredTable) (g .constraints) ≡ true
+    declared : every (isDeclared known) (g .constraints) ≡ true
     unfolding isGoalOf programOf
     declared =
-        every-weaker (λ (c : Constraint). isDeclared declaredTable c && every (isBelow (g .variables)) (c .terms)) (isDeclared declaredTable)
-        (g .constraints) (λ c h. and-true (isDeclared declaredTable c) (every (isBelow (g .variables)) (c .terms)) h .0) is-goal
+        every-weaker (λ (c : Constraint). isDeclared known c && every (isBelow (g .variables)) (c .terms)) (isDeclared known)
+        (g .constraints) (λ c h. and-true (isDeclared known c) (every (isBelow (g .variables)) (c .terms)) h .0) is-goal
 
-    weighs : weightBy weigh (storeOf cells m) ≡ weight declaredTable (g .constraints)
+    weighs : weightBy weigh (storeOf cells m) ≡ weight known (g .constraints)
     weighs = rw holds (weight-same (g .constraints) declared)
 
     -- a goal of weight at most 512 can be run
     pub goal-starts :
-        weight declaredTable (g .constraints) ≤ 512 → g .variables ≤ 51000 → 2590 ≤ length cells → m ≤ 518
+        weight known (g .constraints) ≤ 512 → g .variables ≤ 51000 → 2590 ≤ length cells → m ≤ 518
         → Startable rules n cells m (g .variables)
     unfolding weigh
     goal-starts light few space there =
@@ -237,7 +223,7 @@ module _ (names symbols : List ℕ) (s : ℕ) (rules : List ℕ) (n : ℕ) (r : 
           space = space;
           there = there;
           room = few;
-          low = rw holds (every-weaker (isDeclared declaredTable) isLow (g .constraints) declared-low declared);
+          low = rw holds (every-weaker (isDeclared known) isLow (g .constraints) declared-low declared);
           weigh = weigh;
           positive = λ k. omega arith;
           lowers = read-lowers;
@@ -253,4 +239,4 @@ module _ (names symbols : List ℕ) (s : ℕ) (rules : List ℕ) (n : ℕ) (r : 
         ≡ run (programOf names symbols s rules n) g
     unfolding run entered programOf
     goal-runs bound bound′ cells′ alive count number firings b e =
-        e .same names (weight declaredTable (g .constraints)) (omega (arith, weighs, e .bounded weigh read-lowers)) ∙ rw (b, holds)
+        e .same names (weight known (g .constraints)) (omega (arith, weighs, e .bounded weigh read-lowers)) ∙ rw (b, holds)

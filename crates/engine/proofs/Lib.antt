@@ -4,6 +4,7 @@ pub mod MatchLaws
 pub mod OpposeLaws
 pub mod SearchLaws
 pub mod ChooseLaws
+pub mod PositionLaws
 pub mod SolveLaws
 pub mod FireLaws
 pub mod RuleLaws

@@ -1,17 +1,19 @@
 -- The derivation on cells is the derivation on states; it ends by every weighing, and keeps within its arrays.
+--   ended-after      its end from a state that took any number of firings
+--   Running, …       a law for each turn of the loop
 -- Assumes nothing.
 use Prim.Native.Nat.{ℕ, zero, suc, _+_, _-_, _*_, _≤_, _<_}
 use native.Mathlib.Omega.{arith}
 use native.Mathlib.Numerals.{add-one}
 use mathlib.Core.Bool.{Bool, true, false, cond}
 use mathlib.Core.List.{List, [], _∷_, map}
-use mathlib.Core.Option.{none, some}
-use mathlib.Core.Path.{_≡_, refl, sym, _∙_}
+use mathlib.Core.Option.{Option, none, some}
+use mathlib.Core.Path.{_≡_, refl, sym, ap, _∙_}
 use lib.ListN.{length, take}
 use lib.Seq.{length-take-le}
-use Rattle.text.specs.Lists.{every}
+use Rattle.text.specs.Lists.{onward, every}
 use Rattle.semantics.specs.Terms.{Rule, State, failed, live}
-use Rattle.semantics.specs.Strategy.{advance, normalise}
+use Rattle.semantics.specs.Strategy.{Final, advance, normalise}
 use Rattle.tables.specs.Cells.{cellTerm, cellConstraints, isLow, stateOf}
 use Rattle.tables.specs.Rows.{rulesOf}
 use Rattle.engine.specs.Runs.{weightBy, Lowers, storeOf, Live, Stepped, Startable, Ended}
@@ -57,6 +59,40 @@ normalise-moves k rs s t f e = rw e
 failed-rests : (rs : List Rule) → advance rs failed ≡ none
 unfolding advance
 failed-rests rs = refl
+
+-- firings before a derivation are counted with its own
+normalise-after :
+    (k : ℕ) (rs : List Rule) (s : State) (f g : ℕ)
+    → normalise k rs s (f + g) ≡ record { state = normalise k rs s g .state; firings = f + normalise k rs s g .firings }
+unfolding normalise
+normalise-after zero rs s f g = refl
+normalise-after (suc k) rs s f g = go (advance rs s) (λ t. normalise-after k rs t f (suc g))
+  where
+    go : (o : Option State)
+        → ((t : State) → normalise k rs t (f + suc g)
+        ≡ record { state = normalise k rs t (suc g) .state; firings = f + normalise k rs t (suc g) .firings })
+        → onward o (record { state = s; firings = f + g }) (λ t. normalise k rs t (suc (f + g)))
+        ≡ record {
+          state = onward o (record { state = s; firings = g }) (λ t. normalise k rs t (suc g)) .state;
+          firings = f + onward o (record { state = s; firings = g }) (λ t. normalise k rs t (suc g)) .firings;
+        }
+    go none more = refl
+    go (some t) more =
+        let e : suc (f + g) ≡ f + suc g = omega arith in
+        rw e (more t)
+
+-- the end of a derivation from a state that took f firings
+pub ended-after :
+    (rules : List ℕ) (n : ℕ) (bound cells : List ℕ) (m next : ℕ) (bound′ cells′ : List ℕ) (alive : Bool) (count number firings : ℕ)
+    → Ended rules n bound cells m next bound′ cells′ alive count number firings
+    → (names : List ℕ) (fuel f : ℕ) → firings ≤ fuel
+    → record { state = stateOf alive number bound′ (take (5 * count) cells′); firings = f + firings }
+    ≡ normalise fuel (rulesOf names rules n) (live next (map cellTerm bound) (storeOf cells m)) f
+ended-after rules n bound cells m next bound′ cells′ alive count number firings e names fuel f h =
+    let start = live next (map cellTerm bound) (storeOf cells m) in
+    let zero-more : f + 0 ≡ f = omega arith in
+    ap (λ (x : Final). record { state = x .state; firings = f + x .firings }) (e .same names fuel h)
+    ∙ sym (normalise-after fuel (rulesOf names rules n) start f 0) ∙ rw zero-more
 
 module _ (rules : List ℕ) (n : ℕ) (bound cells : List ℕ) (m next : ℕ) where
   -- the state so far, after some firings, has the end of the state at the start

@@ -19,7 +19,7 @@ use Rattle.tables.specs.Cells.{cellConstraints, rowConstraint}
 use Rattle.engine.specs.Cells.{assigned, fitOf, mayFit, Rows, Matched}
 use Rattle.engine.specs.Places.{isLettered, foundOf, Seeking, Located}
 use Rattle.engine.proofs.OpposeLaws.{may-not}
-use Rattle.tables.proofs.CellLaws.{every-first, every-rest, constraints-at}
+use Rattle.tables.proofs.CellLaws.{every-first, every-rest, constraints-at, constraints-short}
 
 -- the chosen positions from i on hold p where all of them do
 pub record Looking (chosen : List ℕ) (h p i : ℕ) : Type 0 where
@@ -75,19 +75,19 @@ answer heads h cells chosen bindings =
     find (cellConstraints (drop (5 * h) heads)) (cellConstraints cells) (take h chosen) (assigned bindings)
 
 -- the positions from p on give the answer for all of them
-pub record Sought (heads : List ℕ) (h : ℕ) (cells : List ℕ) (m : ℕ) (chosen bindings : List ℕ) (p : ℕ) : Type 0 where
-  pub within : p ≤ m
+pub record Sought (heads : List ℕ) (h : ℕ) (cells chosen bindings : List ℕ) (p : ℕ) : Type 0 where
+  pub within : 5 * p ≤ length cells
   pub same :
       firstIn p (cellConstraints (drop (5 * p) cells)) (attempt heads h cells chosen bindings)
       ≡ answer heads h cells chosen bindings
 
 -- nothing either way is nothing
-cond-none : {A : Type 0} (t : Bool) → _≡_ {A = Option A} (cond t none none) none
+pub cond-none : {A : Type 0} (t : Bool) → _≡_ {A = Option A} (cond t none none) none
 cond-none true = refl
 cond-none false = refl
 
 -- a test before the first answer is a test before the second
-cond-bind :
+pub cond-bind :
     {A B : Type 0} (t : Bool) (o : Option A) (k : A → Option B) → cond t none (bind o k) ≡ bind (cond t none o) k
 cond-bind true o k = refl
 cond-bind false o k = refl
@@ -107,7 +107,7 @@ module _ (n left : ℕ) where
   abbrev h : ℕ
   h = n - left
 
-  module _ (heads cells : List ℕ) (m : ℕ) (chosen bindings : List ℕ) (s : Seeking heads n left cells m chosen bindings) where
+  module _ (heads cells chosen bindings : List ℕ) (s : Seeking heads n left chosen bindings) where
     -- all heads have their positions
     pub seek-done : left ≡ 0 → Located true n chosen bindings (answer heads h cells chosen bindings)
     unfolding find foundOf cellConstraints
@@ -141,35 +141,34 @@ module _ (n left : ℕ) where
       further = omega (arith, s .there)
 
       -- what the next head's search asks
-      pub seek-next : (q : ℕ) (b : List ℕ) → length b ≡ 26 → Seeking heads n (left - 1) cells m (set chosen h q) b
+      pub seek-next : (q : ℕ) (b : List ℕ) → length b ≡ 26 → Seeking heads n (left - 1) (set chosen h q) b
       seek-next q b k =
           record {
             heads-size = s .heads-size;
             few = s .few;
             there = omega (arith, s .there);
-            cells-size = s .cells-size;
             chosen-size = length-set chosen h q ∙ s .chosen-size;
             bindings-size = k;
             letters = rw further letters-later;
           }
 
       -- the search tries the constraints one after the other
-      pub seek-start : Sought heads h cells m chosen bindings 0
+      pub seek-start : Sought heads h cells chosen bindings 0
       unfolding find
       seek-start = record { within = omega arith; same = rw heads-here }
 
-      module _ (p : ℕ) (w : Sought heads h cells m chosen bindings p) where
+      module _ (p : ℕ) (w : Sought heads h cells chosen bindings p) where
         -- no position is left
-        pub seek-none : m ≤ p → Located false n chosen bindings (answer heads h cells chosen bindings)
+        pub seek-none : length cells < 5 * p + 5 → Located false n chosen bindings (answer heads h cells chosen bindings)
         unfolding firstIn foundOf cellConstraints
         seek-none k =
             record {
-              same = rw (drop-of-length-le cells {i = 5 * p} (omega (arith, s .cells-size))) at (w .same);
+              same = rw (constraints-short cells p k) at (w .same);
               positions-size = s .chosen-size;
               bindings-size = s .bindings-size;
             }
 
-        module _ (k : p < m) where
+        module _ (k : 5 * p + 5 ≤ length cells) where
           abbrev this : Constraint
           this = rowConstraint (take 5 (drop (5 * p) cells))
 
@@ -178,16 +177,16 @@ module _ (n left : ℕ) where
               (firstIn (suc p) (cellConstraints (drop (5 * suc p) cells)) (attempt heads h cells chosen bindings))
               ≡ answer heads h cells chosen bindings
           unfolding firstIn
-          split = rw (constraints-at cells p (omega (arith, s .cells-size))) at (w .same)
+          split = rw (constraints-at cells p k) at (w .same)
 
           -- the position does not help
-          skip : attempt heads h cells chosen bindings p this ≡ none → Sought heads h cells m chosen bindings (p + 1)
-          skip e = rw (add-one p) (record { within = k; same = rw e at split })
+          skip : attempt heads h cells chosen bindings p this ≡ none → Sought heads h cells chosen bindings (p + 1)
+          skip e = rw (add-one p) (record { within = omega arith; same = rw e at split })
 
           -- the head does not fit the constraint there
           pub seek-unfit :
               (f : Bool) → f ≡ mayFit bindings (lent heads h) (lent cells p) → f ≡ false
-              → Sought heads h cells m chosen bindings (p + 1)
+              → Sought heads h cells chosen bindings (p + 1)
           seek-unfit f g e =
               let none-here : matchConstraint (headAt heads h) this (assigned bindings) ≡ none =
               rw (five h, five p) at (may-not (lent heads h) (lent cells p) bindings (sym g ∙ e)) in
@@ -198,7 +197,7 @@ module _ (n left : ℕ) where
           seek-rows =
               record {
                 head-size = lent-size heads h (omega (arith, s .heads-size, below));
-                constraint-size = lent-size cells p (omega (arith, s .cells-size));
+                constraint-size = lent-size cells p k;
                 bindings-size = s .bindings-size;
                 letters = rw (five h) letters-here;
               }
@@ -216,7 +215,7 @@ module _ (n left : ℕ) where
             fitting = cond-bind (has p (take h chosen)) (matchConstraint (headAt heads h) this (assigned bindings)) _
 
             -- the head does not fit there
-            pub seek-misfit : f ≡ false → Sought heads h cells m chosen bindings (p + 1)
+            pub seek-misfit : f ≡ false → Sought heads h cells chosen bindings (p + 1)
             unfolding fitOf
             seek-misfit z = skip (fitting ∙ rw (← t .same, z))
 
@@ -233,7 +232,7 @@ module _ (n left : ℕ) where
               u = rw further at later
 
               -- the later heads find no positions
-              pub seek-dead : g ≡ false → Sought heads h cells m chosen bindings (p + 1)
+              pub seek-dead : g ≡ false → Sought heads h cells chosen bindings (p + 1)
               unfolding foundOf
               seek-dead y = skip (tried z ∙ rw (← u .same, y))
 

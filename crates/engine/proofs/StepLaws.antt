@@ -6,7 +6,7 @@ use mathlib.Core.Bool.{Bool, true, false, cond}
 use mathlib.Core.List.{List, [], _++_, map}
 use mathlib.Core.Option.{Option, none, some}
 use mathlib.Core.Path.{_≡_, refl, ap, sym, _∙_}
-use lib.ListN.{length, getD, take, drop}
+use lib.ListN.{length, getD, take}
 use lib.Seq.{length-take-le}
 use Rattle.semantics.specs.Terms.{Term, Constraint, live, mapTerms, mapSides}
 use Rattle.semantics.specs.Matching.{unassigned}
@@ -49,10 +49,9 @@ module _ (rules : List ℕ) (n : ℕ) (cells : List ℕ) (m next : ℕ) (s : Liv
   pub step-lent : 5 * m ≡ length (take (5 * m) cells)
   step-lent = sym (length-take-le (5 * m) cells (omega (arith, s .space)))
 
-  -- the choice may be lent any first rules of the table
-  pub step-chooses : (k : ℕ) → k ≤ n → Table rules k × (length (take (5 * m) cells) ≡ 5 * m)
-  step-chooses k h =
-      (record { size = omega (arith, s .table .size); rows = λ i l. s .table .rows i (omega arith) }, sym step-lent)
+  -- what the choice asks
+  pub step-chooses : Table rules n
+  step-chooses = s .table
 
   module _ (f : Bool) (i : ℕ) (ps b : List ℕ) (chosen : Chosen rules n (take (5 * m) cells) f i ps b) where
     -- no rule fits

@@ -14,7 +14,7 @@ use lib.Dec.{eqb, ltb}
 use lib.ListN.{length, getD, drop}
 use lib.Seq.{paste}
 use Rattle.text.specs.Lists.{every}
-use Rattle.semantics.specs.Terms.{Constraint, isBelow, alphabet}
+use Rattle.semantics.specs.Terms.{isBelow, alphabet}
 use Rattle.semantics.specs.Matching.{Assignment}
 use Rattle.tables.specs.Layout.{firstVariable, constraintSize}
 use Rattle.tables.specs.Cells.{cellTerm, rowConstraint}

@@ -29,12 +29,11 @@ unfoldable pub foundOf : Bool → ℕ → List ℕ → List ℕ → Option Match
 foundOf found n positions bindings =
     cond found (some (record { positions = take n positions; assignment = assigned bindings })) none
 
--- n heads and m constraints of five cells each, positions for the heads before those left, and letters for the others' variables
-pub record Seeking (heads : List ℕ) (n left : ℕ) (cells : List ℕ) (m : ℕ) (chosen bindings : List ℕ) : Type 0 where
+-- n heads of five cells each, positions for the heads before those left, and letters for the others' variables
+pub record Seeking (heads : List ℕ) (n left : ℕ) (chosen bindings : List ℕ) : Type 0 where
   pub heads-size : length heads ≡ constraintSize * n
   pub few : n ≤ 4
   pub there : left ≤ n
-  pub cells-size : length cells ≡ constraintSize * m
   pub chosen-size : length chosen ≡ 4
   pub bindings-size : length bindings ≡ 26
   pub letters : every isLettered (cellConstraints (drop (constraintSize * (n - left)) heads)) ≡ true

@@ -5,13 +5,13 @@
 --   Fires, Fired                a firing
 -- Assumes nothing.
 use Prim.Native.Nat.{ℕ, _+_, _*_, _≤_}
-use mathlib.Core.Bool.{Bool, true, cond, not}
+use mathlib.Core.Bool.{Bool, true, not}
 use mathlib.Core.List.{List, [], _++_, map}
 use mathlib.Core.Path.{_≡_}
 use lib.Dec.{leb}
 use lib.ListN.{length, take, getD}
 use Rattle.text.specs.Lists.{every}
-use Rattle.semantics.specs.Terms.{State, failed, live, mapTerms, mapSides}
+use Rattle.semantics.specs.Terms.{mapTerms, mapSides}
 use Rattle.semantics.specs.Solving.{solve}
 use Rattle.semantics.specs.Firing.{without, instance, settle, fired}
 use Rattle.tables.specs.Layout.{constraintSize, headsCell, bodyCell}
@@ -49,7 +49,8 @@ pub record Appended (row bindings : List ℕ) (next : ℕ) (cells cells′ : Lis
   pub count : after ≡ k + getD row bodyCell 0
   pub same :
       cellConstraints (take (constraintSize * after) cells′)
-      ≡ cellConstraints (take (constraintSize * k) cells) ++ map (mapTerms (instance next (assigned bindings))) (ruleOfRow [] row .body)
+      ≡ cellConstraints (take (constraintSize * k) cells) ++ map (mapTerms (instance next (assigned bindings)))
+      (ruleOfRow [] row .body)
 
 -- what solving a rule's equations asks
 pub record Equated (row bindings : List ℕ) (next : ℕ) (cells : List ℕ) : Type 0 where

@@ -3,6 +3,7 @@ use crate::firing::fire;
 use crate::search::choose;
 use tables::layout::CONSTRAINT_SIZE;
 use tables::layout::ROW_SIZE;
+ghost use Rattle.tables.specs.Rows.{rulesIn};
 ghost use Rattle.engine.specs.Runs.{Live, Stepped, Startable, Ended};
 
 // Whether a rule fired, whether the state lives on, and how many constraints it has then.
@@ -13,20 +14,13 @@ pub struct Step {
 }
 
 // The strategy's firing, if a rule fits.
-pub fn advance(
-    rules: &[u16],
-    n: usize,
-    bound: &mut [u16],
-    cells: &mut [u16],
-    m: usize,
-    next: u16,
-) -> Step
-    requires { ⌜ Live (now rules) n (now cells) m next ⌝ }
-    ensures { λ r. ⌜ Stepped (now (rules .entry)) n (now (bound .entry)) (now (cells .entry)) m next
+pub fn advance(rules: &[u16], bound: &mut [u16], cells: &mut [u16], m: usize, next: u16) -> Step
+    requires { ⌜ Live (now rules) (rulesIn (now rules)) (now cells) m next ⌝ }
+    ensures { λ r. ⌜ Stepped (now (rules .entry)) (rulesIn (now (rules .entry))) (now (bound .entry)) (now (cells .entry)) m next
         (now (bound .exit)) (now (cells .exit)) (r .fired) (r .alive) (r .count) ⌝ }
 {
     let e = CONSTRAINT_SIZE * m;
-    let choice = choose(rules, n, &cells[..e], m);
+    let choice = choose(rules, &cells[..e]);
     if !choice.found {
         return Step {
             fired: false,
@@ -55,17 +49,10 @@ pub struct Final {
     pub firings: usize,
 }
 
-// The derivation to its end, from a live state of m constraints.
-pub fn normalise(
-    rules: &[u16],
-    n: usize,
-    bound: &mut [u16],
-    cells: &mut [u16],
-    m: usize,
-    next: u16,
-) -> Final
-    requires { ⌜ Startable (now rules) n (now cells) m next ⌝ }
-    ensures { λ r. ⌜ Ended (now (rules .entry)) n (now (bound .entry)) (now (cells .entry)) m next
+// The derivation to its end by the rules of a table, from a live state of m constraints.
+pub fn normalise(rules: &[u16], bound: &mut [u16], cells: &mut [u16], m: usize, next: u16) -> Final
+    requires { ⌜ Startable (now rules) (rulesIn (now rules)) (now cells) m next ⌝ }
+    ensures { λ r. ⌜ Ended (now (rules .entry)) (rulesIn (now (rules .entry))) (now (bound .entry)) (now (cells .entry)) m next
         (now (bound .exit)) (now (cells .exit)) (r .alive) (r .count) (r .next) (r .firings) ⌝ }
 {
     let mut alive = true;
@@ -73,7 +60,7 @@ pub fn normalise(
     let mut number = next;
     let mut firings = 0;
     while alive {
-        let step = advance(rules, n, bound, cells, count, number);
+        let step = advance(rules, bound, cells, count, number);
         if !step.fired {
             return Final {
                 alive: true,

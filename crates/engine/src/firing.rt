@@ -83,7 +83,8 @@ pub fn remove(cells: &mut [u16], m: usize, positions: [usize; 4], n: usize) -> u
 
 // Appends a rule's body behind k constraints; answers how many there are then.
 pub fn append_body(row: &[u16], bindings: &[u16], next: u16, cells: &mut [u16], k: usize) -> usize
-    requires { ⌜ Row (now row) × (length (now bindings) ≡ 26) × (next ≤ 65000) × (constraintSize * k + 30 ≤ length (now cells)) ⌝ }
+    requires { ⌜ Row (now row) × (length (now bindings) ≡ 26) × (next ≤ 65000)
+        × (constraintSize * k + 30 ≤ length (now cells)) ⌝ }
     ensures { λ r. ⌜ Appended (now (row .entry)) (now (bindings .entry)) next (now (cells .entry)) (now (cells .exit)) k r ⌝ }
 {
     let n = wide(row[BODY_CELL]);

@@ -3,5 +3,6 @@
 pub mod derivation;
 pub mod firing;
 pub mod matching;
+pub mod positions;
 pub mod search;
 pub mod solving;

@@ -18,7 +18,7 @@ ghost use Rattle.semantics.specs.Matching.{matchConstraint, unassigned};
 ghost use Rattle.semantics.specs.Strategy.{find};
 ghost use Rattle.tables.specs.Layout.{constraintSize, headsCell};
 ghost use Rattle.tables.specs.Cells.{cellConstraints, rowConstraint};
-ghost use Rattle.tables.specs.Rows.{ruleOfRow};
+ghost use Rattle.tables.specs.Rows.{ruleOfRow, rulesIn};
 ghost use Rattle.engine.specs.Cells.{assigned, Rows, Matched};
 ghost use Rattle.engine.specs.Places.{Seeking, Located, Row, Table, Chosen};
 
@@ -73,11 +73,10 @@ pub fn find(
     n: usize,
     left: usize,
     cells: &[u16],
-    m: usize,
     chosen: [usize; 4],
     bindings: [u16; 26],
 ) -> Found
-    requires { ⌜ Seeking (now heads) n left (now cells) m chosen bindings ⌝ }
+    requires { ⌜ Seeking (now heads) n left chosen bindings ⌝ }
     ensures { λ r. ⌜ Located (r .found) n (r .positions) (r .bindings)
         (find (cellConstraints (drop (constraintSize * (n - left)) (now (heads .entry)))) (cellConstraints (now (cells .entry)))
         (take (n - left) chosen) (assigned bindings)) ⌝ }
@@ -94,7 +93,7 @@ pub fn find(
     let e = a + CONSTRAINT_SIZE;
     let head = &heads[a..e];
     let mut p = 0;
-    while p < m {
+    while CONSTRAINT_SIZE * p + CONSTRAINT_SIZE <= cells.len() {
         let q = p;
         let b = CONSTRAINT_SIZE * q;
         let d = b + CONSTRAINT_SIZE;
@@ -105,7 +104,7 @@ pub fn find(
                 let mut more = chosen;
                 more[h] = q;
                 let settled = fit.bindings;
-                let found = find(heads, n, left - 1, cells, m, more, settled);
+                let found = find(heads, n, left - 1, cells, more, settled);
                 if found.found {
                     return found;
                 }
@@ -128,26 +127,27 @@ pub struct Choice {
 }
 
 // Positions for all heads of a rule.
-pub fn find_rule(row: &[u16], cells: &[u16], m: usize) -> Found
-    requires { ⌜ Row (now row) × (length (now cells) ≡ constraintSize * m) ⌝ }
+pub fn find_rule(row: &[u16], cells: &[u16]) -> Found
+    requires { ⌜ Row (now row) ⌝ }
     ensures { λ r. ⌜ Located (r .found) (getD (now (row .entry)) headsCell 0) (r .positions) (r .bindings)
         (find (ruleOfRow [] (now (row .entry)) .heads) (cellConstraints (now (cells .entry))) [] unassigned) ⌝ }
 {
     let n = wide(row[HEADS_CELL]);
     let e = FIRST_HEAD + CONSTRAINT_SIZE * n;
-    find(&row[FIRST_HEAD..e], n, n, cells, m, [0; 4], [0; 26])
+    find(&row[FIRST_HEAD..e], n, n, cells, [0; 4], [0; 26])
 }
 
-// The first rule that fits.
-pub fn choose(rules: &[u16], n: usize, cells: &[u16], m: usize) -> Choice
-    requires { ⌜ Table (now rules) n × (length (now cells) ≡ constraintSize * m) ⌝ }
-    ensures { λ r. ⌜ Chosen (now (rules .entry)) n (now (cells .entry)) (r .found) (r .number) (r .positions) (r .bindings) ⌝ }
+// The first rule of the table that fits.
+pub fn choose(rules: &[u16], cells: &[u16]) -> Choice
+    requires { ⌜ Table (now rules) (rulesIn (now rules)) ⌝ }
+    ensures { λ r. ⌜ Chosen (now (rules .entry)) (rulesIn (now (rules .entry))) (now (cells .entry))
+        (r .found) (r .number) (r .positions) (r .bindings) ⌝ }
 {
     let mut i = 0;
-    while i < n {
+    while ROW_SIZE * i + ROW_SIZE <= rules.len() {
         let a = ROW_SIZE * i;
         let e = a + ROW_SIZE;
-        let place = find_rule(&rules[a..e], cells, m);
+        let place = find_rule(&rules[a..e], cells);
         if place.found {
             let positions = place.positions;
             let bindings = place.bindings;
@@ -162,7 +162,7 @@ pub fn choose(rules: &[u16], n: usize, cells: &[u16], m: usize) -> Choice
     }
     Choice {
         found: false,
-        number: n,
+        number: i,
         positions: [0; 4],
         bindings: [0; 26],
     }

@@ -8,8 +8,8 @@ use mathlib.Core.List.{List, [], _∷_, _++_, append-assoc}
 use Prim.Native.Nat.{ℕ, zero, suc, _+_, _/_, _%_, _≤_, _<_}
 use native.Mathlib.Omega.{arith}
 use lib.Dec.{ltb}
-use lib.ListN.{length, length-append}
-use borrow.Author.Tests.{lt-ltb, le-ltb, ltb-true, ltb-false}
+use lib.ListN.{length}
+use borrow.Author.Tests.{lt-ltb, le-ltb, ltb-false}
 use Rattle.listing.specs.Listing.{decimalFrom, decimal}
 
 -- digits go in front of what stands behind
@@ -70,11 +70,3 @@ decimalFrom-few (suc f) n b = go (ltb n 10) (decimalFrom-few f (n / 10) ((48 + n
 pub decimal-few : (n : ℕ) → length (decimal n) ≤ suc n
 unfolding decimal
 decimal-few n = omega (arith, decimalFrom-few (suc n) n [])
-
--- and at least one
-pub decimal-some : (n : ℕ) → 1 ≤ length (decimal n)
-decimal-some n = go (ltb n 10) refl
-  where
-    go : (t : Bool) → ltb n 10 ≡ t → 1 ≤ length (decimal n)
-    go true e = rw (decimal-low n (ltb-true n 10 e)) (omega arith)
-    go false e = rw (decimal-high n (ltb-false n 10 e)) (omega (arith, length-append (decimal (n / 10)) ((48 + n % 10) ∷ [])))

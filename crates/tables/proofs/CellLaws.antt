@@ -2,20 +2,21 @@
 --   either, le-or-lt, every-first, every-rest      tests taken apart
 --   cell-low, cell-high       a cell below 256 is a constant, any other a variable
 --   same-cell                 two cells are the same term where they are the same cell
---   terms-none, terms-more, terms-end              the terms of cells from one on
+--   terms-none, terms-more                         the terms of cells from one on
 --   constraints-at, constraints-short              the constraints of cells from one on
+--   bound-start               the goal variables' cells at the start
 -- Assumes nothing.
-use Prim.Native.Nat.{ℕ, suc, _+_, _-_, _*_, _≤_, _<_}
+use Prim.Native.Nat.{ℕ, zero, suc, _+_, _-_, _*_, _≤_, _<_}
 use native.Mathlib.Omega.{arith}
 use mathlib.Core.Bool.{Bool, true, false}
-use mathlib.Core.List.{List, [], _∷_}
+use mathlib.Core.List.{List, [], _∷_, map, map-append}
 use mathlib.Core.Logic.{_⊎_, inl, inr, ⊎-elim}
 use mathlib.Core.Path.{_≡_, refl, sym, _∙_}
 use lib.Dec.{eqb, leb}
-use lib.ListN.{length, getD, take, drop, length-drop, drop-of-length-le}
+use lib.ListN.{length, getD, take, drop, length-drop}
 use lib.Seq.{drop-cons, drop-drop}
 use borrow.Author.Tests.{lt-ltb, le-ltb, eq-eqb, ne-eqb, eqb-true, eqb-false, leb-true, leb-false, ltb-true}
-use Rattle.text.specs.Lists.{every}
+use Rattle.text.specs.Lists.{every, tabled}
 use Rattle.semantics.specs.Terms.{con, var, sameTerm, isBelow, alphabet}
 use Rattle.semantics.proofs.Bools.{and-true}
 use Rattle.tables.specs.Cells.{cellTerm, cellTerms, rowConstraint, cellConstraints}
@@ -86,11 +87,6 @@ pub terms-more :
 unfolding cellTerms
 terms-more l i h e = rw (drop-cons l i 0 h, ne-eqb (getD l i 0) 0 e)
 
--- behind the last cell there is none
-pub terms-end : (l : List ℕ) (i : ℕ) → length l ≤ i → cellTerms (drop i l) ≡ []
-unfolding cellTerms
-terms-end l i h = rw (drop-of-length-le l h)
-
 -- five cells and more are a constraint and more
 constraints-five : (l : List ℕ) → 5 ≤ length l → cellConstraints l ≡ rowConstraint (take 5 l) ∷ cellConstraints (drop 5 l)
 unfolding cellConstraints rowConstraint
@@ -121,3 +117,11 @@ constraints-short l i h = few (drop (5 * i) l) (omega (arith, length-drop (5 * i
     few (k₀ ∷ a ∷ b ∷ []) k = refl
     few (k₀ ∷ a ∷ b ∷ c ∷ []) k = refl
     few (k₀ ∷ a ∷ b ∷ c ∷ d ∷ m) k = absurd (omega arith)
+
+-- each goal variable is itself at the start
+pub bound-start : (n : ℕ) → map cellTerm (tabled (λ (i : ℕ). 256 + i) n) ≡ tabled var n
+bound-start zero = refl
+bound-start (suc n) =
+    let back : 256 + n - 256 ≡ n = omega arith in
+    map-append cellTerm (tabled (λ (i : ℕ). 256 + i) n) ((256 + n) ∷ [])
+    ∙ rw (bound-start n, cell-high (256 + n) (omega arith), back)

@@ -8,25 +8,23 @@
 --   renumbers             the table gives every variable its place
 -- Assumes nothing.
 use mathlib.Core.Path.{_≡_, refl, sym, ap, _∙_, subst}
-use mathlib.Core.Bool.{Bool, true, false, cond, _||_, _&&_}
+use mathlib.Core.Bool.{Bool, true, false, cond, _||_}
 use mathlib.Core.List.{List, [], _∷_, _++_, map}
-use Prim.Native.Nat.{ℕ, zero, suc, _+_, _-_, _*_, _≤_, _<_}
+use Prim.Native.Nat.{ℕ, suc, _+_, _-_, _*_, _≤_, _<_}
 use native.Mathlib.Omega.{arith}
 use native.Mathlib.Numerals.{add-one}
 use borrow.Author.Tests.{eq-eqb, ne-eqb, eqb-true, eqb-false, lt-ltb, le-ltb, ltb-true}
 use lib.Dec.{eqb, ltb}
-use lib.ListN.{length, take, drop, getD, set, length-set, length-append, length-drop, length-take, drop-of-length-le}
+use lib.ListN.{length, take, drop, getD, set, length-append, length-take, drop-of-length-le}
 use lib.ListN.{List·getD-eq-default}
-use lib.Seq.{drop-cons, drop-drop, take-take, getD-set-same, getD-set-other}
+use lib.Seq.{drop-cons, drop-drop, getD-set-same, getD-set-other}
 use Rattle.text.specs.Lists.{has, every, placeFrom}
-use Rattle.semantics.specs.Terms.{Term, con, var, Constraint, mapTerms, isBelow}
-use Rattle.semantics.specs.Overlaps.{appearingIn, appearing, numbered}
+use Rattle.semantics.specs.Terms.{Term, con, var, Constraint, isBelow}
+use Rattle.semantics.specs.Overlaps.{appearingIn, appearing}
 use Rattle.semantics.proofs.Bools.{and-true}
 use Rattle.tables.specs.Cells.{cellTerm, cellTerms, rowConstraint, cellConstraints, isLow}
-use Rattle.tables.specs.Numbers.{usedCells, orderOf, newCell, Numbering, Numbered, RowsNumbered, renumberedCell, isWithin}
-use Rattle.tables.specs.Numbers.{Renumberable, Renumbered}
-use Rattle.tables.proofs.CellLaws.{cell-low, cell-high, le-or-lt, constraints-at, constraints-short}
-use Rattle.tables.proofs.MapLaws.{Acts, acts-constraints, acts-bound}
+use Rattle.tables.specs.Numbers.{usedCells, newCell, Numbering, Numbered, RowsNumbered, renumberedCell, isWithin}
+use Rattle.tables.proofs.CellLaws.{cell-low, cell-high, constraints-at, constraints-short}
 
 module _ (l : List ℕ) (i : ℕ) where
   -- how many cells stand before the first 0, one cell on
@@ -250,7 +248,8 @@ module _ (start : List ℕ) (before : ℕ) (cells table : List ℕ) (seen i : �
         left =
             and-true (isBelow (length start) (cellTerm (getD cells i 0)))
             (every (isBelow (length start)) (map cellTerm (drop (suc i) cells))) (rw (here l) at (w .left)) .1;
-        reach = λ order m. reach-more (cellTerm (getD cells i 0)) (map cellTerm (drop (suc i) cells)) (here l) n (w .reach order m);
+        reach = λ order m. reach-more (cellTerm (getD cells i 0)) (map cellTerm (drop (suc i) cells)) (here l) n
+            (w .reach order m);
       })
 
   pub counting-end : length cells ≤ i → Numbered (map cellTerm cells) (length cells) start table before seen
@@ -299,7 +298,8 @@ terms-cut cells i =
     behind [] = refl
     behind (x ∷ l) = refl
 
-module _ (start : List ℕ) (before : ℕ) (cells table : List ℕ) (seen i : ℕ) (w : CountingRows start before cells table seen i) where
+module _ (start : List ℕ) (before : ℕ) (cells table : List ℕ) (seen i : ℕ)
+    (w : CountingRows start before cells table seen i) where
   row : List ℕ
   row = take 5 (drop (5 * i) cells)
 
@@ -326,7 +326,12 @@ module _ (start : List ℕ) (before : ℕ) (cells table : List ℕ) (seen i : �
       (and-true (isLow (rowConstraint row)) (every (isBelow (length start)) (rowConstraint row .terms)) (first-within l .0) .1)
 
   pub lent-few : (n : ℕ) → length (take n (lentTerms cells i)) ≤ 4
-  lent-few n = omega (arith, length-take n (lentTerms cells i), length-take (((5 * i + 1) + 4) - (5 * i + 1)) (drop (5 * i + 1) cells))
+  lent-few n = omega (
+    arith,
+    length-take n (lentTerms cells i),
+    length-take (((5 * i + 1) + 4) - (5 * i + 1)) (drop
+        (5 * i + 1) cells),
+  )
 
   pub rows-next : (n : ℕ) (after : List ℕ) (count : ℕ) → 5 * i + 5 ≤ length cells → n ≡ usedCells (lentTerms cells i)
       → Numbered (map cellTerm (take n (lentTerms cells i))) (length (take n (lentTerms cells i))) table after seen count

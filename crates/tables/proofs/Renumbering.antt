@@ -4,16 +4,16 @@
 --   zeros          a table of zeros, of which v entries are lent: no variable has appeared
 -- Assumes nothing.
 use mathlib.Core.Path.{_≡_, refl, sym, ap, _∙_}
-use mathlib.Core.Bool.{Bool, true, false, _&&_}
+use mathlib.Core.Bool.{true, _&&_}
 use mathlib.Core.List.{List, [], _∷_, map}
 use mathlib.Core.Logic.{⊎-elim}
-use Prim.Native.Nat.{ℕ, zero, suc, _+_, _-_, _≤_, _<_}
+use Prim.Native.Nat.{ℕ, zero, suc, _+_, _-_, _≤_}
 use native.Mathlib.Omega.{arith}
 use borrow.Author.Tests.{eqb-true, eqb-false}
 use lib.Dec.{eqb}
 use lib.ListN.{length, take, getD}
 use Rattle.text.specs.Lists.{has, every, placeFrom}
-use Rattle.semantics.specs.Terms.{Term, con, var, Constraint, isBelow}
+use Rattle.semantics.specs.Terms.{var, Constraint, isBelow}
 use Rattle.semantics.specs.Overlaps.{appearingIn, appearing, numbered}
 use Rattle.semantics.proofs.Bools.{and-true}
 use Rattle.tables.specs.Cells.{cellTerm, cellConstraints, isLow}
@@ -40,12 +40,12 @@ module _ (order table : List ℕ) (count : ℕ) (n : Numbering order table count
   placed x h =
       ⊎-elim
       (λ high.
-          let place = placeFrom (eqb (x - 256)) 0 order in
-          let seen : has (x - 256) order ≡ true = rw (cell-high x high) at h in
-          let new : getD table (x - 256) 0 ≡ 256 + place = n .each (x - 256) ∙ new-seen order (x - 256) seen in
-          let found : 256 + place ≡ renumberedCell table x =
-          sym new ∙ cell-new table x (x - 256) refl high (λ e. omega (arith, e, new)) in
-          rw (← found, cell-high x high) (cell-high (256 + place) (omega arith) ∙ ap var (omega arith)))
+      let place = placeFrom (eqb (x - 256)) 0 order in
+      let seen : has (x - 256) order ≡ true = rw (cell-high x high) at h in
+      let new : getD table (x - 256) 0 ≡ 256 + place = n .each (x - 256) ∙ new-seen order (x - 256) seen in
+      let found : 256 + place ≡ renumberedCell table x =
+      sym new ∙ cell-new table x (x - 256) refl high (λ e. omega (arith, e, new)) in
+      rw (← found, cell-high x high) (cell-high (256 + place) (omega arith) ∙ ap var (omega arith)))
       (λ low. rw (← cell-below table x low, cell-low x low)) (le-or-lt 256 x)
 
   acts : Acts (varIn order) (renumberedCell table) (numbered order)
@@ -88,7 +88,8 @@ renumbers bound cells start one two bound′ cells′ v m seen count first secon
     }
 
 -- what numbering the constraints asks, after the goal variables' cells
-pub rows-asks : (v seen : ℕ) (table bound cells : List ℕ) → Renumberable v bound cells → length table ≡ v → seen ≤ 0 + length bound
+pub rows-asks : (v seen : ℕ) (table bound cells : List ℕ) → Renumberable v bound cells → length table ≡ v
+    → seen ≤ 0 + length bound
     → (every (isWithin (length table)) (cellConstraints cells) ≡ true) × (seen + length cells ≤ 65000)
 rows-asks v seen table bound cells r e h = (rw e (r .within), omega (arith, r .few))
 

@@ -5,9 +5,9 @@
 --   lettersOf                  the letters of a goal's variables
 -- A table of names holds the key of each name at its number: symbols from 0, constants from `firstConstant`, rules from
 -- `firstRule`, and 0 where no name has the number. Assumes nothing.
-use Prim.Native.Nat.{ℕ, _+_, _*_}
+use Prim.Native.Nat.{ℕ, _+_, _*_, _/_}
 use mathlib.Core.List.{List, [], _∷_}
-use lib.ListN.{take, drop, getD}
+use lib.ListN.{length, take, drop, getD}
 use Rattle.text.specs.Lists.{tabled}
 use Rattle.text.specs.Keys.{spell}
 use Rattle.semantics.specs.Terms.{Symbol, Rule}
@@ -50,6 +50,10 @@ ruleOfRow name row =
 -- the cells of rule i
 abbrev pub rowOf : List ℕ → ℕ → List ℕ
 rowOf rules i = take rowSize (drop (rowSize * i) rules)
+
+-- how many rules a table has room for
+abbrev pub rulesIn : List ℕ → ℕ
+rulesIn rules = length rules / rowSize
 
 -- rule i
 unfoldable pub ruleOf : List ℕ → List ℕ → ℕ → Rule

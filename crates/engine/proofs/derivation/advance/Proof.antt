@@ -17,7 +17,7 @@ slice-aggregate-choose : tie.Need-slice-aggregate-choose
 slice-aggregate-choose c = step-lent _ _ _ _ _ (c .before .before .before .before .pre)
 
 choose-requires : tie.Need-choose-requires
-choose-requires c κs = step-chooses _ _ _ _ _ (c .before .before .before .before .pre) _ (omega arith)
+choose-requires c κs = step-chooses _ _ _ _ _ (c .before .before .before .before .pre)
 
 same-length : tie.Need-same-length
 same-length c = search needs

@@ -4,17 +4,18 @@ use Prim.Native.Nat.{_-_}
 use borrow.Author.Needs.{needs}
 use borrow.Author.Tests.{not-true, not-false}
 use native.Mathlib.Omega.{arith}
+use Rattle.tables.specs.Rows.{rulesIn}
 use Rattle.engine.proofs.RunLaws.{Running, running-start, running-failed, running-live, running-rests, running-less}
 use Rattle.engine.proofs.RunLaws.{running-next}
 use Rattle.engine.proofs.derivation.normalise.Statement.{statement}
 use Rattle.engine.proofs.derivation.normalise.Tie as tie
 
 abbrev Inv-loop : tie.InvT-loop
-Inv-loop rules n bound₀ cells₀ m next alive₀ count₀ number₀ firings₀ bound cells alive count number firings = Running rules n
-    bound₀ cells₀ m next bound cells alive count number firings
+Inv-loop rules bound₀ cells₀ m next alive₀ count₀ number₀ firings₀ bound cells alive count number firings = Running rules
+    (rulesIn rules) bound₀ cells₀ m next bound cells alive count number firings
 
 abbrev μ-loop : tie.MeasureT-loop
-μ-loop rules n bound₀ cells₀ m next alive₀ count₀ number₀ firings₀ bound cells alive count number firings = 512 - firings
+μ-loop rules bound₀ cells₀ m next alive₀ count₀ number₀ firings₀ bound cells alive count number firings = 512 - firings
 
 loop-holds : tie.Need-loop-holds Inv-loop μ-loop
 loop-holds c = running-start _ _ _ _ _ _ (c .before .before .before .pre)

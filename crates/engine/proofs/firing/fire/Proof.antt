@@ -96,7 +96,8 @@ returns c =
     .remove in
     let append-body′ = c .before .before .before .before .before .before .before .before .before .append-body in
     let solve-rule′ = c .before .before .before .before .solve-rule in
-    fire-done _ _ _ _ _ _ _ pre′ (wide′ .ensures .0) _ _ (remove′ .kept .0) (remove′ .ensures) _ _ (append-body′ .kept .1 .1 .1 .0)
+    fire-done _ _ _ _ _ _ _ pre′ (wide′ .ensures .0) _ _ (remove′ .kept .0) (remove′ .ensures) _ _
+    (append-body′ .kept .1 .1 .1 .0)
     (append-body′ .ensures) _ _ _ _ (solve-rule′ .kept .1 .1 .1 .1 .0) (solve-rule′ .ensures)
 
 pub fire-spec : {M : Type 1} → statement M

@@ -6,6 +6,7 @@ use native.Mathlib.Omega.{arith}
 use borrow.Author.Needs.{needs}
 use borrow.Fn.Kinds.{In}
 use borrow.Fn.PlainCycle.{Measures, is, falls, and}
+use lib.ListN.{length}
 use Rattle.engine.proofs.SearchLaws.{Sought, seek-done, seek-start, seek-rows, seek-next, seek-found, seek-dead}
 use Rattle.engine.proofs.SearchLaws.{seek-misfit, seek-unfit, seek-none}
 use Rattle.engine.proofs.search.find.Reads as find
@@ -20,10 +21,10 @@ abbrev μ-find : Measures 2 find-kinds.ps ℕ
 μ-find κs a = a .1 .1 .0
 
 abbrev Inv : lts.InvT-loop
-Inv heads n left cells m chosen bindings h a e head p₀ p = Sought heads h cells m chosen bindings p
+Inv heads n left cells chosen bindings h a e head p₀ p = Sought heads h cells chosen bindings p
 
 abbrev μ : lts.MeasureT-loop
-μ heads n left cells m chosen bindings h a e head p₀ p = m - p
+μ heads n left cells chosen bindings h a e head p₀ p = length cells - p
 
 -- what is asked of `find` with t heads left, and what it knows of the functions that it calls
 abbrev Pre : ℕ → In 2 find-kinds.ps
@@ -40,7 +41,7 @@ module _ (t : ℕ) where
   returns c = search (needs, seek-done)
 
   loop-holds : lts.Need-loop-holds (calls t) (Pre t) find.Post Inv μ
-  loop-holds c = seek-start _ _ _ _ _ _ _ (c .before .before .before .before .pre .1) (c .before .if1 .left)
+  loop-holds c = seek-start _ _ _ _ _ _ (c .before .before .before .before .pre .1) (c .before .if1 .left)
 
   may-fit-requires : lts.Need-may-fit-requires (calls t) (Pre t) find.Post Inv μ
   may-fit-requires c κs = search (needs, seek-rows)
@@ -74,6 +75,8 @@ pub +find-spec : {M : Type 1} → statement M
     (λ c. omega arith) (λ c. omega arith) (λ c. omega arith) (λ c. omega arith)
     (λ c. omega arith) (λ c. omega arith) (λ c. omega arith)
     (loop-holds t)
+    -- the test
+    (λ c. omega arith) (λ c. omega arith)
     -- b, d, p and the constraint's cells
     (λ c. omega arith) (λ c. omega arith) (λ c. omega arith) (λ c. omega arith)
     (λ c. omega arith) (λ c. omega arith) (λ c. omega arith)

@@ -31,14 +31,14 @@ find-requires : tie.Need-find-requires
 find-requires c κs =
     let pre′ = c .before .before .before .before .before .pre in
     let wide′ = c .before .wide in
-    rule-seeking _ _ _ _ (pre′ .0) (pre′ .1) (wide′ .ensures .0)
+    rule-seeking _ (c .before .before .before .before .before .args .cells .now) _ pre′ (wide′ .ensures .0)
 
 returns : tie.Need-returns
 returns c =
     let pre′ = c .before .before .before .before .before .before .pre in
     let wide′ = c .before .before .wide in
     let find′ = c .find in
-    rule-located _ _ _ _ (pre′ .0) (pre′ .1) (wide′ .ensures .0) _ _ _ (find′ .ensures)
+    rule-located _ _ _ pre′ (wide′ .ensures .0) _ _ _ (find′ .ensures)
 
 pub find-rule-spec : {M : Type 1} → statement M
 find-rule-spec =

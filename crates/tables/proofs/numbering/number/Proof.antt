@@ -1,6 +1,5 @@
 -- `tables::numbering::number` meets its contract. Assumes nothing.
 use borrow.Author.Needs.{needs}
-use native.Mathlib.Omega.{arith}
 use Rattle.tables.proofs.Renumbering.{renumbers, rows-asks}
 use Rattle.tables.proofs.numbering.number.Statement.{statement}
 use Rattle.tables.proofs.numbering.number.Tie as tie
@@ -9,10 +8,11 @@ number-terms-requires : tie.Need-number-terms-requires
 number-terms-requires c κs = search needs
 
 number-rows-requires : tie.Need-number-rows-requires
-number-rows-requires c κs = 
+number-rows-requires c κs =
     let at-terms = c .before .before .before .before in
     let start = at-terms .before .before .before .before .before .before in
-    rows-asks _ _ (at-terms .number-terms .last .0) _ _ (start .pre .1) (at-terms .number-terms .kept .0) (at-terms .number-terms .ensures .few)
+    rows-asks _ _ (at-terms .number-terms .last .0) _ _ (start .pre .1) (at-terms .number-terms .kept .0)
+    (at-terms .number-terms .ensures .few)
 
 renumber-all-requires : tie.Need-renumber-all-requires
 renumber-all-requires c κs = search needs

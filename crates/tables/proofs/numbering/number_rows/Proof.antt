@@ -1,4 +1,5 @@
--- `tables::numbering::number_rows` meets its contract: from the variables so far, the constraints left lead to the whole order. Assumes nothing.
+-- `tables::numbering::number_rows` meets its contract: from the variables so far, the constraints left lead to the whole
+-- order. Assumes nothing.
 use borrow.Author.Needs.{needs}
 use mathlib.Core.Path.{sym}
 use Prim.Native.Nat.{_-_}
@@ -52,13 +53,14 @@ slice-aggregate-number-terms : tie.Need-slice-aggregate-number-terms Inv-loop μ
 slice-aggregate-number-terms c = sym (length-take-le _ _ (c .before .before .used .ensures .1))
 
 number-terms-requires : tie.Need-number-terms-requires Inv-loop μ-loop
-number-terms-requires c κs = 
+number-terms-requires c κs =
     let at-used = c .before .before in
     let at-test = at-used .before .before in
     let at-loop = at-test .before in
-    let w = at-loop .loop .inv in
-    (rows-asked _ _ _ _ _ _ w _ (at-test .loop-test .taken) (at-used .used .ensures .0),
-    omega (arith, w .few, at-test .loop-test .taken, lent-few _ _ _ _ _ _ w (at-used .used .result)))
+    let w = at-loop .loop .inv in (
+      rows-asked _ _ _ _ _ _ w _ (at-test .loop-test .taken) (at-used .used .ensures .0),
+      omega (arith, w .few, at-test .loop-test .taken, lent-few _ _ _ _ _ _ w (at-used .used .result)),
+    )
 
 add-i : tie.Need-add-i Inv-loop μ-loop
 add-i c = search needs

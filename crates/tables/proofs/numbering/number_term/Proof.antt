@@ -1,6 +1,6 @@
 -- `tables::numbering::number_term` meets its contract. Assumes nothing.
 use borrow.Author.Needs.{needs}
-use Prim.Native.Nat.{_-_, _<_}
+use Prim.Native.Nat.{_<_}
 use native.Mathlib.Omega.{arith}
 use lib.ListN.{length}
 use Rattle.tables.proofs.NumberLaws.{numbered-constant, numbered-old, numbered-new}

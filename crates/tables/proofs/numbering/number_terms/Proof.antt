@@ -1,4 +1,5 @@
--- `tables::numbering::number_terms` meets its contract: from the variables so far, the terms left lead to the whole order. Assumes nothing.
+-- `tables::numbering::number_terms` meets its contract: from the variables so far, the terms left lead to the whole order.
+-- Assumes nothing.
 use borrow.Author.Needs.{needs}
 use Prim.Native.Nat.{_-_}
 use native.Mathlib.Omega.{arith}
@@ -23,7 +24,7 @@ shared-slice-read-number-term : tie.Need-shared-slice-read-number-term Inv-loop 
 shared-slice-read-number-term c = search needs
 
 number-term-requires : tie.Need-number-term-requires Inv-loop μ-loop
-number-term-requires c κs = 
+number-term-requires c κs =
     let at-test = c .before .before in
     let at-loop = at-test .before in
     (counting-inside _ _ _ _ _ _ (at-loop .loop .inv) (at-test .loop-test .taken), omega (arith, at-loop .loop .inv .few))

@@ -27,7 +27,7 @@ slice-aggregate-number : tie.Need-slice-aggregate-number
 slice-aggregate-number c = sym (length-take-le _ _ (c .before .if1 .taken))
 
 number-requires : tie.Need-number-requires
-number-requires c κs = 
+number-requires c κs =
     let at-if = c .before .before .before in
     front _ _ (at-if .if1 .taken) refl (at-if .before .before .before .pre .0)
 
@@ -47,7 +47,7 @@ slice-aggregate-number-2 : tie.Need-slice-aggregate-number-2
 slice-aggregate-number-2 c = sym (length-take-le _ _ (c .before .before .before .before .pre .1))
 
 number-requires-2 : tie.Need-number-requires-2
-number-requires-2 c κs = 
+number-requires-2 c κs =
     let start = c .before .before .before .before .before .before in
     front _ _ (start .pre .1) refl (start .pre .0)
 

@@ -26,7 +26,7 @@ shared-slice-read-if1 : tie.Need-shared-slice-read-if1 Inv-loop μ-loop
 shared-slice-read-if1 c = search needs
 
 returns : tie.Need-returns Inv-loop μ-loop
-returns c = 
+returns c =
     let at-test = c .before .before in
     let at-loop = at-test .before in
     let cells = at-loop .before .args .cells .now in
@@ -39,15 +39,16 @@ loop-less : tie.Need-loop-less Inv-loop μ-loop
 loop-less c = search needs
 
 loop-again : tie.Need-loop-again Inv-loop μ-loop
-loop-again c = 
+loop-again c =
     let at-test = c .before .before in
     let at-loop = at-test .before in
-    let cells = at-loop .before .args .cells .now in
-    (omega arith,
-    rw add-one (omega (arith, used-step cells (at-loop .loop .i) (at-test .loop-test .taken) (c .if1 .left))))
+    let cells = at-loop .before .args .cells .now in (
+      omega arith,
+      rw add-one (omega (arith, used-step cells (at-loop .loop .i) (at-test .loop-test .taken) (c .if1 .left))),
+    )
 
 returns-2 : tie.Need-returns-2 Inv-loop μ-loop
-returns-2 c = 
+returns-2 c =
     let at-loop = c .before in
     let cells = at-loop .before .args .cells .now in
     (omega (arith, used-end cells (at-loop .loop .i) (c .loop-test .left)), omega arith)
