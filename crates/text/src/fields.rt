@@ -1,5 +1,5 @@
 // A line split into its fields in one pass, the only one that asks the class table.
-use crate::class_of;
+use crate::table::class_of;
 ghost use mathlib.Core.Path.{_≡_};
 ghost use mathlib.Core.Bool.{_||_};
 ghost use mathlib.Core.List.{List};

@@ -1,4 +1,4 @@
--- `text::is_goal_line` meets its contract: with fewer than 5 bytes left no such line stands there. Assumes nothing.
+-- `text::parting::is_goal_line` meets its contract: with fewer than 5 bytes left no such line stands there. Assumes nothing.
 use borrow.Author.Needs.{needs}
 use mathlib.Core.Path.{_≡_, ap, sym, _∙_}
 use mathlib.Core.List.{List}
@@ -11,8 +11,8 @@ use Rattle.text.specs.Lines.{goalLine}
 use Rattle.text.proofs.Laws.{same-lengths}
 use Rattle.text.proofs.Forms.{goal-length}
 use borrow.Author.Needs.{needs}
-use Rattle.text.proofs.is_goal_line.Statement.{statement}
-use Rattle.text.proofs.is_goal_line.Tie as tie
+use Rattle.text.proofs.parting.is_goal_line.Statement.{statement}
+use Rattle.text.proofs.parting.is_goal_line.Tie as tie
 
 sub-if1 : tie.Need-sub-if1
 sub-if1 c = search needs

@@ -1,4 +1,4 @@
--- `text::same_bytes` meets its contract: the bytes passed are equal, so the rest decides. Assumes nothing.
+-- `text::parting::same_bytes` meets its contract: the bytes passed are equal, so the rest decides. Assumes nothing.
 use borrow.Author.Needs.{needs}
 use mathlib.Core.Path.{_≡_, refl, sym, _∙_}
 use Prim.Native.Nat.{_≤_, _<_, _+_, _-_}
@@ -7,8 +7,8 @@ use native.Mathlib.Omega.{arith}
 use lib.ListN.{length, drop, getD}
 use Rattle.text.specs.Lists.{sameBytes}
 use Rattle.text.proofs.Laws.{same-lengths, same-fails, same-step, same-end}
-use Rattle.text.proofs.same_bytes.Statement.{statement}
-use Rattle.text.proofs.same_bytes.Tie as tie
+use Rattle.text.proofs.parting.same_bytes.Statement.{statement}
+use Rattle.text.proofs.parting.same_bytes.Tie as tie
 
 abbrev Inv-loop : tie.InvT-loop
 Inv-loop a b i₀ i = (length a ≡ length b) × (i ≤ length a) × (sameBytes (drop i a) (drop i b) ≡ sameBytes a b)

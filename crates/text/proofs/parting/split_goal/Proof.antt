@@ -1,4 +1,4 @@
--- `text::split_goal` meets its contract: what was passed is the program's, and the rest is parted from here on. Assumes nothing.
+-- `text::parting::split_goal` meets its contract: what was passed is the program's, and the rest is parted from here on. Assumes nothing.
 use borrow.Author.Needs.{needs}
 use mathlib.Core.Path.{_≡_, ap, sym, refl, _∙_}
 use mathlib.Core.Logic.{⊎-elim}
@@ -12,8 +12,8 @@ use Rattle.text.specs.Lists.{sameBytes}
 use Rattle.text.specs.Lines.{goalLine, Parts, partedFrom, parted}
 use Rattle.text.specs.Places.{behind}
 use Rattle.text.proofs.Forms.{parted-step, parted-found, parted-end, goal-room}
-use Rattle.text.proofs.split_goal.Statement.{statement}
-use Rattle.text.proofs.split_goal.Tie as tie
+use Rattle.text.proofs.parting.split_goal.Statement.{statement}
+use Rattle.text.proofs.parting.split_goal.Tie as tie
 
 abbrev Inv-loop : tie.InvT-loop
 Inv-loop s i₀ fresh₀ i fresh = (i ≤ length s) × (parted s ≡ behind (take i s) (partedFrom fresh (drop i s)))

@@ -1,4 +1,4 @@
--- `text::class_of` meets its contract: an entry of the table is the class of its number. Assumes nothing.
+-- `text::table::class_of` meets its contract: an entry of the table is the class of its number. Assumes nothing.
 use borrow.Author.Needs.{needs}
 use mathlib.Core.Path.{_≡_, ap, _∙_}
 use mathlib.Core.List.{List}
@@ -8,8 +8,8 @@ use lib.ListN.{length, getD}
 use Rattle.text.specs.Bytes.{classOf, classNumber}
 use Rattle.text.specs.Places.{classTable}
 use Rattle.text.proofs.Laws.{tabled-length, tabled-at}
-use Rattle.text.proofs.class_of.Statement.{statement}
-use Rattle.text.proofs.class_of.Tie as tie
+use Rattle.text.proofs.table.class_of.Statement.{statement}
+use Rattle.text.proofs.table.class_of.Tie as tie
 
 shared-slice-read-result : tie.Need-shared-slice-read-result
 unfolding classTable

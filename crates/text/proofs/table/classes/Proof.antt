@@ -1,11 +1,11 @@
--- `text::classes` meets its contract: the constant table is the table of the definition, which antt computes, entry by entry.
+-- `text::table::classes` meets its contract: the constant table is the table of the definition, which antt computes, entry by entry.
 -- Assumes nothing.
 use borrow.Author.Needs.{needs}
 use mathlib.Core.Path.{refl}
 use Rattle.text.specs.Bytes.{between, classOf, classNumber}
 use Rattle.text.specs.Places.{classTable}
-use Rattle.text.proofs.classes.Statement.{statement}
-use Rattle.text.proofs.classes.Tie as tie
+use Rattle.text.proofs.table.classes.Statement.{statement}
+use Rattle.text.proofs.table.classes.Tie as tie
 
 returns : tie.Need-returns
 unfolding between classOf classNumber classTable
