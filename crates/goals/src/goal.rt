@@ -115,7 +115,8 @@ fn goal_lines(
     GoalRead::Accepted(counts)
 }
 
-// A goal's text over the symbols and constants of a program: numbers 1 to 7, and 10. The symbols' table is lent as far as it is used.
+// A goal's text over the symbols and constants of a program: numbers 1 to 7, and 10. The table of symbols is lent as far as it is
+// used.
 pub fn read_goal(
     goal: &[u8],
     symbols: &[u16],

@@ -1,15 +1,14 @@
 -- Laws of names where they stand: those of a line of the program's text, and of the goal's.
 --   spelled-program, spelled-goal
 -- Assumes nothing.
-use mathlib.Core.Path.{_≡_, sym, ap, _∙_}
-use mathlib.Core.Bool.{true, cond}
+use mathlib.Core.Path.{_≡_, ap, _∙_}
+use mathlib.Core.Bool.{true}
 use mathlib.Core.List.{List, []}
-use Prim.Native.Nat.{ℕ, _+_, _-_, _≤_, _<_}
+use Prim.Native.Nat.{ℕ, _+_, _-_, _<_}
 use native.Mathlib.Omega.{arith}
 use borrow.Author.Tests.{lt-ltb, le-ltb}
 use lib.ListN.{length, getD}
 use Rattle.text.specs.Fields.{isName}
-use Rattle.text.specs.Keys.{word}
 use Rattle.text.specs.Splits.{Stands}
 use Rattle.text.specs.declared.fields.Fields.{Fields}
 use Rattle.text.proofs.Keys.{name-size}

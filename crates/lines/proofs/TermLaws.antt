@@ -3,16 +3,16 @@
 --   Walk, walk-start, walk-next, walk-full, walk-end    the terms of a line, as far as they are read
 -- Assumes nothing.
 use mathlib.Core.Path.{_≡_, refl, sym, ap, ap₂, _∙_}
-use mathlib.Core.Bool.{Bool, true, false, cond}
+use mathlib.Core.Bool.{true, false}
 use mathlib.Core.List.{List, [], _∷_, _++_, map}
 use Prim.Native.Nat.{ℕ, zero, suc, _+_, _-_, _≤_, _<_}
 use native.Mathlib.Numerals.{add-one}
 use native.Mathlib.Omega.{arith}
 use borrow.Author.Tests.{lt-ltb, le-ltb}
-use lib.Dec.{eqb, ltb}
+use lib.Dec.{eqb}
 use lib.ListN.{length, take, drop, getD, set, length-append, length-map, length-set, length-drop, length-take, drop-of-length-le}
 use lib.Seq.{drop-cons, take-suc, take-all, getD-drop, getD-set-same, getD-set-other}
-use Rattle.text.specs.Lists.{every, placeFrom, placeOf, isKnown, withName, tabled}
+use Rattle.text.specs.Lists.{every, placeFrom, placeOf, isKnown, withName}
 use Rattle.text.specs.Fields.{isName, isTerm}
 use Rattle.text.specs.Keys.{keyOf, spell}
 use Rattle.text.specs.Splits.{Holds}
@@ -25,12 +25,12 @@ use Rattle.syntax.proofs.Known.{same-refl}
 use Rattle.syntax.proofs.Tabled.{tabled-same, map-append, name-second}
 use Rattle.tables.specs.Layout.{maxNames}
 use Rattle.tables.specs.Rows.{nameOf, constantsOf}
-use Rattle.tables.specs.Names.{placedAt, Placed}
+use Rattle.tables.specs.Names.{placedAt}
 use Rattle.lines.specs.declared.TermRead.{TermRead}
 use Rattle.lines.specs.declared.TermsRead.{TermsRead}
-use Rattle.lines.specs.Read.{termCell, padded, Lent, Outside, Spelled, KeepsPlaces, TermMeans, TermIn, TermsMean, TermsIn}
+use Rattle.lines.specs.Read.{termCell, padded, Outside, Spelled, KeepsPlaces, TermMeans, TermIn, TermsIn}
 use Rattle.text.proofs.Keys.{name-key, spell-key}
-use Rattle.lines.proofs.Held.{key-at, name-at}
+use Rattle.lines.proofs.Held.{key-at}
 use Rattle.lines.proofs.Named.{Wide, named-place, placed-set}
 use Rattle.lines.proofs.TermCells.{cell-later, one-known, padded-set}
 
@@ -419,7 +419,8 @@ module _ (f : Fields) (from base count : ℕ) (names₀ places₀ : List ℕ) wh
 -- fields that hold the same keys and starts
 pub terms-held :
     (f : Fields) {from base count : ℕ} {names places names′ places′ : List ℕ} {r : TermsRead}
-    → TermsIn (record { faulty = false; end = 0; count = f .count; keys = f .keys; starts = f .starts }) from base count names places
+    → TermsIn (record { faulty = false; end = 0; count = f .count; keys = f .keys; starts = f .starts }) from base count
+        names places
     names′ places′ r
     → TermsIn f from base count names places names′ places′ r
 terms-held f t =

@@ -18,7 +18,8 @@ fn read_term(
     places: &mut [u16],
 ) -> TermRead
     requires { ⌜ (count ≤ 64) × (length (now names) ≡ 256) × (length (now places) ≡ 256) ⌝ }
-    ensures { λ r. ⌜ TermIn key place count (now (names .entry)) (now (places .entry)) (now (names .exit)) (now (places .exit)) r ⌝ }
+    ensures { λ r. ⌜ TermIn key place count (now (names .entry)) (now (places .entry)) (now (names .exit))
+        (now (places .exit)) r ⌝ }
 {
     if key < 28 {
         return TermRead {

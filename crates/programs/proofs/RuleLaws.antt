@@ -5,7 +5,7 @@
 use mathlib.Core.Path.{_≡_, refl, sym, ap, ap₂, _∙_}
 use mathlib.Core.Bool.{Bool, true, false, cond}
 use mathlib.Core.List.{List, [], _∷_}
-use Prim.Native.Nat.{ℕ, zero, suc, _+_, _-_, _*_, _≤_, _<_}
+use Prim.Native.Nat.{ℕ, suc, _+_, _-_, _*_, _≤_, _<_}
 use native.Mathlib.Omega.{arith}
 use borrow.Author.Tests.{le-leb, lt-leb, ne-eqb, eq-eqb}
 use lib.Dec.{leb, eqb}
@@ -13,8 +13,8 @@ use lib.ListN.{length, take, drop, getD, length-drop, length-take, drop-of-lengt
 use lib.Seq.{drop-cons, take-all}
 use Rattle.text.specs.Lists.{tabled}
 use Rattle.text.proofs.Laws.{tabled-length, tabled-at}
-use Rattle.semantics.specs.Terms.{Symbol, Rule, weight}
-use Rattle.syntax.specs.Answers.{Answer, refused, accepted, refuseIf}
+use Rattle.semantics.specs.Terms.{Symbol, weight}
+use Rattle.syntax.specs.Answers.{Answer, refused, refuseIf}
 use Rattle.syntax.specs.Programs.{Reading, RuleRead, checkRules}
 use Rattle.tables.specs.Cells.{cellConstraints}
 use Rattle.tables.specs.Rows.{symbolsOf, nameOf, ruleOfRow, rowOf, ruleOf}
@@ -87,7 +87,8 @@ module _ (symbols row : List ℕ) (h b : ℕ) (p : h ≡ getD row 3 0) (q : b �
 -- the rules from one on
 check-one : (symbols : List Symbol) (r : RuleRead) (rs : List RuleRead) (otherwise : Answer Reading)
     → checkRules symbols (r ∷ rs) otherwise
-    ≡ cond (eqb (ruleFault symbols (r .rule)) 0) (checkRules symbols rs otherwise) (refused (ruleFault symbols (r .rule)) (r .line))
+    ≡ cond (eqb (ruleFault symbols (r .rule)) 0) (checkRules symbols rs otherwise) (refused (ruleFault symbols (r .rule))
+        (r .line))
 unfolding checkRules ruleFault
 check-one symbols r rs otherwise =
     go (eqb (length (r .rule .heads)) 0) (leb (weight symbols (r .rule .heads)) (weight symbols (r .rule .body)))
@@ -123,7 +124,8 @@ module _ (symbols rules : List ℕ) (at : ℕ) (c : Checked symbols rules at) wh
       z ∙ c .left names k m otherwise a b) }
 
   module _ (x : ℕ) (h : at + 64 ≤ length rules) (e : FaultIn symbols (take (at + 64 - at) (drop at rules)) x) where
-    module _ (names : List ℕ) (k m : ℕ) (otherwise : Answer Reading) (a : length symbols ≡ 2 * k) (b : length rules ≡ 64 * m) where
+    module _ (names : List ℕ) (k m : ℕ) (otherwise : Answer Reading) (a : length symbols ≡ 2 * k) (b : length rules ≡ 64 * m)
+        where
       abbrev S : List Symbol
       S = symbolsOf names symbols k
 
@@ -177,6 +179,7 @@ module _ (symbols rules : List ℕ) (at : ℕ) (c : Checked symbols rules at) wh
           left = λ names k m otherwise a b.
               sym (onward names k m otherwise a b
               ∙ ap (λ (t : Bool). cond t (checkRules (S names k m otherwise a b)
-              (drop (suc (c .row)) (rulesRead names rules m)) otherwise) (refused x (getD (rowOf rules (c .row)) 2 0))) (eq-eqb x 0 z))
+              (drop (suc (c .row)) (rulesRead names rules m)) otherwise) (refused x (getD (rowOf rules (c .row)) 2 0)))
+                  (eq-eqb x 0 z))
               ∙ c .left names k m otherwise a b;
         }

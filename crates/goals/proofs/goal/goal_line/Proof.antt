@@ -2,7 +2,7 @@
 -- Assumes nothing.
 use borrow.Author.Needs.{needs}
 use native.Mathlib.Omega.{arith}
-use Rattle.goals.proofs.GoalLaws.{line-other-form, line-refused, line-room, line-fits, line-read}
+use Rattle.goals.proofs.GoalLaws.{line-other-form, line-refused, line-fits, line-read}
 use Rattle.goals.proofs.goal.goal_line.Statement.{statement}
 use Rattle.goals.proofs.goal.goal_line.Tie as tie
 

@@ -2,7 +2,6 @@
 -- Assumes nothing.
 use borrow.Author.Needs.{needs}
 use mathlib.Core.Path.{_∙_}
-use native.Mathlib.Omega.{arith}
 use Rattle.goals.proofs.GoalLetters.{row-read}
 use Rattle.goals.proofs.letters.number_letters.Statement.{statement}
 use Rattle.goals.proofs.letters.number_letters.Tie as tie

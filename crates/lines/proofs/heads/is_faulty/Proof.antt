@@ -1,7 +1,7 @@
 -- `lines::heads::is_faulty` meets its contract, by the test that decides it. Assumes nothing.
 use borrow.Author.Needs.{needs}
-use mathlib.Core.Path.{_≡_, refl, sym, ap, _∙_}
-use mathlib.Core.Bool.{Bool, not}
+use mathlib.Core.Path.{_≡_, sym, ap, _∙_}
+use mathlib.Core.Bool.{not}
 use Prim.Native.Nat.{ℕ}
 use native.Mathlib.Omega.{arith}
 use Rattle.lines.proofs.Held.{faulty-few, faulty-many, faulty-name, faulty-terms}

@@ -6,7 +6,8 @@ use native.Mathlib.Omega.{arith}
 use lib.Seq.{length-take-le}
 use Rattle.lines.specs.Read.{formMeant}
 use Rattle.programs.specs.Read.{partForm}
-use Rattle.programs.proofs.Whole.{begun-head, begun-body, begun-equation, sound-moved, line-placeless, line-symbol, line-rule, line-adds, line-none}
+use Rattle.programs.proofs.Whole.{begun-head, begun-body, begun-equation, sound-moved, line-placeless}
+use Rattle.programs.proofs.Whole.{line-symbol, line-rule, line-adds, line-none}
 use Rattle.programs.proofs.Whole.{goal-form, no-form}
 use Rattle.programs.proofs.program.read_line.Statement.{statement}
 use Rattle.programs.proofs.program.read_line.Tie as tie
