@@ -120,15 +120,18 @@ module _ (f : Fields) (s : GoalCounts) (symbols names places cells letters : Lis
           (ap (λ (a : Answer Found). andThen (andThen a renumbered) onto) (c .answers fs n k h size)
           ∙ sym (ap (λ (a : Answer Found). andThen a onto)
           (line-other (leb 64 (s .constraints)) (symbolsOf names symbols k) letterNumber variable (constantsOf names
-              (s .constants)) n fs)))
+          (s .constants)) n fs)))
 
     refused-is : (n : ℕ) → (r .refusal ≡ 0 → ⊥) → constraintAnswer names′ n r ≡ refused (r .refusal) n
     unfolding constraintAnswer
     refused-is n z = rw (ne-eqb (r .refusal) 0 z)
 
     found-is : (n : ℕ) → r .refusal ≡ 0
-        → constraintAnswer names′ n r ≡ accepted (record { constraint = rowConstraint (r .cells); constants = constantsOf
-            names′ (r .count) })
+        → constraintAnswer names′ n r ≡ accepted (record {
+          constraint = rowConstraint (r .cells);
+          constants = constantsOf
+              names′ (r .count);
+        })
     unfolding constraintAnswer
     found-is n z = rw (eq-eqb (r .refusal) 0 z)
 
@@ -181,7 +184,7 @@ module _ (f : Fields) (s : GoalCounts) (symbols names places cells letters : Lis
               ∙ constraints-append (s .constraints) (take (5 * s .constraints) cells) (row .cells)
               (length-take-le (5 * s .constraints) cells (omega (arith, line-fits)))
               ∙ ap (λ (l : List Constraint). cellConstraints (take (5 * s .constraints) cells) ++ l) (five-is (row .cells)
-                  row-size)
+              row-size)
 
           module _ (fs : List (List ℕ)) (k : ℕ) (h : Holds fs f) (size : length symbols ≡ 2 * k) where
             means : CellsMean (drop 2 fs) (constantsOf names (s .constants)) names′ r
@@ -336,13 +339,17 @@ module _ (goal symbols names₀ places₀ : List ℕ) (c : ℕ) (names places ce
         answered : (k : ℕ) → length symbols ≡ 2 * k
             → andThen (goalLineAnswer names′ cells′ letters′ n r)
             (λ e. readGoalLines (symbolsOf names₀ symbols k) (suc n) e (lines (drop (f .end + 1) goal)))
-            ≡ readGoalLines (symbolsOf names₀ symbols k) 1 (record { constraints = []; letters = []; constants = constantsOf
-                names₀ c })
+            ≡ readGoalLines (symbolsOf names₀ symbols k) 1 (record {
+              constraints = [];
+              letters = [];
+              constants = constantsOf
+                  names₀ c;
+            })
             (lines goal)
         answered k size =
             let S = symbolsOf names₀ symbols k in
             let same : symbolsOf names symbols k ≡ S = symbols-outside names₀ names symbols k (w .outside) size
-                (w .room .few-symbols) in
+            (w .room .few-symbols) in
             ap (λ (a : Answer GoalDraft). andThen a (λ e. readGoalLines S (suc n) e (lines (drop (f .end + 1) goal))))
             (g .answers line-fields n k (split .holds fine) (fields-some (lineFrom goal at .bytes)) size
             ∙ ap (λ (l : List Symbol). readGoalFields l n line-fields (goalDraftOf names cells letters s)) same)

@@ -58,7 +58,15 @@ fn goal_line(
         return GoalLineRead::Refused(3);
     }
     let m = counts.constraints;
-    let r = read_constraint(f, 64 <= m, GOAL_PLACE, counts.constants, symbols, names, places);
+    let r = read_constraint(
+        f,
+        64 <= m,
+        GOAL_PLACE,
+        counts.constants,
+        symbols,
+        names,
+        places,
+    );
     if r.refusal != 0 {
         return GoalLineRead::Refused(r.refusal);
     }

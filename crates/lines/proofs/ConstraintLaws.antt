@@ -52,7 +52,7 @@ line-parts :
 unfolding constraintLine constraintHead constraintOf
 line-parts full symbols variable constants n fs =
     go (isConstraintFaulty fs) (isUndeclared symbols fs) (behind full variable constants n fs (symbolNumber symbols (fieldAt
-        1 fs)))
+    1 fs)))
   where
     go : (a b : Bool) (more : Answer Found)
         → refuseIf a 4 n (refuseIf b 6 n (behind full variable constants n fs (symbolNumber symbols (fieldAt 1 fs))))
@@ -207,10 +207,10 @@ module _ (f : Fields) (full : Bool) (base count : ℕ) (symbols names places : L
                 let after : List (List ℕ) = constantsAfter (drop 2 fs) (constantsOf names count) in
                 let size : length after ≡ t .count = ap length (sym (means .after z)) ∙ constants-length names′ (t .count) in
                 let cells : cellTerms (getD (t .cells) 0 0 ∷ getD (t .cells) 1 0 ∷ getD (t .cells) 2 0 ∷ getD (t .cells) 3 0 ∷ [])
-                    ≡ map (termOf letterNumber after) (drop 2 fs) =
-                    ap cellTerms (four-cells (t .cells) (u .size) ∙ means .cells z)
-                    ∙ padded-terms 4 after (drop 2 fs) (omega (arith, length-drop 2 fs, h .counted))
-                    (λ g. omega (arith, name-most g after, size, u .few)) (terms fs k h e) in
+                ≡ map (termOf letterNumber after) (drop 2 fs) =
+                ap cellTerms (four-cells (t .cells) (u .size) ∙ means .cells z)
+                ∙ padded-terms 4 after (drop 2 fs) (omega (arith, length-drop 2 fs, h .counted))
+                (λ g. omega (arith, name-most g after, size, u .few)) (terms fs k h e) in
                 ap₂ (λ (ts : List Term) (cs : List (List ℕ)).
                 accepted (record { constraint = record { symbol = s; terms = ts }; constants = cs })) cells (means .after z)
                 ∙ sym (onward fs n k h e ∙ rw (least, le-ltb 64 (length after) (omega (arith, size, u .few))) refl));

@@ -28,13 +28,17 @@ name-stands text fs f s i low inside named =
 module _ (fs : List (List ℕ)) (f : Fields) (near : (i : ℕ) → getD (f .starts) i 0 < 16384) where
   pub spelled-program : (text goal : List ℕ) → Stands text fs f → Spelled text goal 0 fs f
   unfolding placedAt
-  spelled-program text goal s = record { each = λ i low inside named.
-      (let start : 0 + getD (f .starts) i 0 ≡ getD (f .starts) i 0 = omega arith in
-      rw (start, lt-ltb (getD (f .starts) i 0) goalPlace (near i)) (name-stands text fs f s i low inside named)) }
+  spelled-program text goal s = record {
+    each = λ i low inside named.
+        (let start : 0 + getD (f .starts) i 0 ≡ getD (f .starts) i 0 = omega arith in
+        rw (start, lt-ltb (getD (f .starts) i 0) goalPlace (near i)) (name-stands text fs f s i low inside named));
+  }
 
   pub spelled-goal : (program text : List ℕ) → Stands text fs f → Spelled program text goalPlace fs f
   unfolding placedAt
-  spelled-goal program text s = record { each = λ i low inside named.
-      (let start : goalPlace + getD (f .starts) i 0 - goalPlace ≡ getD (f .starts) i 0 = omega arith in
-      rw (le-ltb (goalPlace + getD (f .starts) i 0) goalPlace (omega arith), start)
-      (name-stands text fs f s i low inside named)) }
+  spelled-goal program text s = record {
+    each = λ i low inside named.
+        (let start : goalPlace + getD (f .starts) i 0 - goalPlace ≡ getD (f .starts) i 0 = omega arith in
+        rw (le-ltb (goalPlace + getD (f .starts) i 0) goalPlace (omega arith), start)
+        (name-stands text fs f s i low inside named));
+  }

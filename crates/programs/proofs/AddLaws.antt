@@ -96,9 +96,10 @@ two-sides cs (x ∷ []) cells h t e few = absurd (omega arith)
 two-sides cs (x ∷ y ∷ []) cells h t e few = absurd (omega arith)
 two-sides cs (x ∷ y ∷ z ∷ []) cells h t e few =
     let (p, more) = and-true (isTerm y) (isTerm z && true) t in
-    let (q, _) = and-true (isTerm z) true more in
-    (ap (λ (l : List ℕ). cellTerm (getD l 0 0)) e ∙ cell-term cs y p (few y),
-    ap (λ (l : List ℕ). cellTerm (getD l 1 0)) e ∙ cell-term cs z q (few z))
+    let (q, _) = and-true (isTerm z) true more in (
+      ap (λ (l : List ℕ). cellTerm (getD l 0 0)) e ∙ cell-term cs y p (few y),
+      ap (λ (l : List ℕ). cellTerm (getD l 1 0)) e ∙ cell-term cs z q (few z),
+    )
 two-sides cs (x ∷ y ∷ z ∷ w ∷ fs) cells h t e few = absurd (omega arith)
 
 module _ (f : Fields) (s : Stage) (names places rules : List ℕ) (size : length rules ≡ 2048) (sound : Sound rules s)
@@ -158,8 +159,11 @@ module _ (f : Fields) (s : Stage) (names places rules : List ℕ) (size : length
     refused-is n z = rw (ne-eqb (r .refusal) 0 z)
 
     found-is : (n : ℕ) → r .refusal ≡ 0
-        → constraintAnswer names′ n r ≡ accepted (record { constraint = rowConstraint (r .cells); constants = constantsOf
-            names′ (r .count) })
+        → constraintAnswer names′ n r ≡ accepted (record {
+          constraint = rowConstraint (r .cells);
+          constants = constantsOf
+              names′ (r .count);
+        })
     unfolding constraintAnswer
     found-is n z = rw (eq-eqb (r .refusal) 0 z)
 
@@ -198,7 +202,7 @@ module _ (f : Fields) (s : Stage) (names places rules : List ℕ) (size : length
           record {
             answers = λ fs symbols n hold u.
                 ap accepted (draft-grown names symbols rules names′ rules′ s i (r .count) (withConstraint w (rowConstraint
-                    (r .cells)))
+                (r .cells)))
                 (sound .few-symbols) q (c .outside)
                 (ap (λ (l : List ℕ). rulesRead names′ l (suc i)) grow
                 ∙ rules-grown rules i (3 + w) at h (r .cells) room (omega arith) (omega arith) (omega arith) names names′
@@ -207,9 +211,12 @@ module _ (f : Fields) (s : Stage) (names places rules : List ℕ) (size : length
                 (constraint-grown names rules i room h (r .cells) five few-heads w p e less)))
                 ∙ ap (λ (a : Answer Found). andThen a (added (draftOf names symbols rules s))) (sym (found-is n z))
                 ∙ via fs symbols n hold u;
-            sound = (rw grow (sound-grown rules i (3 + w) at h (r .cells) room (omega arith) (omega arith) (omega arith) s
-                (r .count)
-                q sound (c .few) (λ y. omega (arith, y)) (λ y. omega (arith, y)) (λ y. omega (arith, y))), λ _. begun);
+            sound = (
+              rw grow (sound-grown rules i (3 + w) at h (r .cells) room (omega arith) (omega arith) (omega arith) s
+                  (r .count)
+                  q sound (c .few) (λ y. omega (arith, y)) (λ y. omega (arith, y)) (λ y. omega (arith, y))),
+              λ _. begun,
+            );
             kept = kept-outside f names places names′ places′ (c .outside) (c .sized) (c .keeps);
             size = ap length grow ∙ grown-length rules i (3 + w) at h (r .cells) room (omega arith) (omega arith) (omega arith);
           }
@@ -218,12 +225,16 @@ module _ (f : Fields) (s : Stage) (names places rules : List ℕ) (size : length
   module _ (used : List ℕ) where
     sides-refused : (x : ℕ) (names′ places′ : List ℕ)
         → ((fs : List (List ℕ)) (symbols : List ℕ) (n : ℕ) → Holds fs f
-            → refused x n ≡ readForm equationForm n fs (draftOf names symbols rules s))
+        → refused x n ≡ readForm equationForm n fs (draftOf names symbols rules s))
         → Kept f names places names′ places′
         → AddsIn equationForm f s used names places rules names′ places′ rules (Refused x)
     unfolding lineAnswer
-    sides-refused x names′ places′ g k = record { answers = λ fs symbols n h u. g fs symbols n h; sound = tt; kept = k;
-        size = refl }
+    sides-refused x names′ places′ g k = record {
+      answers = λ fs symbols n h u. g fs symbols n h;
+      sound = tt;
+      kept = k;
+      size = refl;
+    }
 
     pub sides-faulty : ((fs : List (List ℕ)) → Holds fs f → true ≡ isEquationFaulty fs)
         → AddsIn equationForm f s used names places rules names places rules (Refused 4)
@@ -241,7 +252,7 @@ module _ (f : Fields) (s : Stage) (names places rules : List ℕ) (size : length
       unfolding readForm readEquation draftOf
       sides-full k =
           sides-refused 7 names places (λ fs symbols n hold. rw (← fine fs hold, sides-count, le-leb 4 h k)) (kept-same f
-              names places)
+          names places)
 
       module _ (k : h < 4) (names′ places′ : List ℕ) (t : TermsRead)
           (c : TermsIn f 1 0 (s .constants) names places names′ places′ t) where
@@ -258,8 +269,13 @@ module _ (f : Fields) (s : Stage) (names places rules : List ℕ) (size : length
         sides-many z =
             sides-refused 7 names′ places′
             (λ fs symbols n hold.
-            rw (← fine fs hold, sides-count, lt-leb 4 h k, lt-ltb 64 (length (after fs)) (c .means fs hold (terms fs
-                hold) .full z)))
+            rw (
+              ← fine fs hold,
+              sides-count,
+              lt-leb 4 h k,
+              lt-ltb 64 (length (after fs)) (c .means fs hold (terms fs
+                  hold) .full z),
+            ))
             (kept-outside f names places names′ places′ (c .outside) (c .sized) (c .keeps))
 
         module _ (z : t .full ≡ false) where
@@ -291,7 +307,7 @@ module _ (f : Fields) (s : Stage) (names places rules : List ℕ) (size : length
 
             sides-read : (symbols : List ℕ) (n : ℕ)
                 → accepted (withRule (withEquation (record { left = cellTerm a; right = cellTerm b })) (constantsOf names′
-                    (t .count))
+                (t .count))
                 (draftOf names symbols rules s))
                 ≡ readForm equationForm n fs (draftOf names symbols rules s)
             unfolding readForm readEquation draftOf
@@ -319,14 +335,17 @@ module _ (f : Fields) (s : Stage) (names places rules : List ℕ) (size : length
               record {
                 answers = λ fs symbols n hold u.
                     ap accepted (draft-grown names symbols rules names′ rules′ s i (t .count) add (sound .few-symbols) q
-                        (c .outside)
+                    (c .outside)
                     (ap (λ (l : List ℕ). rulesRead names′ l (suc i)) grow
                     ∙ rules-grown rules i 5 at h vs room (omega arith) (omega arith) (omega arith) names names′ add
                     (λ j y. c .outside .rules (firstRule + j) (omega arith)) (λ y. omega (arith, y))
                     (sides-grown names rules i room h a b e k few-heads few-body)))
                     ∙ sides-read fs hold symbols n;
-                sound = (rw grow (sound-grown rules i 5 at h vs room (omega arith) (omega arith) (omega arith) s (t .count)
-                    q sound (c .few) (λ y. omega (arith, y)) (λ y. omega (arith, y)) (λ y. omega (arith, y))), λ _. begun);
+                sound = (
+                  rw grow (sound-grown rules i 5 at h vs room (omega arith) (omega arith) (omega arith) s (t .count)
+                      q sound (c .few) (λ y. omega (arith, y)) (λ y. omega (arith, y)) (λ y. omega (arith, y))),
+                  λ _. begun,
+                );
                 kept = kept-outside f names places names′ places′ (c .outside) (c .sized) (c .keeps);
                 size = ap length grow ∙ grown-length rules i 5 at h vs room (omega arith) (omega arith) (omega arith);
               }

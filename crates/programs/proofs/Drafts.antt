@@ -166,13 +166,15 @@ kept-set f names places n key start lent low keyed stood good =
     record {
       names-size = length-set names n key;
       places-size = length-set places n start;
-      keeps = record { keeps = λ program goal fs h s d.
-          (let (inside, named) = good fs h in
-          let key-is : key ≡ keyOf (getD fs 1 []) = keyed ∙ key-at fs (f .keys) (h .keyed) 1 inside (omega arith) in
-          placed-set program goal names places n key start (lent .names-size) (lent .places-size) low
-          (ap (placedAt program goal) (stood ∙ sym (zero-add (getD (f .starts) 1 0)))
-          ∙ s .each 1 (omega arith) inside named ∙ sym (ap spell key-is ∙ spell-key (getD fs 1 []) named))
-          d) };
+      keeps = record {
+        keeps = λ program goal fs h s d.
+            (let (inside, named) = good fs h in
+            let key-is : key ≡ keyOf (getD fs 1 []) = keyed ∙ key-at fs (f .keys) (h .keyed) 1 inside (omega arith) in
+            placed-set program goal names places n key start (lent .names-size) (lent .places-size) low
+            (ap (placedAt program goal) (stood ∙ sym (zero-add (getD (f .starts) 1 0)))
+            ∙ s .each 1 (omega arith) inside named ∙ sym (ap spell key-is ∙ spell-key (getD fs 1 []) named))
+            d);
+      };
     }
 
 -- tests turned round
@@ -204,7 +206,7 @@ module _ (fs : List (List ℕ)) (keys : List ℕ) (h : take (length fs) keys ≡
 
     symbol-shape : isSymbolFaulty fs
         ≡ (not (ltb 27 (getD keys 1 0)) || not (between 0 4 (numberOf (getD keys 2 0))) || not (between 1 31 (numberOf (getD
-            keys 3 0))))
+        keys 3 0))))
     unfolding isSymbolFaulty
     symbol-shape =
         rw (
@@ -286,7 +288,7 @@ module _ (f : Fields) (s : Stage) (names places symbols : List ℕ) (lent : Lent
   -- it is refused: what the tables hold stays
   symbol-refused : (x : ℕ)
       → ((fs : List (List ℕ)) (rules : List ℕ) (n : ℕ) → Holds fs f
-          → refused x n ≡ readSymbol n fs (draftOf names symbols rules s))
+      → refused x n ≡ readSymbol n fs (draftOf names symbols rules s))
       → SymbolIn f s names places symbols names places symbols (Refused x)
   unfolding lineAnswer
   symbol-refused x e =
@@ -314,7 +316,7 @@ module _ (f : Fields) (s : Stage) (names places symbols : List ℕ) (lent : Lent
           ∙ sym (named-place (fieldAt 1 fs) names 0 (s .symbols) (formed .named) w (omega (arith, lent .names-size)))
           ∙ ap (λ (x : ℕ). placeFrom (eqb x) 0 (take (s .symbols) names)) (sym (key-is 1 (omega arith))) ∙ sym q)
           (length-map (symbolsOf names symbols (s .symbols)) (λ (t : Symbol). t .name) ∙ symbols-length names symbols
-              (s .symbols))
+          (s .symbols))
 
     pub symbol-repeated : k < s .symbols → SymbolIn f s names places symbols names places symbols (Refused 5)
     unfolding readSymbol draftOf
@@ -325,8 +327,14 @@ module _ (f : Fields) (s : Stage) (names places symbols : List ℕ) (lent : Lent
       unfolding readSymbol draftOf
       symbol-full g =
           symbol-refused 7 (λ fs rules n h.
-          rw (← fine fs h, known fs h, le-ltb k (s .symbols) l, symbols-length names symbols (s .symbols), le-leb 32
-              (s .symbols) g))
+          rw (
+            ← fine fs h,
+            known fs h,
+            le-ltb k (s .symbols) l,
+            symbols-length names symbols (s .symbols),
+            le-leb 32
+                (s .symbols) g,
+          ))
 
       module _ (a v start : ℕ) (symbols′ : List ℕ) (g : s .symbols < 32) (size : length symbols ≡ 128)
           (p : a ≡ numberOf (getD (f .keys) 2 0)) (r : v ≡ numberOf (getD (f .keys) 3 0)) (stood : start ≡ getD (f .starts) 1 0)
@@ -339,7 +347,7 @@ module _ (f : Fields) (s : Stage) (names places symbols : List ℕ) (lent : Lent
 
         draft-new : (fs : List (List ℕ)) (rules : List ℕ) (n : ℕ) → Holds fs f
             → accepted (draftOf (set names (s .symbols) key₁) symbols′ rules next) ≡ readSymbol n fs (draftOf names symbols
-                rules s)
+            rules s)
         unfolding readSymbol draftOf
         draft-new fs rules n h =
             let spelled : spell key₁ ≡ fieldAt 1 fs =
@@ -374,12 +382,15 @@ module _ (f : Fields) (s : Stage) (names places symbols : List ℕ) (lent : Lent
         symbol-new =
             record {
               answers = draft-new;
-              sound = λ rules d b. (record {
-                few-symbols = omega arith;
-                few-rules = d .few-rules;
-                few-constants = d .few-constants;
-                rows = d .rows;
-              }, b);
+              sound = λ rules d b. (
+                record {
+                  few-symbols = omega arith;
+                  few-rules = d .few-rules;
+                  few-constants = d .few-constants;
+                  rows = d .rows;
+                },
+                b,
+              );
               kept = kept-set f names places (s .symbols) key₁ start lent (omega arith) refl stood
                   (λ fs h. (omega (arith, formed fs h .four), formed fs h .named));
               size = ap length stored ∙ new-length symbols (2 * s .symbols) (a ∷ v ∷ []) (omega arith);
@@ -482,12 +493,15 @@ module _ (f : Fields) (n : ℕ) (s : Stage) (names places rules : List ℕ) (len
         rule-new =
             record {
               answers = rule-draft;
-              sound = (record {
-                few-symbols = d .few-symbols;
-                few-rules = omega arith;
-                few-constants = d .few-constants;
-                rows = λ i z. rule-rows i (omega (arith, z));
-              }, λ _. omega arith);
+              sound = (
+                record {
+                  few-symbols = d .few-symbols;
+                  few-rules = omega arith;
+                  few-constants = d .few-constants;
+                  rows = λ i z. rule-rows i (omega (arith, z));
+                },
+                λ _. omega arith,
+              );
               kept = kept-set f names places (192 + s .rules) rule-key₁ start lent (omega arith) refl stood
                   (λ fs h. (omega (arith, rule-formed fs h .two), rule-formed fs h .named));
               size = ap length stored ∙ new-length rules (64 * s .rules) (0 ∷ 0 ∷ n ∷ 0 ∷ 0 ∷ 0 ∷ []) (omega arith);

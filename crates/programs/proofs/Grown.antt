@@ -191,7 +191,7 @@ module _ (cells : List ℕ) (i s at h : ℕ) (vs : List ℕ) (room : 64 * i + 64
   -- the table, where the change of the row is a change of its rule, and the rules' names are the same
   pub rules-grown :
       (names names′ : List ℕ) (f : Rule → Rule) → ((j : ℕ) → j < suc i
-          → getD names′ (firstRule + j) 0 ≡ getD names (firstRule + j) 0)
+      → getD names′ (firstRule + j) 0 ≡ getD names (firstRule + j) 0)
       → (s ≡ 2 → ⊥)
       → ruleOfRow (nameOf names (firstRule + i)) (rowOf grown i) ≡ f (ruleOfRow (nameOf names (firstRule + i)) (rowOf cells i))
       → rulesRead names′ grown (suc i) ≡ onLast f (rulesRead names cells (suc i))
@@ -315,8 +315,10 @@ module _ (names cells : List ℕ) (i : ℕ) (room : 64 * i + 64 ≤ length cells
     unfolding ruleOfRow withEquation
     sides-grown =
         let n : getD (rowOf cells i) 4 0 ≡ getD cells (64 * i + 4) 0 = row-cell cells i 4 (omega arith) in
-        rule-path refl (heads-kept 5 (56 + 2 * h) h two-more (omega arith) (omega arith) (omega arith) (λ z. omega (arith,
-            z)) heads
+        rule-path refl (heads-kept 5 (56 + 2 * h) h two-more (omega arith) (omega arith) (omega arith) (λ z. omega (
+          arith,
+          z,
+        )) heads
         (omega arith))
         (ap cellConstraints (part-before cells i 5 (56 + 2 * h) h two-more room (omega arith) (omega arith) (omega arith)
         4 26 5 (omega arith) (λ z. omega (arith, z)) (omega arith) (omega arith)))

@@ -167,8 +167,12 @@ module _ (f : Fields) (n : ℕ) (s : Stage) (names places symbols rules : List �
           answers = λ fs h some-field.
               c .answers fs rules n h
               ∙ ap (λ (x : Form). readForm x n fs (draftOf names symbols rules at)) (sym e) ∙ moved fs h some-field;
-          sound = c .sound rules (sound-moved rules s p d) (λ z. absurd (omega (arith, z, first-place p (s .place) (rw e at
-              led) l)));
+          sound = c .sound rules (sound-moved rules s p d) (λ z. absurd (omega (
+            arith,
+            z,
+            first-place p (s .place) (rw e at
+                led) l,
+          )));
           kept = c .kept;
           symbols-size = c .size;
           rules-size = refl;
@@ -345,8 +349,11 @@ program-long text names places symbols rules h room =
 module _ (text names places names′ places′ symbols′ rules′ : List ℕ) where
   module _ (h : length text ≤ 16384) (r : LinesRead) (c : LinesIn text names places names′ places′ symbols′ rules′ r) where
     abbrev reading : Draft → Reading
-    reading d = record { program = record { symbols = d .symbols; rules = map (λ q. q .rule) (d .rules) }; constants =
-        d .constants }
+    reading d = record {
+      program = record { symbols = d .symbols; rules = map (λ q. q .rule) (d .rules) };
+      constants =
+          d .constants;
+    }
 
     short : readProgram text
         ≡ andThen (linesAnswer names′ symbols′ rules′ r) (λ d. checkRules (d .symbols) (d .rules) (accepted (reading d)))

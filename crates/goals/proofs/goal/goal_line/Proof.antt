@@ -30,9 +30,12 @@ number-letters-requires : tie.Need-number-letters-requires
 number-letters-requires c κs =
     let at-read-constraint = c .before .before .before .before .before .before .before .before in
     let at-keys = at-read-constraint .before .before .before .before .before in
-    let start = at-keys .before .before .before .before .before .before in
-    (at-read-constraint .read-constraint .ensures .low, start .pre .1 .letters-size, start .pre .2 .lettered,
-    at-read-constraint .read-constraint .ensures .size)
+    let start = at-keys .before .before .before .before .before .before in (
+      at-read-constraint .read-constraint .ensures .low,
+      start .pre .1 .letters-size,
+      start .pre .2 .lettered,
+      at-read-constraint .read-constraint .ensures .size,
+    )
 
 mul-write-cells : tie.Need-mul-write-cells
 mul-write-cells c =

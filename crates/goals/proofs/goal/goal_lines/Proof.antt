@@ -66,8 +66,7 @@ returns c =
 goal-line-requires : tie.Need-goal-line-requires Inv-loop μ-loop
 goal-line-requires c κs =
     let at-split = c .before .before .before .before .before in
-    let at-loop = at-split .before .before .before in
-    (
+    let at-loop = at-split .before .before .before in (
       record {
         near = at-split .split .ensures .near;
         low = omega arith;
@@ -84,8 +83,12 @@ same-length-5 c =
     let at-goal-line = at-places .before .before .before in
     let at-loop = at-goal-line .before .before .before .before .before .before .before .before .before in
     let start = at-loop .before .before .before .before .before .before .before .before in
-    omega (arith, at-goal-line .goal-line .ensures .outside .size, at-loop .loop .inv .0 .room .names-size,
-    start .pre .0 .names-size)
+    omega (
+      arith,
+      at-goal-line .goal-line .ensures .outside .size,
+      at-loop .loop .inv .0 .room .names-size,
+      start .pre .0 .names-size,
+    )
 
 same-length-6 : tie.Need-same-length-6 Inv-loop μ-loop
 same-length-6 c =
@@ -93,8 +96,12 @@ same-length-6 c =
     let at-goal-line = at-places .before .before .before in
     let at-loop = at-goal-line .before .before .before .before .before .before .before .before .before in
     let start = at-loop .before .before .before .before .before .before .before .before in
-    omega (arith, at-goal-line .goal-line .ensures .places-size, at-loop .loop .inv .0 .room .places-size,
-    start .pre .0 .places-size)
+    omega (
+      arith,
+      at-goal-line .goal-line .ensures .places-size,
+      at-loop .loop .inv .0 .room .places-size,
+      start .pre .0 .places-size,
+    )
 
 same-length-7 : tie.Need-same-length-7 Inv-loop μ-loop
 same-length-7 c =
@@ -109,8 +116,12 @@ same-length-8 c =
     let at-goal-line = at-places .before .before .before in
     let at-loop = at-goal-line .before .before .before .before .before .before .before .before .before in
     let start = at-loop .before .before .before .before .before .before .before .before in
-    omega (arith, at-goal-line .goal-line .ensures .letters-size, at-loop .loop .inv .0 .room .letters-size,
-    start .pre .0 .letters-size)
+    omega (
+      arith,
+      at-goal-line .goal-line .ensures .letters-size,
+      at-loop .loop .inv .0 .room .letters-size,
+      start .pre .0 .letters-size,
+    )
 
 returns-2 : tie.Need-returns-2 Inv-loop μ-loop
 returns-2 c =
@@ -159,10 +170,9 @@ loop-again c =
     let at-if1 = at-goal-line .before .before .before .before .before in
     let at-split = at-if1 .before in
     let at-loop-test = at-split .before .before in
-    let at-loop = at-loop-test .before in
-    (
+    let at-loop = at-loop-test .before in (
       lines-next _ _ _ _ _ _ _ _ _ _ _ _ (at-loop .loop .inv .0) (at-loop-test .loop-test .taken) _
-      (at-split .split .ensures) (at-if1 .if1 .left) _ _ _ _ _
+          (at-split .split .ensures) (at-if1 .if1 .left) _ _ _ _ _
           (at-goal-line .goal-line .ensures) _ (at-next .next .given .1),
       at-goal-line .goal-line .ensures .cells-size ∙ at-loop .loop .inv .1,
     )

@@ -33,24 +33,35 @@ slice-reshare-prefix-weight-of c =
     let at-counts = c .before .before in
     let at-names = at-counts .before .before .before .before .before .before .before .before .before in
     let at-goal-lines = at-names .before in
-    omega (arith, at-goal-lines .goal-lines .ensures .room .cells-size, counts-fit _ (at-counts .counts .given .1)
-    (at-goal-lines .goal-lines .ensures) .few)
+    omega (
+      arith,
+      at-goal-lines .goal-lines .ensures .room .cells-size,
+      counts-fit _ (at-counts .counts .given .1)
+          (at-goal-lines .goal-lines .ensures) .few,
+    )
 
 slice-aggregate-weight-of : tie.Need-slice-aggregate-weight-of
 slice-aggregate-weight-of c =
     let at-counts = c .before .before .before in
     let at-names = at-counts .before .before .before .before .before .before .before .before .before in
     let at-goal-lines = at-names .before in
-    sym (length-take-le _ _ (omega (arith, at-goal-lines .goal-lines .ensures .room .cells-size, counts-fit _
-    (at-counts .counts .given .1) (at-goal-lines .goal-lines .ensures) .few)))
+    sym (length-take-le _ _ (omega (
+      arith,
+      at-goal-lines .goal-lines .ensures .room .cells-size,
+      counts-fit _
+          (at-counts .counts .given .1) (at-goal-lines .goal-lines .ensures) .few,
+    )))
 
 weight-of-requires : tie.Need-weight-of-requires
 weight-of-requires c κs =
     let at-counts = c .before .before .before in
     let at-names = at-counts .before .before .before .before .before .before .before .before .before in
     let at-goal-lines = at-names .before in
-    omega (arith, counts-fit _ (at-counts .counts .given .1) (at-goal-lines .goal-lines .ensures) .few,
-    length-take (5 * at-counts .counts .given .0 .0 .constraints) (at-goal-lines .goal-lines .last .1 .1 .1 .1 .1 .0))
+    omega (
+      arith,
+      counts-fit _ (at-counts .counts .given .1) (at-goal-lines .goal-lines .ensures) .few,
+      length-take (5 * at-counts .counts .given .0 .0 .constraints) (at-goal-lines .goal-lines .last .1 .1 .1 .1 .1 .0),
+    )
 
 returns-2 : tie.Need-returns-2
 returns-2 c =

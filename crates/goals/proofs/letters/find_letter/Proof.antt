@@ -26,10 +26,9 @@ returns : tie.Need-returns Inv-loop μ-loop
 returns c =
     let at-loop-test = c .before .before in
     let at-loop = at-loop-test .before in
-    let start = at-loop .before in
-    (
+    let start = at-loop .before in (
       sym (place-here (eqb (start .args .b)) 0 (start .args .letters .now) (at-loop .loop .i)
-      (at-loop-test .loop-test .taken) (eq-eqb _ _ (c .if1 .taken)))
+          (at-loop-test .loop-test .taken) (eq-eqb _ _ (c .if1 .taken)))
           ∙ at-loop .loop .inv .1,
       omega arith,
     )
@@ -38,8 +37,7 @@ loop-again : tie.Need-loop-again Inv-loop μ-loop
 loop-again c =
     let at-loop-test = c .before .before in
     let at-loop = at-loop-test .before in
-    let start = at-loop .before in
-    (
+    let start = at-loop .before in (
       omega arith,
       rw add-one
           (sym (place-step (eqb (start .args .b)) 0 (start .args .letters .now) (at-loop .loop .i)
@@ -50,9 +48,11 @@ loop-again c =
 returns-2 : tie.Need-returns-2 Inv-loop μ-loop
 returns-2 c =
     let at-loop = c .before in
-    let start = at-loop .before in
-    (sym (place-end (eqb (start .args .b)) (start .args .letters .now) (at-loop .loop .i) (c .loop-test .left)) ∙
-    at-loop .loop .inv .1, omega arith)
+    let start = at-loop .before in (
+      sym (place-end (eqb (start .args .b)) (start .args .letters .now) (at-loop .loop .i) (c .loop-test .left)) ∙
+          at-loop .loop .inv .1,
+      omega arith,
+    )
 
 pub find-letter-spec : {M : Type 1} → statement M
 find-letter-spec =

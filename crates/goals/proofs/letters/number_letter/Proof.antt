@@ -51,9 +51,13 @@ slice-write-letters c =
     let at-find-letter = c .before in
     let at-if1 = at-find-letter .before .before in
     let start = at-if1 .before .before in
-    omega (arith, start .pre .1, letter-fits _ _ _ (start .pre .0) (start .pre .1) (start .pre .2) (at-if1 .if1 .left) _ _
-    refl (at-find-letter .find-letter .ensures .0)
-    (c .if2 .left))
+    omega (
+      arith,
+      start .pre .1,
+      letter-fits _ _ _ (start .pre .0) (start .pre .1) (start .pre .2) (at-if1 .if1 .left) _ _
+          refl (at-find-letter .find-letter .ensures .0)
+          (c .if2 .left),
+    )
 
 cast-t7 : tie.Need-cast-t7
 cast-t7 c =

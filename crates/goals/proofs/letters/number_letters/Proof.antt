@@ -14,28 +14,32 @@ number-letter-requires c κs =
 number-letter-requires-2 : tie.Need-number-letter-requires-2
 number-letter-requires-2 c κs =
     let at-number-letter = c .before .before .before in
-    let start = at-number-letter .before .before .before in
-    (start .pre .0 2, at-number-letter .number-letter .ensures .size ∙ start .pre .1,
-    at-number-letter .number-letter .ensures .fits)
+    let start = at-number-letter .before .before .before in (
+      start .pre .0 2,
+      at-number-letter .number-letter .ensures .size ∙ start .pre .1,
+      at-number-letter .number-letter .ensures .fits,
+    )
 
 number-letter-requires-3 : tie.Need-number-letter-requires-3
 number-letter-requires-3 c κs =
     let at-number-letter2 = c .before .before .before in
     let at-number-letter = at-number-letter2 .before .before .before .before in
-    let start = at-number-letter .before .before .before in
-    (start .pre .0 3, at-number-letter2 .number-letter2 .ensures .size ∙ at-number-letter .number-letter .ensures .size ∙
-    start .pre .1, at-number-letter2 .number-letter2 .ensures .fits)
+    let start = at-number-letter .before .before .before in (
+      start .pre .0 3,
+      at-number-letter2 .number-letter2 .ensures .size ∙ at-number-letter .number-letter .ensures .size ∙
+          start .pre .1,
+      at-number-letter2 .number-letter2 .ensures .fits,
+    )
 
 number-letter-requires-4 : tie.Need-number-letter-requires-4
 number-letter-requires-4 c κs =
     let at-number-letter3 = c .before .before .before in
     let at-number-letter2 = at-number-letter3 .before .before .before .before in
     let at-number-letter = at-number-letter2 .before .before .before .before in
-    let start = at-number-letter .before .before .before in
-    (
+    let start = at-number-letter .before .before .before in (
       start .pre .0 4,
       at-number-letter3 .number-letter3 .ensures .size ∙ at-number-letter2 .number-letter2 .ensures .size ∙
-      at-number-letter .number-letter .ensures .size ∙ start .pre .1,
+          at-number-letter .number-letter .ensures .size ∙ start .pre .1,
       at-number-letter3 .number-letter3 .ensures .fits,
     )
 

@@ -21,8 +21,7 @@ returns-2 c =
     let at-if1 = at-find-key .before .before in
     let at-is-faulty = at-if1 .before in
     let at-shared-slice-known = at-is-faulty .before .before in
-    let start = at-shared-slice-known .before in
-    (
+    let start = at-shared-slice-known .before in (
       λ fs n k h e.
           let formed : isConstraintFaulty fs ≡ false = sym (at-is-faulty .is-faulty .ensures .0 fs h) ∙ at-if1 .if1 .left in
           head-unknown fs _ _ n k _ _ formed (λ i. omega (arith, at-shared-slice-known .shared-slice-known .given i)) e
@@ -39,8 +38,7 @@ returns-3 c =
     let at-if1 = at-find-key .before .before in
     let at-is-faulty = at-if1 .before in
     let at-shared-slice-known = at-is-faulty .before .before in
-    let start = at-shared-slice-known .before in
-    (
+    let start = at-shared-slice-known .before in (
       λ fs n k h e.
           let formed : isConstraintFaulty fs ≡ false = sym (at-is-faulty .is-faulty .ensures .0 fs h) ∙ at-if1 .if1 .left in
           head-other fs _ _ n k _ _ formed (λ i. omega (arith, at-shared-slice-known .shared-slice-known .given i)) e
@@ -59,16 +57,19 @@ returns-4 c =
     let at-if1 = at-find-key .before .before in
     let at-is-faulty = at-if1 .before in
     let at-shared-slice-known = at-is-faulty .before .before in
-    let start = at-shared-slice-known .before in
-    (
+    let start = at-shared-slice-known .before in (
       λ fs n k h e.
           let formed : isConstraintFaulty fs ≡ false = sym (at-is-faulty .is-faulty .ensures .0 fs h) ∙ at-if1 .if1 .left in
           head-found fs _ _ n k _ _ formed (λ i. omega (arith, at-shared-slice-known .shared-slice-known .given i)) e
           (start .pre)
           (second-name fs formed) (second-key fs formed _ (h .keyed)) (at-find-key .find-key .ensures .0) (at-if2 .if2 .left)
           (omega (arith, at-wide .wide .ensures .0, h .counted)),
-      ((at-is-faulty .is-faulty .ensures .1 (at-if1 .if1 .left)) .0, (at-is-faulty .is-faulty .ensures .1
-      (at-if1 .if1 .left)) .1, omega arith),
+      (
+        (at-is-faulty .is-faulty .ensures .1 (at-if1 .if1 .left)) .0,
+        (at-is-faulty .is-faulty .ensures .1
+            (at-if1 .if1 .left)) .1,
+        omega arith,
+      ),
     )
 
 pub constraint-head-spec : {M : Type 1} → statement M

@@ -17,8 +17,10 @@ returns-2 c =
     let at-if1 = at-find-key .before .before .before in
     let at-slice-known = at-if1 .before .before in
     let start = at-slice-known .before in
-    term-known _ _ _ _ _ (start .pre .0) (start .pre .1) (start .pre .2) _ (at-if1 .if1 .left) (λ i. omega (arith,
-    at-slice-known .slice-known .given i)) (at-find-key .find-key .ensures .0)
+    term-known _ _ _ _ _ (start .pre .0) (start .pre .1) (start .pre .2) _ (at-if1 .if1 .left) (λ i. omega (
+      arith,
+      at-slice-known .slice-known .given i,
+    )) (at-find-key .find-key .ensures .0)
     (c .if2 .taken)
 
 returns-3 : tie.Need-returns-3
@@ -28,8 +30,10 @@ returns-3 c =
     let at-if1 = at-find-key .before .before .before in
     let at-slice-known = at-if1 .before .before in
     let start = at-slice-known .before in
-    term-full _ _ _ _ _ (start .pre .0) (start .pre .1) (start .pre .2) _ (at-if1 .if1 .left) (λ i. omega (arith,
-    at-slice-known .slice-known .given i)) (at-find-key .find-key .ensures .0)
+    term-full _ _ _ _ _ (start .pre .0) (start .pre .1) (start .pre .2) _ (at-if1 .if1 .left) (λ i. omega (
+      arith,
+      at-slice-known .slice-known .given i,
+    )) (at-find-key .find-key .ensures .0)
     (at-if2 .if2 .left) (c .if3 .taken)
 
 returns-4 : tie.Need-returns-4
@@ -39,8 +43,10 @@ returns-4 c =
     let at-if1 = at-find-key .before .before .before in
     let at-slice-known = at-if1 .before .before in
     let start = at-slice-known .before in
-    term-new _ _ _ _ _ (start .pre .0) (start .pre .1) (start .pre .2) _ (at-if1 .if1 .left) (λ i. omega (arith,
-    at-slice-known .slice-known .given i)) (at-find-key .find-key .ensures .0)
+    term-new _ _ _ _ _ (start .pre .0) (start .pre .1) (start .pre .2) _ (at-if1 .if1 .left) (λ i. omega (
+      arith,
+      at-slice-known .slice-known .given i,
+    )) (at-find-key .find-key .ensures .0)
     (at-if2 .if2 .left) (c .if3 .left)
 
 pub read-term-spec : {M : Type 1} → statement M

@@ -13,7 +13,7 @@ use Rattle.lines.proofs.terms.read_terms.Tie as tie
 abbrev Inv-loop : tie.InvT-loop
 Inv-loop from base count names₀ places₀ keys starts stop cells₀ n₀ i₀ names places cells n i =
     Walk (record { faulty = false; end = 0; count = stop; keys = keys; starts = starts }) from base count names₀ places₀
-        names places
+    names places
     cells n i
 
 abbrev μ-loop : tie.MeasureT-loop

@@ -31,10 +31,16 @@ read-terms-requires : tie.Need-read-terms-requires
 read-terms-requires c κs =
     let at-if1 = c .before .before .before .before .before .before in
     let at-is-equation-faulty = at-if1 .before in
-    let start = at-is-equation-faulty .before .before .before .before in
-    (start .pre .0, start .pre .2 .few-constants, omega (arith, at-is-equation-faulty .is-equation-faulty .ensures .1
-    (at-if1 .if1 .left)),
-    omega (arith, at-is-equation-faulty .is-equation-faulty .ensures .1 (at-if1 .if1 .left)))
+    let start = at-is-equation-faulty .before .before .before .before in (
+      start .pre .0,
+      start .pre .2 .few-constants,
+      omega (
+        arith,
+        at-is-equation-faulty .is-equation-faulty .ensures .1
+            (at-if1 .if1 .left),
+      ),
+      omega (arith, at-is-equation-faulty .is-equation-faulty .ensures .1 (at-if1 .if1 .left)),
+    )
 
 returns-3 : tie.Need-returns-3
 returns-3 c =

@@ -10,28 +10,29 @@ use Rattle.programs.proofs.adds.is_equation_faulty.Statement.{statement
 use Rattle.programs.proofs.adds.is_equation_faulty.Tie as tie
 
 returns : tie.Need-returns
-returns c = (λ fs h. sym (sides-few fs (λ z. c .if1 .taken (h .counted ∙ z))), λ e. absurd (let z : _≡_ {A = ℕ} 0 1 = cc in
-    omega arith))
+returns c = (
+  λ fs h. sym (sides-few fs (λ z. c .if1 .taken (h .counted ∙ z))),
+  λ e. absurd (let z : _≡_ {A = ℕ} 0 1 = cc in
+      omega arith),
+)
 
 returns-2 : tie.Need-returns-2
 returns-2 c =
     let at-are-terms = c .before in
-    let at-if1 = at-are-terms .before in
-    (
-  λ fs h. sym (sides-shape fs (omega (arith, h .counted, at-if1 .if1 .left)) ∙ ap not (sym (at-are-terms .are-terms .ensures
-    fs h) ∙ c .if2 .taken)),
-  λ _. at-if1 .if1 .left,
-)
+    let at-if1 = at-are-terms .before in (
+      λ fs h. sym (sides-shape fs (omega (arith, h .counted, at-if1 .if1 .left)) ∙ ap not (sym (at-are-terms .are-terms .ensures
+          fs h) ∙ c .if2 .taken)),
+      λ _. at-if1 .if1 .left,
+    )
 
 returns-3 : tie.Need-returns-3
 returns-3 c =
     let at-are-terms = c .before in
-    let at-if1 = at-are-terms .before in
-    (
-  λ fs h. sym (sides-shape fs (omega (arith, h .counted, at-if1 .if1 .left)) ∙ ap not (sym (at-are-terms .are-terms .ensures
-    fs h) ∙ c .if2 .left)),
-  λ e. absurd (let z : _≡_ {A = ℕ} 0 1 = cc in omega arith),
-)
+    let at-if1 = at-are-terms .before in (
+      λ fs h. sym (sides-shape fs (omega (arith, h .counted, at-if1 .if1 .left)) ∙ ap not (sym (at-are-terms .are-terms .ensures
+          fs h) ∙ c .if2 .left)),
+      λ e. absurd (let z : _≡_ {A = ℕ} 0 1 = cc in omega arith),
+    )
 
 pub is-equation-faulty-spec : {M : Type 1} → statement M
 is-equation-faulty-spec = tie.close (tie.spec

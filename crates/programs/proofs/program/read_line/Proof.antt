@@ -53,14 +53,13 @@ constraint-line-requires c κs =
     let at-enum-told3 = c .before .before .before .before in
     let at-if1 = at-enum-told3 .before .before .before in
     let at-place-after = at-if1 .before in
-    let start = at-place-after .before .before .before .before .before .before .before in
-    (
+    let start = at-place-after .before .before .before .before .before .before .before in (
       start .pre .0,
       length-take-le _ (start .args .symbols .now) (omega (arith, start .pre .1, start .pre .3 .few-symbols)),
       start .pre .2,
       sound-moved _ _ _ (start .pre .3),
       start .pre .4 (begun-head _ _ _ (at-place-after .place-after .ensures) (omega (arith, at-if1 .if1 .left)) (ap formMeant
-      (at-enum-told3 .enum-told3 .given .1))),
+          (at-enum-told3 .enum-told3 .given .1))),
       omega arith,
     )
 
@@ -82,14 +81,13 @@ constraint-line-requires-2 c κs =
     let at-enum-told4 = c .before .before .before .before in
     let at-if1 = at-enum-told4 .before .before .before in
     let at-place-after = at-if1 .before in
-    let start = at-place-after .before .before .before .before .before .before .before in
-    (
+    let start = at-place-after .before .before .before .before .before .before .before in (
       start .pre .0,
       length-take-le _ (start .args .symbols .now) (omega (arith, start .pre .1, start .pre .3 .few-symbols)),
       start .pre .2,
       sound-moved _ _ _ (start .pre .3),
       start .pre .4 (begun-body _ _ _ (at-place-after .place-after .ensures) (omega (arith, at-if1 .if1 .left)) (ap formMeant
-      (at-enum-told4 .enum-told4 .given .1))),
+          (at-enum-told4 .enum-told4 .given .1))),
       omega arith,
     )
 
@@ -99,13 +97,12 @@ equation-line-requires c κs =
     let at-enum-told5 = c .before .before .before in
     let at-if1 = at-enum-told5 .before .before .before in
     let at-place-after = at-if1 .before in
-    let start = at-place-after .before .before .before .before .before .before .before in
-    (
+    let start = at-place-after .before .before .before .before .before .before .before in (
       start .pre .0,
       start .pre .2,
       sound-moved _ _ _ (start .pre .3),
       start .pre .4 (begun-equation _ _ _ (at-place-after .place-after .ensures) (omega (arith, at-if1 .if1 .left)) (ap
-      formMeant (at-enum-told5 .enum-told5 .given .1))),
+          formMeant (at-enum-told5 .enum-told5 .given .1))),
     )
 
 returns-2 : tie.Need-returns-2

@@ -39,8 +39,7 @@ returns c =
 read-line-requires : tie.Need-read-line-requires Inv-loop μ-loop
 read-line-requires c κs =
     let at-split = c .before .before .before .before .before in
-    let at-loop = at-split .before .before .before in
-    (
+    let at-loop = at-split .before .before .before in (
       record {
         near = at-split .split .ensures .near;
         low = omega arith;
@@ -59,8 +58,12 @@ same-length-5 c =
     let at-read-line = at-places .before .before .before in
     let at-loop = at-read-line .before .before .before .before .before .before .before .before .before in
     let start = at-loop .before .before .before .before .before .before .before in
-    omega (arith, at-read-line .read-line .ensures .kept .names-size, at-loop .loop .inv .room .names-size,
-    start .pre .0 .names-size)
+    omega (
+      arith,
+      at-read-line .read-line .ensures .kept .names-size,
+      at-loop .loop .inv .room .names-size,
+      start .pre .0 .names-size,
+    )
 
 same-length-6 : tie.Need-same-length-6 Inv-loop μ-loop
 same-length-6 c =
@@ -68,8 +71,12 @@ same-length-6 c =
     let at-read-line = at-places .before .before .before in
     let at-loop = at-read-line .before .before .before .before .before .before .before .before .before in
     let start = at-loop .before .before .before .before .before .before .before in
-    omega (arith, at-read-line .read-line .ensures .kept .places-size, at-loop .loop .inv .room .places-size,
-    start .pre .0 .places-size)
+    omega (
+      arith,
+      at-read-line .read-line .ensures .kept .places-size,
+      at-loop .loop .inv .room .places-size,
+      start .pre .0 .places-size,
+    )
 
 same-length-7 : tie.Need-same-length-7 Inv-loop μ-loop
 same-length-7 c =
@@ -77,8 +84,12 @@ same-length-7 c =
     let at-read-line = at-places .before .before .before in
     let at-loop = at-read-line .before .before .before .before .before .before .before .before .before in
     let start = at-loop .before .before .before .before .before .before .before in
-    omega (arith, at-read-line .read-line .ensures .symbols-size, at-loop .loop .inv .room .symbols-size,
-    start .pre .0 .symbols-size)
+    omega (
+      arith,
+      at-read-line .read-line .ensures .symbols-size,
+      at-loop .loop .inv .room .symbols-size,
+      start .pre .0 .symbols-size,
+    )
 
 same-length-8 : tie.Need-same-length-8 Inv-loop μ-loop
 same-length-8 c =
@@ -86,8 +97,12 @@ same-length-8 c =
     let at-read-line = at-places .before .before .before in
     let at-loop = at-read-line .before .before .before .before .before .before .before .before .before in
     let start = at-loop .before .before .before .before .before .before .before in
-    omega (arith, at-read-line .read-line .ensures .rules-size, at-loop .loop .inv .room .rules-size,
-    start .pre .0 .rules-size)
+    omega (
+      arith,
+      at-read-line .read-line .ensures .rules-size,
+      at-loop .loop .inv .room .rules-size,
+      start .pre .0 .rules-size,
+    )
 
 returns-2 : tie.Need-returns-2 Inv-loop μ-loop
 returns-2 c =

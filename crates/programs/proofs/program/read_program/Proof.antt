@@ -19,8 +19,13 @@ mul-k c =
     let at-stage = c .before .before in
     let at-names = at-stage .before .before .before .before .before .before .before .before .before in
     let at-read-lines = at-names .before in
-    record { fits = omega (arith, stage-sound _ (at-stage .stage .given .1)
-    (at-read-lines .read-lines .ensures) .few-symbols) }
+    record {
+      fits = omega (
+        arith,
+        stage-sound _ (at-stage .stage .given .1)
+            (at-read-lines .read-lines .ensures) .few-symbols,
+      );
+    }
 
 mul-n : tie.Need-mul-n
 mul-n c =
@@ -34,32 +39,48 @@ slice-reshare-prefix-check-rules c =
     let at-stage = c .before .before .before in
     let at-names = at-stage .before .before .before .before .before .before .before .before .before in
     let at-read-lines = at-names .before in
-    omega (arith, at-read-lines .read-lines .ensures .room .symbols-size, stage-sound _ (at-stage .stage .given .1)
-    (at-read-lines .read-lines .ensures) .few-symbols)
+    omega (
+      arith,
+      at-read-lines .read-lines .ensures .room .symbols-size,
+      stage-sound _ (at-stage .stage .given .1)
+          (at-read-lines .read-lines .ensures) .few-symbols,
+    )
 
 slice-aggregate-check-rules : tie.Need-slice-aggregate-check-rules
 slice-aggregate-check-rules c =
     let at-stage = c .before .before .before .before in
     let at-names = at-stage .before .before .before .before .before .before .before .before .before in
     let at-read-lines = at-names .before in
-    sym (length-take-le _ _ (omega (arith, at-read-lines .read-lines .ensures .room .symbols-size, stage-sound _
-    (at-stage .stage .given .1) (at-read-lines .read-lines .ensures) .few-symbols)))
+    sym (length-take-le _ _ (omega (
+      arith,
+      at-read-lines .read-lines .ensures .room .symbols-size,
+      stage-sound _
+          (at-stage .stage .given .1) (at-read-lines .read-lines .ensures) .few-symbols,
+    )))
 
 slice-reshare-prefix-check-rules-2 : tie.Need-slice-reshare-prefix-check-rules-2
 slice-reshare-prefix-check-rules-2 c =
     let at-stage = c .before .before .before .before in
     let at-names = at-stage .before .before .before .before .before .before .before .before .before in
     let at-read-lines = at-names .before in
-    omega (arith, at-read-lines .read-lines .ensures .room .rules-size, stage-sound _ (at-stage .stage .given .1)
-    (at-read-lines .read-lines .ensures) .few-rules)
+    omega (
+      arith,
+      at-read-lines .read-lines .ensures .room .rules-size,
+      stage-sound _ (at-stage .stage .given .1)
+          (at-read-lines .read-lines .ensures) .few-rules,
+    )
 
 slice-aggregate-check-rules-2 : tie.Need-slice-aggregate-check-rules-2
 slice-aggregate-check-rules-2 c =
     let at-stage = c .before .before .before .before .before in
     let at-names = at-stage .before .before .before .before .before .before .before .before .before in
     let at-read-lines = at-names .before in
-    sym (length-take-le _ _ (omega (arith, at-read-lines .read-lines .ensures .room .rules-size, stage-sound _
-    (at-stage .stage .given .1) (at-read-lines .read-lines .ensures) .few-rules)))
+    sym (length-take-le _ _ (omega (
+      arith,
+      at-read-lines .read-lines .ensures .room .rules-size,
+      stage-sound _
+          (at-stage .stage .given .1) (at-read-lines .read-lines .ensures) .few-rules,
+    )))
 
 check-rules-requires : tie.Need-check-rules-requires
 check-rules-requires c κs =

@@ -23,9 +23,13 @@ rule-fault-requires c κs =
     let at-loop-test = c .before in
     let at-loop = at-loop-test .before in
     let start = at-loop .before .before .before in
-    omega (arith, at-loop-test .loop-test .taken, length-take (at-loop .loop .at + 64 - at-loop .loop .at) (drop
-    (at-loop .loop .at) (start .args .rules .now)),
-    length-drop (at-loop .loop .at) (start .args .rules .now))
+    omega (
+      arith,
+      at-loop-test .loop-test .taken,
+      length-take (at-loop .loop .at + 64 - at-loop .loop .at) (drop
+          (at-loop .loop .at) (start .args .rules .now)),
+      length-drop (at-loop .loop .at) (start .args .rules .now),
+    )
 
 returns : tie.Need-returns Inv-loop μ-loop
 returns c =
