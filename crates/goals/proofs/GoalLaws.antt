@@ -4,28 +4,27 @@
 --   goal-..                                     a goal's text
 -- Assumes nothing.
 use mathlib.Core.Path.{_≡_, refl, sym, ap, ap₂, _∙_}
-use mathlib.Core.Bool.{Bool, true, false, cond, not}
+use mathlib.Core.Bool.{Bool, true, false, not}
 use mathlib.Core.List.{List, [], _∷_, _++_, map}
-use Prim.Native.Nat.{ℕ, zero, suc, _+_, _-_, _*_, _≤_, _<_}
+use Prim.Native.Nat.{ℕ, suc, _+_, _-_, _*_, _≤_, _<_}
 use native.Mathlib.Numerals.{add-one}
 use native.Mathlib.Omega.{arith}
 use borrow.Author.Tests.{lt-ltb, le-ltb, ne-eqb, eq-eqb, leb-false}
-use lib.Dec.{leb, ltb, eqb}
+use lib.Dec.{leb, ltb}
 use lib.ListN.{length, take, drop, getD, length-map, length-drop}
 use lib.Seq.{paste, take-length, take-paste, length-paste, length-take-le}
 use Rattle.text.specs.Lists.{placeOf}
-use Rattle.text.specs.Lines.{Line, lines, lineIsFaulty}
+use Rattle.text.specs.Lines.{lines}
 use Rattle.text.specs.Fields.{fields}
 use Rattle.text.specs.Keys.{keyOf}
 use Rattle.text.specs.Splits.{lineFrom, Holds, SplitAt}
 use Rattle.text.specs.declared.fields.Fields.{Fields}
-use Rattle.text.proofs.Laws.{tabled-length}
 use Rattle.text.proofs.Cursors.{fields-some}
 use Rattle.text.proofs.SplitLaws.{lines-at, lines-split, lines-done, line-fine}
 use Rattle.semantics.specs.Terms.{Term, Constraint, Symbol, weight}
 use Rattle.syntax.specs.Answers.{Answer, refused, accepted, refuseIf, andThen}
 use Rattle.syntax.specs.Forms.{formOf, fieldAt, constantsAfter, termOf, letterNumber}
-use Rattle.syntax.specs.Programs.{Found, constraintLine}
+use Rattle.syntax.specs.Programs.{Found}
 use Rattle.syntax.specs.Goals.{GoalDraft, GoalReading, lettersAfter, readConstraintOfGoal, isGoalForm, readGoalFields}
 use Rattle.syntax.specs.Goals.{readGoalLine, readGoalLines, readGoal}
 use Rattle.syntax.proofs.Tabled.{name-most}
@@ -34,7 +33,7 @@ use Rattle.tables.specs.Cells.{cellTerms, rowConstraint, cellConstraints}
 use Rattle.tables.specs.Rows.{symbolsOf, constantsOf, lettersOf}
 use Rattle.tables.specs.Names.{Placed}
 use Rattle.lines.specs.declared.ConstraintRead.{ConstraintRead}
-use Rattle.lines.specs.Read.{Outside, KeepsPlaces, padded, termCell, constraintAnswer, CellsMean, ConstraintIn}
+use Rattle.lines.specs.Read.{Outside, constraintAnswer, CellsMean, ConstraintIn}
 use Rattle.lines.proofs.Held.{key-at}
 use Rattle.lines.proofs.HeadLaws.{symbols-same}
 use Rattle.lines.proofs.TermLaws.{outside-same, outside-trans, constants-length}
@@ -47,13 +46,14 @@ use Rattle.goals.specs.declared.GoalLineRead.{GoalLineRead}
 use Rattle.goals.specs.declared.GoalLineRead.the-variants.{Refused as lineRefused, Next}
 use Rattle.goals.specs.declared.GoalRead.{GoalRead}
 use Rattle.goals.specs.declared.GoalRead.the-variants.{Refused, Accepted}
-use Rattle.goals.specs.ReadGoal.{withLetters, numberedCell, LettersFit, RowIn, Room, GoalFits, goalDraftOf, goalLineAnswer}
-use Rattle.goals.specs.ReadGoal.{goalLineFits, GoalLineIn, goalLinesAnswer, goalFits, GoalLinesIn, goalReadingOf, goalAnswer}
+use Rattle.goals.specs.ReadGoal.{withLetters, numberedCell, RowIn, Room, GoalFits, goalDraftOf, goalLineAnswer}
+use Rattle.goals.specs.ReadGoal.{GoalLineIn, goalLinesAnswer, GoalLinesIn, goalReadingOf, goalAnswer}
 use Rattle.goals.specs.ReadGoal.{GoalIn}
 use Rattle.goals.proofs.GoalLetters.{letters-length, letters-after, cells-numbered}
 
 -- symbols do not change with constants
-pub symbols-outside : (names names′ symbols : List ℕ) (k : ℕ) → Outside names names′ → length symbols ≡ 2 * k → length symbols ≤ 64
+pub symbols-outside : (names names′ symbols : List ℕ) (k : ℕ) → Outside names names′ → length symbols ≡ 2 * k
+    → length symbols ≤ 64
     → symbolsOf names′ symbols k ≡ symbolsOf names symbols k
 symbols-outside names names′ symbols k o size few =
     symbols-same names symbols k names′ (λ i h. o .symbols i (omega (arith, h)))
@@ -82,7 +82,8 @@ module _ (f : Fields) (s : GoalCounts) (symbols names places cells letters : Lis
         keeps = record { keeps = λ program g fs h z p. p };
       }
 
-  module _ (e : not b ≡ false) (fit : GoalFits letters s) (room : Room symbols names places cells letters) (names′ places′ : List ℕ)
+  module _ (e : not b ≡ false) (fit : GoalFits letters s) (room : Room symbols names places cells letters) (names′ places′ :
+      List ℕ)
       (r : ConstraintRead)
       (c : ConstraintIn f (leb 64 (s .constraints)) goalPlace (s .constants) symbols names places names′ places′ r) where
     draft-length : length (cellConstraints (take (5 * s .constraints) cells)) ≡ s .constraints
@@ -118,14 +119,19 @@ module _ (f : Fields) (s : GoalCounts) (symbols names places cells letters : Lis
           rw (← first-form fs h some, e, draft-length)
           (ap (λ (a : Answer Found). andThen (andThen a renumbered) onto) (c .answers fs n k h size)
           ∙ sym (ap (λ (a : Answer Found). andThen a onto)
-          (line-other (leb 64 (s .constraints)) (symbolsOf names symbols k) letterNumber variable (constantsOf names (s .constants)) n fs)))
+          (line-other (leb 64 (s .constraints)) (symbolsOf names symbols k) letterNumber variable (constantsOf names
+          (s .constants)) n fs)))
 
     refused-is : (n : ℕ) → (r .refusal ≡ 0 → ⊥) → constraintAnswer names′ n r ≡ refused (r .refusal) n
     unfolding constraintAnswer
     refused-is n z = rw (ne-eqb (r .refusal) 0 z)
 
     found-is : (n : ℕ) → r .refusal ≡ 0
-        → constraintAnswer names′ n r ≡ accepted (record { constraint = rowConstraint (r .cells); constants = constantsOf names′ (r .count) })
+        → constraintAnswer names′ n r ≡ accepted (record {
+          constraint = rowConstraint (r .cells);
+          constants = constantsOf
+              names′ (r .count);
+        })
     unfolding constraintAnswer
     found-is n z = rw (eq-eqb (r .refusal) 0 z)
 
@@ -177,7 +183,8 @@ module _ (f : Fields) (s : GoalCounts) (symbols names places cells letters : Lis
               ap cellConstraints taken
               ∙ constraints-append (s .constraints) (take (5 * s .constraints) cells) (row .cells)
               (length-take-le (5 * s .constraints) cells (omega (arith, line-fits)))
-              ∙ ap (λ (l : List Constraint). cellConstraints (take (5 * s .constraints) cells) ++ l) (five-is (row .cells) row-size)
+              ∙ ap (λ (l : List Constraint). cellConstraints (take (5 * s .constraints) cells) ++ l) (five-is (row .cells)
+              row-size)
 
           module _ (fs : List (List ℕ)) (k : ℕ) (h : Holds fs f) (size : length symbols ≡ 2 * k) where
             means : CellsMean (drop 2 fs) (constantsOf names (s .constants)) names′ r
@@ -247,7 +254,8 @@ module _ (f : Fields) (s : GoalCounts) (symbols names places cells letters : Lis
               }
 
 -- the lines of a goal, as far as they are read
-pub record LinesSoFar (goal symbols names₀ places₀ : List ℕ) (c : ℕ) (names places cells letters : List ℕ) (at n : ℕ) (s : GoalCounts)
+pub record LinesSoFar (goal symbols names₀ places₀ : List ℕ) (c : ℕ) (names places cells letters : List ℕ) (at n : ℕ) (s :
+    GoalCounts)
     : Type 0 where
   pub within : at ≤ length goal
   pub numbered : n ≤ at + 1
@@ -331,11 +339,17 @@ module _ (goal symbols names₀ places₀ : List ℕ) (c : ℕ) (names places ce
         answered : (k : ℕ) → length symbols ≡ 2 * k
             → andThen (goalLineAnswer names′ cells′ letters′ n r)
             (λ e. readGoalLines (symbolsOf names₀ symbols k) (suc n) e (lines (drop (f .end + 1) goal)))
-            ≡ readGoalLines (symbolsOf names₀ symbols k) 1 (record { constraints = []; letters = []; constants = constantsOf names₀ c })
+            ≡ readGoalLines (symbolsOf names₀ symbols k) 1 (record {
+              constraints = [];
+              letters = [];
+              constants = constantsOf
+                  names₀ c;
+            })
             (lines goal)
         answered k size =
             let S = symbolsOf names₀ symbols k in
-            let same : symbolsOf names symbols k ≡ S = symbols-outside names₀ names symbols k (w .outside) size (w .room .few-symbols) in
+            let same : symbolsOf names symbols k ≡ S = symbols-outside names₀ names symbols k (w .outside) size
+            (w .room .few-symbols) in
             ap (λ (a : Answer GoalDraft). andThen a (λ e. readGoalLines S (suc n) e (lines (drop (f .end + 1) goal))))
             (g .answers line-fields n k (split .holds fine) (fields-some (lineFrom goal at .bytes)) size
             ∙ ap (λ (l : List Symbol). readGoalFields l n line-fields (goalDraftOf names cells letters s)) same)
@@ -402,7 +416,8 @@ pub counts-fit :
     → r ≡ Accepted s → GoalLinesIn goal symbols names places c names′ places′ cells′ letters′ r → GoalFits letters′ s
 counts-fit s e g = rw e at (g .fits)
 
-module _ (goal symbols names places : List ℕ) (c : ℕ) (names′ places′ cells′ letters′ : List ℕ) (h : length goal ≤ 16384) (r : GoalRead)
+module _ (goal symbols names places : List ℕ) (c : ℕ) (names′ places′ cells′ letters′ : List ℕ) (h : length goal ≤ 16384) (r
+    : GoalRead)
     (g : GoalLinesIn goal symbols names places c names′ places′ cells′ letters′ r) where
   abbrev checked : List Symbol → GoalDraft → Answer GoalReading
   checked S d =

@@ -5,19 +5,18 @@
 --   letters-after, cells-numbered            the letters after a line, and the terms that its numbered cells stand for
 -- Assumes nothing.
 use mathlib.Core.Path.{_≡_, refl, sym, ap, ap₂, _∙_}
-use mathlib.Core.Bool.{Bool, true, false, cond, _&&_, _||_}
+use mathlib.Core.Bool.{Bool, true, false, cond, _&&_}
 use mathlib.Core.List.{List, [], _∷_, _++_, map, append-nil}
 use Prim.Native.Nat.{ℕ, zero, suc, _+_, _-_, _≤_, _<_}
-use native.Mathlib.Nat.{zero-add}
 use native.Mathlib.Numerals.{add-one}
 use native.Mathlib.Decide.{ℕ-discrete}
 use native.Mathlib.Omega.{arith}
 use borrow.Author.Tests.{lt-ltb, le-ltb, eq-eqb, ne-eqb, ltb-true}
 use lib.Dec.{eqb, ltb}
-use lib.ListN.{length, take, drop, getD, set, length-set, length-map}
+use lib.ListN.{length, take, drop, getD, set, length-set}
 use lib.Seq.{take-suc, getD-set-same, getD-set-other}
-use Rattle.text.specs.Lists.{every, placeFrom, placeOf, isKnown, withName, sameBytes, tabled}
-use Rattle.text.specs.Fields.{isName, isVariable, isTerm}
+use Rattle.text.specs.Lists.{every, placeFrom, placeOf, isKnown, withName, sameBytes}
+use Rattle.text.specs.Fields.{isName, isTerm}
 use Rattle.text.specs.Keys.{keyOf}
 use Rattle.text.proofs.Laws.{tabled-length, tabled-at}
 use Rattle.text.proofs.Keys.{letter-key, variable-range}

@@ -58,7 +58,15 @@ fn goal_line(
         return GoalLineRead::Refused(3);
     }
     let m = counts.constraints;
-    let r = read_constraint(f, 64 <= m, GOAL_PLACE, counts.constants, symbols, names, places);
+    let r = read_constraint(
+        f,
+        64 <= m,
+        GOAL_PLACE,
+        counts.constants,
+        symbols,
+        names,
+        places,
+    );
     if r.refusal != 0 {
         return GoalLineRead::Refused(r.refusal);
     }
@@ -115,7 +123,8 @@ fn goal_lines(
     GoalRead::Accepted(counts)
 }
 
-// A goal's text over the symbols and constants of a program: numbers 1 to 7, and 10. The symbols' table is lent as far as it is used.
+// A goal's text over the symbols and constants of a program: numbers 1 to 7, and 10. The table of symbols is lent as far as it is
+// used.
 pub fn read_goal(
     goal: &[u8],
     symbols: &[u16],

@@ -6,14 +6,14 @@
 --   line-other               a line whose variables have other numbers
 -- Assumes nothing.
 use mathlib.Core.Path.{_≡_, refl, sym, ap, ap₂, _∙_}
-use mathlib.Core.Bool.{Bool, true, false, cond, _||_}
+use mathlib.Core.Bool.{Bool, true, false, _||_}
 use mathlib.Core.List.{List, [], _∷_, map}
-use Prim.Native.Nat.{ℕ, zero, suc, _+_, _*_, _≤_, _<_}
+use Prim.Native.Nat.{ℕ, zero, suc, _*_, _≤_, _<_}
 use native.Mathlib.Omega.{arith}
 use borrow.Author.Tests.{lt-ltb, le-ltb, ne-eqb}
-use lib.Dec.{eqb, ltb}
+use lib.Dec.{ltb}
 use lib.ListN.{length, take, drop, getD, length-drop}
-use Rattle.text.specs.Lists.{every, placeOf}
+use Rattle.text.specs.Lists.{every}
 use Rattle.text.specs.Fields.{isTerm}
 use Rattle.text.specs.Splits.{Holds}
 use Rattle.text.specs.declared.fields.Fields.{Fields}
@@ -28,9 +28,8 @@ use Rattle.tables.specs.Rows.{symbolsOf, constantsOf}
 use Rattle.lines.specs.declared.HeadRead.{HeadRead}
 use Rattle.lines.specs.declared.HeadRead.the-variants.{Refused, Symbol as HeadSymbol}
 use Rattle.lines.specs.declared.TermsRead.{TermsRead}
-use Rattle.lines.specs.declared.ConstraintRead.{ConstraintRead}
-use Rattle.lines.specs.Read.{constraintHead, headAnswer, headFits, constraintAnswer, refusedRead, Lent, Outside, KeepsPlaces}
-use Rattle.lines.specs.Read.{TermsMean, TermsIn, ConstraintIn, padded, termCell}
+use Rattle.lines.specs.Read.{constraintHead, headAnswer, headFits, constraintAnswer, refusedRead}
+use Rattle.lines.specs.Read.{TermsIn, ConstraintIn}
 use Rattle.lines.proofs.Held.{fine-terms}
 use Rattle.lines.proofs.HeadLaws.{symbols-front}
 use Rattle.lines.proofs.TermCells.{padded-terms}
@@ -52,7 +51,8 @@ line-parts :
     ≡ andThen (constraintHead symbols n fs) (behind full variable constants n fs)
 unfolding constraintLine constraintHead constraintOf
 line-parts full symbols variable constants n fs =
-    go (isConstraintFaulty fs) (isUndeclared symbols fs) (behind full variable constants n fs (symbolNumber symbols (fieldAt 1 fs)))
+    go (isConstraintFaulty fs) (isUndeclared symbols fs) (behind full variable constants n fs (symbolNumber symbols (fieldAt
+    1 fs)))
   where
     go : (a b : Bool) (more : Answer Found)
         → refuseIf a 4 n (refuseIf b 6 n (behind full variable constants n fs (symbolNumber symbols (fieldAt 1 fs))))
@@ -68,7 +68,8 @@ head-fine : (symbols : List Symbol) (n s : ℕ) (fs : List (List ℕ)) → accep
 unfolding constraintHead
 head-fine symbols n s fs e = go (isConstraintFaulty fs) e
   where
-    go : (a : Bool) → accepted s ≡ refuseIf a 4 n (refuseIf (isUndeclared symbols fs) 6 n (accepted (symbolNumber symbols (fieldAt 1 fs))))
+    go : (a : Bool)
+        → accepted s ≡ refuseIf a 4 n (refuseIf (isUndeclared symbols fs) 6 n (accepted (symbolNumber symbols (fieldAt 1 fs))))
         → a ≡ false
     go true q = absurd (let z : _≡_ {A = ℕ} 0 1 = cc in omega arith)
     go false q = refl
@@ -206,10 +207,10 @@ module _ (f : Fields) (full : Bool) (base count : ℕ) (symbols names places : L
                 let after : List (List ℕ) = constantsAfter (drop 2 fs) (constantsOf names count) in
                 let size : length after ≡ t .count = ap length (sym (means .after z)) ∙ constants-length names′ (t .count) in
                 let cells : cellTerms (getD (t .cells) 0 0 ∷ getD (t .cells) 1 0 ∷ getD (t .cells) 2 0 ∷ getD (t .cells) 3 0 ∷ [])
-                    ≡ map (termOf letterNumber after) (drop 2 fs) =
-                    ap cellTerms (four-cells (t .cells) (u .size) ∙ means .cells z)
-                    ∙ padded-terms 4 after (drop 2 fs) (omega (arith, length-drop 2 fs, h .counted))
-                    (λ g. omega (arith, name-most g after, size, u .few)) (terms fs k h e) in
+                ≡ map (termOf letterNumber after) (drop 2 fs) =
+                ap cellTerms (four-cells (t .cells) (u .size) ∙ means .cells z)
+                ∙ padded-terms 4 after (drop 2 fs) (omega (arith, length-drop 2 fs, h .counted))
+                (λ g. omega (arith, name-most g after, size, u .few)) (terms fs k h e) in
                 ap₂ (λ (ts : List Term) (cs : List (List ℕ)).
                 accepted (record { constraint = record { symbol = s; terms = ts }; constants = cs })) cells (means .after z)
                 ∙ sym (onward fs n k h e ∙ rw (least, le-ltb 64 (length after) (omega (arith, size, u .few))) refl));

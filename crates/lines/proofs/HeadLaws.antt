@@ -2,10 +2,10 @@
 --   symbols-length, symbol-at, symbols-front    the symbols of a table
 --   head-faulty, head-unknown, head-other, head-found    the line, by the test that decides it
 -- Assumes nothing.
-use mathlib.Core.Path.{_≡_, refl, sym, ap, ap₂, _∙_}
-use mathlib.Core.Bool.{Bool, true, false, not, _||_}
-use mathlib.Core.List.{List, [], _∷_, map}
-use Prim.Native.Nat.{ℕ, zero, suc, _+_, _-_, _*_, _≤_, _<_, min}
+use mathlib.Core.Path.{_≡_, sym, ap, ap₂, _∙_}
+use mathlib.Core.Bool.{true, false, not, _||_}
+use mathlib.Core.List.{List, map}
+use Prim.Native.Nat.{ℕ, _+_, _-_, _*_, _≤_, _<_, min}
 use native.Mathlib.Nat.{zero-add}
 use native.Mathlib.Omega.{arith}
 use borrow.Author.Tests.{lt-ltb, le-ltb, eq-eqb, ne-eqb}
@@ -90,7 +90,8 @@ module _ (fs : List (List ℕ)) (names symbols : List ℕ) (n k s key : ℕ) (fi
     known : isUndeclared S fs ≡ not (eqb (length (drop 2 fs)) (getD symbols (2 * s) 0))
     known = rw (tests, arity-is, lt-ltb (min s k) k (omega arith))
 
-    pub head-other : 2 ≤ length fs → (getD symbols (2 * s) 0 + 2 ≡ length fs → ⊥) → headAnswer n (Refused 6) ≡ constraintHead S n fs
+    pub head-other : 2 ≤ length fs → (getD symbols (2 * s) 0 + 2 ≡ length fs → ⊥)
+        → headAnswer n (Refused 6) ≡ constraintHead S n fs
     unfolding headAnswer constraintHead
     head-other two q =
         rw (fine, known, ne-eqb (length (drop 2 fs)) (getD symbols (2 * s) 0) (λ z. q (omega (arith, z, length-drop 2 fs))))

@@ -7,10 +7,10 @@ use mathlib.Core.Path.{_≡_, refl, sym, ap, _∙_}
 use mathlib.Core.Bool.{Bool, true, false, _&&_}
 use mathlib.Core.List.{List, [], _∷_}
 use mathlib.Core.Option.{none, some}
-use Prim.Native.Nat.{ℕ, zero, suc, _+_, _≤_, _<_}
+use Prim.Native.Nat.{ℕ, zero, suc, _+_, _<_}
 use native.Mathlib.Omega.{arith}
-use borrow.Author.Tests.{ne-eqb, le-ltb, lt-ltb, lt-leb}
-use lib.Dec.{ltb, leb}
+use borrow.Author.Tests.{ne-eqb, le-ltb, lt-leb}
+use lib.Dec.{leb}
 use Rattle.text.specs.Bytes.{between, classOf, classNumber, isClass}
 use Rattle.text.specs.Fields.{isName, isVariable}
 use Rattle.text.specs.Keys.{keyOf}

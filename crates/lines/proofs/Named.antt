@@ -5,14 +5,14 @@
 --   placed-set                   a name and its place, stored
 -- Assumes nothing.
 use mathlib.Core.Path.{_≡_, refl, sym, ap, ap₂, _∙_}
-use mathlib.Core.Bool.{Bool, true, false, cond, _&&_}
+use mathlib.Core.Bool.{Bool, true, false, cond}
 use mathlib.Core.List.{List, [], _∷_, _++_, map}
 use Prim.Native.Nat.{ℕ, zero, suc, _+_, _*_, _/_, _%_, _^_, _≤_, _<_, min}
-use native.Mathlib.Nat.{zero-add, div-add-mod', pow-suc}
+use native.Mathlib.Nat.{div-add-mod', pow-suc}
 use native.Mathlib.Omega.{arith}
 use native.Mathlib.Decide.{decLt}
-use borrow.Author.Tests.{eqb-true, eqb-false, eq-eqb, ne-eqb}
-use lib.Dec.{eqb, ltb}
+use borrow.Author.Tests.{eqb-true, eqb-false}
+use lib.Dec.{eqb}
 use lib.ListN.{length, take, drop, getD, set, length-take, length-drop, List·getD-eq-default}
 use lib.Seq.{take-suc, getD-take, getD-drop, getD-set-same, getD-set-other}
 use Rattle.text.specs.Lists.{placeFrom, placeOf, sameBytes, tabled}
@@ -20,7 +20,7 @@ use Rattle.text.specs.Fields.{isName}
 use Rattle.text.proofs.ClassLaws.{and-true}
 use Rattle.text.specs.Keys.{keyOf, spell, spellFrom, packed, packedFrom}
 use Rattle.syntax.proofs.Known.{same-refl}
-use Rattle.syntax.proofs.Tabled.{tabled-same, map-append}
+use Rattle.syntax.proofs.Tabled.{map-append}
 use Rattle.tables.specs.Layout.{maxNames}
 use Rattle.tables.specs.Rows.{nameOf}
 use Rattle.tables.specs.Names.{placedAt, nameIn, Placed}

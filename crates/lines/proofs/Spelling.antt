@@ -1,15 +1,14 @@
 -- Laws of names where they stand: those of a line of the program's text, and of the goal's.
 --   spelled-program, spelled-goal
 -- Assumes nothing.
-use mathlib.Core.Path.{_≡_, sym, ap, _∙_}
-use mathlib.Core.Bool.{true, cond}
+use mathlib.Core.Path.{_≡_, ap, _∙_}
+use mathlib.Core.Bool.{true}
 use mathlib.Core.List.{List, []}
-use Prim.Native.Nat.{ℕ, _+_, _-_, _≤_, _<_}
+use Prim.Native.Nat.{ℕ, _+_, _-_, _<_}
 use native.Mathlib.Omega.{arith}
 use borrow.Author.Tests.{lt-ltb, le-ltb}
 use lib.ListN.{length, getD}
 use Rattle.text.specs.Fields.{isName}
-use Rattle.text.specs.Keys.{word}
 use Rattle.text.specs.Splits.{Stands}
 use Rattle.text.specs.declared.fields.Fields.{Fields}
 use Rattle.text.proofs.Keys.{name-size}
@@ -29,13 +28,17 @@ name-stands text fs f s i low inside named =
 module _ (fs : List (List ℕ)) (f : Fields) (near : (i : ℕ) → getD (f .starts) i 0 < 16384) where
   pub spelled-program : (text goal : List ℕ) → Stands text fs f → Spelled text goal 0 fs f
   unfolding placedAt
-  spelled-program text goal s = record { each = λ i low inside named.
-      (let start : 0 + getD (f .starts) i 0 ≡ getD (f .starts) i 0 = omega arith in
-      rw (start, lt-ltb (getD (f .starts) i 0) goalPlace (near i)) (name-stands text fs f s i low inside named)) }
+  spelled-program text goal s = record {
+    each = λ i low inside named.
+        (let start : 0 + getD (f .starts) i 0 ≡ getD (f .starts) i 0 = omega arith in
+        rw (start, lt-ltb (getD (f .starts) i 0) goalPlace (near i)) (name-stands text fs f s i low inside named));
+  }
 
   pub spelled-goal : (program text : List ℕ) → Stands text fs f → Spelled program text goalPlace fs f
   unfolding placedAt
-  spelled-goal program text s = record { each = λ i low inside named.
-      (let start : goalPlace + getD (f .starts) i 0 - goalPlace ≡ getD (f .starts) i 0 = omega arith in
-      rw (le-ltb (goalPlace + getD (f .starts) i 0) goalPlace (omega arith), start)
-      (name-stands text fs f s i low inside named)) }
+  spelled-goal program text s = record {
+    each = λ i low inside named.
+        (let start : goalPlace + getD (f .starts) i 0 - goalPlace ≡ getD (f .starts) i 0 = omega arith in
+        rw (le-ltb (goalPlace + getD (f .starts) i 0) goalPlace (omega arith), start)
+        (name-stands text fs f s i low inside named));
+  }

@@ -4,36 +4,26 @@
 --   Walk, walk-..                          the terms of a line, one field on
 -- Assumes nothing.
 use mathlib.Core.Path.{_≡_, refl, sym, ap, ap₂, _∙_}
-use mathlib.Core.Bool.{Bool, true, false, cond, _&&_, _||_}
+use mathlib.Core.Bool.{Bool, true, false, cond, _||_}
 use mathlib.Core.List.{List, [], _∷_, _++_, map}
 use Prim.Native.Nat.{ℕ, zero, suc, _+_, _-_, _≤_, _<_}
 use native.Mathlib.Omega.{arith}
-use borrow.Author.Tests.{lt-ltb, le-ltb, ne-eqb, leb-true, ltb-true}
-use lib.Dec.{eqb, ltb, leb}
-use lib.ListN.{length, take, drop, getD, set, length-append, length-map, length-set, length-drop, drop-of-length-le, length-take}
-use lib.Seq.{drop-cons, take-suc, take-all, getD-drop, getD-set-same, getD-set-other, drop-drop}
+use borrow.Author.Tests.{ne-eqb, leb-true, ltb-true}
+use lib.Dec.{ltb, leb}
+use lib.ListN.{length, getD, set}
 use Rattle.text.specs.Bytes.{between}
-use Rattle.text.specs.Lists.{every, placeOf, isKnown, withName}
+use Rattle.text.specs.Lists.{every, placeOf, isKnown}
 use Rattle.text.specs.Fields.{isName, isVariable, isTerm}
-use Rattle.text.specs.Keys.{keyOf, spell}
-use Rattle.text.specs.Splits.{Holds}
-use Rattle.text.specs.declared.fields.Fields.{Fields}
+use Rattle.text.specs.Keys.{keyOf}
+use Rattle.text.proofs.ClassLaws.{and-true}
 use Rattle.semantics.specs.Terms.{Term, con, var}
 use Rattle.syntax.specs.Forms.{constantsAfter, firstConstant, termOf, letterNumber}
-use Rattle.syntax.proofs.WellFormed.{and-parts}
 use Rattle.syntax.proofs.Known.{with-known}
-use Rattle.syntax.proofs.Vocabulary.{constants-more, constants-least}
-use Rattle.syntax.proofs.Tabled.{name-first, map-append}
-use Rattle.tables.specs.Layout.{maxNames, firstRule}
+use Rattle.syntax.proofs.Tabled.{name-first}
 use Rattle.tables.specs.Cells.{cellTerm, cellTerms}
-use Rattle.tables.specs.Rows.{constantsOf}
-use Rattle.tables.specs.Names.{placedAt, Placed}
 use Rattle.tables.proofs.CellLaws.{cell-low, cell-high}
-use Rattle.lines.specs.declared.TermRead.{TermRead}
-use Rattle.lines.specs.declared.TermsRead.{TermsRead}
-use Rattle.lines.specs.Read.{termCell, padded, Outside, Spelled, KeepsPlaces, TermMeans, TermIn, TermsMean, TermsIn}
-use Rattle.text.proofs.Keys.{name-key, variable-key, term-key, letter-key, spell-key}
-use Rattle.lines.proofs.Held.{key-at}
+use Rattle.lines.specs.Read.{termCell, padded}
+use Rattle.text.proofs.Keys.{variable-key, letter-key}
 
 -- a term that is no name is a letter, with a key from 2 to 27
 module _ (f : List ℕ) (t : isTerm f ≡ true) (n : isName f ≡ false) where
@@ -44,7 +34,7 @@ module _ (f : List ℕ) (t : isTerm f ≡ true) (n : isName f ≡ false) where
   pub letter-range : (2 ≤ keyOf f) × (keyOf f ≤ 27)
   unfolding between
   letter-range =
-      let (a, b) = and-parts (leb 2 (keyOf f)) (leb (keyOf f) 27) (sym (variable-key f) ∙ letter-is) in
+      let (a, b) = and-true (leb 2 (keyOf f)) (leb (keyOf f) 27) (sym (variable-key f) ∙ letter-is) in
       (leb-true 2 (keyOf f) a, leb-true (keyOf f) 27 b)
 
   letter-first : letterNumber f ≡ keyOf f - 2
@@ -120,6 +110,6 @@ unfolding padded cellTerms
 padded-terms n cs [] h few t = padded-none n
 padded-terms zero cs (g ∷ gs) h few t = absurd (omega arith)
 padded-terms (suc n) cs (g ∷ gs) h few t =
-    let (a, b) = and-parts (isTerm g) (every isTerm gs) t in
+    let (a, b) = and-true (isTerm g) (every isTerm gs) t in
     rw (ne-eqb (termCell cs g) 0 (cell-used cs g a))
     (ap₂ (λ (x : Term) (l : List Term). x ∷ l) (cell-term cs g a (few g)) (padded-terms n cs gs (omega arith) few b))

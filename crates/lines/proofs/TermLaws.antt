@@ -3,16 +3,16 @@
 --   Walk, walk-start, walk-next, walk-full, walk-end    the terms of a line, as far as they are read
 -- Assumes nothing.
 use mathlib.Core.Path.{_≡_, refl, sym, ap, ap₂, _∙_}
-use mathlib.Core.Bool.{Bool, true, false, cond}
+use mathlib.Core.Bool.{true, false}
 use mathlib.Core.List.{List, [], _∷_, _++_, map}
 use Prim.Native.Nat.{ℕ, zero, suc, _+_, _-_, _≤_, _<_}
 use native.Mathlib.Numerals.{add-one}
 use native.Mathlib.Omega.{arith}
 use borrow.Author.Tests.{lt-ltb, le-ltb}
-use lib.Dec.{eqb, ltb}
+use lib.Dec.{eqb}
 use lib.ListN.{length, take, drop, getD, set, length-append, length-map, length-set, length-drop, length-take, drop-of-length-le}
 use lib.Seq.{drop-cons, take-suc, take-all, getD-drop, getD-set-same, getD-set-other}
-use Rattle.text.specs.Lists.{every, placeFrom, placeOf, isKnown, withName, tabled}
+use Rattle.text.specs.Lists.{every, placeFrom, placeOf, isKnown, withName}
 use Rattle.text.specs.Fields.{isName, isTerm}
 use Rattle.text.specs.Keys.{keyOf, spell}
 use Rattle.text.specs.Splits.{Holds}
@@ -25,12 +25,12 @@ use Rattle.syntax.proofs.Known.{same-refl}
 use Rattle.syntax.proofs.Tabled.{tabled-same, map-append, name-second}
 use Rattle.tables.specs.Layout.{maxNames}
 use Rattle.tables.specs.Rows.{nameOf, constantsOf}
-use Rattle.tables.specs.Names.{placedAt, Placed}
+use Rattle.tables.specs.Names.{placedAt}
 use Rattle.lines.specs.declared.TermRead.{TermRead}
 use Rattle.lines.specs.declared.TermsRead.{TermsRead}
-use Rattle.lines.specs.Read.{termCell, padded, Lent, Outside, Spelled, KeepsPlaces, TermMeans, TermIn, TermsMean, TermsIn}
+use Rattle.lines.specs.Read.{termCell, padded, Outside, Spelled, KeepsPlaces, TermMeans, TermIn, TermsIn}
 use Rattle.text.proofs.Keys.{name-key, spell-key}
-use Rattle.lines.proofs.Held.{key-at, name-at}
+use Rattle.lines.proofs.Held.{key-at}
 use Rattle.lines.proofs.Named.{Wide, named-place, placed-set}
 use Rattle.lines.proofs.TermCells.{cell-later, one-known, padded-set}
 
@@ -269,157 +269,162 @@ module _ (f : Fields) (from base count : ℕ) (names₀ places₀ : List ℕ) wh
       zeros (suc (suc (suc (suc j)))) = omega arith
 
   module _ (names places cells : List ℕ) (n i : ℕ) (w : Walk f from base count names₀ places₀ names places cells n i)
-      where
-    pub walk-end : f .count ≤ i
-        → TermsIn f from base count names₀ places₀ names places (record { full = false; count = n; cells = cells })
-    walk-end e =
-        record {
-          few = w .few;
-          size = w .size;
-          low = w .low;
-          sized = w .sized;
-          outside = w .outside;
-          means = λ fs h t. (let p = w .passed fs h t in
-              let out : length fs ≤ i = omega (arith, h .counted) in
-              let done : length (drop from fs) ≤ i - from = omega (arith, length-drop from fs, w .begun) in
-              record {
-                full = λ z. absurd (let y : _≡_ {A = ℕ} 0 1 = cc in omega arith);
-                after = λ _.
-                    sym (after-none (constantsOf names n))
-                    ∙ ap (λ (gs : List (List ℕ)). constantsAfter gs (constantsOf names n)) (sym (drop-of-length-le fs out))
-                    ∙ p .left;
-                cells = λ _. p .filled
-                    ∙ ap (λ (gs : List (List ℕ)). padded 4 (map (termCell (constantsAfter (drop from fs)
-                    (constantsOf names₀ count))) gs)) (take-all (i - from) (drop from fs) done);
-              });
-          keeps = w .keeps;
-        }
-
-    -- one field more
-    module _ (key place : ℕ) (names′ places′ : List ℕ) (r : TermRead) (lt : i < f .count) (room : f .count ≤ 8)
-        (keyed : key ≡ getD (f .keys) i 0) (stood : place ≡ base + getD (f .starts) i 0)
-        (t : TermIn key place n names places names′ places′ r) where
-      module _ (fs : List (List ℕ)) (h : Holds fs f) where
-        inside : i < length fs
-        inside = omega (arith, h .counted)
-
-        abbrev g : List ℕ
-        g = getD fs i []
-
-        key-is : key ≡ keyOf g
-        key-is = keyed ∙ key-at fs (f .keys) (h .keyed) i inside (omega arith)
-
-        split : drop i fs ≡ g ∷ drop (suc i) fs
-        split = drop-cons fs i [] inside
-
-        spelled : (program goal : List ℕ) → Spelled program goal base fs f → 27 < key → placedAt program goal place ≡ spell key
-        spelled program goal s l =
-            let named : isName g ≡ true = name-key g ∙ lt-ltb 27 (keyOf g) (omega (arith, key-is)) in
-            ap (placedAt program goal) stood ∙ s .each i (omega arith) inside named
-            ∙ sym (ap spell key-is ∙ spell-key g named)
-
-        module _ (u : every isTerm (drop from fs) ≡ true) where
-          abbrev p : SoFar fs (constantsOf names₀ count) from names cells n i
-          p = w .passed fs h u
-
-          abbrev all : List (List ℕ)
-          all = constantsAfter (drop from fs) (constantsOf names₀ count)
-
-          both : (isTerm g ≡ true) × (every isTerm (drop (suc i) fs) ≡ true)
-          both = and-true (isTerm g) (every isTerm (drop (suc i) fs)) (rw split at (p .terms))
-
-          means : TermMeans g (constantsOf names n) names′ r
-          means = t .means g key-is (both .0)
-
-          -- the constants after the field, and then after the others
-          onward : constantsAfter (drop (suc i) fs) (constantsAfter (g ∷ []) (constantsOf names n)) ≡ all
-          onward =
-              sym (after-cons g (drop (suc i) fs) (constantsOf names n))
-              ∙ ap (λ (gs : List (List ℕ)). constantsAfter gs (constantsOf names n)) (sym split) ∙ p .left
-
-          pub step-full : r .cell ≡ 0 → 64 < length all
-          step-full z =
-              omega (
-                arith,
-                means .full z,
-                constants-least (drop (suc i) fs) (constantsAfter (g ∷ []) (constantsOf names n)),
-                ap length onward,
-              )
-
-          cell-is : (r .cell ≡ 0 → ⊥) → r .cell ≡ termCell all g
-          cell-is z =
-              let (more, e) = constants-more (drop (suc i) fs) (constantsAfter (g ∷ []) (constantsOf names n)) in
-              means .cell z
-              ∙ sym (ap (λ (cs : List (List ℕ)). termCell cs g) (sym onward ∙ e)
-              ∙ cell-later (constantsAfter (g ∷ []) (constantsOf names n)) more g (one-known (constantsOf names n) g))
-
-          pub step-passed : (r .cell ≡ 0 → ⊥) → i < from + 4
-              → SoFar fs (constantsOf names₀ count) from names′ (set cells (i - from) (r .cell)) (r .count) (suc i)
-          step-passed z near =
-              let ds : List (List ℕ) = drop from fs in
-              let passed : List ℕ = map (termCell all) (take (i - from) ds) in
-              let within : i - from < length ds = omega (arith, length-drop from fs, inside, w .begun) in
-              let size : length passed ≡ i - from =
-              length-map (take (i - from) ds) (termCell all) ∙ length-take (i - from) ds ∙ omega arith in
-              let at : getD ds (i - from) [] ≡ g =
-              getD-drop from fs (i - from) [] ∙ ap (λ (j : ℕ). getD fs j []) (let y : from + (i - from) ≡ i = omega (arith,
-              w .begun) in y) in
-              let next : suc i - from ≡ suc (i - from) = omega (arith, w .begun) in
-              record {
-                left = ap (constantsAfter (drop (suc i) fs)) (means .after z) ∙ onward;
-                terms = both .1;
-                filled =
-                    ap₂ (λ (l : List ℕ) (x : ℕ). set l (i - from) x) (p .filled) (cell-is z)
-                    ∙ ap (λ (m : ℕ). set (padded 4 passed) m (termCell all g)) (sym size)
-                    ∙ padded-set 4 passed (termCell all g) (omega (arith, size, w .begun))
-                    ∙ ap (padded 4)
-                    (sym (map-append (termCell all) (take (i - from) ds) (g ∷ []))
-                    ∙ ap (map (termCell all))
-                    (ap (λ (x : List ℕ). take (i - from) ds ++ (x ∷ [])) (sym at) ∙ sym (take-suc ds (i - from) [] within)
-                    ∙ ap (λ (m : ℕ). take m ds) (sym next)));
-              }
-
-      abbrev kept : KeepsPlaces base f names₀ places₀ names′ places′
-      kept = record { keeps = λ program goal fs h s d.
-          t .keeps program goal (spelled fs h program goal s) (w .keeps .keeps program goal fs h s d) }
-
-      pub walk-full : r .cell ≡ 0
-          → TermsIn f from base count names₀ places₀ names′ places′ (record { full = true; count = n; cells = cells })
-      walk-full z =
+    where
+      pub walk-end : f .count ≤ i
+          → TermsIn f from base count names₀ places₀ names places (record { full = false; count = n; cells = cells })
+      walk-end e =
           record {
             few = w .few;
             size = w .size;
             low = w .low;
-            sized = t .sized ∙ w .sized;
-            outside = outside-trans (w .outside) (t .outside);
-            means = λ fs h u. record {
-              full = λ _. step-full fs h u z;
-              after = λ e. absurd (let y : _≡_ {A = ℕ} 0 1 = cc in omega arith);
-              cells = λ e. absurd (let y : _≡_ {A = ℕ} 0 1 = cc in omega arith);
-            };
-            keeps = kept;
+            sized = w .sized;
+            outside = w .outside;
+            means = λ fs h t. (let p = w .passed fs h t in
+                let out : length fs ≤ i = omega (arith, h .counted) in
+                let done : length (drop from fs) ≤ i - from = omega (arith, length-drop from fs, w .begun) in
+                record {
+                  full = λ z. absurd (let y : _≡_ {A = ℕ} 0 1 = cc in omega arith);
+                  after = λ _.
+                      sym (after-none (constantsOf names n))
+                      ∙ ap (λ (gs : List (List ℕ)). constantsAfter gs (constantsOf names n)) (sym (drop-of-length-le fs out))
+                      ∙ p .left;
+                  cells = λ _. p .filled
+                      ∙ ap (λ (gs : List (List ℕ)). padded 4 (map (termCell (constantsAfter (drop from fs)
+                      (constantsOf names₀ count))) gs)) (take-all (i - from) (drop from fs) done);
+                });
+            keeps = w .keeps;
           }
 
-      pub walk-next : (r .cell ≡ 0 → ⊥) → f .count ≤ from + 4
-          → Walk f from base count names₀ places₀ names′ places′ (set cells (i - from) (r .cell)) (r .count) (suc i)
-      walk-next z near =
-          record {
-            begun = omega (arith, w .begun);
-            few = t .few;
-            size = length-set cells (i - from) (r .cell) ∙ w .size;
-            low = low-set cells (i - from) (r .cell) (w .low) (t .low);
-            names-size = t .outside .size ∙ w .names-size;
-            places-size = t .sized ∙ w .places-size;
-            sized = t .sized ∙ w .sized;
-            outside = outside-trans (w .outside) (t .outside);
-            passed = λ fs h u. step-passed fs h u z (omega arith);
-            keeps = kept;
-          }
+      -- one field more
+      module _ (key place : ℕ) (names′ places′ : List ℕ) (r : TermRead) (lt : i < f .count) (room : f .count ≤ 8)
+          (keyed : key ≡ getD (f .keys) i 0) (stood : place ≡ base + getD (f .starts) i 0)
+          (t : TermIn key place n names places names′ places′ r) where
+        module _ (fs : List (List ℕ)) (h : Holds fs f) where
+          inside : i < length fs
+          inside = omega (arith, h .counted)
+
+          abbrev g : List ℕ
+          g = getD fs i []
+
+          key-is : key ≡ keyOf g
+          key-is = keyed ∙ key-at fs (f .keys) (h .keyed) i inside (omega arith)
+
+          split : drop i fs ≡ g ∷ drop (suc i) fs
+          split = drop-cons fs i [] inside
+
+          spelled : (program goal : List ℕ) → Spelled program goal base fs f → 27 < key → placedAt program goal place ≡ spell key
+          spelled program goal s l =
+              let named : isName g ≡ true = name-key g ∙ lt-ltb 27 (keyOf g) (omega (arith, key-is)) in
+              ap (placedAt program goal) stood ∙ s .each i (omega arith) inside named
+              ∙ sym (ap spell key-is ∙ spell-key g named)
+
+          module _ (u : every isTerm (drop from fs) ≡ true) where
+            abbrev p : SoFar fs (constantsOf names₀ count) from names cells n i
+            p = w .passed fs h u
+
+            abbrev all : List (List ℕ)
+            all = constantsAfter (drop from fs) (constantsOf names₀ count)
+
+            both : (isTerm g ≡ true) × (every isTerm (drop (suc i) fs) ≡ true)
+            both = and-true (isTerm g) (every isTerm (drop (suc i) fs)) (rw split at (p .terms))
+
+            means : TermMeans g (constantsOf names n) names′ r
+            means = t .means g key-is (both .0)
+
+            -- the constants after the field, and then after the others
+            onward : constantsAfter (drop (suc i) fs) (constantsAfter (g ∷ []) (constantsOf names n)) ≡ all
+            onward =
+                sym (after-cons g (drop (suc i) fs) (constantsOf names n))
+                ∙ ap (λ (gs : List (List ℕ)). constantsAfter gs (constantsOf names n)) (sym split) ∙ p .left
+
+            pub step-full : r .cell ≡ 0 → 64 < length all
+            step-full z =
+                omega (
+                  arith,
+                  means .full z,
+                  constants-least (drop (suc i) fs) (constantsAfter (g ∷ []) (constantsOf names n)),
+                  ap length onward,
+                )
+
+            cell-is : (r .cell ≡ 0 → ⊥) → r .cell ≡ termCell all g
+            cell-is z =
+                let (more, e) = constants-more (drop (suc i) fs) (constantsAfter (g ∷ []) (constantsOf names n)) in
+                means .cell z
+                ∙ sym (ap (λ (cs : List (List ℕ)). termCell cs g) (sym onward ∙ e)
+                ∙ cell-later (constantsAfter (g ∷ []) (constantsOf names n)) more g (one-known (constantsOf names n) g))
+
+            pub step-passed : (r .cell ≡ 0 → ⊥) → i < from + 4
+                → SoFar fs (constantsOf names₀ count) from names′ (set cells (i - from) (r .cell)) (r .count) (suc i)
+            step-passed z near =
+                let ds : List (List ℕ) = drop from fs in
+                let passed : List ℕ = map (termCell all) (take (i - from) ds) in
+                let within : i - from < length ds = omega (arith, length-drop from fs, inside, w .begun) in
+                let size : length passed ≡ i - from =
+                length-map (take (i - from) ds) (termCell all) ∙ length-take (i - from) ds ∙ omega arith in
+                let at : getD ds (i - from) [] ≡ g =
+                getD-drop from fs (i - from) [] ∙ ap (λ (j : ℕ). getD fs j []) (let y : from + (i - from) ≡ i = omega (
+                  arith,
+                  w .begun,
+                ) in y) in
+                let next : suc i - from ≡ suc (i - from) = omega (arith, w .begun) in
+                record {
+                  left = ap (constantsAfter (drop (suc i) fs)) (means .after z) ∙ onward;
+                  terms = both .1;
+                  filled =
+                      ap₂ (λ (l : List ℕ) (x : ℕ). set l (i - from) x) (p .filled) (cell-is z)
+                      ∙ ap (λ (m : ℕ). set (padded 4 passed) m (termCell all g)) (sym size)
+                      ∙ padded-set 4 passed (termCell all g) (omega (arith, size, w .begun))
+                      ∙ ap (padded 4)
+                      (sym (map-append (termCell all) (take (i - from) ds) (g ∷ []))
+                      ∙ ap (map (termCell all))
+                      (ap (λ (x : List ℕ). take (i - from) ds ++ (x ∷ [])) (sym at) ∙ sym (take-suc ds (i - from) [] within)
+                      ∙ ap (λ (m : ℕ). take m ds) (sym next)));
+                }
+
+        abbrev kept : KeepsPlaces base f names₀ places₀ names′ places′
+        kept = record {
+          keeps = λ program goal fs h s d.
+              t .keeps program goal (spelled fs h program goal s) (w .keeps .keeps program goal fs h s d);
+        }
+
+        pub walk-full : r .cell ≡ 0
+            → TermsIn f from base count names₀ places₀ names′ places′ (record { full = true; count = n; cells = cells })
+        walk-full z =
+            record {
+              few = w .few;
+              size = w .size;
+              low = w .low;
+              sized = t .sized ∙ w .sized;
+              outside = outside-trans (w .outside) (t .outside);
+              means = λ fs h u. record {
+                full = λ _. step-full fs h u z;
+                after = λ e. absurd (let y : _≡_ {A = ℕ} 0 1 = cc in omega arith);
+                cells = λ e. absurd (let y : _≡_ {A = ℕ} 0 1 = cc in omega arith);
+              };
+              keeps = kept;
+            }
+
+        pub walk-next : (r .cell ≡ 0 → ⊥) → f .count ≤ from + 4
+            → Walk f from base count names₀ places₀ names′ places′ (set cells (i - from) (r .cell)) (r .count) (suc i)
+        walk-next z near =
+            record {
+              begun = omega (arith, w .begun);
+              few = t .few;
+              size = length-set cells (i - from) (r .cell) ∙ w .size;
+              low = low-set cells (i - from) (r .cell) (w .low) (t .low);
+              names-size = t .outside .size ∙ w .names-size;
+              places-size = t .sized ∙ w .places-size;
+              sized = t .sized ∙ w .sized;
+              outside = outside-trans (w .outside) (t .outside);
+              passed = λ fs h u. step-passed fs h u z (omega arith);
+              keeps = kept;
+            }
 
 -- fields that hold the same keys and starts
 pub terms-held :
     (f : Fields) {from base count : ℕ} {names places names′ places′ : List ℕ} {r : TermsRead}
-    → TermsIn (record { faulty = false; end = 0; count = f .count; keys = f .keys; starts = f .starts }) from base count names places
+    → TermsIn (record { faulty = false; end = 0; count = f .count; keys = f .keys; starts = f .starts }) from base count
+    names places
     names′ places′ r
     → TermsIn f from base count names places names′ places′ r
 terms-held f t =
@@ -430,6 +435,8 @@ terms-held f t =
       sized = t .sized;
       outside = t .outside;
       means = λ fs h. t .means fs (record { counted = h .counted; keyed = h .keyed });
-      keeps = record { keeps = λ program goal fs h s.
-          t .keeps .keeps program goal fs (record { counted = h .counted; keyed = h .keyed }) (record { each = s .each }) };
+      keeps = record {
+        keeps = λ program goal fs h s.
+            t .keeps .keeps program goal fs (record { counted = h .counted; keyed = h .keyed }) (record { each = s .each });
+      };
     }

@@ -68,7 +68,7 @@ unfoldable pub headAnswer : ℕ → HeadRead → Answer ℕ
 headAnswer n (Refused x) = refused x n
 headAnswer n (HeadSymbol s) = accepted s
 
--- a line that is not refused has two to six fields, and its symbol is in the table, of `size` cells; a number that is met is not 0
+-- a line that is not refused has two to six fields, and its symbol is in the table, of `size` cells; a number met is not 0
 abbrev pub headFits : Fields → ℕ → HeadRead → Type 0
 headFits f size (Refused x) = 0 < x
 headFits f size (HeadSymbol s) = (2 ≤ f .count) × (f .count ≤ 6) × (2 * s < size)

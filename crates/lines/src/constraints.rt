@@ -6,7 +6,7 @@ use crate::terms::read_terms;
 use tables::layout::FIRST_CONSTANT;
 use text::fields::Fields;
 ghost use mathlib.Core.Path.{_≡_};
-ghost use Prim.Native.Nat.{_+_, _≤_};
+ghost use Prim.Native.Nat.{_≤_};
 ghost use lib.ListN.{length};
 ghost use Rattle.lines.specs.Read.{Lent, ConstraintIn, refusedRead};
 
@@ -21,8 +21,8 @@ fn refused(number: u8) -> ConstraintRead
     }
 }
 
-// An H, B or G line, where `full` says that there are as many constraints as there may be. Its symbol is one of the table lent, and
-// its places are `base` more than where its fields start.
+// An H, B or G line, where `full` says that there are as many constraints as there may be. Its symbol is one of the table lent,
+// and its places are `base` more than where its fields start.
 pub fn read_constraint(
     f: Fields,
     full: bool,

@@ -37,7 +37,8 @@ pub struct TermsRead {
     pub cells: [u16; 4],
 }
 
-// The cells of an H, B or G line's constraint, and how many constants there are after it; or the number that it meets, 0 for none.
+// The cells of an H, B or G line's constraint, and how many constants there are after it; or the number that it meets, which is 0
+// for none.
 pub struct ConstraintRead {
     pub refusal: u8,
     pub count: usize,

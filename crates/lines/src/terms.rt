@@ -10,15 +10,10 @@ ghost use lib.ListN.{length};
 ghost use Rattle.lines.specs.Read.{Lent, TermIn, TermsIn};
 
 // The cell of the term with a key that starts at a place. A constant that is new is put behind the others, if there is room.
-fn read_term(
-    key: u64,
-    place: u16,
-    count: usize,
-    names: &mut [u64],
-    places: &mut [u16],
-) -> TermRead
+fn read_term(key: u64, place: u16, count: usize, names: &mut [u64], places: &mut [u16]) -> TermRead
     requires { ⌜ (count ≤ 64) × (length (now names) ≡ 256) × (length (now places) ≡ 256) ⌝ }
-    ensures { λ r. ⌜ TermIn key place count (now (names .entry)) (now (places .entry)) (now (names .exit)) (now (places .exit)) r ⌝ }
+    ensures { λ r. ⌜ TermIn key place count (now (names .entry)) (now (places .entry)) (now (names .exit))
+        (now (places .exit)) r ⌝ }
 {
     if key < 28 {
         return TermRead {

@@ -4,39 +4,38 @@
 --   sides-..                   an E line
 -- Assumes nothing.
 use mathlib.Core.Path.{_≡_, refl, sym, ap, ap₂, _∙_}
-use mathlib.Core.Bool.{Bool, true, false, cond, not, _&&_, _||_}
+use mathlib.Core.Bool.{true, false, not, _&&_}
 use mathlib.Core.List.{List, [], _∷_, map}
 use Prim.Native.Nat.{ℕ, zero, suc, _+_, _-_, _*_, _≤_, _<_}
-use native.Mathlib.Nat.{zero-add}
 use native.Mathlib.Omega.{arith}
-use borrow.Author.Tests.{leb-false, le-leb, lt-leb, lt-ltb, le-ltb, ne-eqb, eq-eqb, eqb-true}
-use lib.Dec.{leb, ltb, eqb}
-use lib.ListN.{length, take, drop, getD, set, length-drop}
-use lib.Seq.{paste, getD-drop, getD-take}
+use borrow.Author.Tests.{leb-false, le-leb, lt-leb, lt-ltb, le-ltb, ne-eqb, eq-eqb}
+use lib.Dec.{leb, eqb}
+use lib.ListN.{length, take, drop, getD, set}
+use lib.Seq.{paste, getD-take}
 use Rattle.text.specs.Lists.{every, placeOf}
 use Rattle.text.specs.Fields.{isTerm}
 use Rattle.text.specs.Splits.{Holds}
 use Rattle.text.specs.declared.fields.Fields.{Fields}
 use Rattle.text.proofs.ClassLaws.{and-true}
-use Rattle.semantics.specs.Terms.{Term, Constraint, Symbol, Rule}
-use Rattle.syntax.specs.Answers.{Answer, refused, accepted, refuseIf, andThen}
-use Rattle.syntax.specs.Forms.{equationForm, fieldAt, firstConstant, constantsAfter, termOf, letterNumber, isEquationFaulty}
+use Rattle.semantics.specs.Terms.{Symbol, Rule}
+use Rattle.syntax.specs.Answers.{Answer, refused, accepted, andThen}
+use Rattle.syntax.specs.Forms.{equationForm, fieldAt, constantsAfter, termOf, letterNumber, isEquationFaulty}
 use Rattle.syntax.specs.Programs.{Draft, Found, constraintLine, onLast, lastRule, withEquation, withRule, readConstraint}
 use Rattle.syntax.specs.Programs.{readEquation, readForm}
 use Rattle.syntax.proofs.WellFormed.{or-neither, not-false}
 use Rattle.syntax.proofs.Tabled.{tabled-same, name-most}
 use Rattle.tables.specs.Layout.{firstRule}
 use Rattle.tables.specs.Cells.{cellTerm, rowConstraint}
-use Rattle.tables.specs.Rows.{nameOf, symbolOf, symbolsOf, constantsOf, rowOf}
+use Rattle.tables.specs.Rows.{symbolOf, symbolsOf, constantsOf, rowOf}
 use Rattle.lines.specs.declared.ConstraintRead.{ConstraintRead}
 use Rattle.lines.specs.declared.TermsRead.{TermsRead}
-use Rattle.lines.specs.Read.{placeMeant, Outside, KeepsPlaces, termCell, padded, constraintAnswer, TermsMean, TermsIn, ConstraintIn}
+use Rattle.lines.specs.Read.{Outside, KeepsPlaces, termCell, padded, constraintAnswer, TermsIn, ConstraintIn}
 use Rattle.lines.proofs.HeadLaws.{symbols-same}
 use Rattle.lines.proofs.TermCells.{cell-term}
 use Rattle.lines.proofs.TermLaws.{constants-length}
 use Rattle.programs.specs.declared.Stage.{Stage}
 use Rattle.programs.specs.declared.LineRead.the-variants.{Refused, Next}
-use Rattle.programs.specs.Read.{partForm, rulesRead, draftOf, lineAnswer, RowFits, Sound, Begun, Kept, AddsIn}
+use Rattle.programs.specs.Read.{partForm, rulesRead, draftOf, lineAnswer, RowFits, Sound, Kept, AddsIn}
 use Rattle.programs.proofs.Drafts.{row-cell, kept-same}
 use Rattle.programs.proofs.Grown.{grown, grown-length, rules-grown, sound-grown, sides-grown, constraintsIn}
 use Rattle.programs.proofs.Grown.{withConstraint, constraint-grown, last-constraints, last-sides}
@@ -97,9 +96,10 @@ two-sides cs (x ∷ []) cells h t e few = absurd (omega arith)
 two-sides cs (x ∷ y ∷ []) cells h t e few = absurd (omega arith)
 two-sides cs (x ∷ y ∷ z ∷ []) cells h t e few =
     let (p, more) = and-true (isTerm y) (isTerm z && true) t in
-    let (q, _) = and-true (isTerm z) true more in
-    (ap (λ (l : List ℕ). cellTerm (getD l 0 0)) e ∙ cell-term cs y p (few y),
-    ap (λ (l : List ℕ). cellTerm (getD l 1 0)) e ∙ cell-term cs z q (few z))
+    let (q, _) = and-true (isTerm z) true more in (
+      ap (λ (l : List ℕ). cellTerm (getD l 0 0)) e ∙ cell-term cs y p (few y),
+      ap (λ (l : List ℕ). cellTerm (getD l 1 0)) e ∙ cell-term cs z q (few z),
+    )
 two-sides cs (x ∷ y ∷ z ∷ w ∷ fs) cells h t e few = absurd (omega arith)
 
 module _ (f : Fields) (s : Stage) (names places rules : List ℕ) (size : length rules ≡ 2048) (sound : Sound rules s)
@@ -159,11 +159,16 @@ module _ (f : Fields) (s : Stage) (names places rules : List ℕ) (size : length
     refused-is n z = rw (ne-eqb (r .refusal) 0 z)
 
     found-is : (n : ℕ) → r .refusal ≡ 0
-        → constraintAnswer names′ n r ≡ accepted (record { constraint = rowConstraint (r .cells); constants = constantsOf names′ (r .count) })
+        → constraintAnswer names′ n r ≡ accepted (record {
+          constraint = rowConstraint (r .cells);
+          constants = constantsOf
+              names′ (r .count);
+        })
     unfolding constraintAnswer
     found-is n z = rw (eq-eqb (r .refusal) 0 z)
 
-    pub adds-refused : (r .refusal ≡ 0 → ⊥) → AddsIn (partForm w) f s used names places rules names′ places′ rules (Refused (r .refusal))
+    pub adds-refused : (r .refusal ≡ 0 → ⊥)
+        → AddsIn (partForm w) f s used names places rules names′ places′ rules (Refused (r .refusal))
     unfolding lineAnswer
     adds-refused z =
         record {
@@ -196,7 +201,8 @@ module _ (f : Fields) (s : Stage) (names places rules : List ℕ) (size : length
           g ∙ ap (λ (v : ℕ). set (paste rules (64 * i + at) (r .cells) (length (r .cells))) (64 * i + (3 + w)) (suc v)) (sym e) in
           record {
             answers = λ fs symbols n hold u.
-                ap accepted (draft-grown names symbols rules names′ rules′ s i (r .count) (withConstraint w (rowConstraint (r .cells)))
+                ap accepted (draft-grown names symbols rules names′ rules′ s i (r .count) (withConstraint w (rowConstraint
+                (r .cells)))
                 (sound .few-symbols) q (c .outside)
                 (ap (λ (l : List ℕ). rulesRead names′ l (suc i)) grow
                 ∙ rules-grown rules i (3 + w) at h (r .cells) room (omega arith) (omega arith) (omega arith) names names′
@@ -205,8 +211,12 @@ module _ (f : Fields) (s : Stage) (names places rules : List ℕ) (size : length
                 (constraint-grown names rules i room h (r .cells) five few-heads w p e less)))
                 ∙ ap (λ (a : Answer Found). andThen a (added (draftOf names symbols rules s))) (sym (found-is n z))
                 ∙ via fs symbols n hold u;
-            sound = (rw grow (sound-grown rules i (3 + w) at h (r .cells) room (omega arith) (omega arith) (omega arith) s (r .count)
-                q sound (c .few) (λ y. omega (arith, y)) (λ y. omega (arith, y)) (λ y. omega (arith, y))), λ _. begun);
+            sound = (
+              rw grow (sound-grown rules i (3 + w) at h (r .cells) room (omega arith) (omega arith) (omega arith) s
+                  (r .count)
+                  q sound (c .few) (λ y. omega (arith, y)) (λ y. omega (arith, y)) (λ y. omega (arith, y))),
+              λ _. begun,
+            );
             kept = kept-outside f names places names′ places′ (c .outside) (c .sized) (c .keeps);
             size = ap length grow ∙ grown-length rules i (3 + w) at h (r .cells) room (omega arith) (omega arith) (omega arith);
           }
@@ -214,11 +224,17 @@ module _ (f : Fields) (s : Stage) (names places rules : List ℕ) (size : length
   -- an E line, by the test that decides it
   module _ (used : List ℕ) where
     sides-refused : (x : ℕ) (names′ places′ : List ℕ)
-        → ((fs : List (List ℕ)) (symbols : List ℕ) (n : ℕ) → Holds fs f → refused x n ≡ readForm equationForm n fs (draftOf names symbols rules s))
+        → ((fs : List (List ℕ)) (symbols : List ℕ) (n : ℕ) → Holds fs f
+        → refused x n ≡ readForm equationForm n fs (draftOf names symbols rules s))
         → Kept f names places names′ places′
         → AddsIn equationForm f s used names places rules names′ places′ rules (Refused x)
     unfolding lineAnswer
-    sides-refused x names′ places′ g k = record { answers = λ fs symbols n h u. g fs symbols n h; sound = tt; kept = k; size = refl }
+    sides-refused x names′ places′ g k = record {
+      answers = λ fs symbols n h u. g fs symbols n h;
+      sound = tt;
+      kept = k;
+      size = refl;
+    }
 
     pub sides-faulty : ((fs : List (List ℕ)) → Holds fs f → true ≡ isEquationFaulty fs)
         → AddsIn equationForm f s used names places rules names places rules (Refused 4)
@@ -235,7 +251,8 @@ module _ (f : Fields) (s : Stage) (names places rules : List ℕ) (size : length
       pub sides-full : 4 ≤ h → AddsIn equationForm f s used names places rules names places rules (Refused 7)
       unfolding readForm readEquation draftOf
       sides-full k =
-          sides-refused 7 names places (λ fs symbols n hold. rw (← fine fs hold, sides-count, le-leb 4 h k)) (kept-same f names places)
+          sides-refused 7 names places (λ fs symbols n hold. rw (← fine fs hold, sides-count, le-leb 4 h k)) (kept-same f
+          names places)
 
       module _ (k : h < 4) (names′ places′ : List ℕ) (t : TermsRead)
           (c : TermsIn f 1 0 (s .constants) names places names′ places′ t) where
@@ -252,7 +269,13 @@ module _ (f : Fields) (s : Stage) (names places rules : List ℕ) (size : length
         sides-many z =
             sides-refused 7 names′ places′
             (λ fs symbols n hold.
-            rw (← fine fs hold, sides-count, lt-leb 4 h k, lt-ltb 64 (length (after fs)) (c .means fs hold (terms fs hold) .full z)))
+            rw (
+              ← fine fs hold,
+              sides-count,
+              lt-leb 4 h k,
+              lt-ltb 64 (length (after fs)) (c .means fs hold (terms fs
+                  hold) .full z),
+            ))
             (kept-outside f names places names′ places′ (c .outside) (c .sized) (c .keeps))
 
         module _ (z : t .full ≡ false) where
@@ -276,13 +299,15 @@ module _ (f : Fields) (s : Stage) (names places rules : List ℕ) (size : length
               c .few,
             )
 
-            sides-are : (cellTerm a ≡ termOf letterNumber (after fs) (fieldAt 1 fs)) × (cellTerm b ≡ termOf letterNumber (after fs) (fieldAt 2 fs))
+            sides-are : (cellTerm a ≡ termOf letterNumber (after fs) (fieldAt 1 fs)) × (cellTerm b ≡ termOf letterNumber
+                (after fs) (fieldAt 2 fs))
             sides-are =
                 two-sides (after fs) fs (t .cells) (omega (arith, hold .counted, three)) (terms fs hold)
                 (c .means fs hold (terms fs hold) .cells z) (λ g. omega (arith, name-most g (after fs), size-after))
 
             sides-read : (symbols : List ℕ) (n : ℕ)
-                → accepted (withRule (withEquation (record { left = cellTerm a; right = cellTerm b })) (constantsOf names′ (t .count))
+                → accepted (withRule (withEquation (record { left = cellTerm a; right = cellTerm b })) (constantsOf names′
+                (t .count))
                 (draftOf names symbols rules s))
                 ≡ readForm equationForm n fs (draftOf names symbols rules s)
             unfolding readForm readEquation draftOf
@@ -309,14 +334,18 @@ module _ (f : Fields) (s : Stage) (names places rules : List ℕ) (size : length
               g ∙ ap (λ (v : ℕ). set (paste rules (64 * i + at) vs 2) (64 * i + 5) (suc v)) (sym e) in
               record {
                 answers = λ fs symbols n hold u.
-                    ap accepted (draft-grown names symbols rules names′ rules′ s i (t .count) add (sound .few-symbols) q (c .outside)
+                    ap accepted (draft-grown names symbols rules names′ rules′ s i (t .count) add (sound .few-symbols) q
+                    (c .outside)
                     (ap (λ (l : List ℕ). rulesRead names′ l (suc i)) grow
                     ∙ rules-grown rules i 5 at h vs room (omega arith) (omega arith) (omega arith) names names′ add
                     (λ j y. c .outside .rules (firstRule + j) (omega arith)) (λ y. omega (arith, y))
                     (sides-grown names rules i room h a b e k few-heads few-body)))
                     ∙ sides-read fs hold symbols n;
-                sound = (rw grow (sound-grown rules i 5 at h vs room (omega arith) (omega arith) (omega arith) s (t .count)
-                    q sound (c .few) (λ y. omega (arith, y)) (λ y. omega (arith, y)) (λ y. omega (arith, y))), λ _. begun);
+                sound = (
+                  rw grow (sound-grown rules i 5 at h vs room (omega arith) (omega arith) (omega arith) s (t .count)
+                      q sound (c .few) (λ y. omega (arith, y)) (λ y. omega (arith, y)) (λ y. omega (arith, y))),
+                  λ _. begun,
+                );
                 kept = kept-outside f names places names′ places′ (c .outside) (c .sized) (c .keeps);
                 size = ap length grow ∙ grown-length rules i 5 at h vs room (omega arith) (omega arith) (omega arith);
               }

@@ -6,9 +6,9 @@
 --   symbol-.., rule-..                a K and an R line, by the test that decides it
 -- Assumes nothing.
 use mathlib.Core.Path.{_≡_, refl, sym, ap, ap₂, _∙_}
-use mathlib.Core.Bool.{Bool, true, false, not, _&&_, _||_}
+use mathlib.Core.Bool.{true, false, not, _&&_, _||_}
 use mathlib.Core.List.{List, [], _∷_, _++_, map}
-use Prim.Native.Nat.{ℕ, zero, suc, _+_, _-_, _*_, _≤_, _<_}
+use Prim.Native.Nat.{ℕ, suc, _+_, _-_, _*_, _≤_, _<_}
 use native.Mathlib.Nat.{add-zero, zero-add}
 use native.Mathlib.Numerals.{add-one}
 use native.Mathlib.Decide.{decLe, decLt}
@@ -25,24 +25,23 @@ use Rattle.text.specs.Splits.{Holds}
 use Rattle.text.specs.declared.fields.Fields.{Fields}
 use Rattle.text.proofs.Laws.{tabled-length}
 use Rattle.text.proofs.Keys.{name-key, spell-key, number-key, value-key}
-use Rattle.semantics.specs.Terms.{Symbol, Rule}
+use Rattle.semantics.specs.Terms.{Symbol}
 use Rattle.syntax.specs.Answers.{refused, accepted}
 use Rattle.syntax.specs.Forms.{fieldAt, firstConstant, isSymbolFaulty, isRuleFaulty}
-use Rattle.syntax.specs.Programs.{RuleRead, Draft, readSymbol, readRule}
+use Rattle.syntax.specs.Programs.{RuleRead, readSymbol, readRule}
 use Rattle.syntax.proofs.WellFormed.{or-neither, not-false}
 use Rattle.syntax.proofs.Tabled.{tabled-same, map-tabled}
 use Rattle.tables.specs.Layout.{maxNames, firstRule}
 use Rattle.tables.specs.Cells.{cellConstraints, cellEquations}
 use Rattle.tables.specs.Rows.{nameOf, symbolOf, symbolsOf, constantsOf, ruleOfRow, rowOf, ruleOf}
-use Rattle.tables.specs.Names.{Placed, placedAt}
-use Rattle.lines.specs.Read.{placeMeant, Lent, Spelled, KeepsPlaces}
+use Rattle.tables.specs.Names.{placedAt}
+use Rattle.lines.specs.Read.{Lent}
 use Rattle.lines.proofs.Held.{key-at}
 use Rattle.lines.proofs.HeadLaws.{symbols-length, symbol-names, symbols-same}
 use Rattle.lines.proofs.Named.{Wide, named-place, placed-set}
 use Rattle.programs.specs.declared.Stage.{Stage}
-use Rattle.programs.specs.declared.LineRead.{LineRead}
 use Rattle.programs.specs.declared.LineRead.the-variants.{Refused, Next}
-use Rattle.programs.specs.Read.{ruleRead, rulesRead, draftOf, lineAnswer, RowFits, Sound, Begun, Kept, SymbolIn, RuleIn}
+use Rattle.programs.specs.Read.{ruleRead, rulesRead, draftOf, lineAnswer, RowFits, Sound, Kept, SymbolIn, RuleIn}
 use Rattle.programs.proofs.Pasted.{cut-before, at-before, at-in, new-length}
 
 -- a cell of a row
@@ -50,12 +49,14 @@ pub row-cell : (cells : List ℕ) (i j : ℕ) → j < 64 → getD (rowOf cells i
 row-cell cells i j h = getD-take 64 (drop (64 * i) cells) j 0 h ∙ getD-drop (64 * i) cells j 0
 
 -- tables whose names agree
-pub rules-named : (names names′ rules : List ℕ) (n : ℕ) → ((i : ℕ) → i < n → getD names′ (firstRule + i) 0 ≡ getD names (firstRule + i) 0)
+pub rules-named : (names names′ rules : List ℕ) (n : ℕ) → ((i : ℕ) → i < n
+    → getD names′ (firstRule + i) 0 ≡ getD names (firstRule + i) 0)
     → rulesRead names′ rules n ≡ rulesRead names rules n
 unfolding rulesRead ruleRead ruleOf nameOf
 rules-named names names′ rules n h = tabled-same (ruleRead names′ rules) (ruleRead names rules) n (λ i l. rw (h i l))
 
-pub constants-named : (names names′ : List ℕ) (n : ℕ) → ((i : ℕ) → i < n → getD names′ (firstConstant + i) 0 ≡ getD names (firstConstant + i) 0)
+pub constants-named : (names names′ : List ℕ) (n : ℕ) → ((i : ℕ) → i < n
+    → getD names′ (firstConstant + i) 0 ≡ getD names (firstConstant + i) 0)
     → constantsOf names′ n ≡ constantsOf names n
 unfolding constantsOf nameOf
 constants-named names names′ n h =
@@ -66,7 +67,8 @@ pub rules-length : (names rules : List ℕ) (n : ℕ) → length (rulesRead name
 unfolding rulesRead
 rules-length names rules n = tabled-length (ruleRead names rules) n
 
-rule-names : (names rules : List ℕ) (n : ℕ) → map (λ r. r .rule .name) (rulesRead names rules n) ≡ tabled (λ i. nameOf names (firstRule + i)) n
+rule-names : (names rules : List ℕ) (n : ℕ)
+    → map (λ r. r .rule .name) (rulesRead names rules n) ≡ tabled (λ i. nameOf names (firstRule + i)) n
 unfolding rulesRead ruleRead ruleOf ruleOfRow
 rule-names names rules n = map-tabled (λ (r : RuleRead). r .rule .name) (ruleRead names rules) n
 
@@ -164,13 +166,15 @@ kept-set f names places n key start lent low keyed stood good =
     record {
       names-size = length-set names n key;
       places-size = length-set places n start;
-      keeps = record { keeps = λ program goal fs h s d.
-          (let (inside, named) = good fs h in
-          let key-is : key ≡ keyOf (getD fs 1 []) = keyed ∙ key-at fs (f .keys) (h .keyed) 1 inside (omega arith) in
-          placed-set program goal names places n key start (lent .names-size) (lent .places-size) low
-          (ap (placedAt program goal) (stood ∙ sym (zero-add (getD (f .starts) 1 0)))
-          ∙ s .each 1 (omega arith) inside named ∙ sym (ap spell key-is ∙ spell-key (getD fs 1 []) named))
-          d) };
+      keeps = record {
+        keeps = λ program goal fs h s d.
+            (let (inside, named) = good fs h in
+            let key-is : key ≡ keyOf (getD fs 1 []) = keyed ∙ key-at fs (f .keys) (h .keyed) 1 inside (omega arith) in
+            placed-set program goal names places n key start (lent .names-size) (lent .places-size) low
+            (ap (placedAt program goal) (stood ∙ sym (zero-add (getD (f .starts) 1 0)))
+            ∙ s .each 1 (omega arith) inside named ∙ sym (ap spell key-is ∙ spell-key (getD fs 1 []) named))
+            d);
+      };
     }
 
 -- tests turned round
@@ -201,7 +205,8 @@ module _ (fs : List (List ℕ)) (keys : List ℕ) (h : take (length fs) keys ≡
     key i b = field-key i (omega arith) (omega arith)
 
     symbol-shape : isSymbolFaulty fs
-        ≡ (not (ltb 27 (getD keys 1 0)) || not (between 0 4 (numberOf (getD keys 2 0))) || not (between 1 31 (numberOf (getD keys 3 0))))
+        ≡ (not (ltb 27 (getD keys 1 0)) || not (between 0 4 (numberOf (getD keys 2 0))) || not (between 1 31 (numberOf (getD
+        keys 3 0))))
     unfolding isSymbolFaulty
     symbol-shape =
         rw (
@@ -282,7 +287,8 @@ rule-fine fs fine =
 module _ (f : Fields) (s : Stage) (names places symbols : List ℕ) (lent : Lent f 0 names places) where
   -- it is refused: what the tables hold stays
   symbol-refused : (x : ℕ)
-      → ((fs : List (List ℕ)) (rules : List ℕ) (n : ℕ) → Holds fs f → refused x n ≡ readSymbol n fs (draftOf names symbols rules s))
+      → ((fs : List (List ℕ)) (rules : List ℕ) (n : ℕ) → Holds fs f
+      → refused x n ≡ readSymbol n fs (draftOf names symbols rules s))
       → SymbolIn f s names places symbols names places symbols (Refused x)
   unfolding lineAnswer
   symbol-refused x e =
@@ -309,7 +315,8 @@ module _ (f : Fields) (s : Stage) (names places symbols : List ℕ) (lent : Lent
           (ap (placeOf (fieldAt 1 fs)) (symbol-names names symbols (s .symbols))
           ∙ sym (named-place (fieldAt 1 fs) names 0 (s .symbols) (formed .named) w (omega (arith, lent .names-size)))
           ∙ ap (λ (x : ℕ). placeFrom (eqb x) 0 (take (s .symbols) names)) (sym (key-is 1 (omega arith))) ∙ sym q)
-          (length-map (symbolsOf names symbols (s .symbols)) (λ (t : Symbol). t .name) ∙ symbols-length names symbols (s .symbols))
+          (length-map (symbolsOf names symbols (s .symbols)) (λ (t : Symbol). t .name) ∙ symbols-length names symbols
+          (s .symbols))
 
     pub symbol-repeated : k < s .symbols → SymbolIn f s names places symbols names places symbols (Refused 5)
     unfolding readSymbol draftOf
@@ -320,7 +327,14 @@ module _ (f : Fields) (s : Stage) (names places symbols : List ℕ) (lent : Lent
       unfolding readSymbol draftOf
       symbol-full g =
           symbol-refused 7 (λ fs rules n h.
-          rw (← fine fs h, known fs h, le-ltb k (s .symbols) l, symbols-length names symbols (s .symbols), le-leb 32 (s .symbols) g))
+          rw (
+            ← fine fs h,
+            known fs h,
+            le-ltb k (s .symbols) l,
+            symbols-length names symbols (s .symbols),
+            le-leb 32
+                (s .symbols) g,
+          ))
 
       module _ (a v start : ℕ) (symbols′ : List ℕ) (g : s .symbols < 32) (size : length symbols ≡ 128)
           (p : a ≡ numberOf (getD (f .keys) 2 0)) (r : v ≡ numberOf (getD (f .keys) 3 0)) (stood : start ≡ getD (f .starts) 1 0)
@@ -332,7 +346,8 @@ module _ (f : Fields) (s : Stage) (names places symbols : List ℕ) (lent : Lent
         next = record { place = s .place; symbols = s .symbols + 1; rules = s .rules; constants = s .constants }
 
         draft-new : (fs : List (List ℕ)) (rules : List ℕ) (n : ℕ) → Holds fs f
-            → accepted (draftOf (set names (s .symbols) key₁) symbols′ rules next) ≡ readSymbol n fs (draftOf names symbols rules s)
+            → accepted (draftOf (set names (s .symbols) key₁) symbols′ rules next) ≡ readSymbol n fs (draftOf names symbols
+            rules s)
         unfolding readSymbol draftOf
         draft-new fs rules n h =
             let spelled : spell key₁ ≡ fieldAt 1 fs =
@@ -367,12 +382,15 @@ module _ (f : Fields) (s : Stage) (names places symbols : List ℕ) (lent : Lent
         symbol-new =
             record {
               answers = draft-new;
-              sound = λ rules d b. (record {
-                few-symbols = omega arith;
-                few-rules = d .few-rules;
-                few-constants = d .few-constants;
-                rows = d .rows;
-              }, b);
+              sound = λ rules d b. (
+                record {
+                  few-symbols = omega arith;
+                  few-rules = d .few-rules;
+                  few-constants = d .few-constants;
+                  rows = d .rows;
+                },
+                b,
+              );
               kept = kept-set f names places (s .symbols) key₁ start lent (omega arith) refl stood
                   (λ fs h. (omega (arith, formed fs h .four), formed fs h .named));
               size = ap length stored ∙ new-length symbols (2 * s .symbols) (a ∷ v ∷ []) (omega arith);
@@ -475,12 +493,15 @@ module _ (f : Fields) (n : ℕ) (s : Stage) (names places rules : List ℕ) (len
         rule-new =
             record {
               answers = rule-draft;
-              sound = (record {
-                few-symbols = d .few-symbols;
-                few-rules = omega arith;
-                few-constants = d .few-constants;
-                rows = λ i z. rule-rows i (omega (arith, z));
-              }, λ _. omega arith);
+              sound = (
+                record {
+                  few-symbols = d .few-symbols;
+                  few-rules = omega arith;
+                  few-constants = d .few-constants;
+                  rows = λ i z. rule-rows i (omega (arith, z));
+                },
+                λ _. omega arith,
+              );
               kept = kept-set f names places (192 + s .rules) rule-key₁ start lent (omega arith) refl stood
                   (λ fs h. (omega (arith, rule-formed fs h .two), rule-formed fs h .named));
               size = ap length stored ∙ new-length rules (64 * s .rules) (0 ∷ 0 ∷ n ∷ 0 ∷ 0 ∷ 0 ∷ []) (omega arith);

@@ -17,11 +17,11 @@ use Rattle.semantics.specs.Terms.{Constraint, Equation, Rule}
 use Rattle.syntax.specs.Programs.{RuleRead, onLast, lastRule, withHead, withBody, withEquation}
 use Rattle.syntax.proofs.Tabled.{tabled-same}
 use Rattle.tables.specs.Layout.{firstRule}
-use Rattle.tables.specs.Cells.{cellTerm, cellTerms, rowConstraint, cellConstraints, cellEquations}
+use Rattle.tables.specs.Cells.{cellTerm, rowConstraint, cellConstraints, cellEquations}
 use Rattle.tables.specs.Rows.{nameOf, ruleOfRow, rowOf, ruleOf}
 use Rattle.lines.proofs.Weighing.{constraints-append, constraints-length, five-is}
 use Rattle.programs.specs.declared.Stage.{Stage}
-use Rattle.programs.specs.Read.{ruleRead, rulesRead, RowFits, Sound, Begun}
+use Rattle.programs.specs.Read.{ruleRead, rulesRead, RowFits, Sound}
 use Rattle.programs.proofs.Pasted.{cut-pasted, cut-before, drop-behind, at-before, new-length}
 use Rattle.programs.proofs.Drafts.{row-cell}
 
@@ -190,7 +190,8 @@ module _ (cells : List ℕ) (i s at h : ℕ) (vs : List ℕ) (room : 64 * i + 64
 
   -- the table, where the change of the row is a change of its rule, and the rules' names are the same
   pub rules-grown :
-      (names names′ : List ℕ) (f : Rule → Rule) → ((j : ℕ) → j < suc i → getD names′ (firstRule + j) 0 ≡ getD names (firstRule + j) 0)
+      (names names′ : List ℕ) (f : Rule → Rule) → ((j : ℕ) → j < suc i
+      → getD names′ (firstRule + j) 0 ≡ getD names (firstRule + j) 0)
       → (s ≡ 2 → ⊥)
       → ruleOfRow (nameOf names (firstRule + i)) (rowOf grown i) ≡ f (ruleOfRow (nameOf names (firstRule + i)) (rowOf cells i))
       → rulesRead names′ grown (suc i) ≡ onLast f (rulesRead names cells (suc i))
@@ -253,7 +254,8 @@ module _ (names cells : List ℕ) (i : ℕ) (room : 64 * i + 64 ≤ length cells
       ∙ constraints-length h (partOf (rowOf cells i) (3 + w) (6 + 20 * w) 5)
       (part-length (3 + w) (6 + 20 * w) 5 h (omega arith) e (omega arith))
 
-  pub last-sides : (h : ℕ) → h ≡ getD cells (64 * i + 5) 0 → h ≤ 4 → length (lastRule (rulesRead names cells (suc i)) .equations) ≡ h
+  pub last-sides : (h : ℕ) → h ≡ getD cells (64 * i + 5) 0 → h ≤ 4
+      → length (lastRule (rulesRead names cells (suc i)) .equations) ≡ h
   unfolding ruleOfRow
   last-sides h e few =
       ap (λ (r : Rule). length (r .equations)) last-is
@@ -313,7 +315,10 @@ module _ (names cells : List ℕ) (i : ℕ) (room : 64 * i + 64 ≤ length cells
     unfolding ruleOfRow withEquation
     sides-grown =
         let n : getD (rowOf cells i) 4 0 ≡ getD cells (64 * i + 4) 0 = row-cell cells i 4 (omega arith) in
-        rule-path refl (heads-kept 5 (56 + 2 * h) h two-more (omega arith) (omega arith) (omega arith) (λ z. omega (arith, z)) heads
+        rule-path refl (heads-kept 5 (56 + 2 * h) h two-more (omega arith) (omega arith) (omega arith) (λ z. omega (
+          arith,
+          z,
+        )) heads
         (omega arith))
         (ap cellConstraints (part-before cells i 5 (56 + 2 * h) h two-more room (omega arith) (omega arith) (omega arith)
         4 26 5 (omega arith) (λ z. omega (arith, z)) (omega arith) (omega arith)))

@@ -5,7 +5,7 @@
 use mathlib.Core.Path.{_≡_, refl, sym, ap, ap₂, _∙_}
 use mathlib.Core.Bool.{Bool, true, false, cond}
 use mathlib.Core.List.{List, [], _∷_}
-use Prim.Native.Nat.{ℕ, zero, suc, _+_, _-_, _*_, _≤_, _<_}
+use Prim.Native.Nat.{ℕ, suc, _+_, _-_, _*_, _≤_, _<_}
 use native.Mathlib.Omega.{arith}
 use borrow.Author.Tests.{le-leb, lt-leb, ne-eqb, eq-eqb}
 use lib.Dec.{leb, eqb}
@@ -13,8 +13,8 @@ use lib.ListN.{length, take, drop, getD, length-drop, length-take, drop-of-lengt
 use lib.Seq.{drop-cons, take-all}
 use Rattle.text.specs.Lists.{tabled}
 use Rattle.text.proofs.Laws.{tabled-length, tabled-at}
-use Rattle.semantics.specs.Terms.{Symbol, Rule, weight}
-use Rattle.syntax.specs.Answers.{Answer, refused, accepted, refuseIf}
+use Rattle.semantics.specs.Terms.{Symbol, weight}
+use Rattle.syntax.specs.Answers.{Answer, refused, refuseIf}
 use Rattle.syntax.specs.Programs.{Reading, RuleRead, checkRules}
 use Rattle.tables.specs.Cells.{cellConstraints}
 use Rattle.tables.specs.Rows.{symbolsOf, nameOf, ruleOfRow, rowOf, ruleOf}
@@ -87,7 +87,8 @@ module _ (symbols row : List ℕ) (h b : ℕ) (p : h ≡ getD row 3 0) (q : b �
 -- the rules from one on
 check-one : (symbols : List Symbol) (r : RuleRead) (rs : List RuleRead) (otherwise : Answer Reading)
     → checkRules symbols (r ∷ rs) otherwise
-    ≡ cond (eqb (ruleFault symbols (r .rule)) 0) (checkRules symbols rs otherwise) (refused (ruleFault symbols (r .rule)) (r .line))
+    ≡ cond (eqb (ruleFault symbols (r .rule)) 0) (checkRules symbols rs otherwise) (refused (ruleFault symbols (r .rule))
+    (r .line))
 unfolding checkRules ruleFault
 check-one symbols r rs otherwise =
     go (eqb (length (r .rule .heads)) 0) (leb (weight symbols (r .rule .heads)) (weight symbols (r .rule .body)))
@@ -116,57 +117,62 @@ check-start symbols rules = record { row = 0; within = omega arith; placed = ome
 module _ (symbols rules : List ℕ) (at : ℕ) (c : Checked symbols rules at) where
   pub check-end : length rules < at + 64 → RulesIn symbols rules Fine
   unfolding rulesAnswer checkRules
-  check-end h = record { answers = λ names k m otherwise a b.
-      (let out : length (rulesRead names rules m) ≤ c .row = omega (arith, rules-length names rules m, c .placed) in
-      let z : otherwise ≡ checkRules (symbolsOf names symbols k) (drop (c .row) (rulesRead names rules m)) otherwise =
-      rw (drop-of-length-le (rulesRead names rules m) out) in
-      z ∙ c .left names k m otherwise a b) }
+  check-end h = record {
+    answers = λ names k m otherwise a b.
+        (let out : length (rulesRead names rules m) ≤ c .row = omega (arith, rules-length names rules m, c .placed) in
+        let z : otherwise ≡ checkRules (symbolsOf names symbols k) (drop (c .row) (rulesRead names rules m)) otherwise =
+        rw (drop-of-length-le (rulesRead names rules m) out) in
+        z ∙ c .left names k m otherwise a b);
+  }
 
   module _ (x : ℕ) (h : at + 64 ≤ length rules) (e : FaultIn symbols (take (at + 64 - at) (drop at rules)) x) where
-    module _ (names : List ℕ) (k m : ℕ) (otherwise : Answer Reading) (a : length symbols ≡ 2 * k) (b : length rules ≡ 64 * m) where
-      abbrev S : List Symbol
-      S = symbolsOf names symbols k
+    module _ (names : List ℕ) (k m : ℕ) (otherwise : Answer Reading) (a : length symbols ≡ 2 * k) (b : length rules ≡ 64 * m)
+      where
+        abbrev S : List Symbol
+        S = symbolsOf names symbols k
 
-      inside : c .row < m
-      inside = omega (arith, c .placed)
+        inside : c .row < m
+        inside = omega (arith, c .placed)
 
-      row-is : take (at + 64 - at) (drop at rules) ≡ rowOf rules (c .row)
-      row-is =
-          ap₂ (λ (i j : ℕ). take i (drop j rules)) (let z : at + 64 - at ≡ 64 = omega arith in z) (c .placed)
+        row-is : take (at + 64 - at) (drop at rules) ≡ rowOf rules (c .row)
+        row-is =
+            ap₂ (λ (i j : ℕ). take i (drop j rules)) (let z : at + 64 - at ≡ 64 = omega arith in z) (c .placed)
 
-      fault : x ≡ ruleFault S (ruleRead names rules (c .row) .rule)
-      unfolding ruleRead ruleOf
-      fault =
-          e .fault names (nameOf names (firstRule + c .row)) k a
-          ∙ ap (λ (r : List ℕ). ruleFault S (ruleOfRow (nameOf names (firstRule + c .row)) r)) row-is
+        fault : x ≡ ruleFault S (ruleRead names rules (c .row) .rule)
+        unfolding ruleRead ruleOf
+        fault =
+            e .fault names (nameOf names (firstRule + c .row)) k a
+            ∙ ap (λ (r : List ℕ). ruleFault S (ruleOfRow (nameOf names (firstRule + c .row)) r)) row-is
 
-      onward : checkRules S (drop (c .row) (rulesRead names rules m)) otherwise
-          ≡ cond (eqb x 0) (checkRules S (drop (suc (c .row)) (rulesRead names rules m)) otherwise)
-          (refused x (getD (rowOf rules (c .row)) 2 0))
-      unfolding rulesRead ruleRead
-      onward =
-          let none : RuleRead = ruleRead names rules m in
-          let split : drop (c .row) (tabled (ruleRead names rules) m)
-              ≡ ruleRead names rules (c .row) ∷ drop (suc (c .row)) (tabled (ruleRead names rules) m) =
-              drop-cons (tabled (ruleRead names rules) m) (c .row) none
-              (omega (arith, tabled-length (ruleRead names rules) m, inside))
-              ∙ ap (λ (r : RuleRead). r ∷ drop (suc (c .row)) (tabled (ruleRead names rules) m))
-              (tabled-at (ruleRead names rules) m (c .row) none inside) in
-          ap (λ (l : List RuleRead). checkRules S l otherwise) split
-          ∙ check-one S (ruleRead names rules (c .row)) (drop (suc (c .row)) (tabled (ruleRead names rules) m)) otherwise
-          ∙ ap (λ (y : ℕ). cond (eqb y 0) (checkRules S (drop (suc (c .row)) (tabled (ruleRead names rules) m)) otherwise)
-          (refused y (getD (rowOf rules (c .row)) 2 0))) (sym fault)
+        onward : checkRules S (drop (c .row) (rulesRead names rules m)) otherwise
+            ≡ cond (eqb x 0) (checkRules S (drop (suc (c .row)) (rulesRead names rules m)) otherwise)
+            (refused x (getD (rowOf rules (c .row)) 2 0))
+        unfolding rulesRead ruleRead
+        onward =
+            let none : RuleRead = ruleRead names rules m in
+            let split : drop (c .row) (tabled (ruleRead names rules) m)
+            ≡ ruleRead names rules (c .row) ∷ drop (suc (c .row)) (tabled (ruleRead names rules) m) =
+            drop-cons (tabled (ruleRead names rules) m) (c .row) none
+            (omega (arith, tabled-length (ruleRead names rules) m, inside))
+            ∙ ap (λ (r : RuleRead). r ∷ drop (suc (c .row)) (tabled (ruleRead names rules) m))
+            (tabled-at (ruleRead names rules) m (c .row) none inside) in
+            ap (λ (l : List RuleRead). checkRules S l otherwise) split
+            ∙ check-one S (ruleRead names rules (c .row)) (drop (suc (c .row)) (tabled (ruleRead names rules) m)) otherwise
+            ∙ ap (λ (y : ℕ). cond (eqb y 0) (checkRules S (drop (suc (c .row)) (tabled (ruleRead names rules) m)) otherwise)
+            (refused y (getD (rowOf rules (c .row)) 2 0))) (sym fault)
 
     pub check-refused : (line : ℕ) → line ≡ getD rules (at + 2) 0 → (x ≡ 0 → ⊥) → RulesIn symbols rules (Refused x line)
     unfolding rulesAnswer
-    check-refused line l z = record { answers = λ names k m otherwise a b.
-        (let here : line ≡ getD (rowOf rules (c .row)) 2 0 =
-        l ∙ ap (λ (i : ℕ). getD rules (i + 2) 0) (c .placed) ∙ sym (row-cell rules (c .row) 2 (omega arith)) in
-        ap (refused x) here
-        ∙ sym (onward names k m otherwise a b
-        ∙ ap (λ (t : Bool). cond t (checkRules (S names k m otherwise a b)
-        (drop (suc (c .row)) (rulesRead names rules m)) otherwise) (refused x (getD (rowOf rules (c .row)) 2 0))) (ne-eqb x 0 z))
-        ∙ c .left names k m otherwise a b) }
+    check-refused line l z = record {
+      answers = λ names k m otherwise a b.
+          (let here : line ≡ getD (rowOf rules (c .row)) 2 0 =
+          l ∙ ap (λ (i : ℕ). getD rules (i + 2) 0) (c .placed) ∙ sym (row-cell rules (c .row) 2 (omega arith)) in
+          ap (refused x) here
+          ∙ sym (onward names k m otherwise a b
+          ∙ ap (λ (t : Bool). cond t (checkRules (S names k m otherwise a b)
+          (drop (suc (c .row)) (rulesRead names rules m)) otherwise) (refused x (getD (rowOf rules (c .row)) 2 0))) (ne-eqb x 0 z))
+          ∙ c .left names k m otherwise a b);
+    }
 
     pub check-next : x ≡ 0 → Checked symbols rules (at + 64)
     check-next z =
@@ -177,6 +183,7 @@ module _ (symbols rules : List ℕ) (at : ℕ) (c : Checked symbols rules at) wh
           left = λ names k m otherwise a b.
               sym (onward names k m otherwise a b
               ∙ ap (λ (t : Bool). cond t (checkRules (S names k m otherwise a b)
-              (drop (suc (c .row)) (rulesRead names rules m)) otherwise) (refused x (getD (rowOf rules (c .row)) 2 0))) (eq-eqb x 0 z))
+              (drop (suc (c .row)) (rulesRead names rules m)) otherwise) (refused x (getD (rowOf rules (c .row)) 2 0)))
+              (eq-eqb x 0 z))
               ∙ c .left names k m otherwise a b;
         }

@@ -6,17 +6,16 @@
 -- Assumes nothing.
 use mathlib.Core.Path.{_≡_, refl, sym, ap, ap₂, _∙_}
 use mathlib.Core.Bool.{Bool, true, false, cond}
-use mathlib.Core.List.{List, [], _∷_, map}
+use mathlib.Core.List.{List, [], map}
 use mathlib.Core.Option.{Option, none, some}
 use Prim.Native.Nat.{ℕ, zero, suc, _+_, _-_, _*_, _≤_, _<_}
 use native.Mathlib.Numerals.{add-one}
 use native.Mathlib.Omega.{arith}
 use borrow.Author.Tests.{lt-ltb, le-ltb}
-use lib.Dec.{ltb}
 use lib.ListN.{length, take, drop, getD, length-take}
 use lib.Seq.{take-take, length-take-le}
-use Rattle.text.specs.Lists.{onward, tabled}
-use Rattle.text.specs.Lines.{Line, lines, lineIsFaulty}
+use Rattle.text.specs.Lists.{onward}
+use Rattle.text.specs.Lines.{Line, lines}
 use Rattle.text.specs.Fields.{fields}
 use Rattle.text.specs.Keys.{keyOf}
 use Rattle.text.specs.Splits.{lineFrom, Holds, SplitAt}
@@ -24,7 +23,7 @@ use Rattle.text.specs.declared.fields.Fields.{Fields}
 use Rattle.text.proofs.Cursors.{drop-take, fields-some}
 use Rattle.text.proofs.SplitLaws.{lines-at, lines-split, lines-done, line-fine}
 use Rattle.semantics.specs.Terms.{Symbol, Rule}
-use Rattle.syntax.specs.Answers.{Answer, refused, accepted, refuseIf, andThen}
+use Rattle.syntax.specs.Answers.{Answer, refused, accepted, andThen}
 use Rattle.syntax.specs.Forms.{Form, symbolForm, ruleForm, headForm, bodyForm, equationForm, goalForm, noForm, formOf}
 use Rattle.syntax.specs.Forms.{Place, inSymbols, inHeads, inBody, inEquations, placeAfter, fieldAt}
 use Rattle.syntax.specs.Programs.{RuleRead, Draft, Reading, blank, atPlace, readForm, readFields, readLine, readLines, checkRules}
@@ -32,8 +31,7 @@ use Rattle.syntax.specs.Programs.{readProgram}
 use Rattle.syntax.proofs.Tabled.{tabled-same, map-tabled}
 use Rattle.tables.specs.Rows.{symbolsOf, constantsOf, rowOf, ruleOf, rulesOf}
 use Rattle.tables.specs.Names.{Placed}
-use Rattle.lines.specs.declared.LineForm.{LineForm}
-use Rattle.lines.specs.Read.{formMeant, placeMeant, placeAnswer, KeepsPlaces}
+use Rattle.lines.specs.Read.{placeMeant, placeAnswer}
 use Rattle.lines.proofs.Held.{key-at}
 use Rattle.lines.proofs.Spelling.{spelled-program}
 use Rattle.programs.specs.declared.Stage.{Stage}
@@ -45,8 +43,8 @@ use Rattle.programs.specs.declared.LinesRead.the-variants.{Refused as li
 use Rattle.programs.specs.declared.RulesRead.{RulesRead}
 use Rattle.programs.specs.declared.RulesRead.the-variants.{Refused as rulesRefused, Fine}
 use Rattle.programs.specs.declared.ProgramRead.the-variants.{Refused as programRefused, Accepted}
-use Rattle.programs.specs.Read.{ruleRead, rulesRead, draftOf, lineAnswer, soundAfter, Sound, Begun, Room, Kept, SymbolIn}
-use Rattle.programs.specs.Read.{RuleIn, AddsIn, LineIn, linesAnswer, linesSound, LinesIn, rulesAnswer, RulesIn, readingOf}
+use Rattle.programs.specs.Read.{ruleRead, rulesRead, draftOf, lineAnswer, Sound, Begun, Room, SymbolIn}
+use Rattle.programs.specs.Read.{RuleIn, AddsIn, LineIn, linesAnswer, LinesIn, rulesAnswer, RulesIn, readingOf}
 use Rattle.programs.specs.Read.{programAnswer, programFits, ProgramIn}
 use Rattle.programs.proofs.Drafts.{kept-same}
 use Rattle.programs.proofs.AddLaws.{symbols-used}
@@ -169,7 +167,12 @@ module _ (f : Fields) (n : ℕ) (s : Stage) (names places symbols rules : List �
           answers = λ fs h some-field.
               c .answers fs rules n h
               ∙ ap (λ (x : Form). readForm x n fs (draftOf names symbols rules at)) (sym e) ∙ moved fs h some-field;
-          sound = c .sound rules (sound-moved rules s p d) (λ z. absurd (omega (arith, z, first-place p (s .place) (rw e at led) l)));
+          sound = c .sound rules (sound-moved rules s p d) (λ z. absurd (omega (
+            arith,
+            z,
+            first-place p (s .place) (rw e at
+                led) l,
+          )));
           kept = c .kept;
           symbols-size = c .size;
           rules-size = refl;
@@ -301,7 +304,8 @@ module _ (text names₀ places₀ names places symbols rules : List ℕ) (at n :
               rules-size = c .rules-size ∙ w .room .rules-size;
             }
 
-        pub lines-refused : (x : ℕ) → r ≡ Refused x → LinesIn text names₀ places₀ names′ places′ symbols′ rules′ (linesRefused x n)
+        pub lines-refused : (x : ℕ) → r ≡ Refused x
+            → LinesIn text names₀ places₀ names′ places′ symbols′ rules′ (linesRefused x n)
         unfolding linesAnswer lineAnswer
         lines-refused x e = record { answers = rw e at answered; sound = tt; placed = placed-on; room = room-on }
 
@@ -345,7 +349,11 @@ program-long text names places symbols rules h room =
 module _ (text names places names′ places′ symbols′ rules′ : List ℕ) where
   module _ (h : length text ≤ 16384) (r : LinesRead) (c : LinesIn text names places names′ places′ symbols′ rules′ r) where
     abbrev reading : Draft → Reading
-    reading d = record { program = record { symbols = d .symbols; rules = map (λ q. q .rule) (d .rules) }; constants = d .constants }
+    reading d = record {
+      program = record { symbols = d .symbols; rules = map (λ q. q .rule) (d .rules) };
+      constants =
+          d .constants;
+    }
 
     short : readProgram text
         ≡ andThen (linesAnswer names′ symbols′ rules′ r) (λ d. checkRules (d .symbols) (d .rules) (accepted (reading d)))

@@ -19,7 +19,8 @@ use Rattle.text.specs.declared.fields.Fields.{Fields}
 use Rattle.semantics.specs.Terms as terms
 use Rattle.syntax.specs.Answers.{Answer, refused, accepted}
 use Rattle.syntax.specs.Forms.{Form, headForm, bodyForm}
-use Rattle.syntax.specs.Programs.{RuleRead, Draft, Reading, blank, readSymbol, readRule, readForm, readFields, readLines, checkRules}
+use Rattle.syntax.specs.Programs.{RuleRead, Draft, Reading, blank, readSymbol, readRule}
+use Rattle.syntax.specs.Programs.{readForm, readFields, readLines, checkRules}
 use Rattle.syntax.specs.Programs.{readProgram}
 use Rattle.tables.specs.Layout.{maxNames, symbolSize, rowSize, lineCell, headsCell, bodyCell, equationsCell}
 use Rattle.tables.specs.Rows.{symbolsOf, constantsOf, ruleOfRow, rowOf, ruleOf, rulesOf}

@@ -75,9 +75,10 @@ pub fn equation_line(
     places: &mut [u16],
     rules: &mut [u16],
 ) -> LineRead
-    requires { ⌜ Lent f 0 (now names) (now places) × (length (now rules) ≡ 2048) × Sound (now rules) stage × (0 < stage .rules) ⌝ }
-    ensures { λ r. ⌜ ((used : List ℕ) → AddsIn equationForm f stage used (now (names .entry)) (now (places .entry)) (now (rules .entry)) (now (names .exit))
-        (now (places .exit)) (now (rules .exit)) r) ⌝ }
+    requires { ⌜ Lent f 0 (now names) (now places) × (length (now rules) ≡ 2048) × Sound (now rules) stage
+        × (0 < stage .rules) ⌝ }
+    ensures { λ r. ⌜ ((used : List ℕ) → AddsIn equationForm f stage used (now (names .entry)) (now (places .entry))
+        (now (rules .entry)) (now (names .exit)) (now (places .exit)) (now (rules .exit)) r) ⌝ }
 {
     if is_equation_faulty(f) {
         return LineRead::Refused(4);

@@ -1,4 +1,4 @@
-// The reader of a program: it fills flat tables that the caller lends; a name is kept by its key and by the place where it stands.
+// The reader of a program: it fills flat tables that the caller lends; a name is kept by its key and its place.
 mod adds;
 mod declarations;
 mod program;

@@ -9,8 +9,7 @@ use tables::layout::LINE_CELL;
 use tables::layout::ROW_SIZE;
 use tables::wide;
 ghost use mathlib.Core.Path.{_≡_};
-ghost use mathlib.Core.List.{List};
-ghost use Prim.Native.Nat.{ℕ, _*_, _≤_};
+ghost use Prim.Native.Nat.{_*_, _≤_};
 ghost use lib.ListN.{length, take};
 ghost use Rattle.programs.specs.Read.{FaultIn, RulesIn};
 

@@ -12,11 +12,12 @@ use mathlib.Core.Option.{none}
 use mathlib.Core.Path.{_≡_, refl, sym, ap, subst, _∙_}
 use lib.Dec.{leb, ltb, eqb}
 use lib.ListN.{length, length-map, length-append, drop, getD}
-use borrow.Author.Tests.{lt-ltb, le-ltb, ltb-true, ltb-false, leb-true, leb-false, eqb-true, eqb-false, ne-eqb, eq-eqb}
+use borrow.Author.Tests.{lt-ltb, le-ltb, ltb-true, ltb-false, leb-false, eqb-true, eqb-false, ne-eqb, eq-eqb}
 use Rattle.text.specs.Bytes.{between}
 use Rattle.text.specs.Lists.{every, placeFrom, placeOf, sameBytes, isKnown, withName}
 use Rattle.text.specs.Lines.{Line, lines, lineIsFaulty}
 use Rattle.text.specs.Fields.{fields, isName, isVariable, isTerm}
+use Rattle.text.proofs.ClassLaws.{and-true}
 use Rattle.semantics.specs.Terms.{con, var, Constraint, Symbol, weight, symbolAt, isDeclared, isBelow, isGoalOf}
 use Rattle.semantics.proofs.Configurations.{TermBelow, All, also}
 use Rattle.semantics.proofs.Configurations as C
@@ -32,7 +33,7 @@ use Rattle.syntax.specs.Programs.{Reading, Found, constraintLine, maxTex
 use Rattle.syntax.specs.Goals.{GoalDraft, GoalReading, lettersAfter, readConstraintOfGoal, isGoalForm, readGoalFields}
 use Rattle.syntax.specs.Goals.{readGoalLine, readGoalLines, readGoal}
 use Rattle.syntax.proofs.WellFormed.{Holds, holds-refuseIf, holds-andThen, holds-accepted, holds-constraintLine}
-use Rattle.syntax.proofs.WellFormed.{and-both, and-parts, or-neither, not-false}
+use Rattle.syntax.proofs.WellFormed.{and-both, or-neither, not-false}
 use Rattle.syntax.proofs.Known.{grown, grown-front, grown-known, letters-grown}
 use Rattle.syntax.proofs.Vocabulary.{ConstantOf, constraints-more, constants-more, constraint-over}
 use Rattle.text.proofs.Keys.{variable-range}
@@ -141,7 +142,7 @@ letters-counted :
 unfolding lettersAfter withName
 letters-counted [] names t h = h
 letters-counted (f ∷ fs) names t h =
-    let (term, terms) = and-parts (isTerm f) (every isTerm fs) t in
+    let (term, terms) = and-true (isTerm f) (every isTerm fs) t in
     letters-counted fs (cond (isName f) names (withName f names)) terms (one (isName f) refl term)
   where
     added : (k : Bool) → isKnown f names ≡ k → isVariable f ≡ true

@@ -17,20 +17,7 @@ use Rattle.semantics.proofs.Configurations.{All, none, also}
 use Rattle.semantics.proofs.Bools.{eqb-same}
 use Rattle.syntax.specs.Forms.{constantsAfter}
 use Rattle.syntax.specs.Goals.{lettersAfter}
-
--- the place of what is found in front stays with more behind
-place-front :
-    (t : List ℕ → Bool) (i : ℕ) (xs ys : List (List ℕ)) → placeFrom t i xs < i + length xs
-    → placeFrom t i (xs ++ ys) ≡ placeFrom t i xs
-place-front t i [] ys h = absurd (omega arith)
-place-front t i (x ∷ xs) ys h = go (place-front t (suc i) xs ys) (t x) h
-  where
-    go :
-        (placeFrom t (suc i) xs < suc i + length xs → placeFrom t (suc i) (xs ++ ys) ≡ placeFrom t (suc i) xs)
-        → (b : Bool) → cond b i (placeFrom t (suc i) xs) < i + suc (length xs)
-        → cond b i (placeFrom t (suc i) (xs ++ ys)) ≡ cond b i (placeFrom t (suc i) xs)
-    go more true k = refl
-    go more false k = more (omega arith)
+use Rattle.syntax.proofs.Tabled.{place-first}
 
 -- what passes the test behind the others is found there, or before
 place-behind :
@@ -54,7 +41,7 @@ pub known-front : (f : List ℕ) (names more : List (List ℕ)) → isKnown f na
 unfolding isKnown placeOf
 known-front f names more h =
     let k : placeFrom (sameBytes f) 0 names < length names = ltb-true _ _ h in
-    let e = place-front (sameBytes f) 0 names more (omega arith) in
+    let e = place-first (sameBytes f) 0 names more (omega arith) in
     lt-ltb (placeFrom (sameBytes f) 0 (names ++ more)) (length (names ++ more)) (omega (arith, e, length-append names more))
 
 -- a name is known behind the others

@@ -9,10 +9,8 @@ use Rattle.syntax.specs.Programs.{readRule, constraintLine, withRule, re
 use Rattle.syntax.specs.Programs.{readLine, readLines, checkRules, readProgram}
 use Rattle.syntax.specs.Goals.{lettersAfter, readConstraintOfGoal, isGoalForm, readGoalFields}
 use Rattle.syntax.specs.Goals.{readGoalLine, readGoalLines, readGoal}
-use Rattle.syntax.specs.Tables.{cellTerm, cellTerms, cellConstraints, cellEquations, part, symbolOf, symbolsOf}
-use Rattle.syntax.specs.Tables.{ruleOfRow, ruleOf, rulesOf, startsOf, constantOf, constantsOf, lettersOf, namesOf, spelledAs}
 
 -- a name to say on an `unfolding` line
 unfoldable pub opened : ℕ
-unfolding formOfByte formOf placeAfter fieldAt constantsAfter termOf letterNumber isSymbolFaulty isRuleFaulty isEquationFaulty isConstraintFaulty symbolNumber isUndeclared constraintOf blank atPlace onLast lastRule withHead withBody withEquation readSymbol readRule constraintLine withRule readConstraint readEquation readForm readFields readLine readLines checkRules readProgram lettersAfter readConstraintOfGoal isGoalForm readGoalFields readGoalLine readGoalLines readGoal cellTerm cellTerms cellConstraints cellEquations part symbolOf symbolsOf ruleOfRow ruleOf rulesOf startsOf constantOf constantsOf lettersOf namesOf spelledAs
+unfolding formOfByte formOf placeAfter fieldAt constantsAfter termOf letterNumber isSymbolFaulty isRuleFaulty isEquationFaulty isConstraintFaulty symbolNumber isUndeclared constraintOf blank atPlace onLast lastRule withHead withBody withEquation readSymbol readRule constraintLine withRule readConstraint readEquation readForm readFields readLine readLines checkRules readProgram lettersAfter readConstraintOfGoal isGoalForm readGoalFields readGoalLine readGoalLines readGoal
 opened = 0

@@ -17,6 +17,7 @@ use Rattle.text.specs.Bytes.{between}
 use Rattle.text.specs.Lists.{onward, isKnown, placeOf}
 use Rattle.text.specs.Lines.{Line, lines, lineIsFaulty}
 use Rattle.text.specs.Fields.{fields, isName, isNumber, isNumberIn, valueOf}
+use Rattle.text.proofs.ClassLaws.{and-true}
 use Rattle.semantics.specs.Terms.{Term, con, var, Constraint, Symbol, Rule, weight}
 use Rattle.semantics.proofs.Configurations.{All, also}
 use Rattle.semantics.proofs.Configurations as C
@@ -27,10 +28,11 @@ use Rattle.syntax.specs.Forms.{Form, symbolForm, ruleForm, headForm, bod
 use Rattle.syntax.specs.Forms.{Place, placeAfter, fieldAt, constantsAfter, firstConstant, termOf, letterNumber}
 use Rattle.syntax.specs.Forms.{isSymbolFaulty, isRuleFaulty, isEquationFaulty, constraintOf}
 use Rattle.syntax.specs.Programs.{Draft, RuleRead, Reading, Found, blank, atPlace, onLast, lastRule, withHead, withBody}
-use Rattle.syntax.specs.Programs.{withEquation, withRule, readSymbol, readRule, constraintLine, readConstraint, readEquation}
+use Rattle.syntax.specs.Programs.{withEquation, withRule, readSymbol, readRule}
+use Rattle.syntax.specs.Programs.{constraintLine, readConstraint, readEquation}
 use Rattle.syntax.specs.Programs.{readForm, readFields, readLine, readLines, checkRules, readProgram, maxText}
 use Rattle.syntax.proofs.WellFormed.{Holds, holds-refuseIf, holds-andThen, holds-accepted, holds-constraintLine}
-use Rattle.syntax.proofs.WellFormed.{and-parts, or-neither, not-false, length-onLast}
+use Rattle.syntax.proofs.WellFormed.{or-neither, not-false, length-onLast}
 use Rattle.syntax.proofs.Known.{grown, grown-front, grown-known, constants-grown}
 
 -- the numbers of k constants
@@ -136,8 +138,8 @@ blank-small =
 number-in : (lo hi : ℕ) (f : List ℕ) → isNumberIn lo hi f ≡ true → (lo ≤ valueOf f) × (valueOf f ≤ hi)
 unfolding isNumberIn between
 number-in lo hi f h =
-    let range = and-parts (isNumber f) (leb lo (valueOf f) && leb (valueOf f) hi) h .1 in
-    let (a, b) = and-parts (leb lo (valueOf f)) (leb (valueOf f) hi) range in
+    let range = and-true (isNumber f) (leb lo (valueOf f) && leb (valueOf f) hi) h .1 in
+    let (a, b) = and-true (leb lo (valueOf f)) (leb (valueOf f) hi) range in
     (leb-true lo (valueOf f) a, leb-true (valueOf f) hi b)
 
 -- the symbol of a K line of the right form

@@ -1,31 +1,32 @@
 -- What reads as a program is well formed: `read-wellFormed`.
 --   Holds      what holds of an answer, if it is accepted
 -- Assumes nothing.
-use Prim.Native.Nat.{ℕ, zero, suc, _+_, _-_, _≤_, _<_}
+use Prim.Native.Nat.{ℕ, suc, _+_, _-_, _≤_, _<_}
 use native.Mathlib.Omega.{arith}
 use mathlib.Core.Bool.{Bool, true, false, cond, not, _&&_, _||_}
 use mathlib.Core.List.{List, [], _∷_, _++_, map}
 use mathlib.Core.Option.{Option, none, some}
-use mathlib.Core.Path.{_≡_, refl, sym, ap, subst, _∙_}
-use lib.Dec.{T, leb, ltb, eqb, leb→le, le→leb, nleb→lt}
-use lib.ListN.{length, length-map, drop, getD}
+use mathlib.Core.Path.{_≡_, refl, ap, subst}
+use lib.Dec.{leb, ltb, eqb, le→leb, nleb→lt}
+use lib.ListN.{length, length-map, drop}
 use borrow.Author.Tests.{ltb-false}
 use Rattle.text.specs.Bytes.{between}
 use Rattle.text.specs.Lists.{onward, every, isKnown}
 use Rattle.text.specs.Lines.{Line, lines, lineIsFaulty}
-use Rattle.text.specs.Fields.{fields, isName, isVariable, isTerm, isNumberIn}
+use Rattle.text.specs.Fields.{fields, isName, isVariable, isTerm}
 use Rattle.text.proofs.Keys.{variable-range}
-use Rattle.semantics.specs.Terms.{Term, con, var, Constraint, Equation, Symbol, Rule, Program, weight}
+use Rattle.text.proofs.ClassLaws.{and-true}
+use Rattle.semantics.specs.Terms.{con, var, Constraint, Equation, Symbol, Rule, weight}
 use Rattle.semantics.specs.Terms.{isDeclared, isBelow, alphabet, isOfRule, isRuleOf, isWellFormed, symbolAt}
-use Rattle.semantics.proofs.Configurations.{Or, inl, inr}
-use Rattle.semantics.proofs.Options.{decide, true-false, true-T, T-true, none-some}
+use Rattle.semantics.proofs.Options.{true-false, true-T, T-true, none-some}
 use Rattle.syntax.specs.Answers.{Answer, refused, accepted, refuseIf, andThen}
 use Rattle.syntax.specs.Forms.{Form, symbolForm, ruleForm, headForm, bodyForm, equationForm, goalForm, noForm, formOf}
 use Rattle.syntax.specs.Forms.{Place, inSymbols, inHeads, inBody, inEquations, placeAfter, fieldAt, constantsAfter}
 use Rattle.syntax.specs.Forms.{termOf, letterNumber, isSymbolFaulty, isRuleFaulty, isEquationFaulty, isConstraintFaulty}
 use Rattle.syntax.specs.Forms.{isUndeclared, symbolNumber, constraintOf}
 use Rattle.syntax.specs.Programs.{Draft, RuleRead, Reading, Found, blank, atPlace, onLast, lastRule, withHead, withBody}
-use Rattle.syntax.specs.Programs.{withEquation, withRule, readSymbol, readRule, constraintLine, readConstraint, readEquation}
+use Rattle.syntax.specs.Programs.{withEquation, withRule, readSymbol, readRule}
+use Rattle.syntax.specs.Programs.{constraintLine, readConstraint, readEquation}
 use Rattle.syntax.specs.Programs.{readForm, readFields, readLine, readLines, checkRules, readProgram}
 use Rattle.syntax.specs.Programs.{maxSymbols, maxRules, maxEquations, maxConstants, maxText}
 
@@ -58,10 +59,6 @@ holds-accepted P r h e = subst (Holds P) e h
 pub and-both : {a b : Bool} → a ≡ true → b ≡ true → (a && b) ≡ true
 and-both p q = rw (p, q)
 
-pub and-parts : (a b : Bool) → (a && b) ≡ true → (a ≡ true) × (b ≡ true)
-and-parts true b e = (refl, e)
-and-parts false b e = true-false e refl
-
 pub or-neither : (a b : Bool) → (a || b) ≡ false → (a ≡ false) × (b ≡ false)
 or-neither true b e = true-false refl e
 or-neither false b e = (refl, e)
@@ -74,7 +71,7 @@ not-false false e = true-false refl e
 every-append : {A : Type 0} (t : A → Bool) (l m : List A) → every t l ≡ true → every t m ≡ true → every t (l ++ m) ≡ true
 every-append t [] m p q = q
 every-append t (x ∷ l) m p q =
-    let h = and-parts (t x) (every t l) p in
+    let h = and-true (t x) (every t l) p in
     and-both (h .0) (every-append t l m (h .1) q)
 
 every-map :
@@ -82,7 +79,7 @@ every-map :
     → every t l ≡ true → every u (map f l) ≡ true
 every-map t u f [] k p = refl
 every-map t u f (x ∷ l) k p =
-    let h = and-parts (t x) (every t l) p in
+    let h = and-true (t x) (every t l) p in
     and-both (k x (h .0)) (every-map t u f l k (h .1))
 
 -- a letter is one of the alphabet
@@ -135,8 +132,8 @@ over-parts :
     → (every (isOfRule symbols) (r .heads) ≡ true) × (every (isOfRule symbols) (r .body) ≡ true)
     × (every (λ e. isBelow alphabet (e .left) && isBelow alphabet (e .right)) (r .equations) ≡ true)
 over-parts symbols r p =
-    let a = and-parts _ (every (λ e. isBelow alphabet (e .left) && isBelow alphabet (e .right)) (r .equations)) p in
-    let b = and-parts _ (every (isOfRule symbols) (r .body)) (a .0) in
+    let a = and-true _ (every (λ e. isBelow alphabet (e .left) && isBelow alphabet (e .right)) (r .equations)) p in
+    let b = and-true _ (every (isOfRule symbols) (r .body)) (a .0) in
     (b .0, b .1, a .1)
 
 over-head : (symbols : List Symbol) (c : Constraint) → isOfRule symbols c ≡ true → (r : Rule)
@@ -166,9 +163,9 @@ every-onLast :
     → every (λ r. t (r .rule)) rs ≡ true → every (λ r. t (r .rule)) (onLast f rs) ≡ true
 unfolding onLast
 every-onLast t f [] k p = p
-every-onLast t f (r ∷ []) k p = and-both (k (r .rule) (and-parts (t (r .rule)) true p .0)) refl
+every-onLast t f (r ∷ []) k p = and-both (k (r .rule) (and-true (t (r .rule)) true p .0)) refl
 every-onLast t f (r ∷ q ∷ rs) k p =
-    let h = and-parts (t (r .rule)) (every (λ r. t (r .rule)) (q ∷ rs)) p in
+    let h = and-true (t (r .rule)) (every (λ r. t (r .rule)) (q ∷ rs)) p in
     and-both (h .0) (every-onLast t f (q ∷ rs) k (h .1))
 
 pub length-onLast : (f : Rule → Rule) (rs : List RuleRead) → length (onLast f rs) ≡ length rs
@@ -281,11 +278,12 @@ sides-below constants (a ∷ []) e = true-false refl e
 sides-below constants (a ∷ b ∷ []) e = true-false refl e
 sides-below constants (a ∷ b ∷ c ∷ fs) e =
     let p = not-false _ (or-neither (not (eqb (length (a ∷ b ∷ c ∷ fs)) 3)) (not (every isTerm (b ∷ c ∷ fs))) e .1) in
-    let h = and-parts (isTerm b) (every isTerm (c ∷ fs)) p in
-    let k = and-parts (isTerm c) (every isTerm fs) (h .1) in
+    let h = and-true (isTerm b) (every isTerm (c ∷ fs)) p in
+    let k = and-true (isTerm c) (every isTerm fs) (h .1) in
     rw (term-below constants b (h .0), term-below constants c (k .0))
 
-equation-sound : (n : ℕ) (fs : List (List ℕ)) (d : Draft) → Sound d → (d .place ≡ inSymbols → ⊥) → Holds Sound (readEquation n fs d)
+equation-sound : (n : ℕ) (fs : List (List ℕ)) (d : Draft) → Sound d → (d .place ≡ inSymbols → ⊥)
+    → Holds Sound (readEquation n fs d)
 unfolding readEquation withRule
 equation-sound n fs d s o =
     let constants = constantsAfter (drop 1 fs) (d .constants) in
@@ -352,7 +350,7 @@ pub holds-checkRules :
 unfolding checkRules isRuleOf
 holds-checkRules P symbols [] otherwise p k = k refl
 holds-checkRules P symbols (r ∷ rs) otherwise p k =
-    let h = and-parts (isOver symbols (r .rule)) (every (λ r. isOver symbols (r .rule)) rs) p in
+    let h = and-true (isOver symbols (r .rule)) (every (λ r. isOver symbols (r .rule)) rs) p in
     holds-refuseIf P (eqb (length (r .rule .heads)) 0) 8 (r .line) _
     λ _. holds-refuseIf P (leb (weight symbols (r .rule .heads)) (weight symbols (r .rule .body))) 9 (r .line) _
     λ b. (let lower : weight symbols (r .rule .body) < weight symbols (r .rule .heads) =

@@ -11,10 +11,10 @@ use Rattle.text.specs.Lists.{placeOf, withName}
 use Rattle.text.specs.Lines.{Line, lines, lineIsFaulty}
 use Rattle.text.specs.Fields.{fields, isName}
 use Rattle.semantics.specs.Terms.{Constraint, Symbol, Goal, weight}
-use Rattle.syntax.specs.Answers.{Answer, refused, accepted, refuseIf, andThen}
+use Rattle.syntax.specs.Answers.{Answer, accepted, refuseIf, andThen}
 use Rattle.syntax.specs.Forms.{Form, symbolForm, ruleForm, headForm, bodyForm, equationForm, goalForm, noForm, formOf}
 use Rattle.syntax.specs.Forms.{fieldAt}
-use Rattle.syntax.specs.Programs.{maxText, Found, constraintLine}
+use Rattle.syntax.specs.Programs.{maxText, constraintLine}
 
 -- the most constraints of a goal's text, and their greatest weight
 abbrev pub maxGoal : ℕ

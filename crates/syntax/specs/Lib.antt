@@ -3,4 +3,3 @@ pub mod Answers
 pub mod Forms
 pub mod Programs
 pub mod Goals
-pub mod Tables

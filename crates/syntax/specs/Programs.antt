@@ -6,9 +6,8 @@
 --   readProgram       a program's text
 -- Assumes nothing.
 use Prim.Native.Nat.{ℕ, suc}
-use mathlib.Core.Bool.{Bool, true, false, cond, not, _||_}
+use mathlib.Core.Bool.{Bool, _||_}
 use mathlib.Core.List.{List, [], _∷_, _++_, map}
-use mathlib.Core.Option.{Option, none, some}
 use lib.Dec.{leb, ltb, eqb}
 use lib.ListN.{length, drop}
 use Rattle.text.specs.Lists.{onward, isKnown}
@@ -18,7 +17,8 @@ use Rattle.semantics.specs.Terms.{Term, Constraint, Equation, Symbol, Rule, Pro
 use Rattle.syntax.specs.Answers.{Answer, refused, accepted, refuseIf, andThen}
 use Rattle.syntax.specs.Forms.{Form, symbolForm, ruleForm, headForm, bodyForm, equationForm, goalForm, noForm, formOf}
 use Rattle.syntax.specs.Forms.{Place, inSymbols, placeAfter, fieldAt, constantsAfter, termOf, letterNumber}
-use Rattle.syntax.specs.Forms.{isSymbolFaulty, isRuleFaulty, isEquationFaulty, isConstraintFaulty, isUndeclared, constraintOf}
+use Rattle.syntax.specs.Forms.{isSymbolFaulty, isRuleFaulty, isEquationFaulty, isConstraintFaulty}
+use Rattle.syntax.specs.Forms.{isUndeclared, constraintOf}
 
 -- the most that document 01 allows of each
 abbrev pub maxText : ℕ

@@ -1,2 +1,1 @@
-// What a program and a goal mean, from their texts: the definitions in specs/, and names where they stand in a text.
-pub mod names;
+// What a program and a goal mean, from their texts: definitions in specs/, and what follows from them in proofs/; no code.

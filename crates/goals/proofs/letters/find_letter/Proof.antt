@@ -1,4 +1,5 @@
--- `goals::letters::find_letter` meets its contract: no letter passed is the one sought. Assumes nothing.
+-- `goals::letters::find_letter` meets its contract: no letter passed is the one sought.
+-- Assumes nothing.
 use borrow.Author.Needs.{needs}
 use mathlib.Core.Path.{_≡_, refl, sym, _∙_}
 use Prim.Native.Nat.{_≤_, _-_}
@@ -21,43 +22,41 @@ abbrev μ-loop : tie.MeasureT-loop
 loop-holds : tie.Need-loop-holds Inv-loop μ-loop
 loop-holds c = (omega arith, refl)
 
-shared-slice-read-if1 : tie.Need-shared-slice-read-if1 Inv-loop μ-loop
-shared-slice-read-if1 c = search needs
-
 returns : tie.Need-returns Inv-loop μ-loop
-returns c = (
-      sym (place-here (eqb ((c .before .before .before .before .args) .b)) 0 ((c .before .before .before .before .args) .letters .now) ((c .before .before .before .loop) .i) ((c .before .before .loop-test) .taken) (eq-eqb _ _ ((c .if1) .taken)))
-          ∙ (c .before .before .before .loop) .inv .1,
+returns c =
+    let at-loop-test = c .before .before in
+    let at-loop = at-loop-test .before in
+    let start = at-loop .before in (
+      sym (place-here (eqb (start .args .b)) 0 (start .args .letters .now) (at-loop .loop .i)
+          (at-loop-test .loop-test .taken) (eq-eqb _ _ (c .if1 .taken)))
+          ∙ at-loop .loop .inv .1,
       omega arith,
     )
 
-add-i : tie.Need-add-i Inv-loop μ-loop
-add-i c = search needs
-
-loop-less : tie.Need-loop-less Inv-loop μ-loop
-loop-less c = search needs
-
 loop-again : tie.Need-loop-again Inv-loop μ-loop
-loop-again c = (
+loop-again c =
+    let at-loop-test = c .before .before in
+    let at-loop = at-loop-test .before in
+    let start = at-loop .before in (
       omega arith,
       rw add-one
-          (sym (place-step (eqb ((c .before .before .before .before .args) .b)) 0 ((c .before .before .before .before .args) .letters .now) ((c .before .before .before .loop) .i) ((c .before .before .loop-test) .taken) (ne-eqb _ _ ((c .if1) .left)))
-          ∙ (c .before .before .before .loop) .inv .1),
+          (sym (place-step (eqb (start .args .b)) 0 (start .args .letters .now) (at-loop .loop .i)
+          (at-loop-test .loop-test .taken) (ne-eqb _ _ (c .if1 .left)))
+          ∙ at-loop .loop .inv .1),
     )
 
 returns-2 : tie.Need-returns-2 Inv-loop μ-loop
-returns-2 c = (sym (place-end (eqb ((c .before .before .args) .b)) ((c .before .before .args) .letters .now) ((c .before .loop) .i) ((c .loop-test) .left)) ∙ (c .before .loop) .inv .1, omega arith)
+returns-2 c =
+    let at-loop = c .before in
+    let start = at-loop .before in (
+      sym (place-end (eqb (start .args .b)) (start .args .letters .now) (at-loop .loop .i) (c .loop-test .left)) ∙
+          at-loop .loop .inv .1,
+      omega arith,
+    )
 
 pub find-letter-spec : {M : Type 1} → statement M
 find-letter-spec =
     tie.close
     (tie.spec
-    Inv-loop
-    μ-loop
-    loop-holds
-    shared-slice-read-if1
-    returns
-    add-i
-    loop-less
-    loop-again
+    Inv-loop μ-loop loop-holds (λ c. search needs) returns (λ c. search needs) (λ c. search needs) loop-again
     returns-2)

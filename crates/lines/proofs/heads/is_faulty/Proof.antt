@@ -1,7 +1,7 @@
 -- `lines::heads::is_faulty` meets its contract, by the test that decides it. Assumes nothing.
 use borrow.Author.Needs.{needs}
-use mathlib.Core.Path.{_≡_, refl, sym, ap, _∙_}
-use mathlib.Core.Bool.{Bool, not}
+use mathlib.Core.Path.{_≡_, sym, ap, _∙_}
+use mathlib.Core.Bool.{not}
 use Prim.Native.Nat.{ℕ}
 use native.Mathlib.Omega.{arith}
 use Rattle.lines.proofs.Held.{faulty-few, faulty-many, faulty-name, faulty-terms}
@@ -15,17 +15,11 @@ returns-2 : tie.Need-returns-2
 returns-2 c =
     (λ fs h. sym (faulty-many fs (omega (arith, h .counted))), λ e. absurd (let z : _≡_ {A = ℕ} 0 1 = cc in omega arith))
 
-array-read-if3 : tie.Need-array-read-if3
-array-read-if3 c = search needs
-
 returns-3 : tie.Need-returns-3
 returns-3 c = (
   λ fs h. sym (faulty-name fs _ (h .keyed) (omega (arith, h .counted)) (omega (arith, h .counted)) (c .if3 .taken)),
   λ e. absurd (let z : _≡_ {A = ℕ} 0 1 = cc in omega arith),
 )
-
-are-terms-requires : tie.Need-are-terms-requires
-are-terms-requires c κs = search needs
 
 returns-4 : tie.Need-returns-4
 returns-4 c = (
@@ -48,4 +42,5 @@ returns-5 c = (
 pub is-faulty-spec : {M : Type 1} → statement M
 is-faulty-spec =
     tie.close
-    (tie.spec returns returns-2 array-read-if3 returns-3 are-terms-requires returns-4 returns-5)
+    (tie.spec
+    returns returns-2 (λ c. search needs) returns-3 (λ c κs. search needs) returns-4 returns-5)

@@ -8,27 +8,6 @@ use lib.ListN.{getD, set}
 use Rattle.lines.proofs.rows.add_cells.Statement.{statement}
 use Rattle.lines.proofs.rows.add_cells.Tie as tie
 
-mul-n : tie.Need-mul-n
-mul-n c = search needs
-
-slice-read-n : tie.Need-slice-read-n
-slice-read-n c = search needs
-
-write-cells-requires : tie.Need-write-cells-requires
-write-cells-requires c κs = search needs
-
-add-row : tie.Need-add-row
-add-row c = search needs
-
-mul-row : tie.Need-mul-row
-mul-row c = search needs
-
-slice-write-row : tie.Need-slice-write-row
-slice-write-row c = search needs
-
-same-length : tie.Need-same-length
-same-length c = search needs
-
 returns : tie.Need-returns
 returns c =
     let args′ = c .before .before .before .before .before .before .before .args in
@@ -39,11 +18,5 @@ pub add-cells-spec : {M : Type 1} → statement M
 add-cells-spec =
     tie.close
     (tie.spec
-    mul-n
-    slice-read-n
-    write-cells-requires
-    add-row
-    mul-row
-    slice-write-row
-    same-length
-    returns)
+    (λ c. search needs) (λ c. search needs) (λ c κs. search needs) (λ c. search needs) (λ c. search needs)
+    (λ c. search needs) (λ c. search needs) returns)

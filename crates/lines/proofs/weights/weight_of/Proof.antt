@@ -35,9 +35,6 @@ mul-wide c = record { fits = omega (arith, (c .loop-test) .taken, (c .before .be
 shared-slice-read-wide : tie.Need-shared-slice-read-wide Inv-loop μ-loop
 shared-slice-read-wide c = omega (arith, (c .before .loop-test) .taken)
 
-wide-requires : tie.Need-wide-requires Inv-loop μ-loop
-wide-requires c κs = search needs
-
 weight-at-requires : tie.Need-weight-at-requires Inv-loop μ-loop
 weight-at-requires c κs = c .wide .ensures .1
 
@@ -87,16 +84,5 @@ pub weight-of-spec : {M : Type 1} → statement M
 weight-of-spec =
     tie.close
     (tie.spec
-    Inv-loop
-    μ-loop
-    loop-holds
-    add-loop
-    mul-wide
-    shared-slice-read-wide
-    wide-requires
-    weight-at-requires
-    add-sum
-    add-at
-    loop-less
-    loop-again
-    returns)
+    Inv-loop μ-loop loop-holds add-loop mul-wide shared-slice-read-wide (λ c κs. search needs) weight-at-requires
+    add-sum add-at loop-less loop-again returns)

@@ -1,4 +1,5 @@
--- `programs::adds::equation_line` meets its contract: the line is refused, or the last rule has one equation more. Assumes nothing.
+-- `programs::adds::equation_line` meets its contract: the line is refused, or the last rule has one equation more.
+-- Assumes nothing.
 use borrow.Author.Needs.{needs}
 use mathlib.Core.Path.{sym, _∙_}
 use mathlib.Core.List.{[]}
@@ -7,115 +8,92 @@ use Rattle.programs.proofs.AddLaws.{sides-faulty, sides-full, sides-man
 use Rattle.programs.proofs.adds.equation_line.Statement.{statement}
 use Rattle.programs.proofs.adds.equation_line.Tie as tie
 
-is-equation-faulty-requires : tie.Need-is-equation-faulty-requires
-is-equation-faulty-requires c κs = search needs
-
 returns : tie.Need-returns
-returns c = λ used.
-    sides-faulty _ _ _ _ _ ((c .before .before .before .before .before .pre) .1) ((c .before .before .before .before .before .pre) .2) ((c .before .before .before .before .before .pre) .3) used (λ fs h. sym ((c .if1) .taken) ∙ (c .before .is-equation-faulty) .ensures .0 fs h)
-
-sub-row : tie.Need-sub-row
-sub-row c = search needs
-
-mul-row : tie.Need-mul-row
-mul-row c = search needs
-
-add-slot : tie.Need-add-slot
-add-slot c = search needs
-
-mul-wide : tie.Need-mul-wide
-mul-wide c = search needs
-
-slice-read-wide : tie.Need-slice-read-wide
-slice-read-wide c = search needs
-
-wide-requires : tie.Need-wide-requires
-wide-requires c κs = search needs
+returns c =
+    let at-is-equation-faulty = c .before in
+    let start = at-is-equation-faulty .before .before .before .before in
+    λ used.
+    sides-faulty _ _ _ _ _ (start .pre .1) (start .pre .2) (start .pre .3) used (λ fs h. sym (c .if1 .taken) ∙
+    at-is-equation-faulty .is-equation-faulty .ensures .0 fs h)
 
 returns-2 : tie.Need-returns-2
-returns-2 c = λ used.
-    sides-full _ _ _ _ _ ((c .before .before .before .before .before .before .before .before .before .pre) .1) ((c .before .before .before .before .before .before .before .before .before .pre) .2) ((c .before .before .before .before .before .before .before .before .before .pre) .3) used (λ fs h. sym ((c .before .before .before .before .if1) .left) ∙ (c .before .before .before .before .before .is-equation-faulty) .ensures .0 fs h)
-    ((c .before .before .before .before .before .is-equation-faulty) .ensures .1 ((c .before .before .before .before .if1) .left)) _ ((c .before .wide) .ensures .0) ((c .if2) .taken)
+returns-2 c =
+    let at-wide = c .before in
+    let at-if1 = at-wide .before .before .before in
+    let at-is-equation-faulty = at-if1 .before in
+    let start = at-is-equation-faulty .before .before .before .before in
+    λ used.
+    sides-full _ _ _ _ _ (start .pre .1) (start .pre .2) (start .pre .3) used (λ fs h. sym (at-if1 .if1 .left) ∙
+    at-is-equation-faulty .is-equation-faulty .ensures .0 fs h)
+    (at-is-equation-faulty .is-equation-faulty .ensures .1 (at-if1 .if1 .left)) _ (at-wide .wide .ensures .0) (c .if2 .taken)
 
 read-terms-requires : tie.Need-read-terms-requires
-read-terms-requires c κs = ((c .before .before .before .before .before .before .before .before .before .before .before .pre) .0, (c .before .before .before .before .before .before .before .before .before .before .before .pre) .2 .few-constants, omega (arith, (c .before .before .before .before .before .before .before .is-equation-faulty) .ensures .1 ((c .before .before .before .before .before .before .if1) .left)),
-    omega (arith, (c .before .before .before .before .before .before .before .is-equation-faulty) .ensures .1 ((c .before .before .before .before .before .before .if1) .left)))
-
-same-length : tie.Need-same-length
-same-length c = search needs
-
-same-length-2 : tie.Need-same-length-2
-same-length-2 c = search needs
+read-terms-requires c κs =
+    let at-if1 = c .before .before .before .before .before .before in
+    let at-is-equation-faulty = at-if1 .before in
+    let start = at-is-equation-faulty .before .before .before .before in (
+      start .pre .0,
+      start .pre .2 .few-constants,
+      omega (
+        arith,
+        at-is-equation-faulty .is-equation-faulty .ensures .1
+            (at-if1 .if1 .left),
+      ),
+      omega (arith, at-is-equation-faulty .is-equation-faulty .ensures .1 (at-if1 .if1 .left)),
+    )
 
 returns-3 : tie.Need-returns-3
-returns-3 c = λ used.
-    sides-many _ _ _ _ _ ((c .before .before .before .before .before .before .before .before .before .before .before .before .before .before .before .before .before .pre) .1) ((c .before .before .before .before .before .before .before .before .before .before .before .before .before .before .before .before .before .pre) .2) ((c .before .before .before .before .before .before .before .before .before .before .before .before .before .before .before .before .before .pre) .3) used (λ fs h. sym ((c .before .before .before .before .before .before .before .before .before .before .before .before .if1) .left) ∙ (c .before .before .before .before .before .before .before .before .before .before .before .before .before .is-equation-faulty) .ensures .0 fs h)
-    ((c .before .before .before .before .before .before .before .before .before .before .before .before .before .is-equation-faulty) .ensures .1 ((c .before .before .before .before .before .before .before .before .before .before .before .before .if1) .left)) _ ((c .before .before .before .before .before .before .before .before .before .wide) .ensures .0) ((c .before .before .before .before .before .before .before .before .if2) .left) _ _ _ ((c .before .before .before .before .before .read-terms) .ensures)
-    ((c .if3) .taken)
-
-array-read-t16 : tie.Need-array-read-t16
-array-read-t16 c = search needs
-
-array-read-t26 : tie.Need-array-read-t26
-array-read-t26 c = search needs
-
-mul-start : tie.Need-mul-start
-mul-start c = search needs
-
-add-start : tie.Need-add-start
-add-start c = search needs
-
-add-add-cells : tie.Need-add-add-cells
-add-add-cells c = search needs
-
-slice-aggregate-add-cells : tie.Need-slice-aggregate-add-cells
-slice-aggregate-add-cells c = search needs
+returns-3 c =
+    let at-read-terms = c .before .before .before .before .before in
+    let at-if2 = at-read-terms .before .before .before in
+    let at-wide = at-if2 .before in
+    let at-if1 = at-wide .before .before .before in
+    let at-is-equation-faulty = at-if1 .before in
+    let start = at-is-equation-faulty .before .before .before .before in
+    λ used.
+    sides-many _ _ _ _ _ (start .pre .1) (start .pre .2) (start .pre .3) used (λ fs h. sym (at-if1 .if1 .left) ∙
+    at-is-equation-faulty .is-equation-faulty .ensures .0 fs h)
+    (at-is-equation-faulty .is-equation-faulty .ensures .1 (at-if1 .if1 .left)) _ (at-wide .wide .ensures .0)
+    (at-if2 .if2 .left) _ _ _ (at-read-terms .read-terms .ensures)
+    (c .if3 .taken)
 
 add-cells-requires : tie.Need-add-cells-requires
-add-cells-requires c κs = sides-fit _ _ _ _ _ ((c .before .before .before .before .before .before .before .before .before .before .before .before .before .before .before .before .before .before .before .before .pre) .1) ((c .before .before .before .before .before .before .before .before .before .before .before .before .before .before .before .before .before .before .before .before .pre) .2) ((c .before .before .before .before .before .before .before .before .before .before .before .before .before .before .before .before .before .before .before .before .pre) .3) [] (λ fs h. sym ((c .before .before .before .before .before .before .before .before .before .before .before .before .before .before .before .if1) .left) ∙ (c .before .before .before .before .before .before .before .before .before .before .before .before .before .before .before .before .is-equation-faulty) .ensures .0 fs h)
-    ((c .before .before .before .before .before .before .before .before .before .before .before .before .before .before .before .before .is-equation-faulty) .ensures .1 ((c .before .before .before .before .before .before .before .before .before .before .before .before .before .before .before .if1) .left)) _ ((c .before .before .before .before .before .before .before .before .before .before .before .before .wide) .ensures .0) ((c .before .before .before .before .before .before .before .before .before .before .before .if2) .left) _ _ _ ((c .before .before .before .before .before .before .before .before .read-terms) .ensures)
-    ((c .before .before .before .if3) .left)
-
-same-length-3 : tie.Need-same-length-3
-same-length-3 c = search needs
-
-same-length-4 : tie.Need-same-length-4
-same-length-4 c = search needs
-
-same-length-5 : tie.Need-same-length-5
-same-length-5 c = search needs
+add-cells-requires c κs =
+    let at-if3 = c .before .before .before in
+    let at-read-terms = at-if3 .before .before .before .before .before in
+    let at-if2 = at-read-terms .before .before .before in
+    let at-wide = at-if2 .before in
+    let at-if1 = at-wide .before .before .before in
+    let at-is-equation-faulty = at-if1 .before in
+    let start = at-is-equation-faulty .before .before .before .before in
+    sides-fit _ _ _ _ _ (start .pre .1) (start .pre .2) (start .pre .3) [] (λ fs h. sym (at-if1 .if1 .left) ∙
+    at-is-equation-faulty .is-equation-faulty .ensures .0 fs h)
+    (at-is-equation-faulty .is-equation-faulty .ensures .1 (at-if1 .if1 .left)) _ (at-wide .wide .ensures .0)
+    (at-if2 .if2 .left) _ _ _ (at-read-terms .read-terms .ensures)
+    (at-if3 .if3 .left)
 
 returns-4 : tie.Need-returns-4
-returns-4 c = λ used.
-    sides-next _ _ _ _ _ ((c .before .before .before .before .before .before .before .before .before .before .before .before .before .before .before .before .before .before .before .before .before .before .before .pre) .1) ((c .before .before .before .before .before .before .before .before .before .before .before .before .before .before .before .before .before .before .before .before .before .before .before .pre) .2) ((c .before .before .before .before .before .before .before .before .before .before .before .before .before .before .before .before .before .before .before .before .before .before .before .pre) .3) used (λ fs h. sym ((c .before .before .before .before .before .before .before .before .before .before .before .before .before .before .before .before .before .before .if1) .left) ∙ (c .before .before .before .before .before .before .before .before .before .before .before .before .before .before .before .before .before .before .before .is-equation-faulty) .ensures .0 fs h)
-    ((c .before .before .before .before .before .before .before .before .before .before .before .before .before .before .before .before .before .before .before .is-equation-faulty) .ensures .1 ((c .before .before .before .before .before .before .before .before .before .before .before .before .before .before .before .before .before .before .if1) .left)) _ ((c .before .before .before .before .before .before .before .before .before .before .before .before .before .before .before .wide) .ensures .0) ((c .before .before .before .before .before .before .before .before .before .before .before .before .before .before .if2) .left) _ _ _ ((c .before .before .before .before .before .before .before .before .before .before .before .read-terms) .ensures)
-    ((c .before .before .before .before .before .before .if3) .left) _ ((c .before .before .add-cells) .ensures)
+returns-4 c =
+    let at-add-cells = c .before .before in
+    let at-if3 = at-add-cells .before .before .before .before in
+    let at-read-terms = at-if3 .before .before .before .before .before in
+    let at-if2 = at-read-terms .before .before .before in
+    let at-wide = at-if2 .before in
+    let at-if1 = at-wide .before .before .before in
+    let at-is-equation-faulty = at-if1 .before in
+    let start = at-is-equation-faulty .before .before .before .before in
+    λ used.
+    sides-next _ _ _ _ _ (start .pre .1) (start .pre .2) (start .pre .3) used (λ fs h. sym (at-if1 .if1 .left) ∙
+    at-is-equation-faulty .is-equation-faulty .ensures .0 fs h)
+    (at-is-equation-faulty .is-equation-faulty .ensures .1 (at-if1 .if1 .left)) _ (at-wide .wide .ensures .0)
+    (at-if2 .if2 .left) _ _ _ (at-read-terms .read-terms .ensures)
+    (at-if3 .if3 .left) _ (at-add-cells .add-cells .ensures)
 
 pub equation-line-spec : {M : Type 1} → statement M
 equation-line-spec =
     tie.close
     (tie.spec
-    is-equation-faulty-requires
-    returns
-    sub-row
-    mul-row
-    add-slot
-    mul-wide
-    slice-read-wide
-    wide-requires
-    returns-2
-    read-terms-requires
-    same-length
-    same-length-2
-    returns-3
-    array-read-t16
-    array-read-t26
-    mul-start
-    add-start
-    add-add-cells
-    slice-aggregate-add-cells
-    add-cells-requires
-    same-length-3
-    same-length-4
-    same-length-5
-    returns-4)
+    (λ c κs. search needs) returns (λ c. search needs) (λ c. search needs) (λ c. search needs) (λ c. search needs)
+    (λ c. search needs) (λ c κs. search needs) returns-2 read-terms-requires (λ c. search needs) (λ c. search needs)
+    returns-3 (λ c. search needs) (λ c. search needs) (λ c. search needs) (λ c. search needs) (λ c. search needs)
+    (λ c. search needs) add-cells-requires (λ c. search needs) (λ c. search needs) (λ c. search needs) returns-4)
