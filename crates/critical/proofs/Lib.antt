@@ -1,0 +1,4 @@
+-- Laws of joined heads and of the overlaps that are left. Assumes nothing.
+pub mod JoinLaws
+pub mod RestLaws
+pub mod JudgeLaws

@@ -1,0 +1,3 @@
+-- Joined heads, and the overlaps that are left. Assumes nothing.
+pub mod Joins
+pub mod Rests
