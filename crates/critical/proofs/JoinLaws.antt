@@ -81,7 +81,7 @@ solve-append (e ∷ es) fs σ = go (unify (σ (e .left)) (σ (e .right))) (λ τ
     go (some τ) more = more τ
 
 -- the equations between terms, and between constraints, that are replaced throughout
-equate-terms-map :
+pub equate-terms-map :
     (σ : Term → Term) (ss ts : List Term)
     → equateTerms (map σ ss) (map σ ts) ≡ bind (equateTerms ss ts) (λ es. some (map (mapSides σ) es))
 unfolding equateTerms mapSides
@@ -188,7 +188,7 @@ drop-at-element (b ∷ l) zero h = ap (_∷ l) (some-equal h)
 drop-at-element (b ∷ l) (suc k) h = drop-at-element l k h
 
 -- replacing twice
-replaced-twice :
+pub replaced-twice :
     (ρ σ : Term → Term) (cs : List Constraint) → map (mapTerms ρ) (map (mapTerms σ) cs) ≡ map (mapTerms (λ t. ρ (σ t))) cs
 unfolding mapTerms
 replaced-twice ρ σ [] = refl

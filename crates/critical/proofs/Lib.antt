@@ -1,4 +1,6 @@
 -- Laws of joined heads and of the overlaps that are left. Assumes nothing.
 pub mod JoinLaws
 pub mod RestLaws
+pub mod TermLaws
+pub mod HeadLaws
 pub mod JudgeLaws

@@ -1,3 +1,4 @@
 -- Joined heads, and the overlaps that are left. Assumes nothing.
 pub mod Joins
+pub mod Cells
 pub mod Rests
