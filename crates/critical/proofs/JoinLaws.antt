@@ -30,7 +30,7 @@ bind-same none = refl
 bind-same (some a) = refl
 
 -- no more partners, no more equations
-join-no-more : (hs gs : List Constraint) → joinEquations hs [] gs ≡ some []
+pub join-no-more : (hs gs : List Constraint) → joinEquations hs [] gs ≡ some []
 unfolding joinEquations
 join-no-more [] gs = refl
 join-no-more (h ∷ hs) gs = refl

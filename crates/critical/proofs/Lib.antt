@@ -3,4 +3,5 @@ pub mod JoinLaws
 pub mod RestLaws
 pub mod TermLaws
 pub mod HeadLaws
+pub mod PairedLaws
 pub mod JudgeLaws
