@@ -12,10 +12,11 @@ use lib.Seq.{drop-cons, length-take-le, getD-at}
 use Rattle.text.specs.Lists.{orElse, tabled}
 use Rattle.semantics.specs.Matching.{unassigned}
 use Rattle.semantics.specs.Strategy.{find, chooseFrom, choose}
-use Rattle.syntax.specs.Tables.{cellConstraints, ruleOfRow, ruleOf, rulesOf}
+use Rattle.tables.specs.Cells.{cellConstraints}
+use Rattle.tables.specs.Rows.{ruleOfRow, ruleOf, rulesOf, rowOf}
 use Rattle.engine.specs.Cells.{assigned}
 use Rattle.engine.specs.Places.{foundOf, Seeking, Located, Row, Table, choiceOf, Chosen}
-use Rattle.engine.proofs.CellLaws.{le-or-lt}
+use Rattle.tables.proofs.CellLaws.{le-or-lt}
 
 -- no cell of zeros is settled
 zeros-zero : (n x : ℕ) → _≡_ {A = ℕ} (getD (replicate n 0) x 0) 0
@@ -87,13 +88,13 @@ row-cells i = omega arith
 pub record Choosing (rules : List ℕ) (n : ℕ) (cells : List ℕ) (i : ℕ) : Type 0 where
   pub within : i ≤ n
   pub same :
-      (text : List ℕ)
-      → chooseFrom i (drop i (rulesOf text rules n)) (cellConstraints cells) ≡ choose (rulesOf text rules n)
+      (names : List ℕ)
+      → chooseFrom i (drop i (rulesOf names rules n)) (cellConstraints cells) ≡ choose (rulesOf names rules n)
       (cellConstraints cells)
 
 pub choosing-start : (rules : List ℕ) (n : ℕ) (cells : List ℕ) → Choosing rules n cells 0
 unfolding choose
-choosing-start rules n cells = record { within = omega arith; same = λ text. refl }
+choosing-start rules n cells = record { within = omega arith; same = λ names. refl }
 
 module _ (rules : List ℕ) (n : ℕ) (cells : List ℕ) (m i : ℕ) (given : Table rules n) (w : Choosing rules n cells i) where
   -- no rule is left
@@ -101,8 +102,8 @@ module _ (rules : List ℕ) (n : ℕ) (cells : List ℕ) (m i : ℕ) (given : Ta
   unfolding choiceOf foundOf rulesOf chooseFrom
   choosing-none l =
       record {
-        same = λ text. rw (drop-of-length-le (tabled (ruleOf text rules) n) {i = i}
-            (omega (arith, length-tabled (ruleOf text rules) n))) at (w .same text);
+        same = λ names. rw (drop-of-length-le (tabled (ruleOf names rules) n) {i = i}
+            (omega (arith, length-tabled (ruleOf names rules) n))) at (w .same names);
         within = λ (z : false ≡ true). let y : _≡_ {A = ℕ} 0 1 = cc in absurd (omega arith);
         fits = λ (z : false ≡ true). let y : _≡_ {A = ℕ} 0 1 = cc in absurd (omega arith);
         positions-size = refl;
@@ -118,33 +119,33 @@ module _ (rules : List ℕ) (n : ℕ) (cells : List ℕ) (m i : ℕ) (given : Ta
         (t : Located f (getD (lentRow rules i) 3 0) ps b
         (find (ruleOfRow [] (lentRow rules i) .heads) (cellConstraints cells) [] unassigned)) where
       answered :
-          (text : List ℕ)
-          → foundOf f (getD (take 64 (drop (64 * i) rules)) 3 0) ps b ≡ find (ruleOf text rules i .heads)
+          (names : List ℕ)
+          → foundOf f (getD (rowOf rules i) 3 0) ps b ≡ find (ruleOf names rules i .heads)
           (cellConstraints cells) [] unassigned
       unfolding ruleOf ruleOfRow
-      answered text = rw (row-cells i) at (t .same)
+      answered names = rw (row-cells i) at (t .same)
 
       -- the choice, by whether the rule of number i fits
       tried :
-          (text : List ℕ)
-          → orElse (choiceOf text rules f i ps b) (chooseFrom (suc i) (drop (suc i) (rulesOf text rules n))
+          (names : List ℕ)
+          → orElse (choiceOf names rules f i ps b) (chooseFrom (suc i) (drop (suc i) (rulesOf names rules n))
           (cellConstraints cells))
-          ≡ choose (rulesOf text rules n) (cellConstraints cells)
+          ≡ choose (rulesOf names rules n) (cellConstraints cells)
       unfolding choiceOf rulesOf chooseFrom
-      tried text =
-          rw (answered text) (rw (drop-tabled (ruleOf text rules) n i l) at (w .same text))
+      tried names =
+          rw (answered names) (rw (drop-tabled (ruleOf names rules) n i l) at (w .same names))
 
       -- the rule does not fit
       pub choosing-next : f ≡ false → Choosing rules n cells (i + 1)
       unfolding choiceOf foundOf
-      choosing-next z = rw (add-one i) (record { within = l; same = λ text. rw z at (tried text) })
+      choosing-next z = rw (add-one i) (record { within = l; same = λ names. rw z at (tried names) })
 
       -- it does
       pub choosing-found : f ≡ true → Chosen rules n cells true i ps b
       unfolding choiceOf foundOf
       choosing-found z =
           record {
-            same = λ text. rw z at (tried text);
+            same = λ names. rw z at (tried names);
             within = λ y. l;
             fits = λ y. rw (row-cells i, z) at (t .same);
             positions-size = t .positions-size;

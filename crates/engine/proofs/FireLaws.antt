@@ -15,11 +15,11 @@ use borrow.Author.Tests.{ne-eqb, eqb-false, lt-ltb, le-ltb}
 use Rattle.text.specs.Lists.{onward, has}
 use Rattle.semantics.specs.Terms.{var, Constraint, isBelow, alphabet}
 use Rattle.semantics.specs.Firing.{without, instance}
-use Rattle.syntax.specs.Tables.{cellTerm, cellConstraints}
-use Rattle.engine.specs.Cells.{assigned, rowConstraint, instanceCell, movedRow}
+use Rattle.tables.specs.Cells.{cellTerm, cellConstraints, rowConstraint}
+use Rattle.engine.specs.Cells.{assigned, instanceCell, movedRow}
 use Rattle.engine.specs.States.{Removed}
-use Rattle.engine.proofs.CellLaws.{either, le-or-lt, cell-low, cell-high, constraints-at}
-use Rattle.engine.proofs.MapLaws.{Acts}
+use Rattle.tables.proofs.CellLaws.{either, le-or-lt, cell-low, cell-high, constraints-at}
+use Rattle.tables.proofs.MapLaws.{Acts}
 
 -- instantiating cells is instantiating terms
 pub instance-acts :

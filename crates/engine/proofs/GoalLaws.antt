@@ -31,11 +31,12 @@ use Rattle.semantics.specs.Terms.{
 }
 use Rattle.semantics.specs.Terms.{isDeclared, isBelow, isGoalOf, alphabet, isOfRule, isRuleOf, isWellFormed}
 use Rattle.semantics.specs.Strategy.{entered, run}
-use Rattle.syntax.specs.Tables.{cellTerm, symbolOf, symbolsOf, ruleOfRow, ruleOf, rulesOf}
-use Rattle.engine.specs.Places.{isLettered, isSide, isLow, Row, Table}
-use Rattle.engine.specs.States.{stateOf}
+use Rattle.tables.specs.Layout.{firstRule}
+use Rattle.tables.specs.Cells.{cellTerm, isLow, stateOf}
+use Rattle.tables.specs.Rows.{symbolOf, symbolsOf, ruleOfRow, ruleOf, rulesOf, rowOf, nameOf}
+use Rattle.engine.specs.Places.{isLettered, isSide, Row, Table}
 use Rattle.engine.specs.Runs.{weightBy, Lowers, storeOf, Startable, Ended}
-use Rattle.engine.proofs.CellLaws.{and-true}
+use Rattle.semantics.proofs.Bools.{and-true}
 use Rattle.engine.proofs.ChooseLaws.{length-tabled, getD-tabled}
 
 -- whether a term is no constant 0, which stands for no term
@@ -43,23 +44,22 @@ unfoldable pub isUsed : Term → Bool
 isUsed (con c) = leb 1 c
 isUsed (var x) = true
 
--- the program of two tables and the text of their names
+-- the program of two tables and the table of their names
 unfoldable pub programOf : List ℕ → List ℕ → ℕ → List ℕ → ℕ → Program
-programOf text symbols s rules n = record { symbols = symbolsOf text symbols s; rules = rulesOf text rules n }
+programOf names symbols s rules n = record { symbols = symbolsOf names symbols s; rules = rulesOf names rules n }
 
 -- what the reading of a program promises: it is well formed, its heads and bodies are within a row's room, its weights are
 -- positive, and its constants not 0
-pub record AsRead (text symbols : List ℕ) (s : ℕ) (rules : List ℕ) (n : ℕ) : Type 0 where
-  pub well-formed : isWellFormed (programOf text symbols s rules n) ≡ true
+pub record AsRead (names symbols : List ℕ) (s : ℕ) (rules : List ℕ) (n : ℕ) : Type 0 where
+  pub well-formed : isWellFormed (programOf names symbols s rules n) ≡ true
   pub few-symbols : s ≤ 32
-  pub heavy : (k : ℕ) → k < s → 1 ≤ getD symbols (4 * k + 3) 0
+  pub heavy : (k : ℕ) → k < s → 1 ≤ getD symbols (2 * k + 1) 0
   pub size : 64 * n ≤ length rules
-  pub heads-few : (i : ℕ) → i < n → getD (take 64 (drop (64 * i) rules)) 3 0 ≤ 4
-  pub body-few : (i : ℕ) → i < n → getD (take 64 (drop (64 * i) rules)) 4 0 ≤ 6
+  pub heads-few : (i : ℕ) → i < n → getD (rowOf rules i) 3 0 ≤ 4
+  pub body-few : (i : ℕ) → i < n → getD (rowOf rules i) 4 0 ≤ 6
   pub used :
       (i : ℕ) → i < n
-      → every (λ (e : Equation). isUsed (e .left) && isUsed (e .right)) (ruleOfRow [] (take 64 (drop
-      (64 * i) rules)) .equations) ≡ true
+      → every (λ (e : Equation). isUsed (e .left) && isUsed (e .right)) (ruleOfRow [] (rowOf rules i) .equations) ≡ true
 
 -- an element of a list, all of which pass a test
 every-at : {A : Type 0} (t : A → Bool) (l : List A) (i : ℕ) (d : A) → every t l ≡ true → i < length l → t (getD l i d) ≡ true
@@ -91,89 +91,89 @@ unfolding isUsed isSide isBelow
 side-of (con c) h k = k
 side-of (var x) h k = h
 
-module _ (text symbols : List ℕ) (s : ℕ) (rules : List ℕ) (n : ℕ) (r : AsRead text symbols s rules n) where
+module _ (names symbols : List ℕ) (s : ℕ) (rules : List ℕ) (n : ℕ) (r : AsRead names symbols s rules n) where
   -- the program's symbols
-  abbrev names : List Symbol
-  names = symbolsOf text symbols s
+  abbrev declaredTable : List Symbol
+  declaredTable = symbolsOf names symbols s
 
   -- a weighing of every number: a symbol's weight, and 1 for a number that no symbol has
   unfoldable pub weigh : ℕ → ℕ
-  weigh k = max 1 (symbolAt names k .weight)
+  weigh k = max 1 (symbolAt declaredTable k .weight)
 
-  length-names : length names ≡ s
+  length-table : length declaredTable ≡ s
   unfolding symbolsOf
-  length-names = length-tabled (symbolOf text symbols) s
+  length-table = length-tabled (symbolOf names symbols) s
 
-  weigh-same : (k : ℕ) → k < s → weigh k ≡ symbolAt names k .weight
+  weigh-same : (k : ℕ) → k < s → weigh k ≡ symbolAt declaredTable k .weight
   unfolding weigh symbolAt symbolsOf symbolOf
   weigh-same k l =
-      rw (getD-tabled (symbolOf text symbols) s k noSymbol l)
-      (let one : 1 ≤ getD symbols (4 * k + 3) 0 = r .heavy k l in omega arith)
+      rw (getD-tabled (symbolOf names symbols) s k noSymbol l)
+      (let one : 1 ≤ getD symbols (2 * k + 1) 0 = r .heavy k l in omega arith)
 
   -- a declared constraint's symbol
-  declared-below : (c : Constraint) → isDeclared names c ≡ true → c .symbol < s
+  declared-below : (c : Constraint) → isDeclared declaredTable c ≡ true → c .symbol < s
   unfolding isDeclared
   declared-below c h =
-      let l : c .symbol < length names =
-      ltb-true (c .symbol) (length names)
-      (and-true (ltb (c .symbol) (length names)) (eqb (length (c .terms)) (symbolAt names (c .symbol) .arity)) h .0) in
-      omega (arith, length-names)
+      let l : c .symbol < length declaredTable =
+      ltb-true (c .symbol) (length declaredTable)
+      (and-true (ltb (c .symbol) (length declaredTable)) (eqb (length (c .terms)) (symbolAt declaredTable (c .symbol) .arity)) h .0) in
+      omega (arith, length-table)
 
-  declared-low : (c : Constraint) → isDeclared names c ≡ true → isLow c ≡ true
+  declared-low : (c : Constraint) → isDeclared declaredTable c ≡ true → isLow c ≡ true
   unfolding isLow
   declared-low c h = lt-ltb (c .symbol) 256 (omega (arith, declared-below c h, r .few-symbols))
 
   -- declared constraints weigh what their symbols do
-  weight-same : (cs : List Constraint) → every (isDeclared names) cs ≡ true → weightBy weigh cs ≡ weight names cs
+  weight-same : (cs : List Constraint) → every (isDeclared declaredTable) cs ≡ true → weightBy weigh cs ≡ weight declaredTable cs
   unfolding weightBy weight
   weight-same [] h = refl
   weight-same (c ∷ cs) h =
       rw (
-        weigh-same (c .symbol) (declared-below c (and-true (isDeclared names c) (every (isDeclared names) cs) h .0)),
-        weight-same cs (and-true (isDeclared names c) (every (isDeclared names) cs) h .1),
+        weigh-same (c .symbol) (declared-below c (and-true (isDeclared declaredTable c) (every (isDeclared declaredTable) cs) h .0)),
+        weight-same cs (and-true (isDeclared declaredTable c) (every (isDeclared declaredTable) cs) h .1),
       )
 
   -- a rule of the program
   module _ (i : ℕ) (l : i < n) where
     abbrev row : List ℕ
-    row = take 64 (drop (64 * i) rules)
+    row = rowOf rules i
 
-    rule-of : isRuleOf names (ruleOfRow text row) ≡ true
+    rule-of : isRuleOf declaredTable (ruleOfRow (nameOf names (firstRule + i)) row) ≡ true
     unfolding isWellFormed programOf rulesOf ruleOf
     rule-of =
-        rw (getD-tabled (ruleOf text rules) n i (ruleOf text rules i) l) at
-        (every-at (isRuleOf names) (tabled (ruleOf text rules) n) i (ruleOf text rules i) (r .well-formed)
-        (omega (arith, length-tabled (ruleOf text rules) n)))
+        rw (getD-tabled (ruleOf names rules) n i (ruleOf names rules i) l) at
+        (every-at (isRuleOf declaredTable) (tabled (ruleOf names rules) n) i (ruleOf names rules i) (r .well-formed)
+        (omega (arith, length-tabled (ruleOf names rules) n)))
 
     -- what its being well formed says, part by part
     parts :
-        (every (isOfRule names) (ruleOfRow [] row .heads) ≡ true) × (every (isOfRule names) (ruleOfRow [] row .body) ≡ true)
+        (every (isOfRule declaredTable) (ruleOfRow [] row .heads) ≡ true) × (every (isOfRule declaredTable) (ruleOfRow [] row .body) ≡ true)
         × (every (λ (e : Equation). isBelow alphabet (e .left) && isBelow alphabet (e .right))
         (ruleOfRow [] row .equations) ≡ true)
-        × (weight names (ruleOfRow [] row .body) < weight names (ruleOfRow [] row .heads))
+        × (weight declaredTable (ruleOfRow [] row .body) < weight declaredTable (ruleOfRow [] row .heads))
     unfolding isRuleOf ruleOfRow
     parts =
-        let three = and-true (every (isOfRule names) (ruleOfRow [] row .heads) && every (isOfRule names)
+        let three = and-true (every (isOfRule declaredTable) (ruleOfRow [] row .heads) && every (isOfRule declaredTable)
         (ruleOfRow [] row .body)
         && every (λ (e : Equation). isBelow alphabet (e .left) && isBelow alphabet (e .right)) (ruleOfRow [] row .equations))
-        (ltb (weight names (ruleOfRow [] row .body)) (weight names (ruleOfRow [] row .heads))) rule-of in
-        let two = and-true (every (isOfRule names) (ruleOfRow [] row .heads) && every (isOfRule names) (ruleOfRow [] row .body))
+        (ltb (weight declaredTable (ruleOfRow [] row .body)) (weight declaredTable (ruleOfRow [] row .heads))) rule-of in
+        let two = and-true (every (isOfRule declaredTable) (ruleOfRow [] row .heads) && every (isOfRule declaredTable) (ruleOfRow [] row .body))
         (every (λ (e : Equation). isBelow alphabet (e .left) && isBelow alphabet (e .right)) (ruleOfRow [] row .equations))
         (three .0) in
-        let one = and-true (every (isOfRule names) (ruleOfRow [] row .heads)) (every (isOfRule names) (ruleOfRow [] row .body))
+        let one = and-true (every (isOfRule declaredTable) (ruleOfRow [] row .heads)) (every (isOfRule declaredTable) (ruleOfRow [] row .body))
         (two .0) in (
           one .0,
           one .1,
           two .1,
-          ltb-true (weight names (ruleOfRow [] row .body)) (weight names (ruleOfRow [] row .heads))
+          ltb-true (weight declaredTable (ruleOfRow [] row .body)) (weight declaredTable (ruleOfRow [] row .heads))
               (three .1),
         )
 
-    of-rule : (c : Constraint) → isOfRule names c ≡ true → (isDeclared names c ≡ true) × (isLettered c ≡ true)
+    of-rule : (c : Constraint) → isOfRule declaredTable c ≡ true → (isDeclared declaredTable c ≡ true) × (isLettered c ≡ true)
     unfolding isOfRule isLettered
-    of-rule c h = and-true (isDeclared names c) (every (isBelow alphabet) (c .terms)) h
+    of-rule c h = and-true (isDeclared declaredTable c) (every (isBelow alphabet) (c .terms)) h
 
-    of-body : (c : Constraint) → isOfRule names c ≡ true → (isLow c && isLettered c) ≡ true
+    of-body : (c : Constraint) → isOfRule declaredTable c ≡ true → (isLow c && isLettered c) ≡ true
     of-body c h = rw (declared-low c (of-rule c h .0), of-rule c h .1)
 
     of-equations :
@@ -190,8 +190,8 @@ module _ (text symbols : List ℕ) (s : ℕ) (rules : List ℕ) (n : ℕ) (r : A
           size = length-take-le 64 (drop (64 * i) rules) (omega (arith, r .size, length-drop (64 * i) rules));
           heads-few = r .heads-few i l;
           body-few = r .body-few i l;
-          heads = every-weaker (isOfRule names) isLettered (ruleOfRow [] row .heads) (λ c h. of-rule c h .1) (parts .0);
-          body = every-weaker (isOfRule names) (λ (c : Constraint). isLow c && isLettered c) (ruleOfRow [] row .body) of-body
+          heads = every-weaker (isOfRule declaredTable) isLettered (ruleOfRow [] row .heads) (λ c h. of-rule c h .1) (parts .0);
+          body = every-weaker (isOfRule declaredTable) (λ (c : Constraint). isLow c && isLettered c) (ruleOfRow [] row .body) of-body
               (parts .1);
           equations = every-both (λ (e : Equation). isBelow alphabet (e .left) && isBelow alphabet (e .right))
               (λ (e : Equation). isUsed (e .left) && isUsed (e .right)) (λ (e : Equation). isSide (e .left) && isSide
@@ -202,9 +202,9 @@ module _ (text symbols : List ℕ) (s : ℕ) (rules : List ℕ) (n : ℕ) (r : A
     falls : weightBy weigh (ruleOfRow [] row .body) < weightBy weigh (ruleOfRow [] row .heads)
     falls =
         let body = weight-same (ruleOfRow [] row .body)
-        (every-weaker (isOfRule names) (isDeclared names) (ruleOfRow [] row .body) (λ c h. of-rule c h .0) (parts .1)) in
+        (every-weaker (isOfRule declaredTable) (isDeclared declaredTable) (ruleOfRow [] row .body) (λ c h. of-rule c h .0) (parts .1)) in
         let heads = weight-same (ruleOfRow [] row .heads)
-        (every-weaker (isOfRule names) (isDeclared names) (ruleOfRow [] row .heads) (λ c h. of-rule c h .0) (parts .0)) in
+        (every-weaker (isOfRule declaredTable) (isDeclared declaredTable) (ruleOfRow [] row .heads) (λ c h. of-rule c h .0) (parts .0)) in
         omega (arith, parts .3, body, heads)
 
   -- the engine runs the rules of such a table
@@ -215,20 +215,20 @@ module _ (text symbols : List ℕ) (s : ℕ) (rules : List ℕ) (n : ℕ) (r : A
   pub read-lowers : Lowers weigh rules n
   read-lowers = record { falls = falls }
 
-  module _ (g : Goal) (is-goal : isGoalOf (programOf text symbols s rules n) g ≡ true) (cells : List ℕ) (m : ℕ)
+  module _ (g : Goal) (is-goal : isGoalOf (programOf names symbols s rules n) g ≡ true) (cells : List ℕ) (m : ℕ)
       (holds : storeOf cells m ≡ g .constraints) where
-    declared : every (isDeclared names) (g .constraints) ≡ true
+    declared : every (isDeclared declaredTable) (g .constraints) ≡ true
     unfolding isGoalOf programOf
     declared =
-        every-weaker (λ (c : Constraint). isDeclared names c && every (isBelow (g .variables)) (c .terms)) (isDeclared names)
-        (g .constraints) (λ c h. and-true (isDeclared names c) (every (isBelow (g .variables)) (c .terms)) h .0) is-goal
+        every-weaker (λ (c : Constraint). isDeclared declaredTable c && every (isBelow (g .variables)) (c .terms)) (isDeclared declaredTable)
+        (g .constraints) (λ c h. and-true (isDeclared declaredTable c) (every (isBelow (g .variables)) (c .terms)) h .0) is-goal
 
-    weighs : weightBy weigh (storeOf cells m) ≡ weight names (g .constraints)
+    weighs : weightBy weigh (storeOf cells m) ≡ weight declaredTable (g .constraints)
     weighs = rw holds (weight-same (g .constraints) declared)
 
     -- a goal of weight at most 512 can be run
     pub goal-starts :
-        weight names (g .constraints) ≤ 512 → g .variables ≤ 51000 → 2590 ≤ length cells → m ≤ 518
+        weight declaredTable (g .constraints) ≤ 512 → g .variables ≤ 51000 → 2590 ≤ length cells → m ≤ 518
         → Startable rules n cells m (g .variables)
     unfolding weigh
     goal-starts light few space there =
@@ -237,7 +237,7 @@ module _ (text symbols : List ℕ) (s : ℕ) (rules : List ℕ) (n : ℕ) (r : A
           space = space;
           there = there;
           room = few;
-          low = rw holds (every-weaker (isDeclared names) isLow (g .constraints) declared-low declared);
+          low = rw holds (every-weaker (isDeclared declaredTable) isLow (g .constraints) declared-low declared);
           weigh = weigh;
           positive = λ k. omega arith;
           lowers = read-lowers;
@@ -250,7 +250,7 @@ module _ (text symbols : List ℕ) (s : ℕ) (rules : List ℕ) (n : ℕ) (r : A
         → map cellTerm bound ≡ tabled var (g .variables)
         → Ended rules n bound cells m (g .variables) bound′ cells′ alive count number firings
         → record { state = stateOf alive number bound′ (take (5 * count) cells′); firings = firings }
-        ≡ run (programOf text symbols s rules n) g
+        ≡ run (programOf names symbols s rules n) g
     unfolding run entered programOf
     goal-runs bound bound′ cells′ alive count number firings b e =
-        e .same text (weight names (g .constraints)) (omega (arith, weighs, e .bounded weigh read-lowers)) ∙ rw (b, holds)
+        e .same names (weight declaredTable (g .constraints)) (omega (arith, weighs, e .bounded weigh read-lowers)) ∙ rw (b, holds)

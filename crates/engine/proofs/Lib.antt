@@ -1,11 +1,9 @@
 -- Laws of the engine's cells. Assumes nothing.
 pub mod Opened
-pub mod CellLaws
 pub mod MatchLaws
 pub mod OpposeLaws
 pub mod SearchLaws
 pub mod ChooseLaws
-pub mod MapLaws
 pub mod SolveLaws
 pub mod FireLaws
 pub mod RuleLaws

@@ -5,19 +5,33 @@ use native.Mathlib.Omega.{arith}
 use mathlib.Core.Bool.{Bool, true, false}
 use mathlib.Core.List.{List}
 use mathlib.Core.Option.{Option, some}
-use mathlib.Core.Path.{_≡_, refl, ap, sym, _∙_}
+use mathlib.Core.Path.{_≡_, refl, ap, sym, fun-ext, _∙_}
 use lib.Dec.{eqb}
 use lib.ListN.{length, getD, set, drop, length-set, drop-of-length-le}
+use lib.Seq.{getD-set-same, getD-set-other}
 use borrow.Author.Tests.{eq-eqb, ne-eqb, eqb-true, eqb-false}
 use native.Mathlib.Numerals.{add-one}
-use mathlib.Core.Logic.{⊎-elim}
+use mathlib.Core.Logic.{_⊎_, inl, inr, ⊎-elim}
 use Rattle.text.specs.Lists.{bind, every}
 use Rattle.semantics.specs.Terms.{con, sameTerm, isBelow, alphabet}
-use Rattle.semantics.specs.Matching.{Assignment, matchTerm, matchTerms, matchConstraint}
-use Rattle.syntax.specs.Tables.{cellTerm, cellTerms}
-use Rattle.engine.specs.Cells.{assigned, fitOf, rowConstraint, Rows, Matched}
-use Rattle.engine.proofs.CellLaws.{either, every-first, every-rest, cell-low, cell-high, same-cell, assigned-set}
-use Rattle.engine.proofs.CellLaws.{below-letter, terms-none, terms-more}
+use Rattle.semantics.specs.Matching.{Assignment, extend, matchTerm, matchTerms, matchConstraint}
+use Rattle.tables.specs.Cells.{cellTerm, cellTerms, rowConstraint}
+use Rattle.engine.specs.Cells.{assigned, fitOf, Rows, Matched}
+use Rattle.tables.proofs.CellLaws.{either, every-first, every-rest, cell-low, cell-high, same-cell}
+use Rattle.tables.proofs.CellLaws.{below-letter, terms-none, terms-more}
+
+-- a stored binding extends the assignment
+pub assigned-set :
+    (bindings : List ℕ) (x t : ℕ) → x < length bindings → 0 < t
+    → extend x (cellTerm t) (assigned bindings) ≡ assigned (set bindings x t)
+unfolding extend assigned
+assigned-set bindings x t h k = fun-ext (λ y. go y (either (eqb x y)))
+  where
+    go : (y : ℕ) → (eqb x y ≡ true) ⊎ (eqb x y ≡ false)
+        → extend x (cellTerm t) (assigned bindings) y ≡ assigned (set bindings x t) y
+    go y (inl e) =
+        rw (← eqb-true x y e, eq-eqb x x refl, getD-set-same bindings x t 0 h, ne-eqb t 0 (λ z. omega arith))
+    go y (inr e) = rw (e, getD-set-other bindings x y t 0 (λ z. eqb-false x y e (sym z)))
 
 -- a constant fits itself only
 pub match-constant :

@@ -1,14 +1,13 @@
 -- Opens every definition of this crate at once: a proof that says `unfolding opened` computes with all of them.
 -- Assumes nothing.
 use Prim.Native.Nat.{ℕ}
-use Rattle.engine.specs.Cells.{assigned, fitOf, opposed, mayTerms, mayFit, rowConstraint, swap, clashes, merge}
+use Rattle.engine.specs.Cells.{assigned, fitOf, opposed, mayTerms, mayFit, swap, clashes, merge}
 use Rattle.engine.specs.Cells.{instanceCell, movedRow}
-use Rattle.engine.specs.Places.{isLettered, foundOf, isSide, isLow, choiceOf}
-use Rattle.engine.specs.States.{stateOf}
+use Rattle.engine.specs.Places.{isLettered, foundOf, isSide, choiceOf}
 use Rattle.engine.specs.Runs.{weightBy, storeOf}
 
 -- a name to say on an `unfolding` line
 unfoldable pub opened : ℕ
-unfolding assigned fitOf opposed mayTerms mayFit rowConstraint swap clashes merge instanceCell movedRow
-    isLettered foundOf isSide isLow choiceOf stateOf weightBy storeOf
+unfolding assigned fitOf opposed mayTerms mayFit swap clashes merge instanceCell movedRow
+    isLettered foundOf isSide choiceOf weightBy storeOf
 opened = 0

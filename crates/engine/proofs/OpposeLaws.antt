@@ -18,10 +18,10 @@ use borrow.Author.Tests.{lt-ltb, le-ltb, eq-eqb, ne-eqb, eqb-true, eqb-false, no
 use Rattle.text.specs.Lists.{bind, onward, every}
 use Rattle.semantics.specs.Terms.{Term, con, var, sameTerm, isBelow, alphabet}
 use Rattle.semantics.specs.Matching.{Assignment, extend, matchTerm, matchTerms, matchConstraint}
-use Rattle.syntax.specs.Tables.{cellTerm, cellTerms}
-use Rattle.engine.specs.Cells.{assigned, rowConstraint, opposed, mayTerms, mayFit, Rows}
-use Rattle.engine.proofs.CellLaws.{either, le-or-lt, cell-low, cell-high, same-cell, terms-more}
-use Rattle.engine.proofs.CellLaws.{every-first, every-rest, below-letter}
+use Rattle.tables.specs.Cells.{cellTerm, cellTerms, rowConstraint}
+use Rattle.engine.specs.Cells.{assigned, opposed, mayTerms, mayFit, Rows}
+use Rattle.tables.proofs.CellLaws.{either, le-or-lt, cell-low, cell-high, same-cell, terms-more}
+use Rattle.tables.proofs.CellLaws.{every-first, every-rest, below-letter}
 
 -- an assignment that has what the bindings settle
 abbrev Keeps : List ℕ → Assignment → Type 0

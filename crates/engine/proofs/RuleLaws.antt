@@ -13,12 +13,14 @@ use borrow.Author.Tests.{le-leb}
 use Rattle.text.specs.Lists.{has, every}
 use Rattle.semantics.specs.Terms.{Term, con, var, Constraint, Equation, mapTerms, mapSides, isBelow, alphabet}
 use Rattle.semantics.specs.Firing.{without, instance, fired}
-use Rattle.syntax.specs.Tables.{cellTerm, cellConstraints, cellEquations, ruleOfRow}
+use Rattle.tables.specs.Cells.{cellTerm, cellConstraints, cellEquations, isLow}
+use Rattle.tables.specs.Rows.{ruleOfRow}
 use Rattle.engine.specs.Cells.{assigned, instanceCell}
-use Rattle.engine.specs.Places.{isLettered, isSide, isLow, Row}
+use Rattle.engine.specs.Places.{isLettered, isSide, Row}
 use Rattle.engine.specs.States.{Solvable, Solved, Removed, Appended, Equated, SolvedRule, Fires, Fired}
-use Rattle.engine.proofs.CellLaws.{and-true, le-or-lt, cell-low}
-use Rattle.engine.proofs.MapLaws.{low-kept, acts-constraints, acts-equations, acts-used}
+use Rattle.semantics.proofs.Bools.{and-true}
+use Rattle.tables.proofs.CellLaws.{le-or-lt, cell-low}
+use Rattle.tables.proofs.MapLaws.{low-kept, acts-constraints, acts-equations, acts-used}
 use Rattle.engine.proofs.FireLaws.{instance-acts, constraints-append}
 
 -- a side of an equation is no unused cell
@@ -285,7 +287,7 @@ module _ (row positions bindings : List ℕ) (next : ℕ) (cells : List ℕ) (m 
       unfolding fired alphabet ruleOfRow
       fire-done alive bound b s l solved =
           record {
-            same = λ text.
+            same = λ names.
                 rw (take-at s (drop (5 * n) c) (5 * n) (l ∙ sym fire-lends)) (solved .same (next + 26) ∙ rw before);
             few = few-after;
           }

@@ -12,9 +12,8 @@ use lib.Seq.{length-take-le}
 use Rattle.text.specs.Lists.{every}
 use Rattle.semantics.specs.Terms.{Rule, State, failed, live}
 use Rattle.semantics.specs.Strategy.{advance, normalise}
-use Rattle.syntax.specs.Tables.{cellTerm, cellConstraints, rulesOf}
-use Rattle.engine.specs.Places.{isLow}
-use Rattle.engine.specs.States.{stateOf}
+use Rattle.tables.specs.Cells.{cellTerm, cellConstraints, isLow, stateOf}
+use Rattle.tables.specs.Rows.{rulesOf}
 use Rattle.engine.specs.Runs.{weightBy, Lowers, storeOf, Live, Stepped, Startable, Ended}
 use Rattle.engine.proofs.StepLaws.{no-way}
 use Rattle.engine.proofs.WeightLaws.{weight-length}
@@ -71,9 +70,9 @@ module _ (rules : List ℕ) (n : ℕ) (bound cells : List ℕ) (m next : ℕ) wh
         (w : ℕ → ℕ) → Lowers w rules n → cond alive (weightBy w (storeOf cells′ count)) 0 + firings ≤ weightBy w
         (storeOf cells m)
     pub same :
-        (text : List ℕ) (fuel : ℕ) → firings ≤ fuel
-        → normalise (fuel - firings) (rulesOf text rules n) (stateOf alive number bound′ (take (5 * count) cells′)) firings
-        ≡ normalise fuel (rulesOf text rules n) (live next (map cellTerm bound) (storeOf cells m)) 0
+        (names : List ℕ) (fuel : ℕ) → firings ≤ fuel
+        → normalise (fuel - firings) (rulesOf names rules n) (stateOf alive number bound′ (take (5 * count) cells′)) firings
+        ≡ normalise fuel (rulesOf names rules n) (live next (map cellTerm bound) (storeOf cells m)) 0
 
   module _ (s : Startable rules n cells m next) where
     pub running-start : Running bound cells true m next 0
@@ -86,7 +85,7 @@ module _ (rules : List ℕ) (n : ℕ) (bound cells : List ℕ) (m next : ℕ) wh
           numbered = omega arith;
           low = λ z. s .low;
           lighter = λ w lw. omega arith;
-          same = λ text fuel h. let e : fuel - 0 ≡ fuel = omega arith in rw e;
+          same = λ names fuel h. let e : fuel - 0 ≡ fuel = omega arith in rw e;
         }
 
     module _ (bound′ cells′ : List ℕ) (alive : Bool) (count number firings : ℕ)
@@ -96,10 +95,10 @@ module _ (rules : List ℕ) (n : ℕ) (bound cells : List ℕ) (m next : ℕ) wh
       unfolding stateOf
       running-failed z =
           record {
-            same = λ text fuel h.
-                sym (normalise-rests (fuel - firings) (rulesOf text rules n) failed firings (failed-rests
-                (rulesOf text rules n)))
-                ∙ rw z at (r .same text fuel h);
+            same = λ names fuel h.
+                sym (normalise-rests (fuel - firings) (rulesOf names rules n) failed firings (failed-rests
+                (rulesOf names rules n)))
+                ∙ rw z at (r .same names fuel h);
             bounded = λ w lw. omega (arith, rw z at (r .lighter w lw));
             few = λ y. no-way y;
           }
@@ -137,11 +136,11 @@ module _ (rules : List ℕ) (n : ℕ) (bound cells : List ℕ) (m next : ℕ) wh
           running-rests y =
               rw (t .rests y .0, t .rests y .1)
               (record {
-                same = λ text fuel h.
-                    sym (normalise-rests (fuel - firings) (rulesOf text rules n)
+                same = λ names fuel h.
+                    sym (normalise-rests (fuel - firings) (rulesOf names rules n)
                     (live number (map cellTerm bound′) (cellConstraints (take (5 * count) cells′))) firings
-                    (t .rests y .2 text))
-                    ∙ rw z at (r .same text fuel h);
+                    (t .rests y .2 names))
+                    ∙ rw z at (r .same names fuel h);
                 bounded = λ w lw. omega (arith, rw z at (r .lighter w lw));
                 few = λ x. few-now;
               })
@@ -152,14 +151,14 @@ module _ (rules : List ℕ) (n : ℕ) (bound cells : List ℕ) (m next : ℕ) wh
             running-less = omega (arith, weight-left, t .lighter y (s .weigh) (s .lowers))
 
             before :
-                (text : List ℕ) (fuel : ℕ) → suc firings ≤ fuel
-                → normalise (suc (fuel - suc firings)) (rulesOf text rules n) (live number (map cellTerm bound′)
+                (names : List ℕ) (fuel : ℕ) → suc firings ≤ fuel
+                → normalise (suc (fuel - suc firings)) (rulesOf names rules n) (live number (map cellTerm bound′)
                 (storeOf cells′ count)) firings
-                ≡ normalise fuel (rulesOf text rules n) (live next (map cellTerm bound) (storeOf cells m)) 0
+                ≡ normalise fuel (rulesOf names rules n) (live next (map cellTerm bound) (storeOf cells m)) 0
             unfolding stateOf storeOf
-            before text fuel h =
+            before names fuel h =
                 let e : suc (fuel - suc firings) ≡ fuel - firings = omega arith in
-                rw e (rw z at (r .same text fuel (omega arith)))
+                rw e (rw z at (r .same names fuel (omega arith)))
 
             -- a rule has fired
             pub running-next : length b ≡ length bound′ → length c ≡ length cells′ → Running b c a k (number + 26) (firings + 1)
@@ -174,10 +173,10 @@ module _ (rules : List ℕ) (n : ℕ) (bound cells : List ℕ) (m next : ℕ) wh
                       let x : weightBy w (storeOf cells′ count) + firings ≤ weightBy w (storeOf cells m) = rw z at
                       (r .lighter w lw) in
                       omega (arith, t .lighter y w lw);
-                  same = λ text fuel h.
+                  same = λ names fuel h.
                       rw (add-one firings)
-                      (sym (normalise-moves (fuel - suc firings) (rulesOf text rules n) (live number (map cellTerm bound′)
+                      (sym (normalise-moves (fuel - suc firings) (rulesOf names rules n) (live number (map cellTerm bound′)
                       (storeOf cells′ count))
-                      (stateOf a (number + 26) b (take (5 * k) c)) firings (t .moves y text))
-                      ∙ before text fuel (omega arith));
+                      (stateOf a (number + 26) b (take (5 * k) c)) firings (t .moves y names))
+                      ∙ before names fuel (omega arith));
                 }

@@ -15,11 +15,11 @@ use Rattle.text.specs.Lists.{bind, orElse, has, every}
 use Rattle.semantics.specs.Terms.{Constraint, isBelow, alphabet}
 use Rattle.semantics.specs.Matching.{Assignment, matchConstraint}
 use Rattle.semantics.specs.Strategy.{Match, firstIn, find}
-use Rattle.syntax.specs.Tables.{cellConstraints}
-use Rattle.engine.specs.Cells.{assigned, fitOf, rowConstraint, mayFit, Rows, Matched}
+use Rattle.tables.specs.Cells.{cellConstraints, rowConstraint}
+use Rattle.engine.specs.Cells.{assigned, fitOf, mayFit, Rows, Matched}
 use Rattle.engine.specs.Places.{isLettered, foundOf, Seeking, Located}
 use Rattle.engine.proofs.OpposeLaws.{may-not}
-use Rattle.engine.proofs.CellLaws.{every-first, every-rest, constraints-at}
+use Rattle.tables.proofs.CellLaws.{every-first, every-rest, constraints-at}
 
 -- the chosen positions from i on hold p where all of them do
 pub record Looking (chosen : List ℕ) (h p i : ℕ) : Type 0 where

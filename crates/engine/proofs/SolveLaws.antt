@@ -32,13 +32,13 @@ use Rattle.text.specs.Lists.{bind, every}
 use Rattle.semantics.specs.Terms.{Term, Constraint, Equation, failed, live, mapTerms, mapSides}
 use Rattle.semantics.specs.Solving.{replace, unify, solve}
 use Rattle.semantics.specs.Firing.{settle}
-use Rattle.syntax.specs.Tables.{cellTerm, cellConstraints, cellEquations}
+use Rattle.tables.specs.Cells.{cellTerm, cellConstraints, cellEquations, isLow, stateOf}
 use Rattle.engine.specs.Cells.{swap, clashes, merge}
-use Rattle.engine.specs.Places.{isLow}
-use Rattle.engine.specs.States.{stateOf, Merged, Solvable, Solved}
-use Rattle.engine.proofs.CellLaws.{either, and-true, le-or-lt, cell-low, cell-high}
-use Rattle.engine.proofs.MapLaws.{Acts, anything, all-low, all-terms, all-equations, low-kept}
-use Rattle.engine.proofs.MapLaws.{acts-constraints, acts-equations, acts-bound, acts-used}
+use Rattle.engine.specs.States.{Merged, Solvable, Solved}
+use Rattle.semantics.proofs.Bools.{and-true}
+use Rattle.tables.proofs.CellLaws.{either, le-or-lt, cell-low, cell-high}
+use Rattle.tables.proofs.MapLaws.{Acts, anything, all-low, all-terms, all-equations, low-kept}
+use Rattle.tables.proofs.MapLaws.{acts-constraints, acts-equations, acts-bound, acts-used}
 
 -- a substitution that is put in first
 pub solve-through :

@@ -13,12 +13,14 @@ use Rattle.semantics.specs.Matching.{unassigned}
 use Rattle.semantics.specs.Solving.{solve}
 use Rattle.semantics.specs.Firing.{without, instance, settle, fired}
 use Rattle.semantics.specs.Strategy.{advance}
-use Rattle.syntax.specs.Tables.{cellConstraints, ruleOfRow, ruleOf}
+use Rattle.tables.specs.Layout.{firstRule}
+use Rattle.tables.specs.Cells.{cellConstraints, isLow, stateOf}
+use Rattle.tables.specs.Rows.{nameOf, ruleOfRow, rowOf, ruleOf}
 use Rattle.engine.specs.Cells.{assigned}
-use Rattle.engine.specs.Places.{isLow, foundOf, Row, Table, choiceOf, Chosen}
-use Rattle.engine.specs.States.{stateOf, Fires, Fired}
+use Rattle.engine.specs.Places.{foundOf, Row, Table, choiceOf, Chosen}
+use Rattle.engine.specs.States.{Fires, Fired}
 use Rattle.engine.specs.Runs.{weightBy, Lowers, storeOf, Live, Stepped}
-use Rattle.engine.proofs.MapLaws.{low-kept}
+use Rattle.tables.proofs.MapLaws.{low-kept}
 use Rattle.engine.proofs.ChooseLaws.{lentRow, row-cells}
 use Rattle.engine.proofs.RuleLaws.{every-append, low-without, low-body}
 use Rattle.engine.proofs.WeightLaws.{weight-append, weight-map, without-none, find-lighter}
@@ -58,7 +60,7 @@ module _ (rules : List ℕ) (n : ℕ) (cells : List ℕ) (m next : ℕ) (s : Liv
     unfolding choiceOf foundOf advance storeOf
     step-rests bound z =
         record {
-          rests = λ y. (refl, refl, λ text. rw (← chosen .same text, z));
+          rests = λ y. (refl, refl, λ names. rw (← chosen .same names, z));
           moves = λ y. no-way y;
           lighter = λ y. no-way y;
           low = λ y. no-way y;
@@ -85,7 +87,7 @@ module _ (rules : List ℕ) (n : ℕ) (cells : List ℕ) (m next : ℕ) (s : Liv
       module _ (bound bound′ cells′ : List ℕ) (alive : Bool) (count : ℕ)
           (given : Fired (lentRow rules i) ps b next bound cells m bound′ cells′ alive count) where
         abbrev row : List ℕ
-        row = take 64 (drop (64 * i) rules)
+        row = rowOf rules i
 
         done : Fired row ps b next bound cells m bound′ cells′ alive count
         done = rw (row-cells i) at given
@@ -144,7 +146,7 @@ module _ (rules : List ℕ) (n : ℕ) (cells : List ℕ) (m next : ℕ) (s : Liv
         step-moves =
             record {
               rests = λ y. no-way-back y;
-              moves = λ y text. rw (← chosen .same text, z) (ap some (sym (done .same text)));
+              moves = λ y names. rw (← chosen .same names, z) (ap some (sym (done .same (nameOf names (firstRule + i)))));
               lighter = λ y w lw. falls w lw alive after;
               low = λ y x.
                   rw (after x .same) (low-kept (after x .solution) before

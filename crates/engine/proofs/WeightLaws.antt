@@ -19,7 +19,7 @@ use Rattle.semantics.specs.Matching.{Assignment, matchConstraint}
 use Rattle.semantics.specs.Firing.{without}
 use Rattle.semantics.specs.Strategy.{Match, firstIn, find}
 use Rattle.engine.specs.Runs.{weightBy}
-use Rattle.engine.proofs.CellLaws.{either}
+use Rattle.tables.proofs.CellLaws.{either}
 
 -- what is some is not none
 some-none {ℓ} : {A : Type ℓ} {B : Type 0} (a : A) → none ≡ some a → B

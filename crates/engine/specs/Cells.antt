@@ -1,4 +1,4 @@
--- How the engine's arrays decode; the cells are those of the tables of `syntax`.
+-- How the engine's arrays decode; the cells are those of `tables`.
 --   assigned, fitOf      bindings of a rule's variables, and what matching answers
 --   opposed, mayFit      what is settled speaks against a match, or not
 --   Matched              what a match promises
@@ -16,7 +16,12 @@ use lib.Seq.{paste}
 use Rattle.text.specs.Lists.{every}
 use Rattle.semantics.specs.Terms.{Constraint, isBelow, alphabet}
 use Rattle.semantics.specs.Matching.{Assignment}
-use Rattle.syntax.specs.Tables.{cellTerm, cellTerms}
+use Rattle.tables.specs.Layout.{firstVariable, constraintSize}
+use Rattle.tables.specs.Cells.{cellTerm, rowConstraint}
+
+-- the cell behind those of a rule's 26 letters
+abbrev pub afterLetters : ℕ
+afterLetters = firstVariable + 26
 
 -- 26 cells as an assignment: cell x is what the rule variable x is replaced by, and 0 where nothing is settled
 unfoldable pub assigned : List ℕ → Assignment
@@ -29,7 +34,8 @@ fitOf fits bindings = cond fits (some (assigned bindings)) none
 -- whether what is settled speaks against a head's cell being a constraint's: another constant, or a variable settled otherwise
 unfoldable pub opposed : List ℕ → ℕ → ℕ → Bool
 opposed bindings h t =
-    cond (ltb h 256) (not (eqb h t)) (cond (eqb (getD bindings (h - 256) 0) 0) false (not (eqb (getD bindings (h - 256) 0) t)))
+    cond (ltb h firstVariable) (not (eqb h t))
+    (cond (eqb (getD bindings (h - firstVariable) 0) 0) false (not (eqb (getD bindings (h - firstVariable) 0) t)))
 
 -- whether a head's cells may be a constraint's, column by column up to the first 0: nothing settled speaks against it
 unfoldable pub mayTerms : List ℕ → List ℕ → List ℕ → Bool
@@ -43,14 +49,10 @@ unfoldable pub mayFit : List ℕ → List ℕ → List ℕ → Bool
 mayFit bindings head constraint =
     cond (eqb (getD head 0 0) (getD constraint 0 0)) (mayTerms bindings (drop 1 head) (drop 1 constraint)) false
 
--- five cells as a constraint
-unfoldable pub rowConstraint : List ℕ → Constraint
-rowConstraint row = record { symbol = getD row 0 0; terms = cellTerms (drop 1 row) }
-
 -- what matching asks: a head and a constraint of five cells each, 26 bindings, and letters for the head's variables
 pub record Rows (head constraint bindings : List ℕ) : Type 0 where
-  pub head-size : length head ≡ 5
-  pub constraint-size : length constraint ≡ 5
+  pub head-size : length head ≡ constraintSize
+  pub constraint-size : length constraint ≡ constraintSize
   pub bindings-size : length bindings ≡ 26
   pub letters : every (isBelow alphabet) (rowConstraint head .terms) ≡ true
 
@@ -65,7 +67,7 @@ swap v t x = cond (eqb x v) t x
 
 -- whether two cells are different constants
 unfoldable pub clashes : ℕ → ℕ → Bool
-clashes a b = cond (eqb a b) false (ltb a 256 && ltb b 256)
+clashes a b = cond (eqb a b) false (ltb a firstVariable && ltb b firstVariable)
 
 -- a cell under the solution of an equation between two cells: the larger becomes the smaller
 unfoldable pub merge : ℕ → ℕ → ℕ → ℕ
@@ -74,9 +76,9 @@ merge a b = cond (ltb a b) (swap b a) (swap a b)
 -- a cell of a rule's body: what the rule's variable is bound to, or a new variable
 unfoldable pub instanceCell : ℕ → List ℕ → ℕ → ℕ
 instanceCell next bindings x =
-    cond (ltb x 256) x
-    (cond (ltb (x - 256) 26) (cond (eqb (getD bindings (x - 256) 0) 0) (next + x) (getD bindings (x - 256) 0)) x)
+    let y = x - firstVariable in
+    cond (ltb x firstVariable) x (cond (ltb y 26) (cond (eqb (getD bindings y 0) 0) (next + x) (getD bindings y 0)) x)
 
 -- the cells with the constraint at one position written over that at another
 unfoldable pub movedRow : ℕ → ℕ → List ℕ → List ℕ
-movedRow from to cells = paste cells (5 * to) (drop (5 * from) cells) 5
+movedRow from to cells = paste cells (constraintSize * to) (drop (constraintSize * from) cells) constraintSize

@@ -15,7 +15,9 @@ use Rattle.text.specs.Lists.{every}
 use Rattle.semantics.specs.Terms.{Term, con, var, Constraint, Equation, isBelow, alphabet}
 use Rattle.semantics.specs.Matching.{unassigned}
 use Rattle.semantics.specs.Strategy.{Match, Choice, find, choose}
-use Rattle.syntax.specs.Tables.{cellConstraints, ruleOfRow, ruleOf, rulesOf}
+use Rattle.tables.specs.Layout.{constraintSize, rowSize, headsCell, bodyCell}
+use Rattle.tables.specs.Cells.{cellConstraints, isLow}
+use Rattle.tables.specs.Rows.{ruleOfRow, ruleOf, rulesOf, rowOf}
 use Rattle.engine.specs.Cells.{assigned}
 
 -- whether every term of a constraint is a constant or a letter
@@ -29,13 +31,13 @@ foundOf found n positions bindings =
 
 -- n heads and m constraints of five cells each, positions for the heads before those left, and letters for the others' variables
 pub record Seeking (heads : List ℕ) (n left : ℕ) (cells : List ℕ) (m : ℕ) (chosen bindings : List ℕ) : Type 0 where
-  pub heads-size : length heads ≡ 5 * n
+  pub heads-size : length heads ≡ constraintSize * n
   pub few : n ≤ 4
   pub there : left ≤ n
-  pub cells-size : length cells ≡ 5 * m
+  pub cells-size : length cells ≡ constraintSize * m
   pub chosen-size : length chosen ≡ 4
   pub bindings-size : length bindings ≡ 26
-  pub letters : every isLettered (cellConstraints (drop (5 * (n - left)) heads)) ≡ true
+  pub letters : every isLettered (cellConstraints (drop (constraintSize * (n - left)) heads)) ≡ true
 
 -- the search promises the answer of its definition, in four positions and 26 bindings
 pub record Located (found : Bool) (n : ℕ) (positions bindings : List ℕ) (answer : Option Match) : Type 0 where
@@ -48,40 +50,36 @@ unfoldable pub isSide : Term → Bool
 isSide (con c) = leb 1 c
 isSide (var x) = ltb x alphabet
 
--- whether a constraint's symbol lies below the variables' cells
-unfoldable pub isLow : Constraint → Bool
-isLow c = ltb (c .symbol) 256
-
 -- a rule's 64 cells: heads and body within the row's room, letters for the variables, and terms in the equations
 pub record Row (row : List ℕ) : Type 0 where
-  pub size : length row ≡ 64
-  pub heads-few : getD row 3 0 ≤ 4
-  pub body-few : getD row 4 0 ≤ 6
+  pub size : length row ≡ rowSize
+  pub heads-few : getD row headsCell 0 ≤ 4
+  pub body-few : getD row bodyCell 0 ≤ 6
   pub heads : every isLettered (ruleOfRow [] row .heads) ≡ true
   pub body : every (λ c. isLow c && isLettered c) (ruleOfRow [] row .body) ≡ true
   pub equations : every (λ (e : Equation). isSide (e .left) && isSide (e .right)) (ruleOfRow [] row .equations) ≡ true
 
 -- a table of n such rules
 pub record Table (rules : List ℕ) (n : ℕ) : Type 0 where
-  pub size : 64 * n ≤ length rules
-  pub rows : (i : ℕ) → i < n → Row (take 64 (drop (64 * i) rules))
+  pub size : rowSize * n ≤ length rules
+  pub rows : (i : ℕ) → i < n → Row (rowOf rules i)
 
--- the rule of a number, the number of its heads that the table holds, and where it fits; the text gives the rules' names
+-- the rule of a number, the number of its heads that the table holds, and where it fits; the table of names gives the rules'
 unfoldable pub choiceOf : List ℕ → List ℕ → Bool → ℕ → List ℕ → List ℕ → Option Choice
-choiceOf text rules found number positions bindings =
-    Option·map (λ (m : Match). record { number = number; rule = ruleOf text rules number; place = m })
-    (foundOf found (getD (take 64 (drop (64 * number) rules)) 3 0) positions bindings)
+choiceOf names rules found number positions bindings =
+    Option·map (λ (m : Match). record { number = number; rule = ruleOf names rules number; place = m })
+    (foundOf found (getD (rowOf rules number) headsCell 0) positions bindings)
 
--- the choice promises that of its definition, whatever text the names stand in
+-- the choice promises that of its definition, whatever the rules' names are
 pub record Chosen (rules : List ℕ) (n : ℕ) (cells : List ℕ) (found : Bool) (number : ℕ)
     (positions bindings : List ℕ) : Type 0 where
   pub same :
-      (text : List ℕ) → choiceOf text rules found number positions bindings ≡ choose (rulesOf text rules n)
+      (names : List ℕ) → choiceOf names rules found number positions bindings ≡ choose (rulesOf names rules n)
       (cellConstraints cells)
   pub within : found ≡ true → number < n
   pub fits :
       found ≡ true
-      → foundOf true (getD (take 64 (drop (64 * number) rules)) 3 0) positions bindings
-      ≡ find (ruleOfRow [] (take 64 (drop (64 * number) rules)) .heads) (cellConstraints cells) [] unassigned
+      → foundOf true (getD (rowOf rules number) headsCell 0) positions bindings
+      ≡ find (ruleOfRow [] (rowOf rules number) .heads) (cellConstraints cells) [] unassigned
   pub positions-size : length positions ≡ 4
   pub bindings-size : length bindings ≡ 26

@@ -12,9 +12,10 @@ use lib.ListN.{length, take, drop}
 use Rattle.text.specs.Lists.{total, every}
 use Rattle.semantics.specs.Terms.{Constraint, live}
 use Rattle.semantics.specs.Strategy.{advance, normalise}
-use Rattle.syntax.specs.Tables.{cellTerm, cellConstraints, ruleOfRow, rulesOf}
-use Rattle.engine.specs.Places.{isLow, Table}
-use Rattle.engine.specs.States.{stateOf}
+use Rattle.tables.specs.Layout.{constraintSize}
+use Rattle.tables.specs.Cells.{cellTerm, cellConstraints, isLow, stateOf}
+use Rattle.tables.specs.Rows.{ruleOfRow, rulesOf, rowOf}
+use Rattle.engine.specs.Places.{Table}
 
 -- the weight of constraints, where w weighs the symbols by their numbers
 unfoldable pub weightBy : (ℕ → ℕ) → List Constraint → ℕ
@@ -24,17 +25,16 @@ weightBy w cs = total (λ (c : Constraint). w (c .symbol)) cs
 pub record Lowers (w : ℕ → ℕ) (rules : List ℕ) (n : ℕ) : Type 0 where
   pub falls :
       (i : ℕ) → i < n
-      → weightBy w (ruleOfRow [] (take 64 (drop (64 * i) rules)) .body) < weightBy w (ruleOfRow [] (take 64 (drop
-      (64 * i) rules)) .heads)
+      → weightBy w (ruleOfRow [] (rowOf rules i) .body) < weightBy w (ruleOfRow [] (rowOf rules i) .heads)
 
 -- the constraints of a live state of m constraints
 unfoldable pub storeOf : List ℕ → ℕ → List Constraint
-storeOf cells m = cellConstraints (take (5 * m) cells)
+storeOf cells m = cellConstraints (take (constraintSize * m) cells)
 
 -- a live state that a rule of the table can fire in
 pub record Live (rules : List ℕ) (n : ℕ) (cells : List ℕ) (m next : ℕ) : Type 0 where
   pub table : Table rules n
-  pub space : 5 * m + 30 ≤ length cells
+  pub space : constraintSize * m + 30 ≤ length cells
   pub room : next ≤ 65000
   pub low : every isLow (storeOf cells m) ≡ true
 
@@ -44,12 +44,12 @@ pub record Stepped (rules : List ℕ) (n : ℕ) (bound cells : List ℕ) (m next
   pub rests :
       fired ≡ false
       → (bound′ ≡ bound) × (cells′ ≡ cells)
-      × ((text : List ℕ) → advance (rulesOf text rules n) (live next (map cellTerm bound) (storeOf cells m)) ≡ none)
+      × ((names : List ℕ) → advance (rulesOf names rules n) (live next (map cellTerm bound) (storeOf cells m)) ≡ none)
   pub moves :
       fired ≡ true
-      → (text : List ℕ)
-      → advance (rulesOf text rules n) (live next (map cellTerm bound) (storeOf cells m))
-      ≡ some (stateOf alive (next + 26) bound′ (take (5 * count) cells′))
+      → (names : List ℕ)
+      → advance (rulesOf names rules n) (live next (map cellTerm bound) (storeOf cells m))
+      ≡ some (stateOf alive (next + 26) bound′ (take (constraintSize * count) cells′))
   pub lighter :
       fired ≡ true → (w : ℕ → ℕ) → Lowers w rules n → cond alive (weightBy w (storeOf cells′ count)) 0 < weightBy w
       (storeOf cells m)
@@ -57,8 +57,7 @@ pub record Stepped (rules : List ℕ) (n : ℕ) (bound cells : List ℕ) (m next
   pub few : count ≤ m + 6
 
 -- what the derivation asks: room for 518 constraints and for 512 times 26 variables, and a weighing of at most 512 that every
--- rule
--- lowers
+-- rule lowers
 pub record Startable (rules : List ℕ) (n : ℕ) (cells : List ℕ) (m next : ℕ) : Type 0 where
   pub table : Table rules n
   pub space : 2590 ≤ length cells
@@ -74,8 +73,8 @@ pub record Startable (rules : List ℕ) (n : ℕ) (cells : List ℕ) (m next : �
 pub record Ended (rules : List ℕ) (n : ℕ) (bound cells : List ℕ) (m next : ℕ) (bound′ cells′ : List ℕ)
     (alive : Bool) (count number firings : ℕ) : Type 0 where
   pub same :
-      (text : List ℕ) (fuel : ℕ) → firings ≤ fuel
-      → record { state = stateOf alive number bound′ (take (5 * count) cells′); firings = firings }
-      ≡ normalise fuel (rulesOf text rules n) (live next (map cellTerm bound) (storeOf cells m)) 0
+      (names : List ℕ) (fuel : ℕ) → firings ≤ fuel
+      → record { state = stateOf alive number bound′ (take (constraintSize * count) cells′); firings = firings }
+      ≡ normalise fuel (rulesOf names rules n) (live next (map cellTerm bound) (storeOf cells m)) 0
   pub bounded : (w : ℕ → ℕ) → Lowers w rules n → firings ≤ weightBy w (storeOf cells m)
   pub few : alive ≡ true → count ≤ 512

@@ -1,5 +1,4 @@
 -- How the engine's state decodes, and what solving and firing promise.
---   stateOf                     cells as a state
 --   Merged, Solvable, Solved    one equation, and all of them
 --   Removed, Appended           the constraints behind a firing
 --   Equated, SolvedRule         a rule's equations
@@ -15,13 +14,11 @@ use Rattle.text.specs.Lists.{every}
 use Rattle.semantics.specs.Terms.{State, failed, live, mapTerms, mapSides}
 use Rattle.semantics.specs.Solving.{solve}
 use Rattle.semantics.specs.Firing.{without, instance, settle, fired}
-use Rattle.syntax.specs.Tables.{cellTerm, cellConstraints, cellEquations, ruleOfRow}
+use Rattle.tables.specs.Layout.{constraintSize, headsCell, bodyCell}
+use Rattle.tables.specs.Cells.{stateOf, cellTerm, cellConstraints, cellEquations, isLow}
+use Rattle.tables.specs.Rows.{ruleOfRow}
 use Rattle.engine.specs.Cells.{assigned, clashes, merge}
-use Rattle.engine.specs.Places.{isLow, Row}
-
--- a state: failed, or what the goal variables have become and the constraints, in cells
-unfoldable pub stateOf : Bool → ℕ → List ℕ → List ℕ → State
-stateOf alive next bound cells = cond alive (live next (map cellTerm bound) (cellConstraints cells)) failed
+use Rattle.engine.specs.Places.{Row}
 
 -- an equation between cells, put in throughout or found to clash
 pub record Merged (alive : Bool) (a b : ℕ) (equations bound cells equations′ bound′ cells′ : List ℕ) : Type 0 where
@@ -45,14 +42,14 @@ pub record Solved (alive : Bool) (equations bound cells bound′ cells′ : List
 -- k constraints are left in front, those of m at none of the positions
 pub record Removed (m : ℕ) (ps cells cells′ : List ℕ) (k : ℕ) : Type 0 where
   pub few : k ≤ m
-  pub same : cellConstraints (take (5 * k) cells′) ≡ without 0 ps (cellConstraints cells)
+  pub same : cellConstraints (take (constraintSize * k) cells′) ≡ without 0 ps (cellConstraints cells)
 
 -- a rule's body stands behind the first k constraints
 pub record Appended (row bindings : List ℕ) (next : ℕ) (cells cells′ : List ℕ) (k after : ℕ) : Type 0 where
-  pub count : after ≡ k + getD row 4 0
+  pub count : after ≡ k + getD row bodyCell 0
   pub same :
-      cellConstraints (take (5 * after) cells′)
-      ≡ cellConstraints (take (5 * k) cells) ++ map (mapTerms (instance next (assigned bindings))) (ruleOfRow [] row .body)
+      cellConstraints (take (constraintSize * after) cells′)
+      ≡ cellConstraints (take (constraintSize * k) cells) ++ map (mapTerms (instance next (assigned bindings))) (ruleOfRow [] row .body)
 
 -- what solving a rule's equations asks
 pub record Equated (row bindings : List ℕ) (next : ℕ) (cells : List ℕ) : Type 0 where
@@ -74,14 +71,14 @@ pub record Fires (row positions bindings : List ℕ) (next : ℕ) (cells : List 
   pub positions-size : length positions ≡ 4
   pub bindings-size : length bindings ≡ 26
   pub room : next ≤ 65000
-  pub space : 5 * m + 30 ≤ length cells
-  pub low : every isLow (cellConstraints (take (5 * m) cells)) ≡ true
+  pub space : constraintSize * m + 30 ≤ length cells
+  pub low : every isLow (cellConstraints (take (constraintSize * m) cells)) ≡ true
 
--- the state after a firing, whatever text the rule's name stands in
+-- the state after a firing, whatever the rule's name is
 pub record Fired (row positions bindings : List ℕ) (next : ℕ) (bound cells : List ℕ) (m : ℕ) (bound′ cells′ : List ℕ)
     (alive : Bool) (after : ℕ) : Type 0 where
   pub same :
-      (text : List ℕ) → stateOf alive (next + 26) bound′ (take (5 * after) cells′)
-      ≡ fired (ruleOfRow text row) (take (getD row 3 0) positions) (assigned bindings) next (map cellTerm bound)
-      (cellConstraints (take (5 * m) cells))
+      (name : List ℕ) → stateOf alive (next + 26) bound′ (take (constraintSize * after) cells′)
+      ≡ fired (ruleOfRow name row) (take (getD row headsCell 0) positions) (assigned bindings) next (map cellTerm bound)
+      (cellConstraints (take (constraintSize * m) cells))
   pub few : after ≤ m + 6

@@ -1,6 +1,8 @@
 // The derivation by the strategy: the lowest-numbered rule that fits fires at the smallest positions, until none fits.
 use crate::firing::fire;
 use crate::search::choose;
+use tables::layout::CONSTRAINT_SIZE;
+use tables::layout::ROW_SIZE;
 ghost use Rattle.engine.specs.Runs.{Live, Stepped, Startable, Ended};
 
 // Whether a rule fired, whether the state lives on, and how many constraints it has then.
@@ -23,7 +25,7 @@ pub fn advance(
     ensures { λ r. ⌜ Stepped (now (rules .entry)) n (now (bound .entry)) (now (cells .entry)) m next
         (now (bound .exit)) (now (cells .exit)) (r .fired) (r .alive) (r .count) ⌝ }
 {
-    let e = 5 * m;
+    let e = CONSTRAINT_SIZE * m;
     let choice = choose(rules, n, &cells[..e], m);
     if !choice.found {
         return Step {
@@ -35,8 +37,8 @@ pub fn advance(
     let number = choice.number;
     let positions = choice.positions;
     let bindings = choice.bindings;
-    let a = 64 * number;
-    let b = a + 64;
+    let a = ROW_SIZE * number;
+    let b = a + ROW_SIZE;
     let after = fire(&rules[a..b], positions, &bindings, next, bound, cells, m);
     Step {
         fired: true,

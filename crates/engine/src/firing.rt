@@ -1,11 +1,19 @@
 // Firing a rule at positions that fit: its constraints are removed, its body is appended, and its equations are solved.
 use crate::search::is_chosen;
-use crate::search::wide;
 use crate::solving::solve;
+use tables::layout::BODY_CELL;
+use tables::layout::CONSTRAINT_SIZE;
+use tables::layout::EQUATIONS_CELL;
+use tables::layout::FIRST_BODY;
+use tables::layout::FIRST_EQUATION;
+use tables::layout::FIRST_VARIABLE;
+use tables::layout::HEADS_CELL;
+use tables::wide;
 ghost use mathlib.Core.List.{map};
 ghost use mathlib.Core.Path.{_≡_};
 ghost use Prim.Native.Nat.{_+_, _*_, _≤_, min};
 ghost use lib.ListN.{length, take};
+ghost use Rattle.tables.specs.Layout.{constraintSize};
 ghost use Rattle.engine.specs.Cells.{instanceCell, movedRow};
 ghost use Rattle.engine.specs.Places.{Row};
 ghost use Rattle.engine.specs.States.{Removed, Appended, Equated, SolvedRule, Fires, Fired};
@@ -15,10 +23,10 @@ pub fn instance(cell: u16, bindings: &[u16], next: u16) -> u16
     requires { ⌜ (length (now bindings) ≡ 26) × (next ≤ 65000) ⌝ }
     ensures { λ r. ⌜ r ≡ instanceCell next (now (bindings .entry)) cell ⌝ }
 {
-    if cell < 256 {
+    if cell < FIRST_VARIABLE {
         return cell;
     }
-    let x = wide(cell - 256);
+    let x = wide(cell - FIRST_VARIABLE);
     if x < 26 {
         let settled = bindings[x];
         if settled == 0 {
@@ -43,13 +51,13 @@ pub fn instantiate(source: &[u16], bindings: &[u16], next: u16, out: &mut [u16])
 
 // Copies the constraint at a position to an earlier one.
 pub fn move_row(cells: &mut [u16], from: usize, to: usize)
-    requires { ⌜ (to ≤ from) × (5 * from + 5 ≤ length (now cells)) ⌝ }
+    requires { ⌜ (to ≤ from) × (constraintSize * from + constraintSize ≤ length (now cells)) ⌝ }
     ensures { λ _. ⌜ now (cells .exit) ≡ movedRow from to (now (cells .entry)) ⌝ }
 {
-    let a = 5 * from;
-    let b = 5 * to;
+    let a = CONSTRAINT_SIZE * from;
+    let b = CONSTRAINT_SIZE * to;
     let mut j = 0;
-    while j < 5 {
+    while j < CONSTRAINT_SIZE {
         cells[b + j] = cells[a + j];
         j += 1;
     }
@@ -57,7 +65,7 @@ pub fn move_row(cells: &mut [u16], from: usize, to: usize)
 
 // Removes the constraints at the first n positions, the rest in its order in front; answers how many are left.
 pub fn remove(cells: &mut [u16], m: usize, positions: [usize; 4], n: usize) -> usize
-    requires { ⌜ (length (now cells) ≡ 5 * m) × (n ≤ 4) × (length positions ≡ 4) ⌝ }
+    requires { ⌜ (length (now cells) ≡ constraintSize * m) × (n ≤ 4) × (length positions ≡ 4) ⌝ }
     ensures { λ r. ⌜ Removed m (take n positions) (now (cells .entry)) (now (cells .exit)) r ⌝ }
 {
     let mut p = 0;
@@ -75,14 +83,14 @@ pub fn remove(cells: &mut [u16], m: usize, positions: [usize; 4], n: usize) -> u
 
 // Appends a rule's body behind k constraints; answers how many there are then.
 pub fn append_body(row: &[u16], bindings: &[u16], next: u16, cells: &mut [u16], k: usize) -> usize
-    requires { ⌜ Row (now row) × (length (now bindings) ≡ 26) × (next ≤ 65000) × (5 * k + 30 ≤ length (now cells)) ⌝ }
+    requires { ⌜ Row (now row) × (length (now bindings) ≡ 26) × (next ≤ 65000) × (constraintSize * k + 30 ≤ length (now cells)) ⌝ }
     ensures { λ r. ⌜ Appended (now (row .entry)) (now (bindings .entry)) next (now (cells .entry)) (now (cells .exit)) k r ⌝ }
 {
-    let n = wide(row[4]);
-    let e = 26 + 5 * n;
-    let s = 5 * k;
-    let t = s + 5 * n;
-    instantiate(&row[26..e], bindings, next, &mut cells[s..t]);
+    let n = wide(row[BODY_CELL]);
+    let e = FIRST_BODY + CONSTRAINT_SIZE * n;
+    let s = CONSTRAINT_SIZE * k;
+    let t = s + CONSTRAINT_SIZE * n;
+    instantiate(&row[FIRST_BODY..e], bindings, next, &mut cells[s..t]);
     k + n
 }
 
@@ -105,11 +113,11 @@ pub fn solve_rule(
     ensures { λ r. ⌜ SolvedRule r (now (row .entry)) (now (bindings .entry)) next (now (bound .entry)) (now (cells .entry))
         (now (bound .exit)) (now (cells .exit)) ⌝ }
 {
-    let n = at_most_four(row[5]);
-    let e = 56 + 2 * n;
+    let n = at_most_four(row[EQUATIONS_CELL]);
+    let e = FIRST_EQUATION + 2 * n;
     let t = 2 * n;
     let mut equations = [0u16; 8];
-    instantiate(&row[56..e], bindings, next, &mut equations[..t]);
+    instantiate(&row[FIRST_EQUATION..e], bindings, next, &mut equations[..t]);
     solve(&mut equations[..t], n, bound, cells)
 }
 
@@ -133,11 +141,11 @@ pub fn fire(
     ensures { λ r. ⌜ Fired (now (row .entry)) positions (now (bindings .entry)) next (now (bound .entry)) (now (cells .entry)) m
         (now (bound .exit)) (now (cells .exit)) (r .alive) (r .count) ⌝ }
 {
-    let n = wide(row[3]);
-    let old = 5 * m;
+    let n = wide(row[HEADS_CELL]);
+    let old = CONSTRAINT_SIZE * m;
     let kept = remove(&mut cells[..old], m, positions, n);
     let count = append_body(row, bindings, next, cells, kept);
-    let end = 5 * count;
+    let end = CONSTRAINT_SIZE * count;
     let alive = solve_rule(row, bindings, next, bound, &mut cells[..end]);
     After { alive, count }
 }

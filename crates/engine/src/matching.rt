@@ -1,10 +1,12 @@
 // Matching a head of a rule against a constraint, under bindings of the rule's variables by value.
+use tables::layout::CONSTRAINT_SIZE;
+use tables::layout::FIRST_VARIABLE;
 ghost use mathlib.Core.Path.{_≡_};
 ghost use Prim.Native.Nat.{_<_};
 ghost use lib.ListN.{length};
 ghost use Rattle.semantics.specs.Matching.{matchTerm, matchTerms, matchConstraint};
-ghost use Rattle.syntax.specs.Tables.{cellTerm};
-ghost use Rattle.engine.specs.Cells.{assigned, rowConstraint, opposed, mayFit, Matched, Rows};
+ghost use Rattle.tables.specs.Cells.{cellTerm, rowConstraint};
+ghost use Rattle.engine.specs.Cells.{afterLetters, assigned, opposed, mayFit, Matched, Rows};
 
 // Whether a match fits, and the bindings under which it does. The array stands first, so that copies of it are aligned.
 pub struct Fit {
@@ -14,16 +16,16 @@ pub struct Fit {
 
 // One term of a head against one term of a constraint: a constant fits itself only, and a variable what it is bound to.
 pub fn match_term(head: u16, term: u16, bindings: [u16; 26]) -> Fit
-    requires { ⌜ (head < 282) × (0 < term) × (length bindings ≡ 26) ⌝ }
+    requires { ⌜ (head < afterLetters) × (0 < term) × (length bindings ≡ 26) ⌝ }
     ensures { λ r. ⌜ Matched (r .fits) (r .bindings) (matchTerm (cellTerm head) (cellTerm term) (assigned bindings)) ⌝ }
 {
-    if head < 256 {
+    if head < FIRST_VARIABLE {
         return Fit {
             fits: head == term,
             bindings,
         };
     }
-    let x = (head - 256) as usize;
+    let x = (head - FIRST_VARIABLE) as usize;
     let settled = bindings[x];
     if settled == 0 {
         let mut more = bindings;
@@ -48,7 +50,7 @@ pub fn match_terms(head: &[u16], constraint: &[u16], bindings: [u16; 26]) -> Fit
 {
     let mut settled = bindings;
     let mut i = 1;
-    while i < 5 {
+    while i < CONSTRAINT_SIZE {
         let h = head[i];
         let t = constraint[i];
         if h == 0 {
@@ -93,13 +95,13 @@ pub fn match_constraint(head: &[u16], constraint: &[u16], bindings: [u16; 26]) -
 
 // Whether what is settled already speaks against a head's term being a constraint's.
 pub fn opposes(head: u16, term: u16, bindings: &[u16]) -> bool
-    requires { ⌜ (head < 282) × (length (now bindings) ≡ 26) ⌝ }
+    requires { ⌜ (head < afterLetters) × (length (now bindings) ≡ 26) ⌝ }
     ensures { λ r. ⌜ r ≡ opposed (now (bindings .entry)) head term ⌝ }
 {
-    if head < 256 {
+    if head < FIRST_VARIABLE {
         return head != term;
     }
-    let x = (head - 256) as usize;
+    let x = (head - FIRST_VARIABLE) as usize;
     let settled = bindings[x];
     if settled == 0 {
         return false;
@@ -116,7 +118,7 @@ pub fn may_fit(head: &[u16], constraint: &[u16], bindings: &[u16]) -> bool
         return false;
     }
     let mut i = 1;
-    while i < 5 {
+    while i < CONSTRAINT_SIZE {
         let h = head[i];
         let t = constraint[i];
         if h == 0 {

@@ -2,6 +2,11 @@
 use crate::matching::Fit;
 use crate::matching::match_constraint;
 use crate::matching::may_fit;
+use tables::layout::CONSTRAINT_SIZE;
+use tables::layout::FIRST_HEAD;
+use tables::layout::HEADS_CELL;
+use tables::layout::ROW_SIZE;
+use tables::wide;
 ghost use mathlib.Core.Bool.{cond};
 ghost use mathlib.Core.List.{[]};
 ghost use mathlib.Core.Option.{none};
@@ -11,8 +16,10 @@ ghost use lib.ListN.{length, take, drop, getD};
 ghost use Rattle.text.specs.Lists.{has};
 ghost use Rattle.semantics.specs.Matching.{matchConstraint, unassigned};
 ghost use Rattle.semantics.specs.Strategy.{find};
-ghost use Rattle.syntax.specs.Tables.{cellConstraints, ruleOfRow};
-ghost use Rattle.engine.specs.Cells.{assigned, rowConstraint, Rows, Matched};
+ghost use Rattle.tables.specs.Layout.{constraintSize, headsCell};
+ghost use Rattle.tables.specs.Cells.{cellConstraints, rowConstraint};
+ghost use Rattle.tables.specs.Rows.{ruleOfRow};
+ghost use Rattle.engine.specs.Cells.{assigned, Rows, Matched};
 ghost use Rattle.engine.specs.Places.{Seeking, Located, Row, Table, Chosen};
 
 // Whether positions were found, with them and the bindings under which the heads fit there.
@@ -72,7 +79,7 @@ pub fn find(
 ) -> Found
     requires { ⌜ Seeking (now heads) n left (now cells) m chosen bindings ⌝ }
     ensures { λ r. ⌜ Located (r .found) n (r .positions) (r .bindings)
-        (find (cellConstraints (drop (5 * (n - left)) (now (heads .entry)))) (cellConstraints (now (cells .entry)))
+        (find (cellConstraints (drop (constraintSize * (n - left)) (now (heads .entry)))) (cellConstraints (now (cells .entry)))
         (take (n - left) chosen) (assigned bindings)) ⌝ }
 {
     if left == 0 {
@@ -83,14 +90,14 @@ pub fn find(
         };
     }
     let h = n - left;
-    let a = 5 * h;
-    let e = a + 5;
+    let a = CONSTRAINT_SIZE * h;
+    let e = a + CONSTRAINT_SIZE;
     let head = &heads[a..e];
     let mut p = 0;
     while p < m {
         let q = p;
-        let b = 5 * q;
-        let d = b + 5;
+        let b = CONSTRAINT_SIZE * q;
+        let d = b + CONSTRAINT_SIZE;
         p += 1;
         if may_fit(head, &cells[b..d], &bindings) {
             let fit = fit_at(head, &cells[b..d], h, q, chosen, bindings);
@@ -120,33 +127,26 @@ pub struct Choice {
     pub found: bool,
 }
 
-// A cell as a number of the machine's width.
-pub fn wide(cell: u16) -> usize
-    ensures { λ r. ⌜ r ≡ cell ⌝ }
-{
-    cell as usize
-}
-
 // Positions for all heads of a rule.
 pub fn find_rule(row: &[u16], cells: &[u16], m: usize) -> Found
-    requires { ⌜ Row (now row) × (length (now cells) ≡ 5 * m) ⌝ }
-    ensures { λ r. ⌜ Located (r .found) (getD (now (row .entry)) 3 0) (r .positions) (r .bindings)
+    requires { ⌜ Row (now row) × (length (now cells) ≡ constraintSize * m) ⌝ }
+    ensures { λ r. ⌜ Located (r .found) (getD (now (row .entry)) headsCell 0) (r .positions) (r .bindings)
         (find (ruleOfRow [] (now (row .entry)) .heads) (cellConstraints (now (cells .entry))) [] unassigned) ⌝ }
 {
-    let n = wide(row[3]);
-    let e = 6 + 5 * n;
-    find(&row[6..e], n, n, cells, m, [0; 4], [0; 26])
+    let n = wide(row[HEADS_CELL]);
+    let e = FIRST_HEAD + CONSTRAINT_SIZE * n;
+    find(&row[FIRST_HEAD..e], n, n, cells, m, [0; 4], [0; 26])
 }
 
 // The first rule that fits.
 pub fn choose(rules: &[u16], n: usize, cells: &[u16], m: usize) -> Choice
-    requires { ⌜ Table (now rules) n × (length (now cells) ≡ 5 * m) ⌝ }
+    requires { ⌜ Table (now rules) n × (length (now cells) ≡ constraintSize * m) ⌝ }
     ensures { λ r. ⌜ Chosen (now (rules .entry)) n (now (cells .entry)) (r .found) (r .number) (r .positions) (r .bindings) ⌝ }
 {
     let mut i = 0;
     while i < n {
-        let a = 64 * i;
-        let e = a + 64;
+        let a = ROW_SIZE * i;
+        let e = a + ROW_SIZE;
         let place = find_rule(&rules[a..e], cells, m);
         if place.found {
             let positions = place.positions;

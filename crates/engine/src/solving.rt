@@ -1,4 +1,5 @@
 // Equations between cells, solved one after the other, each put in throughout the state.
+use tables::layout::FIRST_VARIABLE;
 ghost use mathlib.Core.List.{map};
 ghost use mathlib.Core.Path.{_≡_};
 ghost use Prim.Native.Nat.{_<_, _*_};
@@ -29,7 +30,7 @@ pub fn put_in(v: u16, t: u16, equations: &mut [u16], bound: &mut [u16], cells: &
     ensures { λ r. ⌜ Merged r v t (now (equations .entry)) (now (bound .entry)) (now (cells .entry))
         (now (equations .exit)) (now (bound .exit)) (now (cells .exit)) ⌝ }
 {
-    if v < 256 {
+    if v < FIRST_VARIABLE {
         return false;
     }
     replace_all(equations, v, t);

@@ -5,7 +5,6 @@ use Rattle.engine.proofs.RuleLaws.{body-appended}
 use Rattle.engine.proofs.firing.append_body.Statement.{statement}
 use Rattle.engine.proofs.firing.append_body.Tie as tie
 use Rattle.engine.proofs.firing.instantiate.Reads as instantiate-reads
-use Rattle.engine.proofs.search.wide.Reads as wide-reads
 
 shared-slice-read-wide : tie.Need-shared-slice-read-wide
 shared-slice-read-wide c = search needs
@@ -63,7 +62,7 @@ returns c =
     let pre′ = c .before .before .before .before .before .before .before .before .before .before .pre in
     let wide′ = c .before .before .before .before .before .wide in
     let instantiate′ = c .before .before .instantiate in
-    body-appended _ _ _ _ _ _ _ _ (pre′ .0) (pre′ .3) (wide′ .ensures) (instantiate′ .ensures)
+    body-appended _ _ _ _ _ _ _ _ (pre′ .0) (pre′ .3) (wide′ .ensures .0) (instantiate′ .ensures)
 
 pub append-body-spec : {M : Type 1} → statement M
 append-body-spec =

@@ -15,7 +15,6 @@ use Rattle.engine.proofs.firing.fire.Tie as tie
 use Rattle.engine.proofs.firing.append_body.Reads as append-body-reads
 use Rattle.engine.proofs.firing.remove.Reads as remove-reads
 use Rattle.engine.proofs.firing.solve_rule.Reads as solve-rule-reads
-use Rattle.engine.proofs.search.wide.Reads as wide-reads
 
 shared-slice-read-wide : tie.Need-shared-slice-read-wide
 shared-slice-read-wide c = search needs
@@ -33,20 +32,20 @@ slice-aggregate-remove : tie.Need-slice-aggregate-remove
 slice-aggregate-remove c =
     let pre′ = c .before .before .before .before .before .before .before .pre in
     let wide′ = c .before .wide in
-    fire-lent _ _ _ _ _ _ _ pre′ (wide′ .ensures)
+    fire-lent _ _ _ _ _ _ _ pre′ (wide′ .ensures .0)
 
 remove-requires : tie.Need-remove-requires
 remove-requires c κs =
     let pre′ = c .before .before .before .before .before .before .before .pre in
     let wide′ = c .before .wide in
-    fire-removes _ _ _ _ _ _ _ pre′ (wide′ .ensures)
+    fire-removes _ _ _ _ _ _ _ pre′ (wide′ .ensures .0)
 
 append-body-requires : tie.Need-append-body-requires
 append-body-requires c κs =
     let pre′ = c .before .before .before .before .before .before .before .before .before .before .before .pre in
     let wide′ = c .before .before .before .before .before .wide in
     let remove′ = c .before .before .before .remove in
-    fire-appends _ _ _ _ _ _ _ pre′ (wide′ .ensures) _ _ (remove′ .kept .0) (remove′ .ensures)
+    fire-appends _ _ _ _ _ _ _ pre′ (wide′ .ensures .0) _ _ (remove′ .kept .0) (remove′ .ensures)
 
 mul-end : tie.Need-mul-end
 mul-end c = search needs
@@ -58,7 +57,7 @@ slice-relend-prefix-solve-rule c =
     let wide′ = c .before .before .before .before .before .before .before .before .before .wide in
     let remove′ = c .before .before .before .before .before .before .before .remove in
     let append-body′ = c .before .before .before .append-body in
-    fire-within _ _ _ _ _ _ _ pre′ (wide′ .ensures) _ _ (remove′ .kept .0) (remove′ .ensures) _ _
+    fire-within _ _ _ _ _ _ _ pre′ (wide′ .ensures .0) _ _ (remove′ .kept .0) (remove′ .ensures) _ _
     (append-body′ .kept .1 .1 .1 .0) (append-body′ .ensures)
 
 slice-aggregate-solve-rule : tie.Need-slice-aggregate-solve-rule
@@ -68,7 +67,7 @@ slice-aggregate-solve-rule c =
     let wide′ = c .before .before .before .before .before .before .before .before .before .before .wide in
     let remove′ = c .before .before .before .before .before .before .before .before .remove in
     let append-body′ = c .before .before .before .before .append-body in
-    fire-lends _ _ _ _ _ _ _ pre′ (wide′ .ensures) _ _ (remove′ .kept .0) (remove′ .ensures) _ _
+    fire-lends _ _ _ _ _ _ _ pre′ (wide′ .ensures .0) _ _ (remove′ .kept .0) (remove′ .ensures) _ _
     (append-body′ .kept .1 .1 .1 .0) (append-body′ .ensures)
 
 solve-rule-requires : tie.Need-solve-rule-requires
@@ -78,7 +77,7 @@ solve-rule-requires c κs =
     let wide′ = c .before .before .before .before .before .before .before .before .before .before .wide in
     let remove′ = c .before .before .before .before .before .before .before .before .remove in
     let append-body′ = c .before .before .before .before .append-body in
-    fire-equated _ _ _ _ _ _ _ pre′ (wide′ .ensures) _ _ (remove′ .kept .0) (remove′ .ensures) _ _
+    fire-equated _ _ _ _ _ _ _ pre′ (wide′ .ensures .0) _ _ (remove′ .kept .0) (remove′ .ensures) _ _
     (append-body′ .kept .1 .1 .1 .0) (append-body′ .ensures)
 
 same-length : tie.Need-same-length
@@ -97,7 +96,7 @@ returns c =
     .remove in
     let append-body′ = c .before .before .before .before .before .before .before .before .before .append-body in
     let solve-rule′ = c .before .before .before .before .solve-rule in
-    fire-done _ _ _ _ _ _ _ pre′ (wide′ .ensures) _ _ (remove′ .kept .0) (remove′ .ensures) _ _ (append-body′ .kept .1 .1 .1 .0)
+    fire-done _ _ _ _ _ _ _ pre′ (wide′ .ensures .0) _ _ (remove′ .kept .0) (remove′ .ensures) _ _ (append-body′ .kept .1 .1 .1 .0)
     (append-body′ .ensures) _ _ _ _ (solve-rule′ .kept .1 .1 .1 .1 .0) (solve-rule′ .ensures)
 
 pub fire-spec : {M : Type 1} → statement M

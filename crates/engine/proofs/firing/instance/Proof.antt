@@ -4,7 +4,6 @@ use borrow.Author.Needs.{needs}
 use Rattle.engine.proofs.FireLaws.{instance-low, instance-new, instance-settled, instance-other}
 use Rattle.engine.proofs.firing.instance.Statement.{statement}
 use Rattle.engine.proofs.firing.instance.Tie as tie
-use Rattle.engine.proofs.search.wide.Reads as wide-reads
 
 returns : tie.Need-returns
 returns c =
@@ -28,7 +27,7 @@ returns-2 c =
     let wide′ = c .before .before .before .wide in
     let if2′ = c .before .before .if2 in
     let if3′ = c .if3 in
-    instance-new _ _ _ (if1′ .left) _ (wide′ .ensures) (if2′ .taken) (if3′ .taken)
+    instance-new _ _ _ (if1′ .left) _ (wide′ .ensures .0) (if2′ .taken) (if3′ .taken)
 
 returns-3 : tie.Need-returns-3
 returns-3 c =
@@ -36,14 +35,14 @@ returns-3 c =
     let wide′ = c .before .before .before .wide in
     let if2′ = c .before .before .if2 in
     let if3′ = c .if3 in
-    instance-settled _ _ _ (if1′ .left) _ (wide′ .ensures) (if2′ .taken) (if3′ .left)
+    instance-settled _ _ _ (if1′ .left) _ (wide′ .ensures .0) (if2′ .taken) (if3′ .left)
 
 returns-4 : tie.Need-returns-4
 returns-4 c =
     let if1′ = c .before .before .if1 in
     let wide′ = c .before .wide in
     let if2′ = c .if2 in
-    instance-other _ _ _ (if1′ .left) _ (wide′ .ensures) (if2′ .left)
+    instance-other _ _ _ (if1′ .left) _ (wide′ .ensures .0) (if2′ .left)
 
 pub instance-spec : {M : Type 1} → statement M
 instance-spec =

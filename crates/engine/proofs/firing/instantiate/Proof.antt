@@ -4,7 +4,7 @@ use Prim.Native.Nat.{_-_}
 use native.Mathlib.Omega.{arith}
 use lib.ListN.{length}
 use Rattle.engine.specs.Cells.{instanceCell}
-use Rattle.engine.proofs.MapLaws.{Mapped, mapped-start, mapped-next, mapped-end}
+use Rattle.tables.proofs.MapLaws.{Mapped, mapped-start, mapped-next, mapped-end}
 use Rattle.engine.proofs.firing.instantiate.Statement.{statement}
 use Rattle.engine.proofs.firing.instantiate.Tie as tie
 use Rattle.engine.proofs.firing.instance.Reads as instance-reads

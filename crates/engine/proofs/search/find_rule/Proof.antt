@@ -5,7 +5,6 @@ use Rattle.engine.proofs.ChooseLaws.{rule-seeking, rule-located}
 use Rattle.engine.proofs.search.find_rule.Statement.{statement}
 use Rattle.engine.proofs.search.find_rule.Tie as tie
 use Rattle.engine.proofs.search.find.Reads as find-reads
-use Rattle.engine.proofs.search.wide.Reads as wide-reads
 
 shared-slice-read-wide : tie.Need-shared-slice-read-wide
 shared-slice-read-wide c = search needs
@@ -32,14 +31,14 @@ find-requires : tie.Need-find-requires
 find-requires c κs =
     let pre′ = c .before .before .before .before .before .pre in
     let wide′ = c .before .wide in
-    rule-seeking _ _ _ _ (pre′ .0) (pre′ .1) (wide′ .ensures)
+    rule-seeking _ _ _ _ (pre′ .0) (pre′ .1) (wide′ .ensures .0)
 
 returns : tie.Need-returns
 returns c =
     let pre′ = c .before .before .before .before .before .before .pre in
     let wide′ = c .before .before .wide in
     let find′ = c .find in
-    rule-located _ _ _ _ (pre′ .0) (pre′ .1) (wide′ .ensures) _ _ _ (find′ .ensures)
+    rule-located _ _ _ _ (pre′ .0) (pre′ .1) (wide′ .ensures .0) _ _ _ (find′ .ensures)
 
 pub find-rule-spec : {M : Type 1} → statement M
 find-rule-spec =

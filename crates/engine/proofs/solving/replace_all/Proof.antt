@@ -5,7 +5,7 @@ use native.Mathlib.Omega.{arith}
 use mathlib.Core.Path.{_∙_, ap, refl}
 use lib.ListN.{length}
 use Rattle.engine.specs.Cells.{swap}
-use Rattle.engine.proofs.MapLaws.{Mapped, mapped-start, mapped-read, mapped-next, mapped-end}
+use Rattle.tables.proofs.MapLaws.{Mapped, mapped-start, mapped-read, mapped-next, mapped-end}
 use Rattle.engine.proofs.solving.replace_all.Statement.{statement}
 use Rattle.engine.proofs.solving.replace_all.Tie as tie
 use Rattle.engine.proofs.solving.swapped.Reads as swapped-reads

@@ -16,9 +16,9 @@ use lib.Seq.{drop-cons, take-suc, length-take-le, set-at, getD-at, take-all}
 use borrow.Author.Tests.{eq-eqb, ne-eqb, eqb-true, eqb-false, le-leb, leb-true, ltb-true}
 use Rattle.text.specs.Lists.{every}
 use Rattle.semantics.specs.Terms.{Term, Constraint, Equation, mapTerms, mapSides}
-use Rattle.syntax.specs.Tables.{cellTerm, cellTerms, cellConstraints, cellEquations}
-use Rattle.engine.specs.Places.{isLow}
-use Rattle.engine.proofs.CellLaws.{either, and-true}
+use Rattle.semantics.proofs.Bools.{and-true}
+use Rattle.tables.specs.Cells.{cellTerm, cellTerms, cellConstraints, cellEquations, isLow}
+use Rattle.tables.proofs.CellLaws.{either}
 
 -- after i turns the first i cells hold f of the source's, and the others what they held
 pub record Mapped (f : ℕ → ℕ) (source start cells : List ℕ) (i : ℕ) : Type 0 where

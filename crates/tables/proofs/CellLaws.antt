@@ -1,22 +1,24 @@
--- Laws of cells as terms and of bindings.
---   same-cell        two cells are the same term where they are the same cell
---   assigned-set     a stored binding extends the assignment
+-- Laws of cells as terms and constraints.
+--   either, le-or-lt, every-first, every-rest      tests taken apart
+--   cell-low, cell-high       a cell below 256 is a constant, any other a variable
+--   same-cell                 two cells are the same term where they are the same cell
+--   terms-none, terms-more, terms-end              the terms of cells from one on
+--   constraints-at, constraints-short              the constraints of cells from one on
 -- Assumes nothing.
 use Prim.Native.Nat.{ℕ, suc, _+_, _-_, _*_, _≤_, _<_}
 use native.Mathlib.Omega.{arith}
-use mathlib.Core.Bool.{Bool, true, false, _&&_}
+use mathlib.Core.Bool.{Bool, true, false}
 use mathlib.Core.List.{List, [], _∷_}
 use mathlib.Core.Logic.{_⊎_, inl, inr, ⊎-elim}
-use mathlib.Core.Path.{_≡_, refl, sym, fun-ext, _∙_}
+use mathlib.Core.Path.{_≡_, refl, sym, _∙_}
 use lib.Dec.{eqb, leb}
-use lib.ListN.{length, getD, set, take, drop, length-drop}
-use lib.Seq.{getD-set-same, getD-set-other, drop-cons, drop-drop}
+use lib.ListN.{length, getD, take, drop, length-drop, drop-of-length-le}
+use lib.Seq.{drop-cons, drop-drop}
 use borrow.Author.Tests.{lt-ltb, le-ltb, eq-eqb, ne-eqb, eqb-true, eqb-false, leb-true, leb-false, ltb-true}
 use Rattle.text.specs.Lists.{every}
 use Rattle.semantics.specs.Terms.{con, var, sameTerm, isBelow, alphabet}
-use Rattle.semantics.specs.Matching.{extend}
-use Rattle.syntax.specs.Tables.{cellTerm, cellTerms, cellConstraints}
-use Rattle.engine.specs.Cells.{assigned, rowConstraint}
+use Rattle.semantics.proofs.Bools.{and-true}
+use Rattle.tables.specs.Cells.{cellTerm, cellTerms, rowConstraint, cellConstraints}
 
 -- a test's two answers
 pub either : (b : Bool) → (b ≡ true) ⊎ (b ≡ false)
@@ -58,24 +60,6 @@ same-cell a b =
     (le-or-lt 256 b))
     (le-or-lt 256 a)
 
--- a stored binding extends the assignment
-pub assigned-set :
-    (bindings : List ℕ) (x t : ℕ) → x < length bindings → 0 < t
-    → extend x (cellTerm t) (assigned bindings) ≡ assigned (set bindings x t)
-unfolding extend assigned
-assigned-set bindings x t h k = fun-ext (λ y. go y (either (eqb x y)))
-  where
-    go : (y : ℕ) → (eqb x y ≡ true) ⊎ (eqb x y ≡ false)
-        → extend x (cellTerm t) (assigned bindings) y ≡ assigned (set bindings x t) y
-    go y (inl e) =
-        rw (← eqb-true x y e, eq-eqb x x refl, getD-set-same bindings x t 0 h, ne-eqb t 0 (λ z. omega arith))
-    go y (inr e) = rw (e, getD-set-other bindings x y t 0 (λ z. eqb-false x y e (sym z)))
-
--- both of two tests that hold together
-pub and-true : (a b : Bool) → (a && b) ≡ true → (a ≡ true) × (b ≡ true)
-and-true true b e = (refl, e)
-and-true false b e = let z : _≡_ {A = ℕ} 0 1 = cc in absurd (omega arith)
-
 -- a test that all elements pass, the first and the rest do
 pub every-first : {A : Type 0} (t : A → Bool) (x : A) (xs : List A) → every t (x ∷ xs) ≡ true → t x ≡ true
 every-first t x xs e = and-true (t x) (every t xs) e .0
@@ -102,6 +86,11 @@ pub terms-more :
 unfolding cellTerms
 terms-more l i h e = rw (drop-cons l i 0 h, ne-eqb (getD l i 0) 0 e)
 
+-- behind the last cell there is none
+pub terms-end : (l : List ℕ) (i : ℕ) → length l ≤ i → cellTerms (drop i l) ≡ []
+unfolding cellTerms
+terms-end l i h = rw (drop-of-length-le l h)
+
 -- five cells and more are a constraint and more
 constraints-five : (l : List ℕ) → 5 ≤ length l → cellConstraints l ≡ rowConstraint (take 5 l) ∷ cellConstraints (drop 5 l)
 unfolding cellConstraints rowConstraint
@@ -119,3 +108,16 @@ pub constraints-at :
 constraints-at l i h =
     let e : 5 * i + 5 ≡ 5 * suc i = omega arith in
     constraints-five (drop (5 * i) l) (omega (arith, length-drop (5 * i) l)) ∙ rw (drop-drop 5 (5 * i) l, e)
+
+-- fewer than five cells are none
+pub constraints-short : (l : List ℕ) (i : ℕ) → length l < 5 * i + 5 → cellConstraints (drop (5 * i) l) ≡ []
+unfolding cellConstraints
+constraints-short l i h = few (drop (5 * i) l) (omega (arith, length-drop (5 * i) l))
+  where
+    few : (m : List ℕ) → length m < 5 → cellConstraints m ≡ []
+    few [] k = refl
+    few (k₀ ∷ []) k = refl
+    few (k₀ ∷ a ∷ []) k = refl
+    few (k₀ ∷ a ∷ b ∷ []) k = refl
+    few (k₀ ∷ a ∷ b ∷ c ∷ []) k = refl
+    few (k₀ ∷ a ∷ b ∷ c ∷ d ∷ m) k = absurd (omega arith)

@@ -1,0 +1,5 @@
+-- The laws of this crate. Assumes nothing.
+pub mod Opened
+pub mod NameLaws
+pub mod CellLaws
+pub mod MapLaws
