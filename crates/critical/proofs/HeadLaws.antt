@@ -15,10 +15,8 @@ use borrow.Author.Tests.{eq-eqb, ne-eqb}
 use Rattle.text.specs.Lists.{bind, every, has}
 use Rattle.semantics.specs.Terms.{Term, Constraint}
 use Rattle.semantics.specs.Overlaps.{equate}
-use Rattle.syntax.specs.Tables.{cellTerms, cellConstraints}
-use Rattle.engine.specs.Cells.{rowConstraint}
-use Rattle.engine.specs.Places.{isLow}
-use Rattle.engine.proofs.CellLaws.{constraints-at}
+use Rattle.tables.specs.Cells.{cellTerms, cellConstraints, rowConstraint, isLow}
+use Rattle.tables.proofs.CellLaws.{constraints-at}
 use Rattle.critical.specs.Joins.{joinedTerms, joined, joinNext}
 use Rattle.critical.specs.Cells.{joinedOf, termsFrom, Heads, Partner}
 

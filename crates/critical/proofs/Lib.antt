@@ -4,4 +4,6 @@ pub mod RestLaws
 pub mod TermLaws
 pub mod HeadLaws
 pub mod PairedLaws
+pub mod DropLaws
+pub mod PositionLaws
 pub mod JudgeLaws

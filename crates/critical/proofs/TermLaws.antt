@@ -20,11 +20,10 @@ use Rattle.semantics.specs.Solving.{unify, solve}
 use Rattle.semantics.specs.Overlaps.{equateTerms}
 use Rattle.semantics.proofs.Configurations.{Or, inl, inr}
 use Rattle.semantics.proofs.Options.{decide}
-use Rattle.syntax.specs.Tables.{cellTerm, cellTerms, cellConstraints}
+use Rattle.tables.specs.Cells.{cellTerm, cellTerms, cellConstraints, isLow}
 use Rattle.engine.specs.Cells.{clashes, merge}
-use Rattle.engine.specs.Places.{isLow}
 use Rattle.engine.specs.States.{Merged}
-use Rattle.engine.proofs.MapLaws.{Acts, anything, all-low, all-terms, low-kept, acts-terms, acts-constraints}
+use Rattle.tables.proofs.MapLaws.{Acts, anything, all-low, all-terms, low-kept, acts-terms, acts-constraints}
 use Rattle.engine.proofs.SolveLaws.{solve-through, Unifier, clash-none, merge-acts}
 use Rattle.critical.specs.Joins.{joinedTerms}
 use Rattle.critical.specs.Cells.{joinedOf, termsFrom, Heads}

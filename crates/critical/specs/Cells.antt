@@ -2,17 +2,18 @@
 --   joinedOf          what joining answers
 --   termsFrom         the terms of cells from a place on
 --   Heads, Partner    what joining asks
+--   Unjoined          the goal's heads
 -- Assumes nothing.
 use Prim.Native.Nat.{ℕ, _+_, _*_, _≤_, _<_}
 use mathlib.Core.Bool.{Bool, true, cond}
-use mathlib.Core.List.{List}
+use mathlib.Core.List.{List, _++_}
 use mathlib.Core.Option.{Option, none, some}
 use mathlib.Core.Path.{_≡_}
 use lib.ListN.{length, take, drop}
 use Rattle.text.specs.Lists.{every}
 use Rattle.semantics.specs.Terms.{Term, Constraint}
-use Rattle.syntax.specs.Tables.{cellTerms, cellConstraints}
-use Rattle.engine.specs.Places.{isLow}
+use Rattle.semantics.specs.Overlaps.{unjoinedHeads}
+use Rattle.tables.specs.Cells.{cellTerms, cellConstraints, isLow}
 
 -- what joining answers: whether the heads unify, and if so all heads then
 unfoldable pub joinedOf : Bool → List ℕ → Option (List Constraint)
@@ -35,3 +36,10 @@ pub record Partner (cells : List ℕ) (m : ℕ) (partners : List ℕ) (h d : ℕ
   pub few : m ≤ 4
   pub second : 5 * (m + d) ≤ length cells
   pub partners-size : length partners ≡ 4
+
+-- k heads are left: the m of the first rule, and those of the second's n that the partners leave alone
+pub record Unjoined (m n : ℕ) (ds cells cells′ : List ℕ) (k : ℕ) : Type 0 where
+  pub few : k ≤ m + n
+  pub same :
+      cellConstraints (take (5 * k) cells′)
+      ≡ take m (cellConstraints cells) ++ unjoinedHeads 1 (drop m (cellConstraints cells)) ds

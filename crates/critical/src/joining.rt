@@ -5,8 +5,7 @@ use engine::solving::unify;
 ghost use mathlib.Core.Path.{_≡_};
 ghost use Prim.Native.Nat.{_+_, _*_, _≤_, _<_};
 ghost use lib.ListN.{length, take, drop};
-ghost use Rattle.syntax.specs.Tables.{cellConstraints};
-ghost use Rattle.engine.specs.Cells.{rowConstraint};
+ghost use Rattle.tables.specs.Cells.{rowConstraint, cellConstraints};
 ghost use Rattle.critical.specs.Joins.{joinedTerms, joined, joinNext};
 ghost use Rattle.critical.specs.Cells.{joinedOf, termsFrom, Heads, Partner};
 

@@ -1,2 +1,3 @@
 // Critical pairs: from two rules and a pairing of their heads to an overlap, and the walk over all of them.
+pub mod finishing;
 pub mod joining;

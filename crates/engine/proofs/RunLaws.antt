@@ -19,7 +19,7 @@ use Rattle.engine.proofs.StepLaws.{no-way}
 use Rattle.engine.proofs.WeightLaws.{weight-length}
 
 -- as many constraints as five cells each
-length-constraints : (k : ℕ) (l : List ℕ) → length l ≡ 5 * k → length (cellConstraints l) ≡ k
+pub length-constraints : (k : ℕ) (l : List ℕ) → length l ≡ 5 * k → length (cellConstraints l) ≡ k
 unfolding cellConstraints
 length-constraints k [] h = omega arith
 length-constraints k (a ∷ []) h = absurd (omega arith)
