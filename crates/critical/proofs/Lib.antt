@@ -6,4 +6,5 @@ pub mod HeadLaws
 pub mod PairedLaws
 pub mod DropLaws
 pub mod PositionLaws
+pub mod LayLaws
 pub mod JudgeLaws

@@ -3,17 +3,21 @@
 --   termsFrom         the terms of cells from a place on
 --   Heads, Partner    what joining asks
 --   Unjoined          the goal's heads
+--   headsOf           the heads of two rules, before they are joined
 -- Assumes nothing.
 use Prim.Native.Nat.{ℕ, _+_, _*_, _≤_, _<_}
 use mathlib.Core.Bool.{Bool, true, cond}
-use mathlib.Core.List.{List, _++_}
+use mathlib.Core.List.{List, [], _++_, map}
 use mathlib.Core.Option.{Option, none, some}
 use mathlib.Core.Path.{_≡_}
-use lib.ListN.{length, take, drop}
+use lib.ListN.{length, take, drop, getD}
 use Rattle.text.specs.Lists.{every}
-use Rattle.semantics.specs.Terms.{Term, Constraint}
-use Rattle.semantics.specs.Overlaps.{unjoinedHeads}
+use Rattle.semantics.specs.Terms.{Term, Constraint, mapTerms}
+use Rattle.semantics.specs.Overlaps.{unjoinedHeads, apart}
+use Rattle.tables.specs.Layout.{constraintSize, headsCell}
 use Rattle.tables.specs.Cells.{cellTerms, cellConstraints, isLow}
+use Rattle.tables.specs.Rows.{ruleOfRow}
+use Rattle.engine.specs.Places.{Row}
 
 -- what joining answers: whether the heads unify, and if so all heads then
 unfoldable pub joinedOf : Bool → List ℕ → Option (List Constraint)
@@ -43,3 +47,18 @@ pub record Unjoined (m n : ℕ) (ds cells cells′ : List ℕ) (k : ℕ) : Type 
   pub same :
       cellConstraints (take (5 * k) cells′)
       ≡ take m (cellConstraints cells) ++ unjoinedHeads 1 (drop m (cellConstraints cells)) ds
+
+-- a rule's row whose heads can be joined: their symbols lie below the variables' cells
+pub record RuleRow (row : List ℕ) : Type 0 where
+  pub given : Row row
+  pub low : every isLow (ruleOfRow [] row .heads) ≡ true
+
+-- two such rows, and cells for all their heads
+pub record RulePair (first second cells : List ℕ) : Type 0 where
+  pub first-row : RuleRow first
+  pub second-row : RuleRow second
+  pub size : length cells ≡ constraintSize * (getD first headsCell 0 + getD second headsCell 0)
+
+-- the heads of two rules, the second renamed apart
+unfoldable pub headsOf : List ℕ → List ℕ → List Constraint
+headsOf first second = ruleOfRow [] first .heads ++ map (mapTerms apart) (ruleOfRow [] second .heads)

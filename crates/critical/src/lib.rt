@@ -1,3 +1,4 @@
 // Critical pairs: from two rules and a pairing of their heads to an overlap, and the walk over all of them.
 pub mod finishing;
 pub mod joining;
+pub mod laying;
