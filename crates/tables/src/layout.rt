@@ -5,7 +5,6 @@ pub const MAX_NAMES: usize = 256;
 
 // The numbers of the first constant and of the first rule; symbols count from 0.
 pub const FIRST_CONSTANT: usize = 64;
-
 pub const FIRST_RULE: usize = 192;
 
 // The cell of variable 0.
@@ -19,22 +18,14 @@ pub const GOAL_PLACE: usize = 16384;
 
 // The cells of a constraint, of a symbol and of a rule's row.
 pub const CONSTRAINT_SIZE: usize = 5;
-
 pub const SYMBOL_SIZE: usize = 2;
-
 pub const ROW_SIZE: usize = 64;
 
 // Where a row holds its R line, its three counts, and its heads, body and equations.
 pub const LINE_CELL: usize = 2;
-
 pub const HEADS_CELL: usize = 3;
-
 pub const BODY_CELL: usize = 4;
-
 pub const EQUATIONS_CELL: usize = 5;
-
 pub const FIRST_HEAD: usize = 6;
-
 pub const FIRST_BODY: usize = 26;
-
 pub const FIRST_EQUATION: usize = 56;

@@ -33,10 +33,9 @@ returns c =
     let at-loop = at-test .before in
     let args = at-loop .before .args in
     let i = at-loop .loop .i in
-    let keys = args .keys .now in (
-      sym (place-here (eqb (args .key)) 0 keys i (at-test .loop-test .taken) (eq-eqb _ _ (c .if1 .taken))) ∙ at-loop .loop .inv .1,
-      omega arith,
-    )
+    let keys = args .keys .now in
+    (sym (place-here (eqb (args .key)) 0 keys i (at-test .loop-test .taken) (eq-eqb _ _ (c .if1 .taken))) ∙ at-loop .loop .inv .1,
+    omega arith)
 
 add-i : tie.Need-add-i Inv-loop μ-loop
 add-i c = search needs
@@ -50,11 +49,10 @@ loop-again c =
     let at-loop = at-test .before in
     let args = at-loop .before .args in
     let i = at-loop .loop .i in
-    let keys = args .keys .now in (
-      omega arith,
-      rw add-one
-          (sym (place-step (eqb (args .key)) 0 keys i (at-test .loop-test .taken) (ne-eqb _ _ (c .if1 .left))) ∙ at-loop .loop .inv .1),
-    )
+    let keys = args .keys .now in
+    (omega arith,
+    rw add-one
+    (sym (place-step (eqb (args .key)) 0 keys i (at-test .loop-test .taken) (ne-eqb _ _ (c .if1 .left))) ∙ at-loop .loop .inv .1))
 
 returns-2 : tie.Need-returns-2 Inv-loop μ-loop
 returns-2 c =

@@ -53,11 +53,9 @@ loop-again c =
     let at-test = c .before .before .before .before .before in
     let at-loop = at-test .before in
     let s = at-loop .before .args .s .now in
-    let i = at-loop .loop .i in (
-      omega arith,
-      omega arith,
-      rw add-one (omega (arith, word-step s i (at-test .loop-test .taken) (c .before .before .if2 .left) (c .if3 .left))),
-    )
+    let i = at-loop .loop .i in
+    (omega arith, omega arith,
+    rw add-one (omega (arith, word-step s i (at-test .loop-test .taken) (c .before .before .if2 .left) (c .if3 .left))))
 
 returns-4 : tie.Need-returns-4 Inv-loop μ-loop
 returns-4 c =
