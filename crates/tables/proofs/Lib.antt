@@ -3,3 +3,6 @@ pub mod Opened
 pub mod NameLaws
 pub mod CellLaws
 pub mod MapLaws
+pub mod NumberLaws
+pub mod Appearing
+pub mod Renumbering

@@ -3,3 +3,4 @@ pub mod Layout
 pub mod Cells
 pub mod Rows
 pub mod Names
+pub mod Numbers

@@ -2,6 +2,7 @@
 // variables. The definitions in specs/ say what the cells stand for.
 pub mod layout;
 pub mod names;
+pub mod numbering;
 
 ghost use mathlib.Core.Path.{_≡_};
 ghost use Prim.Native.Nat.{_<_};

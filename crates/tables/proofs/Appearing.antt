@@ -13,7 +13,8 @@ use borrow.Author.Tests.{eq-eqb}
 use Rattle.text.specs.Lists.{has, every}
 use Rattle.semantics.specs.Terms.{Term, con, var, Constraint}
 use Rattle.semantics.specs.Overlaps.{appearingIn, appearing}
-use Rattle.listing.proofs.NumberLaws.{has-more}
+use Rattle.semantics.proofs.Bools.{and-true, or-right}
+use Rattle.tables.proofs.NumberLaws.{has-more}
 
 -- a constant, or a variable that stands in the order
 abbrev pub varIn : List ℕ → Term → Bool
@@ -21,18 +22,10 @@ varIn order (con c) = true
 varIn order (var x) = has x order
 
 -- both tests
-pub and-true : (a b : Bool) → (a && b) ≡ true → (a ≡ true) × (b ≡ true)
-and-true true b e = (refl, e)
-and-true false b e = let bad : _≡_ {A = ℕ} 0 1 = cc in absurd (omega arith)
-
 both : (a b : Bool) → a ≡ true → b ≡ true → (a && b) ≡ true
 both true true p q = refl
 both true false p q = q
 both false b p q = p
-
-or-right : (a b : Bool) → b ≡ true → (a || b) ≡ true
-or-right true b e = refl
-or-right false b e = e
 
 or-left : (a b : Bool) → a ≡ true → (a || b) ≡ true
 or-left true b e = refl

@@ -1,0 +1,377 @@
+-- Laws of numbering variables by first appearance.
+--   used-here, used-step, used-end, used-terms     the cells before the first 0
+--   new-…                 the new cell of a variable, with one more variable seen
+--   numbered-…            one more term: a constant, a variable that has appeared, one that has not
+--   Counting, counting-…  a loop over cells, from the variables so far
+--   CountingRows, rows-…  a loop over constraints
+--   cell-below, cell-unnumbered, cell-new          a cell under the table
+--   renumbers             the table gives every variable its place
+-- Assumes nothing.
+use mathlib.Core.Path.{_≡_, refl, sym, ap, _∙_, subst}
+use mathlib.Core.Bool.{Bool, true, false, cond, _||_, _&&_}
+use mathlib.Core.List.{List, [], _∷_, _++_, map}
+use Prim.Native.Nat.{ℕ, zero, suc, _+_, _-_, _*_, _≤_, _<_}
+use native.Mathlib.Omega.{arith}
+use native.Mathlib.Numerals.{add-one}
+use borrow.Author.Tests.{eq-eqb, ne-eqb, eqb-true, eqb-false, lt-ltb, le-ltb, ltb-true}
+use lib.Dec.{eqb, ltb}
+use lib.ListN.{length, take, drop, getD, set, length-set, length-append, length-drop, length-take, drop-of-length-le}
+use lib.ListN.{List·getD-eq-default}
+use lib.Seq.{drop-cons, drop-drop, take-take, getD-set-same, getD-set-other}
+use Rattle.text.specs.Lists.{has, every, placeFrom}
+use Rattle.semantics.specs.Terms.{Term, con, var, Constraint, mapTerms, isBelow}
+use Rattle.semantics.specs.Overlaps.{appearingIn, appearing, numbered}
+use Rattle.semantics.proofs.Bools.{and-true}
+use Rattle.tables.specs.Cells.{cellTerm, cellTerms, rowConstraint, cellConstraints, isLow}
+use Rattle.tables.specs.Numbers.{usedCells, orderOf, newCell, Numbering, Numbered, RowsNumbered, renumberedCell, isWithin}
+use Rattle.tables.specs.Numbers.{Renumberable, Renumbered}
+use Rattle.tables.proofs.CellLaws.{cell-low, cell-high, le-or-lt, constraints-at, constraints-short}
+use Rattle.tables.proofs.MapLaws.{Acts, acts-constraints, acts-bound}
+
+module _ (l : List ℕ) (i : ℕ) where
+  -- how many cells stand before the first 0, one cell on
+  pub used-here : i < length l → getD l i 0 ≡ 0 → usedCells (drop i l) ≡ 0
+  unfolding usedCells
+  used-here h e = rw (drop-cons l i 0 h, e)
+
+  pub used-step : i < length l → (getD l i 0 ≡ 0 → ⊥) → usedCells (drop i l) ≡ suc (usedCells (drop (suc i) l))
+  unfolding usedCells
+  used-step h e = rw (drop-cons l i 0 h, ne-eqb (getD l i 0) 0 e)
+
+  pub used-end : length l ≤ i → usedCells (drop i l) ≡ 0
+  unfolding usedCells
+  used-end h = rw (drop-of-length-le l h)
+
+-- they are the terms
+pub used-terms : (l : List ℕ) → cellTerms l ≡ map cellTerm (take (usedCells l) l)
+unfolding cellTerms usedCells
+used-terms [] = refl
+used-terms (x ∷ l) = go (eqb x 0) (used-terms l)
+  where
+    go : (b : Bool) → cellTerms l ≡ map cellTerm (take (usedCells l) l)
+        → cond b [] (cellTerm x ∷ cellTerms l) ≡ map cellTerm (take (cond b 0 (suc (usedCells l))) (x ∷ l))
+    go true e = refl
+    go false e = ap (λ (r : List Term). cellTerm x ∷ r) e
+
+-- whether a variable stands in a list with one more
+pub has-more : (z y : ℕ) (o : List ℕ) → has z (o ++ (y ∷ [])) ≡ (has z o || eqb z y)
+has-more z y [] = go (eqb z y)
+  where
+    go : (b : Bool) → (b || false) ≡ (false || b)
+    go true = refl
+    go false = refl
+has-more z y (x ∷ o) = go (eqb z x) (has-more z y o)
+  where
+    go : (b : Bool) → has z (o ++ (y ∷ [])) ≡ (has z o || eqb z y) → (b || has z (o ++ (y ∷ []))) ≡ ((b || has z o) || eqb z y)
+    go true e = refl
+    go false e = e
+
+-- its place stays where it was
+pub place-kept : (z y i : ℕ) (o : List ℕ) → has z o ≡ true → placeFrom (eqb z) i (o ++ (y ∷ [])) ≡ placeFrom (eqb z) i o
+place-kept z y i [] h = let bad : _≡_ {A = ℕ} 0 1 = cc in absurd (omega arith)
+place-kept z y i (x ∷ o) h = go (eqb z x) h (λ k. place-kept z y (suc i) o k)
+  where
+    go : (b : Bool) → (b || has z o) ≡ true
+        → (has z o ≡ true → placeFrom (eqb z) (suc i) (o ++ (y ∷ [])) ≡ placeFrom (eqb z) (suc i) o)
+        → cond b i (placeFrom (eqb z) (suc i) (o ++ (y ∷ []))) ≡ cond b i (placeFrom (eqb z) (suc i) o)
+    go true e f = refl
+    go false e f = f e
+
+-- a new variable's place is behind the others
+pub place-new : (y i : ℕ) (o : List ℕ) → has y o ≡ false → placeFrom (eqb y) i (o ++ (y ∷ [])) ≡ i + length o
+place-new y i [] h = rw (eq-eqb y y refl) (omega arith)
+place-new y i (x ∷ o) h = go (eqb y x) h (λ k. place-new y (suc i) o k)
+  where
+    go : (b : Bool) → (b || has y o) ≡ false → (has y o ≡ false → placeFrom (eqb y) (suc i) (o ++ (y ∷ [])) ≡ suc i + length o)
+        → cond b i (placeFrom (eqb y) (suc i) (o ++ (y ∷ []))) ≡ i + suc (length o)
+    go true e f = let bad : _≡_ {A = ℕ} 0 1 = cc in absurd (omega arith)
+    go false e f = omega (arith, f e)
+
+-- the new cell of a variable that has appeared, and of one that has not
+pub new-seen : (order : List ℕ) (x : ℕ) → has x order ≡ true → newCell order x ≡ 256 + placeFrom (eqb x) 0 order
+unfolding newCell
+new-seen order x h = rw h
+
+new-unseen : (order : List ℕ) (x : ℕ) → has x order ≡ false → newCell order x ≡ 0
+unfolding newCell
+new-unseen order x h = rw h
+
+-- a variable has appeared just where its new cell is not 0
+unseen-zero : (order : List ℕ) (x : ℕ) → newCell order x ≡ 0 → has x order ≡ false
+unseen-zero order x h = go (has x order) refl
+  where
+    go : (b : Bool) → has x order ≡ b → has x order ≡ false
+    go true e = absurd (omega (arith, new-seen order x e))
+    go false e = e
+
+seen-cell : (order : List ℕ) (x : ℕ) → (newCell order x ≡ 0 → ⊥) → has x order ≡ true
+seen-cell order x h = go (has x order) refl
+  where
+    go : (b : Bool) → has x order ≡ b → has x order ≡ true
+    go true e = e
+    go false e = absurd (h (new-unseen order x e))
+
+-- one more variable: its new cell, and that of every other
+new-new : (order : List ℕ) (y : ℕ) → has y order ≡ false → newCell (order ++ (y ∷ [])) y ≡ 256 + length order
+new-new order y h =
+    new-seen (order ++ (y ∷ [])) y (has-more y y order ∙ rw (h, eq-eqb y y refl))
+    ∙ ap (λ (k : ℕ). 256 + k) (place-new y 0 order h ∙ omega arith)
+
+new-other : (order : List ℕ) (y z : ℕ) → (z ≡ y → ⊥) → newCell (order ++ (y ∷ [])) z ≡ newCell order z
+new-other order y z h = go (has z order) refl
+  where
+    same : has z (order ++ (y ∷ [])) ≡ (has z order || false)
+    same = has-more z y order ∙ rw (ne-eqb z y h)
+
+    go : (b : Bool) → has z order ≡ b → newCell (order ++ (y ∷ [])) z ≡ newCell order z
+    go true e =
+        new-seen (order ++ (y ∷ [])) z (same ∙ rw e) ∙ ap (λ (k : ℕ). 256 + k) (place-kept z y 0 order e)
+        ∙ sym (new-seen order z e)
+    go false e = new-unseen (order ++ (y ∷ [])) z (same ∙ rw e) ∙ sym (new-unseen order z e)
+
+-- one more term: a constant
+pub numbered-constant : (table : List ℕ) (seen x : ℕ) → x < 256 → Numbered (cellTerm x ∷ []) 1 table table seen seen
+unfolding appearingIn
+numbered-constant table seen x h = rw (cell-low x h) (record { next = λ order n. n; few = omega arith })
+
+-- a variable that has appeared; y is its number as read
+pub numbered-old : (table : List ℕ) (seen x y : ℕ) → 256 ≤ x → y ≡ x - 256 → (getD table y 0 ≡ 0 → ⊥)
+    → Numbered (cellTerm x ∷ []) 1 table table seen seen
+unfolding appearingIn
+numbered-old table seen x y h e old =
+    rw (cell-high x h, ← e)
+    record {
+      next = λ order n. rw (seen-cell order y (λ z. old (n .each y ∙ z))) n;
+      few = omega arith;
+    }
+
+-- a variable that has not
+pub numbered-new : (table : List ℕ) (seen x y : ℕ) → 256 ≤ x → y ≡ x - 256 → y < length table → getD table y 0 ≡ 0
+    → Numbered (cellTerm x ∷ []) 1 table (set table y (256 + seen)) seen (seen + 1)
+unfolding appearingIn
+numbered-new table seen x y h e inside new = rw (cell-high x h, ← e) record { next = next; few = omega arith }
+  where
+    fresh : (order : List ℕ) → Numbering order table seen → has y order ≡ false
+    fresh order n = unseen-zero order y (sym (n .each y) ∙ new)
+
+    entry : (order : List ℕ) → Numbering order table seen → (b : Bool) (z : ℕ) → eqb z y ≡ b
+        → getD (set table y (256 + seen)) z 0 ≡ newCell (order ++ (y ∷ [])) z
+    entry order n true z t =
+        let same : z ≡ y = eqb-true z y t in
+        rw same
+        (getD-set-same table y (256 + seen) 0 inside
+        ∙ ap (λ (k : ℕ). 256 + k) (n .counted) ∙ sym (new-new order y (fresh order n)))
+    entry order n false z t =
+        getD-set-other table y z (256 + seen) 0 (eqb-false z y t)
+        ∙ n .each z ∙ sym (new-other order y z (eqb-false z y t))
+
+    next : (order : List ℕ) → Numbering order table seen
+        → Numbering (appearingIn order (var y ∷ [])) (set table y (256 + seen)) (seen + 1)
+    next order n =
+        rw (fresh order n)
+        record {
+          each = λ z. entry order n (eqb z y) z refl;
+          counted = omega (arith, n .counted, length-append order (y ∷ []));
+        }
+
+-- terms one after the other
+appearing-step : (order : List ℕ) (t : Term) (ts : List Term) → appearingIn (appearingIn order (t ∷ [])) ts
+    ≡ appearingIn order (t ∷ ts)
+unfolding appearingIn
+appearing-step order (con c) ts = refl
+appearing-step order (var x) ts = refl
+
+-- the table so far, from which the terms left lead to the whole order
+pub record Reaching (whole table : List ℕ) (seen : ℕ) (left : List Term) : Type 0 where
+  pub order : List ℕ
+  pub numbering : Numbering order table seen
+  pub reaches : appearingIn order left ≡ whole
+
+reach-more : {whole table after : List ℕ} {seen count : ℕ} {left : List Term} (t : Term) (rest : List Term)
+    → left ≡ t ∷ rest → Numbered (t ∷ []) 1 table after seen count → Reaching whole table seen left
+    → Reaching whole after count rest
+reach-more t rest e n r =
+    record {
+      order = appearingIn (r .order) (t ∷ []);
+      numbering = n .next (r .order) (r .numbering);
+      reaches = appearing-step (r .order) t rest ∙ ap (appearingIn (r .order)) (sym e) ∙ r .reaches;
+    }
+
+reach-end : {whole table : List ℕ} {seen : ℕ} {left : List Term} → left ≡ [] → Reaching whole table seen left
+    → Numbering whole table seen
+unfolding appearingIn
+reach-end {whole} {table} {seen} {left} e r =
+    let same : r .order ≡ whole = ap (appearingIn (r .order)) (sym e) ∙ r .reaches in
+    subst (λ (o : List ℕ). Numbering o table seen) same (r .numbering)
+
+-- after i cells
+pub record Counting (start : List ℕ) (before : ℕ) (cells table : List ℕ) (seen i : ℕ) : Type 0 where
+  pub within : i ≤ length cells
+  pub few : seen ≤ before + i
+  pub size : length table ≡ length start
+  pub left : every (isBelow (length start)) (map cellTerm (drop i cells)) ≡ true
+  pub reach :
+      (order : List ℕ) → Numbering order start before
+      → Reaching (appearingIn order (map cellTerm cells)) table seen (map cellTerm (drop i cells))
+
+pub counting-start : (start : List ℕ) (before : ℕ) (cells : List ℕ)
+    → every (isBelow (length start)) (map cellTerm cells) ≡ true → Counting start before cells start before 0
+counting-start start before cells h =
+    record {
+      within = omega arith;
+      few = omega arith;
+      size = refl;
+      left = h;
+      reach = λ order n. record { order = order; numbering = n; reaches = refl };
+    }
+
+module _ (start : List ℕ) (before : ℕ) (cells table : List ℕ) (seen i : ℕ) (w : Counting start before cells table seen i) where
+  here : i < length cells → map cellTerm (drop i cells) ≡ cellTerm (getD cells i 0) ∷ map cellTerm (drop (suc i) cells)
+  here l = rw (drop-cons cells i 0 l)
+
+  -- the next cell's variable has its entry
+  pub counting-inside : i < length cells → 256 ≤ getD cells i 0 → getD cells i 0 - 256 < length table
+  unfolding isBelow
+  counting-inside l h =
+      let first : isBelow (length start) (cellTerm (getD cells i 0)) ≡ true =
+      and-true (isBelow (length start) (cellTerm (getD cells i 0)))
+      (every (isBelow (length start)) (map cellTerm (drop (suc i) cells))) (rw (here l) at (w .left)) .0 in
+      let low : ltb (getD cells i 0 - 256) (length start) ≡ true = rw (cell-high (getD cells i 0) h) at first in
+      omega (arith, ltb-true (getD cells i 0 - 256) (length start) low, w .size)
+
+  pub counting-next : (after : List ℕ) (count : ℕ) → i < length cells
+      → Numbered (cellTerm (getD cells i 0) ∷ []) 1 table after seen count → length after ≡ length table
+      → Counting start before cells after count (i + 1)
+  counting-next after count l n s =
+      rw (add-one i) (record {
+        within = l;
+        few = omega (arith, n .few, w .few);
+        size = s ∙ w .size;
+        left =
+            and-true (isBelow (length start) (cellTerm (getD cells i 0)))
+            (every (isBelow (length start)) (map cellTerm (drop (suc i) cells))) (rw (here l) at (w .left)) .1;
+        reach = λ order m. reach-more (cellTerm (getD cells i 0)) (map cellTerm (drop (suc i) cells)) (here l) n (w .reach order m);
+      })
+
+  pub counting-end : length cells ≤ i → Numbered (map cellTerm cells) (length cells) start table before seen
+  counting-end l =
+      record {
+        next = λ order n. reach-end (rw (drop-of-length-le cells {i = i} l)) (w .reach order n);
+        few = omega (arith, w .few, w .within);
+      }
+
+-- the same for constraints
+pub record ReachingRows (whole table : List ℕ) (seen : ℕ) (left : List Constraint) : Type 0 where
+  pub order : List ℕ
+  pub numbering : Numbering order table seen
+  pub reaches : appearing order left ≡ whole
+
+pub record CountingRows (start : List ℕ) (before : ℕ) (cells table : List ℕ) (seen i : ℕ) : Type 0 where
+  pub few : seen ≤ before + 4 * i
+  pub within : 5 * i ≤ length cells
+  pub size : length table ≡ length start
+  pub left : every (isWithin (length start)) (cellConstraints (drop (5 * i) cells)) ≡ true
+  pub reach :
+      (order : List ℕ) → Numbering order start before
+      → ReachingRows (appearing order (cellConstraints cells)) table seen (cellConstraints (drop (5 * i) cells))
+
+pub rows-start : (start : List ℕ) (before : ℕ) (cells : List ℕ)
+    → every (isWithin (length start)) (cellConstraints cells) ≡ true → CountingRows start before cells start before 0
+rows-start start before cells h =
+    record {
+      few = omega arith;
+      within = omega arith;
+      size = refl;
+      left = h;
+      reach = λ order n. record { order = order; numbering = n; reaches = refl };
+    }
+
+-- the terms of the constraint at place i, as they are lent
+abbrev pub lentTerms : List ℕ → ℕ → List ℕ
+lentTerms cells i = take (((5 * i + 1) + 4) - (5 * i + 1)) (drop (5 * i + 1) cells)
+
+terms-cut : (cells : List ℕ) (i : ℕ) → lentTerms cells i ≡ drop 1 (take 5 (drop (5 * i) cells))
+terms-cut cells i =
+    let four : ((5 * i + 1) + 4) - (5 * i + 1) ≡ 4 = omega arith in
+    rw (four, ← drop-drop 1 (5 * i) cells) (behind (drop (5 * i) cells))
+  where
+    behind : (l : List ℕ) → take 4 (drop 1 l) ≡ drop 1 (take 5 l)
+    behind [] = refl
+    behind (x ∷ l) = refl
+
+module _ (start : List ℕ) (before : ℕ) (cells table : List ℕ) (seen i : ℕ) (w : CountingRows start before cells table seen i) where
+  row : List ℕ
+  row = take 5 (drop (5 * i) cells)
+
+  abbrev rest : List Constraint
+  rest = cellConstraints (drop (5 * suc i) cells)
+
+  -- the terms as they are lent are those of the constraint
+  terms-are : (n : ℕ) → n ≡ usedCells (lentTerms cells i) → map cellTerm (take n (lentTerms cells i)) ≡ rowConstraint row .terms
+  unfolding rowConstraint row
+  terms-are n e = rw e (sym (used-terms (lentTerms cells i)) ∙ ap cellTerms (terms-cut cells i))
+
+  first-within : 5 * i + 5 ≤ length cells → (isWithin (length start) (rowConstraint row) ≡ true) × (every
+      (isWithin (length start)) rest ≡ true)
+  unfolding row
+  first-within l =
+      and-true (isWithin (length start) (rowConstraint row)) (every (isWithin (length start)) rest)
+      (rw (constraints-at cells i l) at (w .left))
+
+  pub rows-asked : (n : ℕ) → 5 * i + 5 ≤ length cells → n ≡ usedCells (lentTerms cells i)
+      → every (isBelow (length table)) (map cellTerm (take n (lentTerms cells i))) ≡ true
+  unfolding isWithin
+  rows-asked n l e =
+      rw (terms-are n e, w .size)
+      (and-true (isLow (rowConstraint row)) (every (isBelow (length start)) (rowConstraint row .terms)) (first-within l .0) .1)
+
+  pub lent-few : (n : ℕ) → length (take n (lentTerms cells i)) ≤ 4
+  lent-few n = omega (arith, length-take n (lentTerms cells i), length-take (((5 * i + 1) + 4) - (5 * i + 1)) (drop (5 * i + 1) cells))
+
+  pub rows-next : (n : ℕ) (after : List ℕ) (count : ℕ) → 5 * i + 5 ≤ length cells → n ≡ usedCells (lentTerms cells i)
+      → Numbered (map cellTerm (take n (lentTerms cells i))) (length (take n (lentTerms cells i))) table after seen count
+      → length after ≡ length table → CountingRows start before cells after count (i + 1)
+  unfolding row appearing
+  rows-next n after count l e m s =
+      rw (add-one i) (record {
+        few = omega (arith, m .few, w .few, lent-few n);
+        within = omega arith;
+        size = s ∙ w .size;
+        left = first-within l .1;
+        reach = λ order q.
+            let r = w .reach order q in
+            record {
+              order = appearingIn (r .order) (rowConstraint row .terms);
+              numbering = rw (terms-are n e) at (m .next (r .order) (r .numbering));
+              reaches = ap (appearing (r .order)) (sym (constraints-at cells i l)) ∙ r .reaches;
+            };
+      })
+
+  pub rows-end : length cells < 5 * i + 5 → RowsNumbered (cellConstraints cells) start table before seen
+  unfolding appearing
+  rows-end l =
+      record {
+        next = λ order n.
+            let r = w .reach order n in
+            let same : r .order ≡ appearing order (cellConstraints cells) =
+            ap (appearing (r .order)) (sym (constraints-short cells i l)) ∙ r .reaches in
+            subst (λ (o : List ℕ). Numbering o table seen) same (r .numbering);
+      }
+
+module _ (table : List ℕ) (x : ℕ) where
+  -- a cell under the table: a constant, a variable without an entry, and one with its new cell
+  pub cell-below : x < 256 → x ≡ renumberedCell table x
+  unfolding renumberedCell
+  cell-below h = rw (lt-ltb x 256 h)
+
+  pub cell-outside : (y : ℕ) → y ≡ x - 256 → 256 ≤ x → length table ≤ y → x ≡ renumberedCell table x
+  unfolding renumberedCell
+  cell-outside y e h k = rw (le-ltb x 256 h, ← e, List·getD-eq-default table 0 k)
+
+  pub cell-unnumbered : (y : ℕ) → y ≡ x - 256 → 256 ≤ x → getD table y 0 ≡ 0 → x ≡ renumberedCell table x
+  unfolding renumberedCell
+  cell-unnumbered y e h k = rw (le-ltb x 256 h, ← e, k)
+
+  pub cell-new : (y : ℕ) → y ≡ x - 256 → 256 ≤ x → (getD table y 0 ≡ 0 → ⊥) → getD table y 0 ≡ renumberedCell table x
+  unfolding renumberedCell
+  cell-new y e h k = rw (le-ltb x 256 h, ← e, ne-eqb (getD table y 0) 0 k)

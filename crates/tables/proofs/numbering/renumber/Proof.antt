@@ -1,0 +1,78 @@
+-- `tables::numbering::renumber` meets its contract: either table has an entry for each variable. Assumes nothing.
+use borrow.Author.Needs.{needs}
+use mathlib.Core.Path.{_≡_, sym, subst, refl}
+use mathlib.Core.Bool.{true}
+use mathlib.Core.List.{List, []}
+use Prim.Native.Nat.{ℕ, _≤_}
+use lib.Dec.{eqb}
+use lib.ListN.{length, take}
+use lib.Seq.{length-take-le}
+use Rattle.text.specs.Lists.{every}
+use Rattle.tables.specs.Numbers.{Numbering, Renumberable}
+use Rattle.tables.proofs.Renumbering.{zeros}
+use Rattle.tables.proofs.numbering.renumber.Statement.{statement}
+use Rattle.tables.proofs.numbering.renumber.Tie as tie
+
+-- the front of a table of zeros is one to number with
+front :
+    {bound cells : List ℕ} (v : ℕ) (table : List ℕ) → v ≤ length table → every (eqb 0) table ≡ true → Renumberable v bound cells
+    → Numbering [] (take v table) 0 × Renumberable (length (take v table)) bound cells
+front {bound} {cells} v table h z r =
+    (zeros table v z, subst (λ (m : ℕ). Renumberable m bound cells) (sym (length-take-le v table h)) r)
+
+array-borrow-prefix-few : tie.Need-array-borrow-prefix-few
+array-borrow-prefix-few c = search needs
+
+slice-aggregate-number : tie.Need-slice-aggregate-number
+slice-aggregate-number c = sym (length-take-le _ _ (c .before .if1 .taken))
+
+number-requires : tie.Need-number-requires
+number-requires c κs = 
+    let at-if = c .before .before .before in
+    front _ _ (at-if .if1 .taken) refl (at-if .before .before .before .pre .0)
+
+same-length : tie.Need-same-length
+same-length c = search needs
+
+same-length-2 : tie.Need-same-length-2
+same-length-2 c = search needs
+
+returns : tie.Need-returns
+returns c = search needs
+
+array-borrow-prefix-table : tie.Need-array-borrow-prefix-table
+array-borrow-prefix-table c = search needs
+
+slice-aggregate-number-2 : tie.Need-slice-aggregate-number-2
+slice-aggregate-number-2 c = sym (length-take-le _ _ (c .before .before .before .before .pre .1))
+
+number-requires-2 : tie.Need-number-requires-2
+number-requires-2 c κs = 
+    let start = c .before .before .before .before .before .before in
+    front _ _ (start .pre .1) refl (start .pre .0)
+
+same-length-3 : tie.Need-same-length-3
+same-length-3 c = search needs
+
+same-length-4 : tie.Need-same-length-4
+same-length-4 c = search needs
+
+returns-2 : tie.Need-returns-2
+returns-2 c = search needs
+
+pub renumber-spec : {M : Type 1} → statement M
+renumber-spec =
+    tie.close
+    (tie.spec
+    array-borrow-prefix-few
+    slice-aggregate-number
+    number-requires
+    same-length
+    same-length-2
+    returns
+    array-borrow-prefix-table
+    slice-aggregate-number-2
+    number-requires-2
+    same-length-3
+    same-length-4
+    returns-2)
