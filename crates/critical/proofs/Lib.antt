@@ -7,4 +7,7 @@ pub mod PairedLaws
 pub mod DropLaws
 pub mod PositionLaws
 pub mod LayLaws
+pub mod WithinLaws
+pub mod GoalLaws
+pub mod WalkLaws
 pub mod JudgeLaws

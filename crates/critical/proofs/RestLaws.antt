@@ -20,6 +20,7 @@ use Rattle.semantics.specs.Overlaps.{partnerLists, isOneToOne, isPairing, pairi
 use Rattle.semantics.proofs.Configurations.{Or, inl, inr}
 use Rattle.semantics.proofs.Options.{decide, true-false, apart-eqb, equal-eqb, eqb-equal}
 use Rattle.semantics.proofs.Bools.{and-true, or-false}
+use Rattle.tables.proofs.NumberLaws.{has-more}
 use Rattle.critical.specs.Joins.{allJoined, goalFrom}
 use Rattle.critical.specs.Rests.{rest, restFrom}
 use Rattle.critical.proofs.JoinLaws.{joined-cut, overlap-joined}
@@ -65,19 +66,6 @@ answers-chosen {A} {B} f t (a ∷ l) = go (t a) (answers-chosen f t l)
 answers-none : {A B : Type 0} (f : A → Option B) (l : List A) → ((a : A) → f a ≡ none) → answers f l ≡ []
 answers-none f [] h = refl
 answers-none f (a ∷ l) h = rw (h a) (answers-none f l h)
-
--- whether a number stands in a list with one more
-has-more : (z y : ℕ) (o : List ℕ) → has z (o ++ (y ∷ [])) ≡ (has z o || eqb z y)
-has-more z y [] = go (eqb z y)
-  where
-    go : (b : Bool) → (b || false) ≡ (false || b)
-    go true = refl
-    go false = refl
-has-more z y (x ∷ o) = go (eqb z x) (has-more z y o)
-  where
-    go : (b : Bool) → has z (o ++ (y ∷ [])) ≡ (has z o || eqb z y) → (b || has z (o ++ (y ∷ []))) ≡ ((b || has z o) || eqb z y)
-    go true e = refl
-    go false e = e
 
 -- partners one to one: the first ones of more are
 has-front : (d : ℕ) (ds es : List ℕ) → has d (ds ++ es) ≡ false → has d ds ≡ false

@@ -2,6 +2,8 @@
 // appearance; and where the second rule fires in it.
 use engine::firing::move_row;
 use engine::search::is_chosen;
+use tables::layout::CONSTRAINT_SIZE;
+use tables::numbering::number;
 ghost use mathlib.Core.Path.{_≡_};
 ghost use Prim.Native.Nat.{_+_, _*_, _≤_};
 ghost use lib.Dec.{eqb};
@@ -9,6 +11,7 @@ ghost use lib.ListN.{length, take};
 ghost use Rattle.text.specs.Lists.{placeFrom};
 ghost use Rattle.semantics.specs.Overlaps.{secondPositions};
 ghost use Rattle.critical.specs.Cells.{Unjoined};
+ghost use Rattle.critical.specs.Overlapped.{Whole, Finished};
 
 // Removes the joined heads of the second rule, whose n heads stand behind m of the first; answers how many are left in all.
 pub fn drop_joined(cells: &mut [u16], m: usize, n: usize, partners: [usize; 4]) -> usize
@@ -64,4 +67,26 @@ pub fn second_positions(partners: [usize; 4], m: usize, n: usize) -> [usize; 4]
         }
     }
     positions
+}
+
+// How many constraints and variables a goal has.
+pub struct Goal {
+    pub count: usize,
+    pub variables: usize,
+}
+
+// The goal of an overlap in front of the cells, from all heads of two rules under the unifier: the first has m, the second n.
+pub fn finish(cells: &mut [u16], m: usize, n: usize, partners: [usize; 4]) -> Goal
+    requires { ⌜ Whole (now cells) m n partners ⌝ }
+    ensures { λ r. ⌜ Finished (now (cells .entry)) m n partners (now (cells .exit)) (r .count) (r .variables) ⌝ }
+{
+    let count = drop_joined(cells, m, n, partners);
+    let e = CONSTRAINT_SIZE * count;
+    let mut table = [0; 52];
+    let mut bound = [0; 0];
+    let variables = number(&mut table, &mut bound, &mut cells[..e]);
+    Goal {
+        count,
+        variables,
+    }
 }
