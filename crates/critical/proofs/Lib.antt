@@ -10,4 +10,6 @@ pub mod LayLaws
 pub mod WithinLaws
 pub mod GoalLaws
 pub mod WalkLaws
+pub mod NodeLaws
+pub mod OverlapLaws
 pub mod JudgeLaws

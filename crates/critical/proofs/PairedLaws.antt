@@ -1,6 +1,7 @@
 -- The heads of two rules, joined partner by partner.
 --   paired-start      no head has a partner yet
 --   paired-next       one more head, with its partner
+--   paired-cut        what cannot be joined cannot with more partners
 --   paired-none       where the heads so far cannot be joined, no overlap begins so
 --   paired-overlap    where all heads have theirs, the overlap
 -- Assumes nothing.
@@ -20,8 +21,8 @@ use Rattle.semantics.proofs.Configurations.{Or, inl, inr}
 use Rattle.semantics.proofs.Options.{decide, none-some, cond-some}
 use Rattle.critical.specs.Joins.{joined, joinNext, allJoined, paired, goalFrom}
 use Rattle.critical.specs.Rests.{rest}
-use Rattle.critical.proofs.JoinLaws.{join-no-more, joined-none, joined-next, joined-parts, overlap-joined}
-use Rattle.critical.proofs.RestLaws.{rest-clash, rest-repeat, one-none, one-new, one-lost}
+use Rattle.critical.proofs.JoinLaws.{join-no-more, joined-none, joined-next, joined-cut, joined-parts, overlap-joined}
+use Rattle.critical.proofs.RestLaws.{rest-clash, rest-repeat, one-not, one-none, one-new, one-lost}
 use Rattle.critical.proofs.TermLaws.{replaced-none}
 
 -- an element that is there
@@ -70,6 +71,20 @@ module _ (hs gs : List Constraint) where
       go (inl t) a f = rw (t, one-lost ds (suc d) (λ z. omega arith) t)
       go (inr t) a f = rw (t, one-new ds (suc d) a t) f
 
+  -- what cannot be joined cannot with more partners
+  pub paired-cut : (ds es : List ℕ) → paired hs ds gs ≡ none → paired hs (ds ++ es) gs ≡ none
+  unfolding paired
+  paired-cut ds es e = go (decide (isOneToOne ds))
+    where
+      none-either : (b : Bool) {o : Option (List Constraint)} → o ≡ none → cond b o none ≡ none
+      none-either true f = f
+      none-either false f = refl
+
+      go : Or (isOneToOne ds ≡ true) (isOneToOne ds ≡ false)
+          → cond (isOneToOne (ds ++ es)) (allJoined hs (ds ++ es) gs) none ≡ none
+      go (inl t) = none-either (isOneToOne (ds ++ es)) (joined-cut hs gs ds es (rw t at e))
+      go (inr t) = rw (one-not ds es t)
+
 module _ (i j : Numbered) where
   abbrev hs : List Constraint
   hs = i .rule .heads
@@ -97,3 +112,8 @@ module _ (i j : Numbered) where
   pub paired-pairing : (ds : List ℕ) (cs : List Constraint) → paired hs ds gs ≡ some cs → isPairing ds ≡ not (every (eqb 0) ds)
   unfolding paired isPairing
   paired-pairing ds cs e = rw (cond-some (isOneToOne ds) e .0)
+
+  -- and where heads joined one to one do not unify there is none
+  pub paired-clash : (ds : List ℕ) → isOneToOne ds ≡ true → paired hs ds gs ≡ none → overlapOf i j ds ≡ none
+  unfolding paired
+  paired-clash ds o e = overlap-joined i j ds ∙ rw (rw o at e)

@@ -86,7 +86,7 @@ one-front (d ∷ ds) es h =
     first false true f e = true-false e refl
     first false false f e = rw (f refl)
 
-one-not : (ds es : List ℕ) → isOneToOne ds ≡ false → isOneToOne (ds ++ es) ≡ false
+pub one-not : (ds es : List ℕ) → isOneToOne ds ≡ false → isOneToOne (ds ++ es) ≡ false
 one-not ds es h = go (decide (isOneToOne (ds ++ es)))
   where
     go : Or (isOneToOne (ds ++ es) ≡ true) (isOneToOne (ds ++ es) ≡ false) → isOneToOne (ds ++ es) ≡ false

@@ -2,3 +2,4 @@
 pub mod finishing;
 pub mod joining;
 pub mod laying;
+pub mod overlapping;
