@@ -1,16 +1,19 @@
 -- A goal over a program as it is read can be run, and its end is that of the definition.
 --   AsRead          what the reading of a program promises of the tables
 --   read-table      such a table holds rules that the engine runs
---   goal-starts     a goal of weight at most 512 can be run
+--   rule-stands     a rule of a table, by its number
+--   well-formed-lowers   every rule of a well-formed program lowers the weight
+--   goal-runnable, goal-starts   a goal of weight at most 512 can be run
 --   goal-runs       the end of its derivation is `run`'s (the main law)
 -- Assumes nothing.
 use Prim.Native.Nat.{ℕ, zero, suc, _+_, _*_, _≤_, _<_, max}
 use native.Mathlib.Omega.{arith}
 use mathlib.Core.Bool.{Bool, true, _&&_}
 use mathlib.Core.List.{List, [], _∷_, map}
-use mathlib.Core.Path.{_≡_, refl, _∙_}
+use mathlib.Core.Option.{some}
+use mathlib.Core.Path.{_≡_, refl, ap, sym, _∙_}
 use lib.Dec.{eqb, ltb, leb}
-use lib.ListN.{length, getD, take, drop, length-drop}
+use lib.ListN.{length, getD, getElem?, take, drop, length-drop}
 use lib.Seq.{length-take-le}
 use borrow.Author.Tests.{lt-ltb, ltb-true}
 use Rattle.text.specs.Lists.{every, tabled}
@@ -30,14 +33,16 @@ use Rattle.semantics.specs.Terms.{
   weight,
 }
 use Rattle.semantics.specs.Terms.{isDeclared, isBelow, isGoalOf, alphabet, isOfRule, isRuleOf, isWellFormed}
-use Rattle.semantics.specs.Strategy.{entered, run}
+use Rattle.semantics.specs.Strategy.{goalState, run}
 use Rattle.tables.specs.Layout.{firstRule}
 use Rattle.tables.specs.Cells.{cellTerm, isLow, stateOf}
 use Rattle.tables.specs.Rows.{symbolOf, symbolsOf, ruleOfRow, ruleOf, rulesOf, rowOf, nameOf}
 use Rattle.engine.specs.Places.{isLettered, isSide, Row, Table}
-use Rattle.engine.specs.Runs.{weightBy, Lowers, storeOf, Startable, Ended}
+use Rattle.engine.specs.Runs.{weightBy, Lowers, storeOf, Runnable, Startable, Ended}
 use Rattle.semantics.proofs.Bools.{and-true}
 use Rattle.engine.proofs.ChooseLaws.{length-tabled, getD-tabled}
+use Rattle.semantics.proofs.Places.{getElem-at, getD-at}
+use Rattle.semantics.proofs.Weights.{rule-lowers}
 
 -- whether a term is no constant 0, which stands for no term
 unfoldable pub isUsed : Term → Bool
@@ -90,6 +95,23 @@ side-of : (t : Term) → isBelow alphabet t ≡ true → isUsed t ≡ true → i
 unfolding isUsed isSide isBelow
 side-of (con c) h k = k
 side-of (var x) h k = h
+
+-- a rule of a table, by its number
+pub rule-stands :
+    (names rules : List ℕ) (n i : ℕ) → i < n → getElem? (rulesOf names rules n) i ≡ some (ruleOf names rules i)
+unfolding rulesOf
+rule-stands names rules n i l =
+    let rs = tabled (ruleOf names rules) n in
+    let (a, e) = getElem-at rs i (omega (arith, length-tabled (ruleOf names rules) n)) in
+    e ∙ ap some (sym (getD-at rs i a e) ∙ getD-tabled (ruleOf names rules) n i a l)
+
+-- every rule of a well-formed program lowers the weight
+pub well-formed-lowers :
+    (p : Program) (names rules : List ℕ) (n : ℕ) → p .rules ≡ rulesOf names rules n → isWellFormed p ≡ true
+    → Lowers (λ k. symbolAt (p .symbols) k .weight) rules n
+unfolding weight weightBy ruleOf ruleOfRow
+well-formed-lowers p names rules n e w =
+    record { falls = λ i l. rule-lowers p i (ruleOf names rules i) w (rw e (rule-stands names rules n i l)) }
 
 module _ (names symbols : List ℕ) (s : ℕ) (rules : List ℕ) (n : ℕ) (r : AsRead names symbols s rules n) where
   -- the program's symbols
@@ -215,42 +237,47 @@ module _ (names symbols : List ℕ) (s : ℕ) (rules : List ℕ) (n : ℕ) (r : 
   pub read-lowers : Lowers weigh rules n
   read-lowers = record { falls = falls }
 
-  module _ (g : Goal) (is-goal : isGoalOf (programOf names symbols s rules n) g ≡ true) (cells : List ℕ) (m : ℕ)
-      (holds : storeOf cells m ≡ g .constraints) where
+  module _ (g : Goal) (is-goal : isGoalOf (programOf names symbols s rules n) g ≡ true) where
     declared : every (isDeclared declaredTable) (g .constraints) ≡ true
     unfolding isGoalOf programOf
     declared =
         every-weaker (λ (c : Constraint). isDeclared declaredTable c && every (isBelow (g .variables)) (c .terms)) (isDeclared declaredTable)
         (g .constraints) (λ c h. and-true (isDeclared declaredTable c) (every (isBelow (g .variables)) (c .terms)) h .0) is-goal
 
-    weighs : weightBy weigh (storeOf cells m) ≡ weight declaredTable (g .constraints)
-    weighs = rw holds (weight-same (g .constraints) declared)
+    goal-weighs : weightBy weigh (g .constraints) ≡ weight declaredTable (g .constraints)
+    goal-weighs = weight-same (g .constraints) declared
 
     -- a goal of weight at most 512 can be run
-    pub goal-starts :
-        weight declaredTable (g .constraints) ≤ 512 → g .variables ≤ 51000 → 2590 ≤ length cells → m ≤ 518
-        → Startable rules n cells m (g .variables)
+    pub goal-runnable : weight declaredTable (g .constraints) ≤ 512 → Runnable rules n (g .constraints)
     unfolding weigh
-    goal-starts light few space there =
+    goal-runnable light =
         record {
           table = read-table;
-          space = space;
-          there = there;
-          room = few;
-          low = rw holds (every-weaker (isDeclared declaredTable) isLow (g .constraints) declared-low declared);
+          low = every-weaker (isDeclared declaredTable) isLow (g .constraints) declared-low declared;
           weigh = weigh;
           positive = λ k. omega arith;
           lowers = read-lowers;
-          light = omega (arith, weighs);
+          light = omega (arith, goal-weighs);
         }
 
-    -- the end of its derivation is that of the definition
-    pub goal-runs :
-        (bound bound′ cells′ : List ℕ) (alive : Bool) (count number firings : ℕ)
-        → map cellTerm bound ≡ tabled var (g .variables)
-        → Ended rules n bound cells m (g .variables) bound′ cells′ alive count number firings
-        → record { state = stateOf alive number bound′ (take (5 * count) cells′); firings = firings }
-        ≡ run (programOf names symbols s rules n) g
-    unfolding run entered programOf
-    goal-runs bound bound′ cells′ alive count number firings b e =
-        e .same names (weight declaredTable (g .constraints)) (omega (arith, weighs, e .bounded weigh read-lowers)) ∙ rw (b, holds)
+    module _ (cells : List ℕ) (m : ℕ) (holds : storeOf cells m ≡ g .constraints) where
+      weighs : weightBy weigh (storeOf cells m) ≡ weight declaredTable (g .constraints)
+      weighs = rw holds goal-weighs
+
+      pub goal-starts :
+          weight declaredTable (g .constraints) ≤ 512 → g .variables ≤ 51000 → 2590 ≤ length cells → m ≤ 518
+          → Startable rules n cells m (g .variables)
+      goal-starts light few space there =
+          record { runs = rw holds (goal-runnable light); space = space; there = there; room = few }
+
+      -- the end of its derivation is that of the definition
+      pub goal-runs :
+          (bound bound′ cells′ : List ℕ) (alive : Bool) (count number firings : ℕ)
+          → map cellTerm bound ≡ tabled var (g .variables)
+          → Ended rules n bound cells m (g .variables) bound′ cells′ alive count number firings
+          → record { state = stateOf alive number bound′ (take (5 * count) cells′); firings = firings }
+          ≡ run (programOf names symbols s rules n) g
+      unfolding run goalState programOf
+      goal-runs bound bound′ cells′ alive count number firings b e =
+          e .same names (weight declaredTable (g .constraints)) (omega (arith, weighs, e .bounded weigh read-lowers))
+          ∙ rw (b, holds)

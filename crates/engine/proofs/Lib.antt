@@ -8,6 +8,9 @@ pub mod SolveLaws
 pub mod FireLaws
 pub mod RuleLaws
 pub mod WeightLaws
+pub mod FiredLaws
 pub mod StepLaws
+pub mod StatedLaws
 pub mod RunLaws
+pub mod EnterLaws
 pub mod GoalLaws

@@ -5,9 +5,10 @@ use Rattle.engine.specs.Cells.{assigned, fitOf, opposed, mayTerms, mayFi
 use Rattle.engine.specs.Cells.{instanceCell, movedRow}
 use Rattle.engine.specs.Places.{isLettered, foundOf, isSide, choiceOf}
 use Rattle.engine.specs.Runs.{weightBy, storeOf}
+use Rattle.engine.specs.Stated.{matchRow, fireRow}
 
 -- a name to say on an `unfolding` line
 unfoldable pub opened : ℕ
 unfolding assigned fitOf opposed mayTerms mayFit swap clashes merge instanceCell movedRow
-    isLettered foundOf isSide choiceOf weightBy storeOf
+    isLettered foundOf isSide choiceOf weightBy storeOf matchRow fireRow
 opened = 0

@@ -1,20 +1,22 @@
 -- The derivation on cells is the derivation on states; it ends by every weighing, and keeps within its arrays.
 -- Assumes nothing.
 use Prim.Native.Nat.{ℕ, zero, suc, _+_, _-_, _*_, _≤_, _<_}
+use native.Mathlib.Nat.{add-zero, add-suc}
 use native.Mathlib.Omega.{arith}
 use native.Mathlib.Numerals.{add-one}
 use mathlib.Core.Bool.{Bool, true, false, cond}
 use mathlib.Core.List.{List, [], _∷_, map}
-use mathlib.Core.Option.{none, some}
-use mathlib.Core.Path.{_≡_, refl, sym, _∙_}
+use mathlib.Core.Option.{Option, none, some}
+use mathlib.Core.Path.{_≡_, refl, sym, ap, _∙_}
 use lib.ListN.{length, take}
 use lib.Seq.{length-take-le}
-use Rattle.text.specs.Lists.{every}
+use Rattle.text.specs.Lists.{onward, every}
 use Rattle.semantics.specs.Terms.{Rule, State, failed, live}
-use Rattle.semantics.specs.Strategy.{advance, normalise}
+use Rattle.semantics.specs.Strategy.{Final, advance, normalise}
 use Rattle.tables.specs.Cells.{cellTerm, cellConstraints, isLow, stateOf}
 use Rattle.tables.specs.Rows.{rulesOf}
 use Rattle.engine.specs.Runs.{weightBy, Lowers, storeOf, Live, Stepped, Startable, Ended}
+use Rattle.engine.specs.Runs.{Continued}
 use Rattle.engine.proofs.StepLaws.{no-way}
 use Rattle.engine.proofs.WeightLaws.{weight-length}
 
@@ -41,7 +43,7 @@ count-weight w cells m p l =
     )
 
 -- a state in which no rule fits is the end
-normalise-rests :
+pub normalise-rests :
     (k : ℕ) (rs : List Rule) (s : State) (f : ℕ) → advance rs s ≡ none → normalise k rs s f ≡ record { state = s; firings = f }
 unfolding normalise
 normalise-rests zero rs s f e = refl
@@ -54,7 +56,7 @@ unfolding normalise
 normalise-moves k rs s t f e = rw e
 
 -- a failed state fires nothing
-failed-rests : (rs : List Rule) → advance rs failed ≡ none
+pub failed-rests : (rs : List Rule) → advance rs failed ≡ none
 unfolding advance
 failed-rests rs = refl
 
@@ -83,7 +85,7 @@ module _ (rules : List ℕ) (n : ℕ) (bound cells : List ℕ) (m next : ℕ) wh
           cells-size = refl;
           there = s .there;
           numbered = omega arith;
-          low = λ z. s .low;
+          low = λ z. s .runs .low;
           lighter = λ w lw. omega arith;
           same = λ names fuel h. let e : fuel - 0 ≡ fuel = omega arith in rw e;
         }
@@ -105,25 +107,25 @@ module _ (rules : List ℕ) (n : ℕ) (bound cells : List ℕ) (m next : ℕ) wh
 
       module _ (z : alive ≡ true) where
         -- the weight so far
-        weight-left : weightBy (s .weigh) (storeOf cells′ count) + firings ≤ 512
+        weight-left : weightBy (s .runs .weigh) (storeOf cells′ count) + firings ≤ 512
         weight-left =
-            let k : weightBy (s .weigh) (storeOf cells′ count) + firings ≤ weightBy (s .weigh) (storeOf cells m) =
-            rw z at (r .lighter (s .weigh) (s .lowers)) in
-            omega (arith, s .light)
+            let k : weightBy (s .runs .weigh) (storeOf cells′ count) + firings ≤ weightBy (s .runs .weigh) (storeOf cells m) =
+            rw z at (r .lighter (s .runs .weigh) (s .runs .lowers)) in
+            omega (arith, s .runs .light)
 
         few-now : count ≤ 512
         few-now =
             omega (
               arith,
               weight-left,
-              count-weight (s .weigh) cells′ count (s .positive) (omega (arith, r .there, r .cells-size, s .space)),
+              count-weight (s .runs .weigh) cells′ count (s .runs .positive) (omega (arith, r .there, r .cells-size, s .space)),
             )
 
         -- what a step asks
         pub running-live : Live rules n cells′ count number
         running-live =
             record {
-              table = s .table;
+              table = s .runs .table;
               space = omega (arith, few-now, r .cells-size, s .space);
               room = omega (arith, r .numbered, s .room, weight-left);
               low = r .low z;
@@ -148,7 +150,7 @@ module _ (rules : List ℕ) (n : ℕ) (bound cells : List ℕ) (m next : ℕ) wh
           module _ (y : f ≡ true) where
             -- fewer firings than the weight
             pub running-less : 512 - (firings + 1) < 512 - firings
-            running-less = omega (arith, weight-left, t .lighter y (s .weigh) (s .lowers))
+            running-less = omega (arith, weight-left, t .lighter y (s .runs .weigh) (s .runs .lowers))
 
             before :
                 (names : List ℕ) (fuel : ℕ) → suc firings ≤ fuel
@@ -180,3 +182,40 @@ module _ (rules : List ℕ) (n : ℕ) (bound cells : List ℕ) (m next : ℕ) wh
                       (stateOf a (number + 26) b (take (5 * k) c)) firings (t .moves y names))
                       ∙ before names fuel (omega arith));
                 }
+
+-- more firings before
+unfoldable later : ℕ → Final → Final
+later f e = record { state = e .state; firings = f + e .firings }
+
+-- firings before a derivation only count
+normalise-later :
+    (k : ℕ) (rs : List Rule) (s : State) (f g : ℕ) → normalise k rs s (f + g) ≡ later f (normalise k rs s g)
+unfolding normalise later
+normalise-later zero rs s f g = refl
+normalise-later (suc k) rs s f g = go (λ t. rw (← add-suc) (normalise-later k rs t f (suc g))) (advance rs s)
+  where
+    go : ((t : State) → normalise k rs t (suc (f + g)) ≡ later f (normalise k rs t (suc g))) → (o : Option State)
+        → onward o (record { state = s; firings = f + g }) (λ t. normalise k rs t (suc (f + g)))
+        ≡ later f (onward o (record { state = s; firings = g }) (λ t. normalise k rs t (suc g)))
+    go more none = refl
+    go more (some t) = more t
+
+module _ (rules : List ℕ) (n : ℕ) (bound cells : List ℕ) (m next : ℕ) (bound′ cells′ : List ℕ) (alive : Bool)
+    (count number firings : ℕ) (e : Ended rules n bound cells m next bound′ cells′ alive count number firings) where
+  -- a derivation has few firings
+  pub ended-few : Startable rules n cells m next → firings ≤ 512
+  ended-few s = omega (arith, e .bounded (s .runs .weigh) (s .runs .lowers), s .runs .light)
+
+  -- the end counts the firings before
+  pub ended-later :
+      (before : ℕ) → Continued rules n bound cells m next before bound′ cells′ alive count number (before + firings)
+  unfolding later
+  ended-later before =
+      record {
+        same = λ names fuel h.
+            ap (later before) (e .same names fuel (omega arith))
+            ∙ sym (normalise-later fuel (rulesOf names rules n) (live next (map cellTerm bound) (storeOf cells m)) before 0)
+            ∙ rw add-zero;
+        bounded = λ w lw. omega (arith, e .bounded w lw);
+        few = e .few;
+      }

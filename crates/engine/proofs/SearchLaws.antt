@@ -82,24 +82,24 @@ pub record Sought (heads : List ℕ) (h : ℕ) (cells : List ℕ) (m : ℕ) (cho
       ≡ answer heads h cells chosen bindings
 
 -- nothing either way is nothing
-cond-none : {A : Type 0} (t : Bool) → _≡_ {A = Option A} (cond t none none) none
+pub cond-none : {A : Type 0} (t : Bool) → _≡_ {A = Option A} (cond t none none) none
 cond-none true = refl
 cond-none false = refl
 
 -- a test before the first answer is a test before the second
-cond-bind :
+pub cond-bind :
     {A B : Type 0} (t : Bool) (o : Option A) (k : A → Option B) → cond t none (bind o k) ≡ bind (cond t none o) k
 cond-bind true o k = refl
 cond-bind false o k = refl
 
 -- a row as the code lends it
-abbrev lent : List ℕ → ℕ → List ℕ
+abbrev pub lent : List ℕ → ℕ → List ℕ
 lent l i = take (5 * i + 5 - 5 * i) (drop (5 * i) l)
 
-five : (i : ℕ) → 5 * i + 5 - 5 * i ≡ 5
+pub five : (i : ℕ) → 5 * i + 5 - 5 * i ≡ 5
 five i = omega arith
 
-lent-size : (l : List ℕ) (i : ℕ) → 5 * i + 5 ≤ length l → length (lent l i) ≡ 5
+pub lent-size : (l : List ℕ) (i : ℕ) → 5 * i + 5 ≤ length l → length (lent l i) ≡ 5
 lent-size l i h = rw (five i) (length-take-le 5 (drop (5 * i) l) (omega (arith, length-drop (5 * i) l)))
 
 module _ (n left : ℕ) where

@@ -3,3 +3,4 @@ pub mod Cells
 pub mod Places
 pub mod States
 pub mod Runs
+pub mod Stated

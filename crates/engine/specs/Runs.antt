@@ -1,7 +1,9 @@
 -- What the derivation asks and promises.
 --   weightBy, Lowers     the weight of constraints, and a weighing that every rule lowers
 --   Live, Stepped        one firing of the strategy
+--   Runnable             constraints from which the strategy comes to an end
 --   Startable, Ended     the derivation to its end
+--   Continued            the same, from a number of firings
 -- Assumes nothing.
 use Prim.Native.Nat.{ℕ, _+_, _*_, _≤_, _<_}
 use mathlib.Core.Bool.{Bool, true, false, cond}
@@ -56,18 +58,22 @@ pub record Stepped (rules : List ℕ) (n : ℕ) (bound cells : List ℕ) (m next
   pub low : fired ≡ true → alive ≡ true → every isLow (storeOf cells′ count) ≡ true
   pub few : count ≤ m + 6
 
--- what the derivation asks: room for 518 constraints and for 512 times 26 variables, and a weighing of at most 512 that every
--- rule lowers
-pub record Startable (rules : List ℕ) (n : ℕ) (cells : List ℕ) (m next : ℕ) : Type 0 where
+-- constraints from which the strategy comes to an end within the arrays: rules that the engine runs, symbols below the variables,
+-- and a weighing of at most 512 that every rule lowers
+pub record Runnable (rules : List ℕ) (n : ℕ) (cs : List Constraint) : Type 0 where
   pub table : Table rules n
-  pub space : 2590 ≤ length cells
-  pub there : m ≤ 518
-  pub room : next ≤ 51000
-  pub low : every isLow (storeOf cells m) ≡ true
+  pub low : every isLow cs ≡ true
   pub weigh : ℕ → ℕ
   pub positive : (k : ℕ) → 1 ≤ weigh k
   pub lowers : Lowers weigh rules n
-  pub light : weightBy weigh (storeOf cells m) ≤ 512
+  pub light : weightBy weigh cs ≤ 512
+
+-- what the derivation asks: room for 518 constraints and for 512 times 26 variables
+pub record Startable (rules : List ℕ) (n : ℕ) (cells : List ℕ) (m next : ℕ) : Type 0 where
+  pub runs : Runnable rules n (storeOf cells m)
+  pub space : 2590 ≤ length cells
+  pub there : m ≤ 518
+  pub room : next ≤ 51000
 
 -- the end of the derivation and its firings, which are no more than the weight
 pub record Ended (rules : List ℕ) (n : ℕ) (bound cells : List ℕ) (m next : ℕ) (bound′ cells′ : List ℕ)
@@ -77,4 +83,14 @@ pub record Ended (rules : List ℕ) (n : ℕ) (bound cells : List ℕ) (m next :
       → record { state = stateOf alive number bound′ (take (constraintSize * count) cells′); firings = firings }
       ≡ normalise fuel (rulesOf names rules n) (live next (map cellTerm bound) (storeOf cells m)) 0
   pub bounded : (w : ℕ → ℕ) → Lowers w rules n → firings ≤ weightBy w (storeOf cells m)
+  pub few : alive ≡ true → count ≤ 512
+
+-- the same end for a state that took `before` firings already, which count
+pub record Continued (rules : List ℕ) (n : ℕ) (bound cells : List ℕ) (m next before : ℕ) (bound′ cells′ : List ℕ)
+    (alive : Bool) (count number firings : ℕ) : Type 0 where
+  pub same :
+      (names : List ℕ) (fuel : ℕ) → firings ≤ before + fuel
+      → record { state = stateOf alive number bound′ (take (constraintSize * count) cells′); firings = firings }
+      ≡ normalise fuel (rulesOf names rules n) (live next (map cellTerm bound) (storeOf cells m)) before
+  pub bounded : (w : ℕ → ℕ) → Lowers w rules n → firings ≤ before + weightBy w (storeOf cells m)
   pub few : alive ≡ true → count ≤ 512

@@ -3,7 +3,8 @@ use crate::firing::fire;
 use crate::search::choose;
 use tables::layout::CONSTRAINT_SIZE;
 use tables::layout::ROW_SIZE;
-ghost use Rattle.engine.specs.Runs.{Live, Stepped, Startable, Ended};
+ghost use Prim.Native.Nat.{_≤_};
+ghost use Rattle.engine.specs.Runs.{Live, Stepped, Startable, Ended, Continued};
 
 // Whether a rule fired, whether the state lives on, and how many constraints it has then.
 pub struct Step {
@@ -91,6 +92,30 @@ pub fn normalise(
         alive: false,
         count,
         next: number,
+        firings,
+    }
+}
+
+// The same, from a state that took some firings already; the end counts them too.
+pub fn normalise_from(
+    rules: &[u16],
+    n: usize,
+    bound: &mut [u16],
+    cells: &mut [u16],
+    m: usize,
+    next: u16,
+    before: usize,
+) -> Final
+    requires { ⌜ Startable (now rules) n (now cells) m next × (before ≤ 65000) ⌝ }
+    ensures { λ r. ⌜ Continued (now (rules .entry)) n (now (bound .entry)) (now (cells .entry)) m next before
+        (now (bound .exit)) (now (cells .exit)) (r .alive) (r .count) (r .next) (r .firings) ⌝ }
+{
+    let end = normalise(rules, n, bound, cells, m, next);
+    let firings = before + end.firings;
+    Final {
+        alive: end.alive,
+        count: end.count,
+        next: end.next,
         firings,
     }
 }

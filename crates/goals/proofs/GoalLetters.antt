@@ -22,6 +22,7 @@ use Rattle.syntax.specs.Tables.{lettersOf}
 use Rattle.syntax.proofs.Tabled.{tabled-same}
 use Rattle.lines.proofs.Cells.{letter-one, one-list, and-both}
 use Rattle.goals.specs.ReadGoal.{LettersFit}
+use Rattle.text.proofs.Keys.{variable-range}
 
 -- numbers below k of which no two are the same: there are at most k
 module _ (n k : ℕ) (f : ℕ → ℕ) (low : (i : ℕ) → i < suc n → f i < suc k)
@@ -169,13 +170,12 @@ module _ (f : List ℕ) (n : isName f ≡ false) (t : isTerm f ≡ true) where
   letter-is = one-list f (letter-one f n t)
 
   pub letter-capital : (65 ≤ getD f 0 0) × (getD f 0 0 ≤ 90)
-  unfolding isTerm isVariable between
+  unfolding isTerm
   letter-capital =
       let b : ℕ = getD f 0 0 in
       let p : isVariable f ≡ true = sym (ap (λ (x : Bool). x || isVariable f) n) ∙ t in
-      let q : (leb 65 b && leb b 90) ≡ true = sym (ap isVariable letter-is) ∙ p in
-      let r : (leb 65 b ≡ true) × (leb b 90 ≡ true) = and-both (leb 65 b) (leb b 90) q in
-      (leb-true 65 b (r .0), leb-true b 90 (r .1))
+      let range = variable-range f p in
+      (range .1, range .2)
 
 -- the letters after one term field
 module _ (f : List ℕ) (letters : List ℕ) (v : ℕ) where

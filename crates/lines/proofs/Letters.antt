@@ -1,59 +1,67 @@
 -- Laws of the forms of lines and of their places.
---   form-none       a byte that is none of the letters
---   form-one, form-other    a first field of one byte, and any other
---   place-..        where a line may not stand
+--   form-none               a byte that is none of the letters
+--   form-letter, form-word  the form of a line by the key of its first field
+--   place-..                where a line may not stand
 -- Assumes nothing.
-use mathlib.Core.Path.{_≡_, refl, ap, _∙_}
+use mathlib.Core.Path.{_≡_, refl, sym, ap, _∙_}
+use mathlib.Core.Bool.{Bool, true, false, _&&_}
 use mathlib.Core.List.{List, [], _∷_}
 use mathlib.Core.Option.{none, some}
 use Prim.Native.Nat.{ℕ, zero, suc, _+_, _≤_, _<_}
 use native.Mathlib.Omega.{arith}
-use borrow.Author.Tests.{ne-eqb}
-use lib.ListN.{length, take, drop, getD}
-use lib.Seq.{slice-cons, slice-empty, length-slice}
-use Rattle.text.specs.Places.{before, fieldsFrom}
-use Rattle.text.proofs.Cursors.{field-at}
-use Rattle.syntax.specs.Forms.{symbolForm, headForm, bodyForm, equationForm, noForm, formOfByte, formOf, fieldAt}
+use borrow.Author.Tests.{ne-eqb, le-ltb, lt-ltb, lt-leb}
+use lib.Dec.{ltb, leb}
+use Rattle.text.specs.Bytes.{between, classOf, classNumber, isClass}
+use Rattle.text.specs.Fields.{isName, isVariable}
+use Rattle.text.specs.Keys.{keyOf}
+use Rattle.syntax.specs.Forms.{symbolForm, headForm, bodyForm, equationForm, noForm, formOfByte, formOf}
 use Rattle.syntax.specs.Forms.{placeAfter}
 use Rattle.lines.specs.Read.{placeMeant}
+use Rattle.text.proofs.Keys.{name-key, variable-key, letter-key, key-of-more}
 
 pub form-none : (b : ℕ) → (b ≡ 75 → ⊥) → (b ≡ 82 → ⊥) → (b ≡ 72 → ⊥) → (b ≡ 66 → ⊥) → (b ≡ 69 → ⊥) → (b ≡ 71 → ⊥)
     → formOfByte b ≡ noForm
 unfolding formOfByte
 form-none b k r h o e g = rw (ne-eqb b 75 k, ne-eqb b 82 r, ne-eqb b 72 h, ne-eqb b 66 o, ne-eqb b 69 e, ne-eqb b 71 g)
 
-form-long : (f : List ℕ) → (length f ≡ 1 → ⊥) → formOf f ≡ noForm
-unfolding formOf
-form-long [] h = refl
-form-long (b ∷ []) h = absurd (h refl)
-form-long (b ∷ c ∷ s) h = refl
+-- a byte that is no capital is none of the letters
+other-byte : (b x : ℕ) → isVariable (x ∷ []) ≡ true → isVariable (b ∷ []) ≡ false → b ≡ x → ⊥
+other-byte b x p q e = let z : _≡_ {A = ℕ} 0 1 = cc in omega arith
 
-form-byte : (b : ℕ) → formOf (b ∷ []) ≡ formOfByte b
-unfolding formOf
-form-byte b = refl
+form-small : (b : ℕ) → isVariable (b ∷ []) ≡ false → formOf (b ∷ []) ≡ noForm
+unfolding isVariable isClass classOf classNumber between formOf
+form-small b q =
+    form-none b (other-byte b 75 refl q) (other-byte b 82 refl q) (other-byte b 72 refl q) (other-byte b 66 refl q)
+    (other-byte b 69 refl q) (other-byte b 71 refl q)
 
-first-field : (f : List ℕ) (fs : List (List ℕ)) → fieldAt 0 (f ∷ fs) ≡ f
-unfolding fieldAt
-first-field f fs = refl
+-- what is no name has no key of one
+not-name : (f : List ℕ) → keyOf f < 28 → isName f ≡ false
+not-name f h = name-key f ∙ le-ltb 27 (keyOf f) (omega arith)
 
--- the form of the line that starts at a place, by where its first field ends
-module _ (line : List ℕ) (start end : ℕ) (h : start < length line) (e : end ≡ start + before 44 (drop start line))
-    (k : end ≤ length line) where
-  first : formOf (fieldAt 0 (fieldsFrom line start)) ≡ formOf (drop start (take end line))
-  first =
-      ap (λ (fs : List (List ℕ)). formOf (fieldAt 0 fs)) (field-at line start end (omega arith) e)
-      ∙ ap formOf (first-field (drop start (take end line)) (fieldsFrom line (suc end)))
+-- a first field that is no name, by its key
+pub form-letter : (f : List ℕ) → keyOf f < 28 → formOfByte (63 + keyOf f) ≡ formOf f
+unfolding formOf keyOf formOfByte isName between isVariable
+form-letter [] h = refl
+form-letter (b ∷ []) h = go (isVariable (b ∷ [])) refl
+  where
+    go : (v : Bool) → isVariable (b ∷ []) ≡ v → formOfByte (63 + keyOf (b ∷ [])) ≡ formOf (b ∷ [])
+    go true e = ap formOfByte (let z : 63 + keyOf (b ∷ []) ≡ b = omega (arith, letter-key (b ∷ []) e) in z)
+    go false e =
+        let one : keyOf (b ∷ []) ≡ 1 = rw (not-name (b ∷ []) h, e) in
+        rw one (sym (form-small b e))
+form-letter (b ∷ c ∷ s) h = rw (key-of-more b c s (not-name (b ∷ c ∷ s) h))
 
-  pub form-other : (end ≡ start + 1 → ⊥) → formOf (fieldAt 0 (fieldsFrom line start)) ≡ noForm
-  form-other q = first ∙ form-long (drop start (take end line)) (λ z. q (omega (arith, z, length-slice start end line k, e)))
-
-  pub form-one : end ≡ start + 1 → formOf (fieldAt 0 (fieldsFrom line start)) ≡ formOfByte (getD line start 0)
-  form-one q =
-      let z : end ≡ suc start = omega arith in
-      first ∙ ap formOf (slice-cons start end line 0 (omega arith) k
-      ∙ ap (λ (l : List ℕ). getD line start 0 ∷ l)
-      (ap (λ (n : ℕ). drop (suc start) (take n line)) z ∙ slice-empty (suc start) line))
-      ∙ form-byte (getD line start 0)
+-- a first field that is a name
+pub form-word : (f : List ℕ) → 27 < keyOf f → formOf f ≡ noForm
+unfolding formOf between
+form-word [] h = refl
+form-word (b ∷ []) h =
+    form-small b (variable-key (b ∷ []) ∙ rw (lt-leb (keyOf (b ∷ [])) 27 h) (never (leb 2 (keyOf (b ∷ [])))))
+  where
+    never : (t : Bool) → (t && false) ≡ false
+    never true = refl
+    never false = refl
+form-word (b ∷ c ∷ s) h = refl
 
 pub place-symbol : (p : ℕ) → (p ≡ 0 → ⊥) → placeAfter symbolForm (placeMeant p) ≡ none
 unfolding placeAfter placeMeant

@@ -1,7 +1,9 @@
--- Laws of this crate's definitions. Assumes nothing.
+-- The laws of this crate. Assumes nothing.
 pub mod Letters
-pub mod Constants
-pub mod Cells
-pub mod Shapes
-pub mod Steps
-pub mod Constraints
+pub mod Held
+pub mod Named
+pub mod TermCells
+pub mod TermLaws
+pub mod HeadLaws
+pub mod ConstraintLaws
+pub mod Weighing

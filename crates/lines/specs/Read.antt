@@ -1,38 +1,39 @@
 -- What the readers of both texts find in a line: one decoding for each of their answers.
---   formMeant, placeMeant, placeAnswer    the code's forms and places
---   addedOf, roomy                        the constants after a line, if they do not pass the limit
---   NamedIn, DeclaredAs, HeadIn           what is found of an H, B or G line: numbers 4 and 6
---   constraintLine                        an H, B or G line
---   isSymbolFaulty, isRuleFaulty, isEquationFaulty    number 4 of a K, R or E line
+--   formMeant, placeMeant, placeAnswer      the code's forms and places
+--   constraintHead, headAnswer              numbers 4 and 6 of an H, B or G line
+--   termCell, padded                        the cell of a term, and cells with zeros behind them
+--   Lent, Outside, Spelled, KeepsPlaces     the tables lent, and what a line does to names and places
+--   TermIn, TermsIn, ConstraintIn           what is promised of a term, of the terms of a line and of its constraint
 -- Assumes nothing.
 use mathlib.Core.Path.{_≡_}
-use mathlib.Core.Logic.{_⊎_}
-use Prim.Native.Nat.{ℕ, zero, suc, _+_, _≤_, _<_}
-use mathlib.Core.Bool.{Bool, true, false, cond, not, _||_}
-use mathlib.Core.List.{List}
+use Prim.Native.Nat.{ℕ, zero, suc, _+_, _*_, _≤_, _<_}
+use mathlib.Core.Bool.{Bool, true, false, cond}
+use mathlib.Core.List.{List, [], _∷_, map}
 use mathlib.Core.Option.{Option, none, some}
 use lib.Dec.{ltb, eqb}
-use lib.ListN.{length, take, drop}
-use Rattle.text.specs.Lists.{every, tabled}
-use Rattle.text.specs.Fields.{isName, isTerm, isNumberIn}
-use Rattle.text.specs.Places.{fieldsFrom}
-use Rattle.semantics.specs.Terms.{symbolAt, Constraint}
+use lib.ListN.{length, drop, getD}
+use Rattle.text.specs.Lists.{every, placeOf}
+use Rattle.text.specs.Fields.{isName, isTerm}
+use Rattle.text.specs.Keys.{keyOf, spell}
+use Rattle.text.specs.Splits.{Holds}
+use Rattle.text.specs.declared.fields.Fields.{Fields}
 use Rattle.semantics.specs.Terms as terms
+use Rattle.syntax.specs.Answers.{Answer, refused, accepted, refuseIf}
+use Rattle.syntax.specs.Forms.{Form, symbolForm, ruleForm, headForm, bodyForm, equationForm, goalForm, noForm}
+use Rattle.syntax.specs.Forms.{Place, inSymbols, inHeads, inBody, inEquations, fieldAt, constantsAfter, firstConstant}
+use Rattle.syntax.specs.Forms.{letterNumber, isConstraintFaulty, symbolNumber, isUndeclared}
+use Rattle.syntax.specs.Programs.{Found, constraintLine}
+use Rattle.tables.specs.Layout.{maxNames, firstRule, goalPlace}
+use Rattle.tables.specs.Cells.{rowConstraint}
+use Rattle.tables.specs.Rows.{symbolsOf, constantsOf}
+use Rattle.tables.specs.Names.{placedAt, Placed}
 use Rattle.lines.specs.declared.LineForm.{LineForm}
 use Rattle.lines.specs.declared.LineForm.the-variants.{Symbol, Rule, Head, Body, Equation, Goal, Nothing}
-use Rattle.lines.specs.declared.Added.{Added}
-use Rattle.lines.specs.declared.Added.the-variants.{Full, Count}
-use Rattle.lines.specs.declared.Named.{Named}
-use Rattle.lines.specs.declared.Named.the-variants.{Faulty, At}
 use Rattle.lines.specs.declared.HeadRead.{HeadRead}
-use Rattle.lines.specs.declared.HeadRead.the-variants.{Refused, Head as Headed}
-use Rattle.syntax.specs.Forms.{fieldAt, isConstraintFaulty, symbolNumber, isUndeclared}
-use Rattle.syntax.specs.Forms.{Form, symbolForm, ruleForm, headForm, bodyForm, equationForm, goalForm, noForm}
-use Rattle.syntax.specs.Forms.{Place, inSymbols, inHeads, inBody, inEquations}
-use Rattle.syntax.specs.Answers.{Answer, accepted, refuseIf}
-use Rattle.syntax.specs.Forms.{constantsAfter, constraintOf}
-use Rattle.syntax.specs.Programs.{maxConstants}
-use Rattle.syntax.specs.Tables.{constantsOf}
+use Rattle.lines.specs.declared.HeadRead.the-variants.{Refused, Symbol as HeadSymbol}
+use Rattle.lines.specs.declared.TermRead.{TermRead}
+use Rattle.lines.specs.declared.TermsRead.{TermsRead}
+use Rattle.lines.specs.declared.ConstraintRead.{ConstraintRead}
 
 -- the form that the code's form stands for
 unfoldable pub formMeant : LineForm → Form
@@ -55,85 +56,113 @@ placeMeant (suc (suc (suc n))) = inEquations
 unfoldable pub placeAnswer : ℕ → Option Place
 placeAnswer n = cond (ltb n 4) (some (placeMeant n)) none
 
--- the constants after a line, with n of the first text before them; none where they would pass the limit
-unfoldable pub addedOf : List ℕ → List ℕ → List ℕ → ℕ → Added → Option (List (List ℕ))
-addedOf first second cells n Full = none
-addedOf first second cells n (Count m) = some (constantsOf first second cells n m)
-
--- the constants, if they do not pass the limit
-unfoldable pub roomy : List (List ℕ) → Option (List (List ℕ))
-roomy constants = cond (ltb maxConstants (length constants)) none (some constants)
-
--- a line of the right form from a place on, with its symbol's name from `start` up to `stop`
-pub record NamedAt (line : List ℕ) (at start stop : ℕ) : Type 0 where
-  pub fine : isConstraintFaulty (fieldsFrom line at) ≡ false
-  pub named : fieldAt 1 (fieldsFrom line at) ≡ drop start (take stop line)
-  pub others : drop 2 (fieldsFrom line at) ≡ fieldsFrom line (suc stop)
-  pub terms : every isTerm (fieldsFrom line (suc stop)) ≡ true
-  pub few : length (fieldsFrom line (suc stop)) ≤ 4
-  pub starts : start ≤ stop
-  pub stops : stop ≤ length line
-
--- what is found of a line's form
-abbrev pub NamedIn : List ℕ → ℕ → Named → Type 0
-NamedIn line at Faulty = isConstraintFaulty (fieldsFrom line at) ≡ true
-NamedIn line at (At start stop) = NamedAt line at start stop
-
--- r is the number of the symbol with a name and a number of terms among k symbols; k where none has both
-pub record DeclaredAs (symbols : List terms.Symbol) (name : List ℕ) (count k r : ℕ) : Type 0 where
-  pub unknown :
-      (not (ltb (symbolNumber symbols name) (length symbols))
-      || not (eqb count (symbolAt symbols (symbolNumber symbols name) .arity)))
-      ≡ not (ltb r k)
-  pub number : r < k → r ≡ symbolNumber symbols name
-  pub bounded : r ≤ k
-
--- a line that meets neither 4 nor 6, with symbol s and its terms from a place on
-pub record HeadAt (symbols : List terms.Symbol) (line : List ℕ) (at k s start : ℕ) : Type 0 where
-  pub fine : isConstraintFaulty (fieldsFrom line at) ≡ false
-  pub known : isUndeclared symbols (fieldsFrom line at) ≡ false
-  pub number : s ≡ symbolNumber symbols (fieldAt 1 (fieldsFrom line at))
-  pub bounded : s < k
-  pub others : drop 2 (fieldsFrom line at) ≡ fieldsFrom line start
-  pub terms : every isTerm (fieldsFrom line start) ≡ true
-  pub few : length (fieldsFrom line start) ≤ 4
-  pub within : start ≤ length line + 1
-
--- what is found of a line's symbol: number 4, else number 6, else the symbol
-abbrev pub HeadIn : List terms.Symbol → List ℕ → ℕ → ℕ → HeadRead → Type 0
-HeadIn symbols line at k (Refused x) =
-    ((isConstraintFaulty (fieldsFrom line at) ≡ true) × (x ≡ 4))
-    ⊎ ((isConstraintFaulty (fieldsFrom line at) ≡ false) × (isUndeclared symbols (fieldsFrom line at) ≡ true) × (x ≡ 6))
-HeadIn symbols line at k (Headed s start) = HeadAt symbols line at k s start
-
--- the letters A to Z, which a rule's variables count by
-unfoldable pub alphabetLetters : List ℕ
-alphabetLetters = tabled (λ i. 65 + i) 26
-
--- a constraint of a line, and all constants after it
-pub record Found : Type 0 where
-  pub constraint : Constraint
-  pub constants : List (List ℕ)
-
--- an H, B or G line at line n, where `full` says that there are as many as there may be: numbers 4, 6 and 7
-unfoldable pub constraintLine : Bool → List terms.Symbol → (List ℕ → ℕ) → List (List ℕ) → List (List ℕ) → ℕ → Answer Found
-constraintLine full symbols variable constants fs n =
-    let after = constantsAfter (drop 2 fs) constants in
+-- an H, B or G line at line n: number 4, then 6; else its symbol
+unfoldable pub constraintHead : List terms.Symbol → ℕ → List (List ℕ) → Answer ℕ
+constraintHead symbols n fs =
     refuseIf (isConstraintFaulty fs) 4 n
-    (refuseIf (isUndeclared symbols fs) 6 n
-    (refuseIf (full || ltb maxConstants (length after)) 7 n
-    (accepted (record { constraint = constraintOf symbols variable after fs; constants = after }))))
+    (refuseIf (isUndeclared symbols fs) 6 n (accepted (symbolNumber symbols (fieldAt 1 fs))))
 
--- number 4 of a K line
-unfoldable pub isSymbolFaulty : List (List ℕ) → Bool
-isSymbolFaulty fs =
-    not (eqb (length fs) 4) || not (isName (fieldAt 1 fs)) || not (isNumberIn 0 4 (fieldAt 2 fs))
-    || not (isNumberIn 1 31 (fieldAt 3 fs))
+-- the code's answer to it
+unfoldable pub headAnswer : ℕ → HeadRead → Answer ℕ
+headAnswer n (Refused x) = refused x n
+headAnswer n (HeadSymbol s) = accepted s
 
--- number 4 of an R line
-unfoldable pub isRuleFaulty : List (List ℕ) → Bool
-isRuleFaulty fs = not (eqb (length fs) 2) || not (isName (fieldAt 1 fs))
+-- a line that is not refused has two to six fields, and its symbol is in the table, of `size` cells; a number that is met is not 0
+abbrev pub headFits : Fields → ℕ → HeadRead → Type 0
+headFits f size (Refused x) = 0 < x
+headFits f size (HeadSymbol s) = (2 ≤ f .count) × (f .count ≤ 6) × (2 * s < size)
 
--- number 4 of an E line
-unfoldable pub isEquationFaulty : List (List ℕ) → Bool
-isEquationFaulty fs = not (eqb (length fs) 3) || not (every isTerm (drop 1 fs))
+-- the cell of a term field: a constant's number, or 256 more than its letter's
+unfoldable pub termCell : List (List ℕ) → List ℕ → ℕ
+termCell constants f = cond (isName f) (firstConstant + placeOf f constants) (254 + keyOf f)
+
+-- n cells: those of a list, and zeros behind them
+unfoldable pub padded : ℕ → List ℕ → List ℕ
+padded zero cells = []
+padded (suc n) [] = 0 ∷ padded n []
+padded (suc n) (x ∷ cells) = x ∷ padded n cells
+
+-- a line's fields and the tables of names and places, lent to be read and filled
+pub record Lent (f : Fields) (base : ℕ) (names places : List ℕ) : Type 0 where
+  pub near : (i : ℕ) → getD (f .starts) i 0 < 16384
+  pub low : base ≤ goalPlace
+  pub names-size : length names ≡ maxNames
+  pub places-size : length places ≡ maxNames
+
+-- names that are the same but for constants
+pub record Outside (names names′ : List ℕ) : Type 0 where
+  pub size : length names′ ≡ length names
+  pub symbols : (n : ℕ) → n < firstConstant → getD names′ n 0 ≡ getD names n 0
+  pub rules : (n : ℕ) → firstRule ≤ n → getD names′ n 0 ≡ getD names n 0
+
+-- the names among the fields stand in the two texts where the starts say, `base` added
+pub record Spelled (program goal : List ℕ) (base : ℕ) (fs : List (List ℕ)) (f : Fields) : Type 0 where
+  pub each :
+      (i : ℕ) → i < 8 → i < length fs → isName (getD fs i []) ≡ true
+      → placedAt program goal (base + getD (f .starts) i 0) ≡ getD fs i []
+
+-- names that stand where their places say still do so behind the line
+pub record KeepsPlaces (base : ℕ) (f : Fields) (names places names′ places′ : List ℕ) : Type 0 where
+  pub keeps :
+      (program goal : List ℕ) (fs : List (List ℕ)) → Holds fs f → Spelled program goal base fs f
+      → Placed program goal names places → Placed program goal names′ places′
+
+-- a term field, read behind some constants: cell 0 says that they pass the limit
+pub record TermMeans (g : List ℕ) (before : List (List ℕ)) (names′ : List ℕ) (r : TermRead) : Type 0 where
+  pub full : r .cell ≡ 0 → 64 < length (constantsAfter (g ∷ []) before)
+  pub after : (r .cell ≡ 0 → ⊥) → constantsOf names′ (r .count) ≡ constantsAfter (g ∷ []) before
+  pub cell : (r .cell ≡ 0 → ⊥) → r .cell ≡ termCell (constantsAfter (g ∷ []) before) g
+
+-- what is promised of one term, for every field that the key may be of
+pub record TermIn (key place count : ℕ) (names places names′ places′ : List ℕ) (r : TermRead) : Type 0 where
+  pub few : r .count ≤ 64
+  pub low : r .cell < 282
+  pub sized : length places′ ≡ length places
+  pub outside : Outside names names′
+  pub means : (g : List ℕ) → key ≡ keyOf g → isTerm g ≡ true → TermMeans g (constantsOf names count) names′ r
+  pub keeps :
+      (program goal : List ℕ) → (27 < key → placedAt program goal place ≡ spell key) → Placed program goal names places
+      → Placed program goal names′ places′
+
+-- the term fields of a line, read behind some constants
+pub record TermsMean (gs before : List (List ℕ)) (names′ : List ℕ) (r : TermsRead) : Type 0 where
+  pub full : r .full ≡ true → 64 < length (constantsAfter gs before)
+  pub after : r .full ≡ false → constantsOf names′ (r .count) ≡ constantsAfter gs before
+  pub cells : r .full ≡ false → r .cells ≡ padded 4 (map (termCell (constantsAfter gs before)) gs)
+
+-- what is promised of the terms of a line, for all fields that it may hold
+pub record TermsIn (f : Fields) (from base count : ℕ) (names places names′ places′ : List ℕ) (r : TermsRead) : Type 0 where
+  pub few : r .count ≤ 64
+  pub size : length (r .cells) ≡ 4
+  pub low : (i : ℕ) → getD (r .cells) i 0 < 282
+  pub sized : length places′ ≡ length places
+  pub outside : Outside names names′
+  pub means :
+      (fs : List (List ℕ)) → Holds fs f → every isTerm (drop from fs) ≡ true
+      → TermsMean (drop from fs) (constantsOf names count) names′ r
+  pub keeps : KeepsPlaces base f names places names′ places′
+
+-- the answer to a line that meets a number
+abbrev pub refusedRead : ℕ → ConstraintRead
+refusedRead x = record { refusal = x; count = 0; cells = 0 ∷ 0 ∷ 0 ∷ 0 ∷ 0 ∷ [] }
+
+-- the code's answer to an H, B or G line at line n
+unfoldable pub constraintAnswer : List ℕ → ℕ → ConstraintRead → Answer Found
+constraintAnswer names n r =
+    cond (eqb (r .refusal) 0)
+    (accepted (record { constraint = rowConstraint (r .cells); constants = constantsOf names (r .count) }))
+    (refused (r .refusal) n)
+
+-- what is promised of an H, B or G line: the constraint whose variables are letters
+pub record ConstraintIn (f : Fields) (full : Bool) (base count : ℕ) (symbols names places names′ places′ : List ℕ)
+    (r : ConstraintRead) : Type 0 where
+  pub few : r .count ≤ 64
+  pub room : r .refusal ≡ 0 → full ≡ false
+  pub size : length (r .cells) ≡ 5
+  pub low : (i : ℕ) → getD (r .cells) i 0 < 282
+  pub sized : length places′ ≡ length places
+  pub outside : Outside names names′
+  pub answers :
+      (fs : List (List ℕ)) (n k : ℕ) → Holds fs f → length symbols ≡ 2 * k
+      → constraintAnswer names′ n r ≡ constraintLine full (symbolsOf names symbols k) letterNumber (constantsOf names count) n fs
+  pub keeps : KeepsPlaces base f names places names′ places′

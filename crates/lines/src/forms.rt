@@ -1,10 +1,10 @@
 // What a line means, by its first letter, and where it may stand.
 use crate::LineForm;
 ghost use mathlib.Core.Path.{_≡_};
-ghost use Prim.Native.Nat.{_<_};
-ghost use lib.ListN.{length};
-ghost use Rattle.text.specs.Places.{fieldsFrom};
-ghost use Rattle.syntax.specs.Forms.{formOfByte, formOf, placeAfter, fieldAt};
+ghost use mathlib.Core.List.{List};
+ghost use Prim.Native.Nat.{ℕ};
+ghost use Rattle.text.specs.Keys.{keyOf};
+ghost use Rattle.syntax.specs.Forms.{formOfByte, formOf, placeAfter};
 ghost use Rattle.lines.specs.Read.{formMeant, placeMeant, placeAnswer};
 
 // What a byte stands for as the first letter of a line, over all byte values.
@@ -24,16 +24,14 @@ fn form_of_byte(b: u8) -> LineForm
     }
 }
 
-// The form of the line that starts at a place: its first field is one letter.
-pub fn form_at(line: &[u8], at: usize) -> LineForm
-    requires { ⌜ at < length (now line) ⌝ }
-    ensures { λ r. ⌜ formMeant r ≡ formOf (fieldAt 0 (fieldsFrom (now (line .entry)) at)) ⌝ }
+// The form of a line by the key of its first field: a letter's byte is 63 more than its key.
+pub fn form_of(key: u64) -> LineForm
+    ensures { λ r. ⌜ ((f : List ℕ) → key ≡ keyOf f → formMeant r ≡ formOf f) ⌝ }
 {
-    let end = text::field_end(line, at);
-    if end != at + 1 {
-        return LineForm::Nothing;
+    if key < 28 {
+        return form_of_byte(63 + key as u8);
     }
-    form_of_byte(line[at])
+    LineForm::Nothing
 }
 
 // The place behind a line of a form, or 4 where it may not stand: 0 among K lines, 1 behind R or H, 2 behind B, 3 behind E.

@@ -1,95 +1,76 @@
-// The symbol and the form of an H, B or G line: numbers 4 and 6.
+// The form and the symbol of an H, B or G line: numbers 4 and 6.
 use crate::HeadRead;
-use crate::Named;
-use crate::terms::are_terms;
-use syntax::names::find_name;
-use syntax::names::wide;
+use tables::layout::SYMBOL_SIZE;
+use tables::names::find_key;
+use tables::wide;
+use text::fields::Fields;
 ghost use mathlib.Core.Path.{_≡_};
-ghost use Prim.Native.Nat.{_+_, _*_, _≤_, _<_};
-ghost use lib.ListN.{length, take};
-ghost use Rattle.text.specs.Places.{classTable, fieldsFrom};
-ghost use Rattle.syntax.specs.Tables.{symbolsOf};
-ghost use Rattle.lines.specs.Read.{NamedIn, DeclaredAs, HeadIn};
+ghost use mathlib.Core.Bool.{false};
+ghost use mathlib.Core.List.{List};
+ghost use Prim.Native.Nat.{ℕ, _*_, _≤_};
+ghost use lib.ListN.{length, drop};
+ghost use Rattle.text.specs.Lists.{every};
+ghost use Rattle.text.specs.Fields.{isTerm};
+ghost use Rattle.text.specs.Splits.{Holds};
+ghost use Rattle.syntax.specs.Forms.{isConstraintFaulty};
+ghost use Rattle.tables.specs.Rows.{symbolsOf};
+ghost use Rattle.lines.specs.Read.{constraintHead, headAnswer, headFits};
 
-// Number 4: whether the line from `at` on has two to six fields, a name and terms; and where the name stands.
-fn constraint_form(classes: &[u8], line: &[u8], at: usize) -> Named
-    requires { ⌜ (now classes ≡ classTable) × (at ≤ length (now line)) ⌝ }
-    ensures { λ r. ⌜ NamedIn (now (line .entry)) at r ⌝ }
+// Whether all fields from one on are terms.
+pub fn are_terms(f: Fields, from: usize) -> bool
+    requires { ⌜ f .count ≤ 8 ⌝ }
+    ensures { λ r. ⌜ ((fs : List (List ℕ)) → Holds fs f → r ≡ every isTerm (drop from fs)) ⌝ }
 {
-    let count = text::count_fields(line, at);
+    let keys = f.keys;
+    let count = f.count;
+    let mut i = from;
+    while i < count {
+        if keys[i] < 2 {
+            return false;
+        }
+        i += 1;
+    }
+    true
+}
+
+// Number 4 of an H, B or G line: not two to six fields, a name, terms.
+fn is_faulty(f: Fields) -> bool
+    ensures { λ r. ⌜ ((fs : List (List ℕ)) → Holds fs f → r ≡ isConstraintFaulty fs)
+        × (r ≡ false → (2 ≤ f .count) × (f .count ≤ 6)) ⌝ }
+{
+    let keys = f.keys;
+    let count = f.count;
     if count < 2 {
-        return Named::Faulty;
+        return true;
     }
     if 6 < count {
-        return Named::Faulty;
+        return true;
     }
-    let start = text::field_end(line, at) + 1;
-    let stop = text::field_end(line, start);
-    if !text::is_name(classes, &line[start..stop]) {
-        return Named::Faulty;
+    if keys[1] < 28 {
+        return true;
     }
-    if !are_terms(classes, line, stop + 1) {
-        return Named::Faulty;
-    }
-    Named::At(start, stop)
+    if are_terms(f, 2) { false } else { true }
 }
 
-// How many fields are left of a line from `at` on.
-pub fn fields_left(line: &[u8], at: usize) -> usize
-    ensures { λ r. ⌜ r ≡ length (fieldsFrom (now (line .entry)) at) ⌝ }
+// Numbers 4 and 6 of an H, B or G line: its symbol among those of which the names' keys and the table are lent.
+pub fn constraint_head(f: Fields, names: &[u64], symbols: &[u16]) -> HeadRead
+    requires { ⌜ length (now symbols) ≤ 2 * length (now names) ⌝ }
+    ensures { λ r. ⌜ ((fs : List (List ℕ)) (n k : ℕ) → Holds fs f → length (now (symbols .entry)) ≡ 2 * k
+        → headAnswer n r ≡ constraintHead (symbolsOf (now (names .entry)) (now (symbols .entry)) k) n fs)
+        × headFits f (length (now (symbols .entry))) r ⌝ }
 {
-    if line.len() < at {
-        return 0;
+    if is_faulty(f) {
+        return HeadRead::Refused(4);
     }
-    text::count_fields(line, at)
-}
-
-// The number of the symbol with a name and a number of terms; k where none of the k symbols has both.
-fn declared(text: &[u8], symbols: &[u16], k: usize, name: &[u8], terms: usize) -> usize
-    requires { ⌜ 4 * k ≤ length (now symbols) ⌝ }
-    ensures { λ r. ⌜ DeclaredAs (symbolsOf (now (text .entry)) (now (symbols .entry)) k) (now (name .entry)) terms k r ⌝ }
-{
-    let s = find_name(text, symbols, 4, k, name);
-    if s == k {
-        return k;
+    let keys = f.keys;
+    let s = find_key(names, keys[1]);
+    let at = SYMBOL_SIZE * s;
+    if symbols.len() <= at {
+        return HeadRead::Refused(6);
     }
-    let arity = wide(symbols[4 * s + 2]);
-    if arity != terms {
-        return k;
+    let arity = wide(symbols[at]);
+    if arity + 2 != f.count {
+        return HeadRead::Refused(6);
     }
-    s
-}
-
-// Numbers 4 and 6: the symbol of the line of the second text from `at` up to `end`, declared in the first text.
-pub fn constraint_head(
-    classes: &[u8],
-    first: &[u8],
-    second: &[u8],
-    at: usize,
-    end: usize,
-    symbols: &[u16],
-    k: usize,
-) -> HeadRead
-    requires { ⌜ (now classes ≡ classTable) × (at ≤ end) × (end ≤ length (now second)) × (length (now second) ≤ 16384)
-        × (4 * k ≤ length (now symbols)) ⌝ }
-    ensures { λ r. ⌜ HeadIn (symbolsOf (now (first .entry)) (now (symbols .entry)) k) (take end (now (second .entry))) at k r ⌝ }
-{
-    let line = &second[..end];
-    match constraint_form(classes, line, at) {
-        Named::Faulty => HeadRead::Refused(4),
-        Named::At(start, stop) => {
-            let from = stop + 1;
-            let s = declared(
-                first,
-                symbols,
-                k,
-                &line[start..stop],
-                fields_left(line, from),
-            );
-            if s == k {
-                return HeadRead::Refused(6);
-            }
-            HeadRead::Head(s, from)
-        }
-    }
+    HeadRead::Symbol(s)
 }

@@ -1,4 +1,6 @@
-// A line of a program or a goal: its form, the symbol of its constraint, and its terms as cells; and the weight of constraints.
+// A line of a program or a goal, held as the keys of its fields: its form, its constraint and its terms as cells; and the weight
+// of constraints.
+pub mod constraints;
 pub mod forms;
 pub mod heads;
 pub mod rows;
@@ -16,20 +18,28 @@ pub enum LineForm {
     Nothing,
 }
 
-// How many constants the second text has after a line, or that they would pass the limit.
-pub enum Added {
-    Full,
-    Count(usize),
-}
-
-// Where the symbol's name of an H, B or G line starts and ends, or that the line is not of its form.
-pub enum Named {
-    Faulty,
-    At(usize, usize),
-}
-
-// The symbol's number of an H, B or G line and where its terms start, or the number that it meets.
+// The symbol's number of an H, B or G line, or the number that it meets.
 pub enum HeadRead {
     Refused(u8),
-    Head(usize, usize),
+    Symbol(usize),
+}
+
+// A term's cell, and how many constants there are after it; cell 0 where they would pass the limit.
+pub struct TermRead {
+    pub cell: u16,
+    pub count: usize,
+}
+
+// The cells of a line's terms, with 0 behind the last, and how many constants there are after it; or that they pass the limit.
+pub struct TermsRead {
+    pub full: bool,
+    pub count: usize,
+    pub cells: [u16; 4],
+}
+
+// The cells of an H, B or G line's constraint, and how many constants there are after it; or the number that it meets, 0 for none.
+pub struct ConstraintRead {
+    pub refusal: u8,
+    pub count: usize,
+    pub cells: [u16; 5],
 }

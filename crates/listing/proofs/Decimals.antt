@@ -1,15 +1,21 @@
 -- Decimal digits: a number below ten is one digit, and any other is the digits of its tenth and one more.
 --   decimal-low, decimal-high     the two cases
 --   decimal-few                   a number has at most one digit more than its value
+--   decimal-exact                 the digits have no leading zero, and their value is the number
 -- Assumes nothing.
 use mathlib.Core.Path.{_≡_, refl, sym, ap, _∙_}
-use mathlib.Core.Bool.{Bool, true, false, cond}
+use mathlib.Core.Bool.{Bool, true, false, cond, _&&_}
 use mathlib.Core.List.{List, [], _∷_, _++_, append-assoc}
-use Prim.Native.Nat.{ℕ, zero, suc, _+_, _/_, _%_, _≤_, _<_}
+use Prim.Native.Nat.{ℕ, zero, suc, _+_, _-_, _*_, _/_, _%_, _≤_, _<_}
 use native.Mathlib.Omega.{arith}
-use lib.Dec.{ltb}
+use lib.Dec.{ltb, leb}
 use lib.ListN.{length, length-append}
-use borrow.Author.Tests.{lt-ltb, le-ltb, ltb-true, ltb-false}
+use borrow.Author.Tests.{lt-ltb, le-ltb, le-leb, leb-true, ltb-true, ltb-false}
+use Rattle.text.specs.Bytes.{between}
+use Rattle.text.specs.Fields.{isNumber, valueFrom, valueOf}
+use Rattle.text.specs.Lists.{every}
+use Rattle.semantics.proofs.Bools.{and-true}
+use Rattle.semantics.proofs.Entering.{every-last}
 use Rattle.listing.specs.Listing.{decimalFrom, decimal}
 
 -- digits go in front of what stands behind
@@ -78,3 +84,90 @@ decimal-some n = go (ltb n 10) refl
     go : (t : Bool) → ltb n 10 ≡ t → 1 ≤ length (decimal n)
     go true e = rw (decimal-low n (ltb-true n 10 e)) (omega arith)
     go false e = rw (decimal-high n (ltb-false n 10 e)) (omega (arith, length-append (decimal (n / 10)) ((48 + n % 10) ∷ [])))
+
+-- the value of digits with one more behind them
+value-last : (v : ℕ) (s : List ℕ) (b : ℕ) → valueFrom v (s ++ (b ∷ [])) ≡ valueFrom v s * 10 + (b - 48)
+unfolding valueFrom
+value-last v [] b = refl
+value-last v (c ∷ s) b = value-last (v * 10 + (c - 48)) s b
+
+-- the value of one digit
+value-digit : (d : ℕ) → valueFrom 0 ((48 + d) ∷ []) ≡ d
+unfolding valueFrom
+value-digit d = omega arith
+
+-- a digit, by its value
+digit-between : (lo d : ℕ) → lo ≤ 48 + d → d < 10 → between lo 57 (48 + d) ≡ true
+unfolding between
+digit-between lo d h k = rw (le-leb lo (48 + d) h, le-leb (48 + d) 57 (omega arith))
+
+-- digits of which the first is not zero
+pub record Led (s : List ℕ) : Type 0 where
+  pub first : ℕ
+  pub others : List ℕ
+  pub are : s ≡ first ∷ others
+  pub leads : between 49 57 first ≡ true
+  pub digits : every (between 48 57) others ≡ true
+
+-- every number but zero is so
+decimal-led : (f n : ℕ) → n < f → 1 ≤ n → Led (decimal n)
+decimal-led zero n h k = absurd (omega arith)
+decimal-led (suc f) n h k = go (ltb n 10) refl (decimal-led f (n / 10))
+  where
+    go : (t : Bool) → ltb n 10 ≡ t → (n / 10 < f → 1 ≤ n / 10 → Led (decimal (n / 10))) → Led (decimal n)
+    go true e again =
+        let low : n < 10 = ltb-true n 10 e in
+        record {
+          first = 48 + n;
+          others = [];
+          are = decimal-low n low;
+          leads = digit-between 49 n (omega arith) low;
+          digits = refl;
+        }
+    go false e again =
+        let high : 10 ≤ n = ltb-false n 10 e in
+        let l = again (omega arith) (omega arith) in
+        record {
+          first = l .first;
+          others = l .others ++ ((48 + n % 10) ∷ []);
+          are = decimal-high n high ∙ ap (λ s. s ++ ((48 + n % 10) ∷ [])) (l .are);
+          leads = l .leads;
+          digits = every-last (between 48 57) (l .others) (48 + n % 10) (l .digits)
+              (digit-between 48 (n % 10) (omega arith) (omega arith));
+        }
+
+-- such digits have the form of a number
+led-number : (b : ℕ) (s : List ℕ) → between 49 57 b ≡ true → every (between 48 57) s ≡ true → isNumber (b ∷ s) ≡ true
+unfolding isNumber between
+led-number b [] h k =
+    let (least, most) = and-true (leb 49 b) (leb b 57) h in
+    rw (le-leb 48 b (omega (arith, leb-true 49 b least)), most)
+led-number b (c ∷ s) h k = rw (h, k)
+
+-- the value of a number's digits
+decimal-value : (f n : ℕ) → n < f → valueOf (decimal n) ≡ n
+unfolding valueOf
+decimal-value zero n h = absurd (omega arith)
+decimal-value (suc f) n h = go (ltb n 10) refl (decimal-value f (n / 10))
+  where
+    go : (t : Bool) → ltb n 10 ≡ t → (n / 10 < f → valueFrom 0 (decimal (n / 10)) ≡ n / 10) → valueFrom 0 (decimal n) ≡ n
+    go true e again = rw (decimal-low n (ltb-true n 10 e)) (value-digit n)
+    go false e again =
+        let high : 10 ≤ n = ltb-false n 10 e in
+        let tenth = again (omega arith) in
+        rw (decimal-high n high, value-last 0 (decimal (n / 10)) (48 + n % 10), tenth) (omega arith)
+
+-- zero is one digit
+zero-number : isNumber (48 ∷ []) ≡ true
+unfolding isNumber between
+zero-number = refl
+
+-- the digits of a number have no leading zero, and their value is the number
+pub decimal-exact : (n : ℕ) → (isNumber (decimal n) ≡ true) × (valueOf (decimal n) ≡ n)
+decimal-exact n = (form n, decimal-value (suc n) n (omega arith))
+  where
+    form : (n : ℕ) → isNumber (decimal n) ≡ true
+    form zero = rw (decimal-low 0 (omega arith)) zero-number
+    form (suc m) =
+        let l = decimal-led (suc (suc m)) (suc m) (omega arith) (omega arith) in
+        rw (l .are) (led-number (l .first) (l .others) (l .leads) (l .digits))

@@ -1,11 +1,7 @@
--- Laws of this crate's definitions. Assumes nothing.
+-- The laws of this crate. Assumes nothing.
 pub mod Opened
 pub mod Decimals
-pub mod Laying
-pub mod TermLaws
+pub mod WriteLaws
 pub mod LineLaws
-pub mod NumberLaws
-pub mod Appearing
-pub mod StateLaws
-pub mod Decoding
-pub mod RunLaws
+pub mod EndLaws
+pub mod SizeLaws

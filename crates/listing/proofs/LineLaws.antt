@@ -1,369 +1,310 @@
--- Laws of lines as bytes.
---   name-part, name-few                 a symbol's name is a part of the program's text
---   shown-from, row-shown               the terms of a row and a row's cells, as they are lent
---   bound-size, row-size, head-size, end-size      the length of a line, and of all, from that of the parts
---   head-put, bound-put, row-put        a line written part by part, with the room for each part
---   bounds-more, bounds-end, rows-more, rows-end      the lines from place i on
---   bounds-put, bound-placed, rows-put, row-placed    the lines written up to place i
---   bounds-all, bounds-count, rows-all, rows-count    the lines counted up to place i
---   end-put                             a whole listing, written part by part
+-- Laws of the pieces that the writers put one behind the other: what each leaves to count, and what it adds.
+--   copy-…         a part of a text, byte by byte
+--   digit-…        decimal digits
+--   head-…         a word, a number and the line feed
+--   name-…, variable-…     a cell, and a goal variable's name
+--   fields-…       fields behind commas, and the line feed
+--   row-…, rows-…  a constraint's line, and a line for each constraint
+--   bound-…, bounds-…      an A line, and a line for each goal variable
 -- Assumes nothing.
-use mathlib.Core.Path.{_≡_, refl, sym, ap, _∙_, subst}
-use mathlib.Core.List.{List, [], _∷_, _++_}
-use Prim.Native.Nat.{ℕ, suc, _+_, _-_, _*_, _≤_, _<_}
+use mathlib.Core.Path.{_≡_, refl, sym, ap, _∙_}
+use mathlib.Core.Bool.{Bool, true, false, cond}
+use mathlib.Core.List.{List, [], _∷_, _++_, append-assoc, append-nil, map}
+use Prim.Native.Nat.{ℕ, suc, _+_, _-_, _*_, _/_, _%_, _≤_, _<_}
 use native.Mathlib.Omega.{arith}
 use native.Mathlib.Numerals.{add-one}
-use lib.ListN.{length, take, drop, getD, set, length-append, length-take, length-drop, drop-of-length-le}
-use lib.Seq.{drop-cons, drop-drop}
-use Rattle.syntax.specs.Tables.{part, symbolOf}
-use Rattle.listing.specs.Listing.{decimal}
-use Rattle.listing.specs.Pieces.{namedAs, fieldBytes, boundBytes, rowBytes, headBytes, boundsBytes, rowsBytes, endBytes}
-use Rattle.listing.specs.Pieces.{termBytes, AllShown, RowShown, RowsShown, Put}
-use Rattle.listing.proofs.Laying.{Placed, placed-start, placed-byte, placed-is, placed-all, placed-last, placed-inside}
-use Rattle.listing.proofs.Laying.{from, back, from-drop, lent-room, lent-room-last, lent-part, lent-last}
-use Rattle.listing.proofs.Laying.{put-is, put-placed, last-inside}
+use borrow.Author.Tests.{lt-ltb, le-ltb}
+use lib.Dec.{ltb}
+use lib.ListN.{length, take, drop, getD, length-append, length-drop, length-take, drop-of-length-le}
+use lib.Seq.{drop-cons, take-all, drop-drop}
+use Rattle.text.specs.Bytes.{ascii}
+use Rattle.semantics.specs.Terms.{Term, Constraint}
+use Rattle.tables.specs.Cells.{cellTerm, cellTerms, cellConstraints, rowConstraint}
+use Rattle.tables.specs.Numbers.{usedCells}
+use Rattle.tables.proofs.CellLaws.{cell-low, cell-high, constraints-at, constraints-short}
+use Rattle.tables.proofs.NumberLaws.{used-terms}
+use Rattle.listing.specs.Listing.{Naming, decimal, fieldsBehind, lineOf, termShown, constraintShown, constraintLines}
+use Rattle.listing.specs.Listing.{numberedAs, variableName, boundLines}
+use Rattle.listing.specs.Writing.{Countable, Writes}
+use Rattle.listing.specs.Ends.{cellShown}
+use Rattle.listing.proofs.Decimals.{decimal-low, decimal-high}
+use Rattle.listing.proofs.WriteLaws.{wrote-then, wrote-is, count-is, count-first, count-next}
+use Rattle.listing.proofs.WriteLaws.{Writing, writing-count, writing-next, writing-end, writing-last}
 
--- what is read of symbol k, w being its number: where its name starts and how many bytes it has
-pub record NameEntry (symbols : List ℕ) (k w a b : ℕ) : Type 0 where
-  pub number : w ≡ k
-  pub start : a ≡ getD symbols (4 * w) 0
-  pub size : b ≡ getD symbols (4 * w + 1) 0
+-- a part of a text, one byte on
+module _ {part o p : List ℕ} {at end : ℕ} (i : ℕ) (w : Writing part at o p end (drop i part)) where
+  pub copy-count : i < length part → Countable at part → Countable end (getD part i 0 ∷ [])
+  copy-count h c = count-first (drop (suc i) part) (count-is (drop-cons part i 0 h) (writing-count c w))
 
-pub name-part : (program : List ℕ) {symbols : List ℕ} {k w a b : ℕ} → NameEntry symbols k w a b
-    → part program a b ≡ namedAs program symbols k
-unfolding namedAs symbolOf
-name-part program {symbols} {k} {w} {a} {b} e = rw (e .start, e .size, e .number)
+  pub copy-next : {q : List ℕ} {more : ℕ} → i < length part → Writes (getD part i 0 ∷ []) end p q more → length q ≡ length p
+      → Writing part at o q more (drop (i + 1) part)
+  copy-next h v k = rw (add-one i) (writing-next (drop (suc i) part) (drop-cons part i 0 h) w v k)
 
--- a name has at most as many bytes as its entry says
-pub name-few : (program symbols : List ℕ) (k : ℕ) → length (namedAs program symbols k) ≤ getD symbols (4 * k + 1) 0
-unfolding namedAs symbolOf part
-name-few program symbols k = omega (arith, length-take (getD symbols (4 * k + 1) 0) (drop (getD symbols (4 * k) 0) program))
+  pub copy-end : length part ≤ i → Writes part at o p end
+  copy-end h = writing-end w (drop-of-length-le part h)
 
--- the terms of a row, as they are lent
-pub shown-from : {constants : List ℕ} {v : ℕ} (row : List ℕ) → AllShown constants v (drop 1 row)
-    → AllShown constants v (from 1 row)
-shown-from {constants} {v} row s = subst (λ (l : List ℕ). AllShown constants v l) (sym (from-drop 1 row)) s
+-- a number below ten is one digit, any other the digits of its tenth and one more
+module _ (n : ℕ) {at : ℕ} (c : Countable at (decimal n)) where
+  pub digit-count : n < 10 → Countable at ((48 + n) ∷ [])
+  digit-count h = count-is (decimal-low n h) c
 
--- the length of a line from that of its parts
-pub bound-size : (term : ℕ → List ℕ) (letter x : ℕ) → length (boundBytes term letter x) ≡ 5 + length (term x)
-unfolding boundBytes
-bound-size term letter x = omega (arith, length-append (term x) (10 ∷ []))
+  pub tenth-count : 10 ≤ n → Countable at (decimal (n / 10))
+  tenth-count h = count-first ((48 + n % 10) ∷ []) (count-is (decimal-high n h) c)
 
-pub row-size : (named term : ℕ → List ℕ) (row : List ℕ)
-    → length (rowBytes named term row) ≡ (2 + length (named (getD row 0 0))) + length (fieldBytes term (from 1 row))
-unfolding rowBytes
-row-size named term row =
-    rw (from-drop 1 row) (omega (arith, length-append (named (getD row 0 0)) (fieldBytes term (drop 1 row))))
+  pub last-count : {o p : List ℕ} {m : ℕ} → 10 ≤ n → Writes (decimal (n / 10)) at o p m → Countable m ((48 + n % 10) ∷ [])
+  last-count h w = count-next (count-is (decimal-high n h) c) w
 
-pub head-size : (word : List ℕ) (f : ℕ) → length (headBytes word f) ≡ (length word + 1) + length (decimal f)
-unfolding headBytes
-head-size word f = omega (arith, length-append word (decimal f ++ (10 ∷ [])), length-append (decimal f) (10 ∷ []))
+pub digit-wrote : (n : ℕ) {at end : ℕ} {o p : List ℕ} → n < 10 → Writes ((48 + n) ∷ []) at o p end → Writes (decimal n) at o p end
+digit-wrote n h w = wrote-is (sym (decimal-low n h)) w
 
--- an output with the first bytes of an A line, and of an S line; the word of a first line
-abbrev pub three : List ℕ → ℕ → List ℕ
-three o letter = set (set (set o 0 65) 1 44) 2 letter
+pub digits-wrote : (n : ℕ) {at m end : ℕ} {o p q : List ℕ} → 10 ≤ n → Writes (decimal (n / 10)) at o p m
+    → Writes ((48 + n % 10) ∷ []) m p q end → length p ≡ length o → Writes (decimal n) at o q end
+digits-wrote n h w v k = wrote-is (sym (decimal-high n h)) (wrote-then w v k)
 
-abbrev pub two : List ℕ → List ℕ
-two o = set (set o 0 83) 1 44
+-- a cell that is a constant, and one that is a variable
+module _ (naming : Naming) (letter x : ℕ) where
+  cell-name : x < 256 → cellShown naming letter x ≡ naming x
+  unfolding cellShown termShown
+  cell-name h = rw (cell-low x h)
 
-abbrev pub end-word : List ℕ
-end-word = 69 ∷ 78 ∷ 68 ∷ 44 ∷ []
+  cell-number : 256 ≤ x → cellShown naming letter x ≡ letter ∷ decimal (suc (x - 256))
+  unfolding cellShown termShown numberedAs
+  cell-number h = rw (cell-high x h)
 
--- a first line, written into an output o that has room for it: its word, the number, the line feed
-module _ (word : List ℕ) (f : ℕ) (o : List ℕ) (fits : length (headBytes word f) ≤ length o) where
-  pub word-room : length word ≤ length o
-  word-room = omega (arith, head-size word f)
+  pub name-count : {at : ℕ} {s : List ℕ} (k : ℕ) → x < 256 → k ≡ x → s ≡ naming k → Countable at (cellShown naming letter x)
+      → Countable at s
+  name-count k h e f c = count-is (cell-name h ∙ sym (f ∙ ap naming e)) c
 
-  word-placed : {a : List ℕ} {e : ℕ} → Put word o a e → Placed (headBytes word f) o a e (decimal f ++ (10 ∷ []))
-  unfolding headBytes
-  word-placed w = put-placed (decimal f ++ (10 ∷ [])) w
+  pub name-wrote : {at end : ℕ} {s o p : List ℕ} (k : ℕ) → x < 256 → k ≡ x → s ≡ naming k → Writes s at o p end
+      → Writes (cellShown naming letter x) at o p end
+  name-wrote k h e f w = wrote-is (f ∙ ap naming e ∙ sym (cell-name h)) w
 
-  pub number-inside : {a : List ℕ} {e : ℕ} → Put word o a e → e ≤ length a
-  number-inside w = placed-inside (word-placed w) fits
+  pub letter-count : {at : ℕ} → 256 ≤ x → Countable at (cellShown naming letter x) → Countable at (letter ∷ [])
+  letter-count h c = count-first (decimal (suc (x - 256))) (count-is (cell-number h) c)
 
-  pub number-room : {a : List ℕ} {e : ℕ} → Put word o a e → length (decimal f) ≤ length (from e a)
-  number-room w = lent-room (decimal f) (10 ∷ []) (word-placed w) fits
+  pub number-count : {at m : ℕ} (y : ℕ) {o p : List ℕ} → 256 ≤ x → y ≡ x - 256 → Countable at (cellShown naming letter x)
+      → Writes (letter ∷ []) at o p m → Countable m (decimal (y + 1))
+  number-count y h e c w = rw (add-one y, e) (count-next (count-is (cell-number h) c) w)
 
-  -- d is the output behind the word when the number is written
-  number-placed : {a d : List ℕ} {e n : ℕ} → Put word o a e → Put (decimal f) (from e a) d n
-      → Placed (headBytes word f) o (back e a d) (e + n) (10 ∷ [])
-  number-placed w v = lent-part (decimal f) (10 ∷ []) (word-placed w) v
+  pub number-wrote : {at m end : ℕ} (y : ℕ) {o p q : List ℕ} → 256 ≤ x → y ≡ x - 256 → Writes (letter ∷ []) at o p m
+      → Writes (decimal (y + 1)) m p q end → length p ≡ length o → Writes (cellShown naming letter x) at o q end
+  number-wrote y h e w v k = wrote-is (sym (cell-number h)) (wrote-then w (rw (add-one y, e) at v) k)
 
-  pub head-feed : {a d : List ℕ} {e n : ℕ} → Put word o a e → Put (decimal f) (from e a) d n → e + n < length (back e a d)
-  head-feed w v = last-inside (number-placed w v) fits
+-- the front of a goal variable's line: with its letter, and without
+module _ (letters : List ℕ) (x : ℕ) where
+  abbrev front : List ℕ
+  front = 65 ∷ 44 ∷ []
 
-  pub head-put : {a d : List ℕ} {e n : ℕ} → Put word o a e → Put (decimal f) (from e a) d n
-      → Put (headBytes word f) o (set (back e a d) (e + n) 10) ((e + n) + 1)
-  head-put w v = placed-last 10 refl (number-placed w v) fits
+  lettered : x < length letters → ascii "A," ++ variableName letters x ≡ front ++ (getD letters x 0 ∷ [])
+  unfolding variableName ascii
+  lettered h = rw (lt-ltb x (length letters) h)
 
--- an A line, written into an output o that has room for it: three bytes, the field, the line feed
-module _ (spelled : ℕ → List ℕ) (numbers : List ℕ) (letter x : ℕ) (o : List ℕ)
-    (fits : length (boundBytes (termBytes spelled numbers) letter x) ≤ length o)
-  where
-    pub bound-three : 3 ≤ length o
-    bound-three = omega (arith, bound-size (termBytes spelled numbers) letter x)
+  unlettered : length letters ≤ x → ascii "A," ++ variableName letters x ≡ front ++ ((86 ∷ []) ++ decimal (suc x))
+  unfolding variableName numberedAs ascii
+  unlettered h = rw (le-ltb x (length letters) h)
 
-    bound-left : Placed (boundBytes (termBytes spelled numbers) letter x) o (three o letter) 3
-        ((44 ∷ termBytes spelled numbers x) ++ (10 ∷ []))
-    unfolding boundBytes
-    bound-left =
-        let rest = (44 ∷ termBytes spelled numbers x) ++ (10 ∷ []) in
-        placed-byte letter rest
-        (placed-byte 44 (letter ∷ rest)
-        (placed-byte 65 (44 ∷ letter ∷ rest) (placed-start (65 ∷ 44 ∷ letter ∷ rest) o) fits) fits) fits
+  pub front-count : {at : ℕ} → Countable at (ascii "A," ++ variableName letters x) → Countable at (65 ∷ 44 ∷ [])
+  unfolding ascii
+  front-count c = count-first (variableName letters x) c
 
-    pub term-room : length (44 ∷ termBytes spelled numbers x) ≤ length (from 3 (three o letter))
-    term-room = lent-room (44 ∷ termBytes spelled numbers x) (10 ∷ []) bound-left fits
+  pub lettered-count : {at m : ℕ} {o p : List ℕ} → x < length letters → Countable at (ascii "A," ++ variableName letters x)
+      → Writes (65 ∷ 44 ∷ []) at o p m → Countable m (getD letters x 0 ∷ [])
+  lettered-count h c w = count-next (count-is (lettered h) c) w
 
-    -- d is the output behind the three bytes when the field is written
-    term-placed : {d : List ℕ} {n : ℕ} → Put (44 ∷ termBytes spelled numbers x) (from 3 (three o letter)) d n
-        → Placed (boundBytes (termBytes spelled numbers) letter x) o (back 3 (three o letter) d) (3 + n)
-        (10 ∷ [])
-    term-placed w = lent-part (44 ∷ termBytes spelled numbers x) (10 ∷ []) bound-left w
+  pub lettered-wrote : {at m end : ℕ} {o p q : List ℕ} → x < length letters → Writes (65 ∷ 44 ∷ []) at o p m
+      → Writes (getD letters x 0 ∷ []) m p q end → length p ≡ length o → Writes (ascii "A," ++ variableName letters x) at o q end
+  lettered-wrote h w v k = wrote-is (sym (lettered h)) (wrote-then w v k)
 
-    pub bound-feed : {d : List ℕ} {n : ℕ}
-        → Put (44 ∷ termBytes spelled numbers x) (from 3 (three o letter)) d n
-        → 3 + n < length (back 3 (three o letter) d)
-    bound-feed w = last-inside (term-placed w) fits
+  pub unlettered-count : {at m : ℕ} {o p : List ℕ} → length letters ≤ x → Countable at (ascii "A," ++ variableName letters x)
+      → Writes (65 ∷ 44 ∷ []) at o p m → Countable m (86 ∷ [])
+  unlettered-count h c w = count-first (decimal (suc x)) (count-next (count-is (unlettered h) c) w)
 
-    pub bound-put : {d : List ℕ} {n : ℕ}
-        → Put (44 ∷ termBytes spelled numbers x) (from 3 (three o letter)) d n
-        → Put (boundBytes (termBytes spelled numbers) letter x) o
-        (set (back 3 (three o letter) d) (3 + n) 10) ((3 + n) + 1)
-    bound-put w = placed-last 10 refl (term-placed w) fits
+  pub unlettered-next : {at m n : ℕ} {o p q : List ℕ} → length letters ≤ x → Countable at (ascii "A," ++ variableName letters x)
+      → Writes (65 ∷ 44 ∷ []) at o p m → Writes (86 ∷ []) m p q n → Countable n (decimal (x + 1))
+  unlettered-next h c w v = rw (add-one x) (count-next (count-next (count-is (unlettered h) c) w) v)
 
--- an S line, written into an output o that has room for it: two bytes, its name s, its fields
-module _ (named term : ℕ → List ℕ) (row o : List ℕ) (fits : length (rowBytes named term row) ≤ length o) where
-  pub row-two : 2 ≤ length o
-  row-two = omega (arith, row-size named term row)
+  pub unlettered-wrote : {at m n end : ℕ} {o p q r : List ℕ} → length letters ≤ x → Writes (65 ∷ 44 ∷ []) at o p m
+      → Writes (86 ∷ []) m p q n → Writes (decimal (x + 1)) n q r end → length p ≡ length o → length q ≡ length p
+      → Writes (ascii "A," ++ variableName letters x) at o r end
+  unlettered-wrote h w v u k l = wrote-is (sym (unlettered h)) (wrote-then w (wrote-then v (rw (add-one x) at u) l) k)
 
-  row-left : Placed (rowBytes named term row) o (two o) 2 (named (getD row 0 0) ++ fieldBytes term (drop 1 row))
-  unfolding rowBytes
-  row-left =
-      let line = named (getD row 0 0) ++ fieldBytes term (drop 1 row) in
-      placed-byte 44 line (placed-byte 83 (44 ∷ line) (placed-start (83 ∷ 44 ∷ line) o) fits) fits
+-- fields, one cell on
+abbrev pub fieldsFrom : (ℕ → List ℕ) → List ℕ → ℕ → List ℕ
+fieldsFrom field cells i = fieldsBehind (map field (drop i cells))
 
-  pub name-room : (s : List ℕ) → s ≡ named (getD row 0 0) → length s ≤ length (from 2 (two o))
-  name-room s e = rw e (lent-room (named (getD row 0 0)) (fieldBytes term (drop 1 row)) row-left fits)
+module _ (field : ℕ → List ℕ) (cells : List ℕ) {o p : List ℕ} {at end : ℕ} (i : ℕ)
+    (w : Writing (fieldsBehind (map field cells)) at o p end (fieldsFrom field cells i)) where
+  here : i < length cells → fieldsFrom field cells i ≡ (44 ∷ []) ++ (field (getD cells i 0) ++ fieldsFrom field cells (suc i))
+  unfolding fieldsBehind
+  here h = rw (drop-cons cells i 0 h)
 
-  -- d is the output behind the two bytes when the name is written
-  name-placed : {s d : List ℕ} {n : ℕ} → s ≡ named (getD row 0 0) → Put s (from 2 (two o)) d n
-      → Placed (rowBytes named term row) o (back 2 (two o) d) (2 + n) (fieldBytes term (from 1 row))
-  name-placed e w =
-      rw (from-drop 1 row) (lent-part (named (getD row 0 0)) (fieldBytes term (drop 1 row)) row-left (put-is e w))
+  last : length cells ≤ i → fieldsFrom field cells i ≡ 10 ∷ []
+  unfolding fieldsBehind
+  last h = rw (drop-of-length-le cells h)
 
-  pub fields-inside : (s : List ℕ) {d : List ℕ} {n : ℕ} → s ≡ named (getD row 0 0)
-      → Put s (from 2 (two o)) d n → 2 + n ≤ length (back 2 (two o) d)
-  fields-inside s e w = placed-inside (name-placed e w) fits
+  pub comma-count : i < length cells → Countable at (fieldsBehind (map field cells)) → Countable end (44 ∷ [])
+  comma-count h c =
+      count-first (field (getD cells i 0) ++ fieldsFrom field cells (suc i)) (count-is (here h) (writing-count c w))
 
-  pub fields-room : (s : List ℕ) {d : List ℕ} {n : ℕ} → s ≡ named (getD row 0 0)
-      → Put s (from 2 (two o)) d n
-      → length (fieldBytes term (from 1 row)) ≤ length (from (2 + n) (back 2 (two o) d))
-  fields-room s e w = lent-room-last (fieldBytes term (from 1 row)) (name-placed e w) fits
+  pub field-count : {q : List ℕ} {m : ℕ} → i < length cells → Countable at (fieldsBehind (map field cells))
+      → Writes (44 ∷ []) end p q m → Countable m (field (getD cells i 0))
+  field-count h c v =
+      count-first (fieldsFrom field cells (suc i)) (count-next (count-is (here h) (writing-count c w)) v)
 
-  pub row-put : (s : List ℕ) {d d' : List ℕ} {n n' : ℕ} → s ≡ named (getD row 0 0)
-      → Put s (from 2 (two o)) d n
-      → Put (fieldBytes term (from 1 row)) (from (2 + n) (back 2 (two o) d)) d' n'
-      → Put (rowBytes named term row) o (back (2 + n) (back 2 (two o) d) d') ((2 + n) + n')
-  row-put s e w v = lent-last (fieldBytes term (from 1 row)) (name-placed e w) v
+  pub fields-next : {q r : List ℕ} {m n : ℕ} → i < length cells → Writes (44 ∷ []) end p q m
+      → Writes (field (getD cells i 0)) m q r n → length q ≡ length p → length r ≡ length q
+      → Writing (fieldsBehind (map field cells)) at o r n (fieldsFrom field cells (i + 1))
+  fields-next h v u k l =
+      rw (add-one i)
+      (writing-next (fieldsFrom field cells (suc i))
+      (here h ∙ sym (append-assoc (44 ∷ []) (field (getD cells i 0)) (fieldsFrom field cells (suc i)))) w (wrote-then v u k) (l ∙ k))
 
--- the A lines from place i on: one more, and none behind the last
-pub bounds-more : (term : ℕ → List ℕ) (letters bound : List ℕ) (i : ℕ) → i < length bound → length bound ≤ length letters
-    → boundsBytes term (drop i letters) (drop i bound)
-    ≡ boundBytes term (getD letters i 0) (getD bound i 0) ++ boundsBytes term (drop (suc i) letters) (drop (suc i) bound)
-unfolding boundsBytes
-bounds-more term letters bound i h k =
-    let inside : i < length letters = omega arith in
-    rw (drop-cons letters i 0 inside, drop-cons bound i 0 h)
+  pub feed-count : length cells ≤ i → Countable at (fieldsBehind (map field cells)) → Countable end (10 ∷ [])
+  feed-count h c = count-is (last h) (writing-count c w)
 
-bounds-none : (term : ℕ → List ℕ) (letters : List ℕ) → boundsBytes term letters [] ≡ []
-unfolding boundsBytes
-bounds-none term [] = refl
-bounds-none term (v ∷ vs) = refl
+  pub fields-wrote : {q : List ℕ} {n : ℕ} → length cells ≤ i → Writes (10 ∷ []) end p q n
+      → Writes (fieldsBehind (map field cells)) at o q n
+  fields-wrote h v = writing-last w (wrote-is (sym (last h)) v)
 
-pub bounds-end : (term : ℕ → List ℕ) (letters bound : List ℕ) (i : ℕ) → length bound ≤ i
-    → boundsBytes term (drop i letters) (drop i bound) ≡ []
-bounds-end term letters bound i h = rw (drop-of-length-le bound h) (bounds-none term (drop i letters))
+-- the used terms of a row lie within it
+pub used-within : (n : ℕ) (row : List ℕ) → length row ≡ 5 → n ≤ length (take (length row - 1) (drop 1 row)) → 1 + n ≤ length row
+used-within n row e h = omega (arith, length-take (length row - 1) (drop 1 row))
 
--- the S lines from constraint i on: one more, and none behind the last
-rows-first : (line : List ℕ → List ℕ) (cells : List ℕ) → 5 ≤ length cells → rowsBytes line cells ≡ line (take 5 cells)
-    ++ rowsBytes line (drop 5 cells)
-unfolding rowsBytes
-rows-first line [] h = absurd (omega arith)
-rows-first line (k ∷ []) h = absurd (omega arith)
-rows-first line (k ∷ a ∷ []) h = absurd (omega arith)
-rows-first line (k ∷ a ∷ b ∷ []) h = absurd (omega arith)
-rows-first line (k ∷ a ∷ b ∷ c ∷ []) h = absurd (omega arith)
-rows-first line (k ∷ a ∷ b ∷ c ∷ d ∷ cells) h = refl
+-- a constraint's line: its letter, a comma, its symbol's name and its terms
+module _ (naming : Naming) (line letter : ℕ) (row : List ℕ) where
+  abbrev rowLine : List ℕ
+  rowLine = lineOf (line ∷ []) (constraintShown naming (numberedAs (letter ∷ [])) (rowConstraint row))
 
-pub rows-more : (line : List ℕ → List ℕ) (cells : List ℕ) (i : ℕ) → 5 * i + 5 ≤ length cells
-    → rowsBytes line (drop (5 * i) cells) ≡ line (take 5 (drop (5 * i) cells)) ++ rowsBytes line (drop (5 * (i + 1)) cells)
-rows-more line cells i h =
-    let next : 5 * i + 5 ≡ 5 * (i + 1) = omega arith in
-    rows-first line (drop (5 * i) cells) (omega (arith, length-drop (5 * i) cells))
-    ∙ ap (λ (l : List ℕ). line (take 5 (drop (5 * i) cells)) ++ rowsBytes line l)
-    (drop-drop 5 (5 * i) cells ∙ ap (λ (k : ℕ). drop k cells) next)
+  -- the terms as they are lent, n of them being used
+  abbrev lent : ℕ → List ℕ
+  lent n = take ((1 + n) - 1) (drop 1 row)
 
-pub rows-end : (line : List ℕ → List ℕ) (cells : List ℕ) (i : ℕ) → length cells ≤ i → rowsBytes line (drop i cells) ≡ []
-unfolding rowsBytes
-rows-end line cells i h = rw (drop-of-length-le cells h)
+  terms-lent : (n : ℕ) → n ≡ usedCells (take (length row - 1) (drop 1 row))
+      → map (termShown naming (numberedAs (letter ∷ []))) (cellTerms (drop 1 row)) ≡ map (cellShown naming letter) (lent n)
+  unfolding cellShown
+  terms-lent n e =
+      let all : take (length row - 1) (drop 1 row) ≡ drop 1 row =
+      take-all (length row - 1) (drop 1 row) (omega (arith, length-drop 1 row)) in
+      let same : n ≡ usedCells (drop 1 row) = rw all at e in
+      let few : (1 + n) - 1 ≡ n = omega arith in
+      rw (few, same) (ap (map (termShown naming (numberedAs (letter ∷ [])))) (used-terms (drop 1 row)) ∙ shown (take (usedCells (drop 1 row)) (drop 1 row)))
+    where
+      shown : (l : List ℕ) → map (termShown naming (numberedAs (letter ∷ []))) (map cellTerm l) ≡ map (cellShown naming letter) l
+      shown [] = refl
+      shown (x ∷ l) = ap (λ (r : List (List ℕ)). cellShown naming letter x ∷ r) (shown l)
 
--- constraint i's five cells, as they are lent
-pub row-cut : (cells : List ℕ) (i : ℕ) → take ((5 * i + 5) - 5 * i) (drop (5 * i) cells) ≡ take 5 (drop (5 * i) cells)
-row-cut cells i =
-    let five : (5 * i + 5) - 5 * i ≡ 5 = omega arith in
-    rw five
+  row-pieces : (n : ℕ) → n ≡ usedCells (take (length row - 1) (drop 1 row))
+      → rowLine ≡ (line ∷ []) ++ ((44 ∷ []) ++ (naming (getD row 0 0) ++ fieldsBehind (map (cellShown naming letter) (lent n))))
+  unfolding lineOf constraintShown fieldsBehind rowConstraint
+  row-pieces n e = rw (terms-lent n e)
 
--- the A lines, of which those before place i are placed
-module _ (term : ℕ → List ℕ) (letters bound : List ℕ) (i : ℕ) {o a : List ℕ} {e : ℕ}
-    (p : Placed (boundsBytes term letters bound) o a e (boundsBytes term (drop i letters) (drop i bound)))
-    (fits : length (boundsBytes term letters bound) ≤ length o)
-  where
-    pub bounds-put : length bound ≤ i → Put (boundsBytes term letters bound) o a e
-    bounds-put h = placed-all (placed-is (bounds-end term letters bound i h) p)
+  -- its first three pieces, counted and written, whatever its terms
+  pub line-count : {at : ℕ} → Countable at rowLine → Countable at (line ∷ [])
+  line-count c = count-first _ (count-is (row-pieces _ refl) c)
 
-    -- one more: of letter v and cell x
-    bound-more : i < length bound → length bound ≤ length letters
-        → Placed (boundsBytes term letters bound) o a e
-        (boundBytes term (getD letters i 0) (getD bound i 0) ++ boundsBytes term (drop (i + 1) letters) (drop (i + 1) bound))
-    bound-more h k = rw (add-one i) (placed-is (bounds-more term letters bound i h k) p)
+  pub line-comma : {at m : ℕ} {o p : List ℕ} → Countable at rowLine → Writes (line ∷ []) at o p m → Countable m (44 ∷ [])
+  line-comma c w = count-first _ (count-next (count-is (row-pieces _ refl) c) w)
 
-    pub bound-room : (v x : ℕ) → i < length bound → length bound ≤ length letters → v ≡ getD letters i 0 → x ≡ getD bound i 0
-        → length (boundBytes term v x) ≤ length (from e a)
-    bound-room v x h k q r =
-        rw (q, r)
-        (lent-room (boundBytes term (getD letters i 0) (getD bound i 0))
-        (boundsBytes term (drop (i + 1) letters) (drop (i + 1) bound)) (bound-more h k) fits)
+  pub line-name : {at m n : ℕ} {o p q s : List ℕ} (k : ℕ) → Countable at rowLine → k ≡ getD row 0 0 → s ≡ naming k
+      → Writes (line ∷ []) at o p m → Writes (44 ∷ []) m p q n → Countable n s
+  line-name k c e f w v = count-is (sym (f ∙ ap naming e)) (count-first _ (count-next (count-next (count-is (row-pieces _ refl) c) w) v))
 
-    pub bound-placed : {d : List ℕ} {n : ℕ} → i < length bound → length bound ≤ length letters
-        → Put (boundBytes term (getD letters i 0) (getD bound i 0)) (from e a) d n
-        → Placed (boundsBytes term letters bound) o (back e a d) (e + n)
-        (boundsBytes term (drop (i + 1) letters) (drop (i + 1) bound))
-    bound-placed h k w =
-        lent-part (boundBytes term (getD letters i 0) (getD bound i 0))
-        (boundsBytes term (drop (i + 1) letters) (drop (i + 1) bound)) (bound-more h k) w
+  pub line-fields : {at m n l : ℕ} {o p q r s : List ℕ} (k u : ℕ) → Countable at rowLine → k ≡ getD row 0 0 → s ≡ naming k
+      → Writes (line ∷ []) at o p m → Writes (44 ∷ []) m p q n → Writes s n q r l
+      → u ≡ usedCells (take (length row - 1) (drop 1 row))
+      → Countable l (fieldsBehind (map (cellShown naming letter) (lent u)))
+  line-fields k u c e f w v x g =
+      count-next (count-next (count-next (count-is (row-pieces u g) c) w) v) (wrote-is (f ∙ ap naming e) x)
 
--- constraint i's five cells, as they are lent, can be shown
-pub row-shown : {symbols constants cells : List ℕ} {v m : ℕ} (i : ℕ) → RowsShown symbols constants v cells m → i < m
-    → RowShown symbols constants v (take ((5 * i + 5) - 5 * i) (drop (5 * i) cells))
-row-shown {symbols} {constants} {cells} {v} {m} i s h = rw (row-cut cells i) (s .rows i h)
+  pub line-wrote : {at m n l end : ℕ} {o p q r s t : List ℕ} (k u : ℕ) → k ≡ getD row 0 0 → s ≡ naming k
+      → Writes (line ∷ []) at o p m → Writes (44 ∷ []) m p q n → Writes s n q r l
+      → u ≡ usedCells (take (length row - 1) (drop 1 row))
+      → Writes (fieldsBehind (map (cellShown naming letter) (lent u))) l r t end
+      → length p ≡ length o → length q ≡ length p → length r ≡ length q → Writes rowLine at o t end
+  line-wrote k u e f w v x g y h i j =
+      wrote-is (sym (row-pieces u g)) (wrote-then w (wrote-then v (wrote-then (wrote-is (f ∙ ap naming e) x) y j) i) h)
 
--- the S lines of m constraints, of which those before place i are placed
-module _ (named term : ℕ → List ℕ) (cells : List ℕ) (i m : ℕ) {o a : List ℕ} {e : ℕ}
-    (p : Placed (rowsBytes (rowBytes named term) cells) o a e (rowsBytes (rowBytes named term) (drop (5 * i) cells)))
-    (fits : length (rowsBytes (rowBytes named term) cells) ≤ length o) (size : length cells ≡ 5 * m)
-  where
-    pub rows-put : m ≤ i → Put (rowsBytes (rowBytes named term) cells) o a e
-    rows-put h = placed-all (placed-is (rows-end (rowBytes named term) cells (5 * i) (omega arith)) p)
+-- a line for each constraint, from place i on
+abbrev pub rowsFrom : Naming → ℕ → ℕ → List ℕ → ℕ → List ℕ
+rowsFrom naming line letter cells i = constraintLines (line ∷ []) naming (numberedAs (letter ∷ [])) (cellConstraints (drop (5 * i) cells))
 
-    -- one more: of the five cells that are lent
-    row-more : i < m → Placed (rowsBytes (rowBytes named term) cells) o a e
-        (rowBytes named term (take ((5 * i + 5) - 5 * i) (drop (5 * i) cells))
-        ++ rowsBytes (rowBytes named term) (drop (5 * (i + 1)) cells))
-    row-more h = rw (row-cut cells i) (placed-is (rows-more (rowBytes named term) cells i (omega arith)) p)
+module _ (naming : Naming) (line letter : ℕ) (cells : List ℕ) {o p : List ℕ} {at end : ℕ} (i : ℕ)
+    (w : Writing (constraintLines (line ∷ []) naming (numberedAs (letter ∷ [])) (cellConstraints cells)) at o p end
+    (rowsFrom naming line letter cells i)) where
+  -- the constraint's five cells, as they are lent
+  abbrev cut : List ℕ
+  cut = take ((5 * i + 5) - 5 * i) (drop (5 * i) cells)
 
-    pub row-room : (row : List ℕ) → i < m → row ≡ take ((5 * i + 5) - 5 * i) (drop (5 * i) cells)
-        → length (rowBytes named term row) ≤ length (from e a)
-    row-room row h q =
-        rw q
-        (lent-room (rowBytes named term (take ((5 * i + 5) - 5 * i) (drop (5 * i) cells)))
-        (rowsBytes (rowBytes named term) (drop (5 * (i + 1)) cells)) (row-more h) fits)
+  abbrev cutLine : List ℕ
+  cutLine = lineOf (line ∷ []) (constraintShown naming (numberedAs (letter ∷ [])) (rowConstraint cut))
 
-    pub row-placed : {d : List ℕ} {n : ℕ} → i < m
-        → Put (rowBytes named term (take ((5 * i + 5) - 5 * i) (drop (5 * i) cells))) (from e a) d n
-        → Placed (rowsBytes (rowBytes named term) cells) o (back e a d) (e + n)
-        (rowsBytes (rowBytes named term) (drop (5 * (i + 1)) cells))
-    row-placed h w =
-        lent-part (rowBytes named term (take ((5 * i + 5) - 5 * i) (drop (5 * i) cells)))
-        (rowsBytes (rowBytes named term) (drop (5 * (i + 1)) cells)) (row-more h) w
+  row-here : 5 * i + 5 ≤ length cells → rowsFrom naming line letter cells i ≡ cutLine ++ rowsFrom naming line letter cells (suc i)
+  unfolding constraintLines
+  row-here h =
+      let five : (5 * i + 5) - 5 * i ≡ 5 = omega arith in
+      rw (constraints-at cells i h, five)
 
--- the A lines before place i counted: size
-module _ (term : ℕ → List ℕ) (letters bound : List ℕ) (i size : ℕ)
-    (sum : size + length (boundsBytes term (drop i letters) (drop i bound)) ≡ length (boundsBytes term letters bound))
-  where
-    pub bounds-all : length bound ≤ i → size ≡ length (boundsBytes term letters bound)
-    bounds-all h = omega (arith, ap length (bounds-end term letters bound i h))
+  pub cut-size : 5 * i + 5 ≤ length cells → length cut ≡ 5
+  cut-size h = omega (arith, length-take ((5 * i + 5) - 5 * i) (drop (5 * i) cells), length-drop (5 * i) cells)
 
-    pub bounds-count : (more : ℕ) → i < length bound → length bound ≤ length letters
-        → more ≡ length (boundBytes term (getD letters i 0) (getD bound i 0))
-        → (size + more) + length (boundsBytes term (drop (i + 1) letters) (drop (i + 1) bound))
-        ≡ length (boundsBytes term letters bound)
-    bounds-count more h k e =
-        let rest = boundsBytes term (drop (suc i) letters) (drop (suc i) bound) in
-        let sizes = length-append (boundBytes term (getD letters i 0) (getD bound i 0)) rest in
-        rw (add-one i) (omega (arith, ap length (bounds-more term letters bound i h k)))
+  pub row-count : 5 * i + 5 ≤ length cells
+      → Countable at (constraintLines (line ∷ []) naming (numberedAs (letter ∷ [])) (cellConstraints cells)) → Countable end cutLine
+  row-count h c = count-first (rowsFrom naming line letter cells (suc i)) (count-is (row-here h) (writing-count c w))
 
--- the S lines of m constraints before place i counted: size
-module _ (named term : ℕ → List ℕ) (cells : List ℕ) (i m size : ℕ)
-    (sum : size + length (rowsBytes (rowBytes named term) (drop (5 * i) cells)) ≡ length (rowsBytes (rowBytes named term) cells))
-    (five : length cells ≡ 5 * m)
-  where
-    pub rows-all : m ≤ i → size ≡ length (rowsBytes (rowBytes named term) cells)
-    rows-all h = omega (arith, ap length (rows-end (rowBytes named term) cells (5 * i) (omega arith)))
+  pub rows-next : {q : List ℕ} {n : ℕ} → 5 * i + 5 ≤ length cells → Writes cutLine end p q n → length q ≡ length p
+      → Writing (constraintLines (line ∷ []) naming (numberedAs (letter ∷ [])) (cellConstraints cells)) at o q n
+      (rowsFrom naming line letter cells (i + 1))
+  rows-next h v k = rw (add-one i) (writing-next (rowsFrom naming line letter cells (suc i)) (row-here h) w v k)
 
-    pub rows-count : (more : ℕ) → i < m
-        → more ≡ length (rowBytes named term (take ((5 * i + 5) - 5 * i) (drop (5 * i) cells)))
-        → (size + more) + length (rowsBytes (rowBytes named term) (drop (5 * (i + 1)) cells))
-        ≡ length (rowsBytes (rowBytes named term) cells)
-    rows-count more h e =
-        let row = rowBytes named term (take 5 (drop (5 * i) cells)) in
-        let sizes = length-append row (rowsBytes (rowBytes named term) (drop (5 * (i + 1)) cells)) in
-        let same = ap (λ (l : List ℕ). length (rowBytes named term l)) (row-cut cells i) in
-        omega (arith, ap length (rows-more (rowBytes named term) cells i (omega arith)))
+  pub rows-wrote : length cells < 5 * i + 5
+      → Writes (constraintLines (line ∷ []) naming (numberedAs (letter ∷ [])) (cellConstraints cells)) at o p end
+  unfolding constraintLines
+  rows-wrote h = writing-end w (rw (constraints-short cells i h))
 
--- the length of the whole listing
-pub end-size : (named term : ℕ → List ℕ) (f : ℕ) (letters bound cells : List ℕ)
-    → length (endBytes named term f letters bound cells)
-    ≡ ((5 + length (decimal f)) + length (boundsBytes term letters bound)) + length (rowsBytes (rowBytes named term) cells)
-unfolding endBytes
-end-size named term f letters bound cells =
-    omega (
-      arith,
-      head-size (end-word) f,
-      length-append (headBytes (end-word) f) (boundsBytes term letters bound ++ rowsBytes
-          (rowBytes named term) cells),
-      length-append (boundsBytes term letters bound) (rowsBytes (rowBytes named term) cells),
-    )
+-- a line for each goal variable, from x on
+abbrev pub boundsFrom : Naming → List ℕ → List ℕ → ℕ → List ℕ
+boundsFrom naming letters bound i =
+    boundLines naming (numberedAs (ascii "U")) (variableName letters) i (map cellTerm (drop i bound))
 
--- a whole listing, written into an output o that has room for it: the first line, the A lines, the S lines
-module _ (named term : ℕ → List ℕ) (f : ℕ) (letters bound cells o : List ℕ)
-    (fits : length (endBytes named term f letters bound cells) ≤ length o)
-  where
-    pub head-room : length (headBytes (end-word) f) ≤ length o
-    head-room = omega (arith, head-size (end-word) f, end-size named term f letters bound cells)
+module _ (naming : Naming) (letters bound : List ℕ) {o p : List ℕ} {at end : ℕ} (i : ℕ)
+    (w : Writing (boundLines naming (numberedAs (ascii "U")) (variableName letters) 0 (map cellTerm bound)) at o p end
+    (boundsFrom naming letters bound i)) where
+  abbrev boundFields : List ℕ
+  boundFields = fieldsBehind (map (cellShown naming 85) (take ((i + 1) - i) (drop i bound)))
 
-    head-placed : {a : List ℕ} {e : ℕ} → Put (headBytes (end-word) f) o a e
-        → Placed (endBytes named term f letters bound cells) o a e
-        (boundsBytes term letters bound ++ rowsBytes (rowBytes named term) cells)
-    unfolding endBytes
-    head-placed w = put-placed (boundsBytes term letters bound ++ rowsBytes (rowBytes named term) cells) w
+  bound-here : i < length bound
+      → boundsFrom naming letters bound i
+      ≡ (ascii "A," ++ variableName letters i) ++ (boundFields ++ boundsFrom naming letters bound (suc i))
+  unfolding boundLines lineOf fieldsBehind cellShown ascii
+  bound-here h =
+      let one : (i + 1) - i ≡ 1 = omega arith in
+      let term = termShown naming (numberedAs (85 ∷ [])) (cellTerm (getD bound i 0)) in
+      let more = boundsFrom naming letters bound (suc i) in
+      rw (drop-cons bound i 0 h, one)
+      (ap (λ (l : List ℕ). 65 ∷ 44 ∷ l) (append-assoc (variableName letters i) (44 ∷ (term ++ (10 ∷ []))) more))
 
-    pub bounds-inside : {a : List ℕ} {e : ℕ} → Put (headBytes (end-word) f) o a e → e ≤ length a
-    bounds-inside w = placed-inside (head-placed w) fits
+  pub bound-count : i < length bound
+      → Countable at (boundLines naming (numberedAs (ascii "U")) (variableName letters) 0 (map cellTerm bound))
+      → Countable end (ascii "A," ++ variableName letters i)
+  bound-count h c = count-first (boundFields ++ boundsFrom naming letters bound (suc i)) (count-is (bound-here h) (writing-count c w))
 
-    pub bounds-room : {a : List ℕ} {e : ℕ} → Put (headBytes (end-word) f) o a e
-        → length (boundsBytes term letters bound) ≤ length (from e a)
-    bounds-room w =
-        lent-room (boundsBytes term letters bound) (rowsBytes (rowBytes named term) cells) (head-placed w) fits
+  pub bound-fields : {q : List ℕ} {m : ℕ} → i < length bound
+      → Countable at (boundLines naming (numberedAs (ascii "U")) (variableName letters) 0 (map cellTerm bound))
+      → Writes (ascii "A," ++ variableName letters i) end p q m → Countable m boundFields
+  bound-fields h c v =
+      count-first (boundsFrom naming letters bound (suc i)) (count-next (count-is (bound-here h) (writing-count c w)) v)
 
-    -- d is the output behind the first line when the A lines are written
-    bounds-placed : {a d : List ℕ} {e n : ℕ} → Put (headBytes (end-word) f) o a e
-        → Put (boundsBytes term letters bound) (from e a) d n
-        → Placed (endBytes named term f letters bound cells) o (back e a d) (e + n) (rowsBytes (rowBytes named term) cells)
-    bounds-placed w v =
-        lent-part (boundsBytes term letters bound) (rowsBytes (rowBytes named term) cells) (head-placed w) v
+  pub bounds-next : {q r : List ℕ} {m n : ℕ} → i < length bound → Writes (ascii "A," ++ variableName letters i) end p q m
+      → Writes boundFields m q r n → length q ≡ length p → length r ≡ length q
+      → Writing (boundLines naming (numberedAs (ascii "U")) (variableName letters) 0 (map cellTerm bound)) at o r n
+      (boundsFrom naming letters bound (i + 1))
+  bounds-next h v u k l =
+      rw (add-one i)
+      (writing-next (boundsFrom naming letters bound (suc i))
+      (bound-here h ∙ sym (append-assoc (ascii "A," ++ variableName letters i) boundFields (boundsFrom naming letters bound (suc i))))
+      w (wrote-then v u k) (l ∙ k))
 
-    pub rows-inside : {a d : List ℕ} {e n : ℕ} → Put (headBytes (end-word) f) o a e
-        → Put (boundsBytes term letters bound) (from e a) d n → e + n ≤ length (back e a d)
-    rows-inside w v = placed-inside (bounds-placed w v) fits
-
-    pub rows-room : {a d : List ℕ} {e n : ℕ} → Put (headBytes (end-word) f) o a e
-        → Put (boundsBytes term letters bound) (from e a) d n
-        → length (rowsBytes (rowBytes named term) cells) ≤ length (from (e + n) (back e a d))
-    rows-room w v = lent-room-last (rowsBytes (rowBytes named term) cells) (bounds-placed w v) fits
-
-    pub end-put : {a d d' : List ℕ} {e n n' : ℕ} → Put (headBytes (end-word) f) o a e
-        → Put (boundsBytes term letters bound) (from e a) d n
-        → Put (rowsBytes (rowBytes named term) cells) (from (e + n) (back e a d)) d' n'
-        → Put (endBytes named term f letters bound cells) o (back (e + n) (back e a d) d') ((e + n) + n')
-    end-put w v u = lent-last (rowsBytes (rowBytes named term) cells) (bounds-placed w v) u
+  pub bounds-wrote : length bound ≤ i
+      → Writes (boundLines naming (numberedAs (ascii "U")) (variableName letters) 0 (map cellTerm bound)) at o p end
+  unfolding boundLines
+  bounds-wrote h = writing-end w (rw (drop-of-length-le bound h))

@@ -1,5 +1,4 @@
 -- The definitions of this crate, in reading order. Assumes nothing.
 pub mod Listing
-pub mod Pieces
-pub mod Numbers
-pub mod Runs
+pub mod Writing
+pub mod Ends

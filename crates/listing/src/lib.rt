@@ -1,24 +1,23 @@
-// The bytes of a run's listing: its length first, then line by line into the lent output.
-// Each function equals the definition that its contract names, through the decodings of `syntax` and of specs/.
-pub mod blocks;
-pub mod end;
+// The bytes of a run's listing: counted first, then written into the lent output, by the same functions.
+// Each function equals the definition that its contract names, through the decodings of `tables`.
 pub mod lines;
-pub mod numbering;
-pub mod terms;
 pub mod writing;
 
-use end::end_length;
-use end::put_end;
+use lines::Mark;
+use lines::put_bounds;
 use lines::put_head;
-use numbering::number;
-use writing::digits;
+use lines::put_rows;
+use tables::numbering::renumber;
 ghost use mathlib.Core.Bool.{false};
 ghost use mathlib.Core.List.{[], _∷_};
-ghost use Prim.Native.Nat.{_<_};
-ghost use lib.ListN.{length};
-ghost use Rattle.listing.specs.Pieces.{headBytes};
-ghost use Rattle.listing.specs.Runs.{tableNaming, runBytes, numbersAfter, RunListable, ListedAs};
 ghost use mathlib.Core.Path.{_≡_};
+ghost use Prim.Native.Nat.{_+_, _≤_, _<_};
+ghost use lib.ListN.{length};
+ghost use Rattle.text.specs.Bytes.{ascii};
+ghost use Rattle.tables.specs.Names.{nameIn};
+ghost use Rattle.listing.specs.Listing.{decimal, lineOf};
+ghost use Rattle.listing.specs.Writing.{Countable, Writes, ListedAs};
+ghost use Rattle.listing.specs.Ends.{liveBytes, endBytes, Listable};
 
 // Whether a listing was written, and how many bytes it has.
 pub enum Listed {
@@ -26,124 +25,94 @@ pub enum Listed {
     Written(usize),
 }
 
-// How many entries the tables have: symbols, constants of the program's own and more of the goal's, constraints; and the firings.
-pub struct Counts {
-    pub symbols: usize,
-    pub own: usize,
-    pub more: usize,
-    pub constraints: usize,
+// The end of a run: whether its state lives, a number above every variable in use, and how often a rule fired.
+pub struct End {
+    pub alive: bool,
+    pub next: usize,
     pub firings: usize,
 }
 
 // The listing of a failed state.
-pub fn list_failed(out: &mut [u8], firings: usize) -> Listed
-    requires { ⌜ firings < 65536 ⌝ }
-    ensures { λ r. ⌜ ListedAs (headBytes (70 ∷ 65 ∷ 73 ∷ 76 ∷ 69 ∷ 68 ∷ 44 ∷ []) firings)
-        (now (out .entry)) (now (out .exit)) r ⌝ }
+fn list_failed(out: &mut [u8], firings: usize) -> Listed
+    ensures { λ r. ⌜ ListedAs (lineOf (ascii "FAILED") (decimal firings ∷ [])) (now (out .entry)) (now (out .exit)) r ⌝ }
 {
-    let size = 8 + digits(firings);
+    let mut none = [0; 1];
+    let count = put_head(&mut none[..0], 0, b"FAILED,", firings);
+    if out.len() < count {
+        return Listed::TooShort;
+    }
+    put_head(out, 0, b"FAILED,", firings);
+    Listed::Written(count)
+}
+
+// The listing of a state whose variables are numbered.
+fn put_live<'a>(
+    out: &mut [u8],
+    program: &'a [u8],
+    goal: &'a [u8],
+    places: &[u16],
+    letters: &[u8],
+    bound: &[u16],
+    cells: &[u16],
+    firings: usize,
+) -> usize
+    requires { ⌜ Countable 0 (liveBytes (nameIn (now program) (now goal) (now places)) (now letters) (now bound) (now cells) firings)
+        × (length (now bound) < 65536) ⌝ }
+    ensures { λ r. ⌜ Writes (liveBytes (nameIn (now (program .entry)) (now (goal .entry)) (now (places .entry))) (now (letters .entry))
+        (now (bound .entry)) (now (cells .entry)) firings) 0 (now (out .entry)) (now (out .exit)) r ⌝ }
+{
+    let head = put_head(out, 0, b"END,", firings);
+    let at = put_bounds(out, head, program, goal, places, letters, bound);
+    let mark = Mark {
+        line: b'S',
+        variable: b'U',
+    };
+    put_rows(out, at, program, goal, places, mark, cells)
+}
+
+// The listing of a state whose variables are numbered: the bytes are counted, and where they fit they are written.
+fn list_live<'a>(
+    out: &mut [u8],
+    program: &'a [u8],
+    goal: &'a [u8],
+    places: &[u16],
+    letters: &[u8],
+    bound: &[u16],
+    cells: &[u16],
+    firings: usize,
+) -> Listed
+    requires { ⌜ length (now bound) + length (now cells) ≤ 65000 ⌝ }
+    ensures { λ r. ⌜ ListedAs (liveBytes (nameIn (now (program .entry)) (now (goal .entry)) (now (places .entry))) (now (letters .entry))
+        (now (bound .entry)) (now (cells .entry)) firings) (now (out .entry)) (now (out .exit)) r ⌝ }
+{
+    let mut none = [0; 1];
+    let size = put_live(&mut none[..0], program, goal, places, letters, bound, cells, firings);
     if out.len() < size {
         return Listed::TooShort;
     }
-    put_head(out, b"FAILED,", firings);
+    put_live(out, program, goal, places, letters, bound, cells, firings);
     Listed::Written(size)
 }
 
-// The listing of a state that has not failed: the variables are numbered, its length is known, and then it is written.
+// The listing of a final state; its variables are numbered in place, by first appearance.
 pub fn list_end<'a>(
     out: &mut [u8],
-    numbers: &mut [u16],
     program: &'a [u8],
     goal: &'a [u8],
-    symbols: &[u16],
-    constants: &[u16],
+    places: &[u16],
     letters: &[u8],
-    bound: &[u16],
-    cells: &[u16],
-    counts: Counts,
+    bound: &mut [u16],
+    cells: &mut [u16],
+    end: End,
 ) -> Listed
-    requires { ⌜ RunListable (now symbols) (now constants) (now letters) (now bound) (now cells)
-        (length (now numbers)) false counts ⌝ }
-    ensures { λ r. ⌜ ListedAs
-        (runBytes (tableNaming (now (program .entry)) (now (goal .entry)) (now (symbols .entry)) (now (constants .entry)) counts)
-        (now (letters .entry)) false 0 (now (bound .entry)) (now (cells .entry)) (counts .firings))
-        (now (out .entry)) (now (out .exit)) r ⌝ }
-    ensures { λ _. ⌜ now (numbers .exit) ≡ numbersAfter false (now (bound .entry)) (now (cells .entry)) (now (numbers .entry)) ⌝ }
+    requires { ⌜ Listable (end .alive) (end .next) (now bound) (now cells) ⌝ }
+    ensures { λ r. ⌜ ListedAs (endBytes (now (program .entry)) (now (goal .entry)) (now (places .entry)) (now (letters .entry))
+        (now (bound .entry)) (now (cells .entry)) end) (now (out .entry)) (now (out .exit)) r ⌝ }
 {
-    let n = counts.own;
-    let m = counts.constraints;
-    let firings = counts.firings;
-    number(numbers, bound, cells, m);
-    let size = end_length(
-        program,
-        goal,
-        symbols,
-        constants,
-        n,
-        numbers,
-        letters,
-        bound,
-        cells,
-        m,
-        firings,
-    );
-    if out.len() < size {
-        return Listed::TooShort;
-    }
-    put_end(
-        out,
-        program,
-        goal,
-        symbols,
-        constants,
-        n,
-        numbers,
-        letters,
-        bound,
-        cells,
-        m,
-        firings,
-    );
-    Listed::Written(size)
-}
-
-// The listing of a run's final state, from flat tables; `numbers` is lent for the variables' numbers.
-pub fn list_run<'a>(
-    out: &mut [u8],
-    numbers: &mut [u16],
-    program: &'a [u8],
-    goal: &'a [u8],
-    symbols: &[u16],
-    constants: &[u16],
-    letters: &[u8],
-    bound: &[u16],
-    cells: &[u16],
-    failed: bool,
-    counts: Counts,
-) -> Listed
-    requires { ⌜ RunListable (now symbols) (now constants) (now letters) (now bound) (now cells)
-        (length (now numbers)) failed counts ⌝ }
-    ensures { λ r. ⌜ ListedAs
-        (runBytes (tableNaming (now (program .entry)) (now (goal .entry)) (now (symbols .entry)) (now (constants .entry)) counts)
-        (now (letters .entry)) failed 0 (now (bound .entry)) (now (cells .entry)) (counts .firings))
-        (now (out .entry)) (now (out .exit)) r ⌝ }
-    ensures { λ _. ⌜ now (numbers .exit) ≡ numbersAfter failed (now (bound .entry)) (now (cells .entry))
-        (now (numbers .entry)) ⌝ }
-{
-    if failed {
-        let firings = counts.firings;
+    let firings = end.firings;
+    if !end.alive {
         return list_failed(out, firings);
     }
-    list_end(
-        out,
-        numbers,
-        program,
-        goal,
-        symbols,
-        constants,
-        letters,
-        bound,
-        cells,
-        counts,
-    )
+    renumber(bound, cells, end.next);
+    list_live(out, program, goal, places, letters, bound, cells, firings)
 }

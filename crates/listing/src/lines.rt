@@ -1,138 +1,177 @@
-// The lines of a listing, one at a time, each with its length.
-use crate::terms::fields_length;
-use crate::terms::put_field;
-use crate::terms::put_fields;
-use crate::terms::term_length;
+// The lines of a listing: fields, the first line, A lines, and a line for each constraint.
 use crate::writing::copy;
+use crate::writing::put_byte;
 use crate::writing::put_decimal;
-use syntax::names::part_of;
-use syntax::names::wide;
+use tables::layout::CONSTRAINT_SIZE;
+use tables::layout::FIRST_VARIABLE;
+use tables::names::name;
+use tables::numbering::used;
+use tables::wide;
+ghost use mathlib.Core.List.{[], _∷_, _++_, map};
 ghost use mathlib.Core.Path.{_≡_};
-ghost use Prim.Native.Nat.{_≤_};
+ghost use Prim.Native.Nat.{_<_};
 ghost use lib.ListN.{length};
-ghost use Rattle.syntax.specs.Tables.{spelledAs};
-ghost use Rattle.listing.specs.Pieces.{namedAs, termBytes, boundBytes, rowBytes, headBytes};
-ghost use Rattle.listing.specs.Pieces.{Put, Sized, Named, Shown, RowShown};
+ghost use Rattle.text.specs.Bytes.{ascii};
+ghost use Rattle.tables.specs.Layout.{constraintSize};
+ghost use Rattle.tables.specs.Cells.{cellTerm, cellConstraints, rowConstraint};
+ghost use Rattle.tables.specs.Names.{nameIn};
+ghost use Rattle.listing.specs.Listing.{decimal, fieldsBehind, lineOf, constraintShown, constraintLines, numberedAs};
+ghost use Rattle.listing.specs.Listing.{variableName, boundLines};
+ghost use Rattle.listing.specs.Writing.{Countable, Writes};
+ghost use Rattle.listing.specs.Ends.{cellShown};
 
-// The name of a symbol: a part of the program's text.
-pub fn name<'a>(program: &'a [u8], symbols: &[u16], k: u16) -> &'a [u8]
-    requires { ⌜ Named (now symbols) k ⌝ }
-    ensures { λ r. ⌜ now r ≡ namedAs (now (program .entry)) (now (symbols .entry)) k ⌝ }
-{
-    let a = 4 * wide(k);
-    let start = wide(symbols[a]);
-    let len = wide(symbols[a + 1]);
-    part_of(program, start, len)
+// The letter that a constraint's line begins with, and the letter that its variables are shown by.
+pub struct Mark {
+    pub line: u8,
+    pub variable: u8,
 }
 
-// The first line: a word with its comma, and the firings.
-pub fn put_head(out: &mut [u8], word: &[u8], firings: usize) -> usize
-    requires { ⌜ length (headBytes (now word) firings) ≤ length (now out) ⌝ }
-    ensures { λ r. ⌜ Put (headBytes (now (word .entry)) firings) (now (out .entry)) (now (out .exit)) r ⌝ }
+// The first line: a word with its comma, and a number.
+pub fn put_head(out: &mut [u8], at: usize, word: &[u8], n: usize) -> usize
+    requires { ⌜ Countable at (now word ++ (decimal n ++ (10 ∷ []))) ⌝ }
+    ensures { λ r. ⌜ Writes (now (word .entry) ++ (decimal n ++ (10 ∷ []))) at (now (out .entry)) (now (out .exit)) r ⌝ }
 {
-    let at = copy(out, word);
-    let end = at + put_decimal(&mut out[at..], firings);
-    out[end] = b'\n';
-    end + 1
+    let digits = copy(out, at, word);
+    let feed = put_decimal(out, digits, n);
+    put_byte(out, feed, b'\n')
 }
 
-// How many bytes the A line of a goal variable has.
-pub fn bound_length<'a>(
-    program: &'a [u8],
-    goal: &'a [u8],
-    constants: &[u16],
-    n: usize,
-    numbers: &[u16],
-    letter: u8,
-    x: u16,
-) -> usize
-    requires { ⌜ Shown (now constants) (length (now numbers)) x ⌝ }
-    ensures { λ r. ⌜ Sized
-        (boundBytes (termBytes (spelledAs (now (program .entry)) (now (goal .entry)) (now (constants .entry)) n)
-        (now (numbers .entry)))
-        letter x) 65542 r ⌝ }
-{
-    5 + term_length(program, goal, constants, n, numbers, x)
-}
-
-// The A line of a goal variable: its letter and what it became.
-pub fn put_bound<'a>(
+// A cell: a constant by its name, a variable by a letter and its number.
+pub fn put_cell<'a>(
     out: &mut [u8],
+    at: usize,
     program: &'a [u8],
     goal: &'a [u8],
-    constants: &[u16],
-    n: usize,
-    numbers: &[u16],
+    places: &[u16],
     letter: u8,
     x: u16,
 ) -> usize
-    requires { ⌜ Shown (now constants) (length (now numbers)) x
-        × (length (boundBytes (termBytes (spelledAs (now program) (now goal) (now constants) n) (now numbers)) letter x)
-        ≤ length (now out)) ⌝ }
-    ensures { λ r. ⌜ Put
-        (boundBytes (termBytes (spelledAs (now (program .entry)) (now (goal .entry)) (now (constants .entry)) n)
-        (now (numbers .entry)))
-        letter x) (now (out .entry)) (now (out .exit)) r ⌝ }
+    requires { ⌜ Countable at (cellShown (nameIn (now program) (now goal) (now places)) letter x) ⌝ }
+    ensures { λ r. ⌜ Writes (cellShown (nameIn (now (program .entry)) (now (goal .entry)) (now (places .entry))) letter x)
+        at (now (out .entry)) (now (out .exit)) r ⌝ }
 {
-    out[0] = b'A';
-    out[1] = b',';
-    out[2] = letter;
-    let end = 3 + put_field(&mut out[3..], program, goal, constants, n, numbers, x);
-    out[end] = b'\n';
-    end + 1
+    if x < FIRST_VARIABLE {
+        let s = name(program, goal, places, wide(x));
+        return copy(out, at, s);
+    }
+    let digits = put_byte(out, at, letter);
+    put_decimal(out, digits, wide(x - FIRST_VARIABLE) + 1)
 }
 
-// How many bytes the S line of a constraint's five cells has.
-pub fn row_length<'a>(
+// The fields of cells, each behind its comma, and the line feed.
+pub fn put_fields<'a>(
+    out: &mut [u8],
+    at: usize,
     program: &'a [u8],
     goal: &'a [u8],
-    symbols: &[u16],
-    constants: &[u16],
-    n: usize,
-    numbers: &[u16],
-    row: &[u16],
+    places: &[u16],
+    letter: u8,
+    cells: &[u16],
 ) -> usize
-    requires { ⌜ RowShown (now symbols) (now constants) (length (now numbers)) (now row) ⌝ }
-    ensures { λ r. ⌜ Sized
-        (rowBytes (namedAs (now (program .entry)) (now (symbols .entry)))
-        (termBytes (spelledAs (now (program .entry)) (now (goal .entry)) (now (constants .entry)) n) (now (numbers .entry)))
-        (now (row .entry))) 327690 r ⌝ }
+    requires { ⌜ Countable at (fieldsBehind (map (cellShown (nameIn (now program) (now goal) (now places)) letter) (now cells))) ⌝ }
+    ensures { λ r. ⌜ Writes
+        (fieldsBehind (map (cellShown (nameIn (now (program .entry)) (now (goal .entry)) (now (places .entry))) letter)
+        (now (cells .entry)))) at (now (out .entry)) (now (out .exit)) r ⌝ }
 {
-    let named = name(program, symbols, row[0]);
-    2 + named.len() + fields_length(program, goal, constants, n, numbers, &row[1..])
+    let mut end = at;
+    let mut i = 0;
+    while i < cells.len() {
+        let field = put_byte(out, end, b',');
+        end = put_cell(out, field, program, goal, places, letter, cells[i]);
+        i += 1;
+    }
+    put_byte(out, end, b'\n')
 }
 
-// The S line of a constraint's five cells: its symbol's name and its terms.
+// The line of a constraint's five cells: its symbol's name and its terms.
 pub fn put_row<'a>(
     out: &mut [u8],
+    at: usize,
     program: &'a [u8],
     goal: &'a [u8],
-    symbols: &[u16],
-    constants: &[u16],
-    n: usize,
-    numbers: &[u16],
+    places: &[u16],
+    mark: Mark,
     row: &[u16],
 ) -> usize
-    requires { ⌜ RowShown (now symbols) (now constants) (length (now numbers)) (now row)
-        × (length (rowBytes (namedAs (now program) (now symbols))
-        (termBytes (spelledAs (now program) (now goal) (now constants) n) (now numbers)) (now row)) ≤ length (now out)) ⌝ }
-    ensures { λ r. ⌜ Put
-        (rowBytes (namedAs (now (program .entry)) (now (symbols .entry)))
-        (termBytes (spelledAs (now (program .entry)) (now (goal .entry)) (now (constants .entry)) n) (now (numbers .entry)))
-        (now (row .entry))) (now (out .entry)) (now (out .exit)) r ⌝ }
+    requires { ⌜ (length (now row) ≡ constraintSize)
+        × Countable at (lineOf (mark .line ∷ []) (constraintShown (nameIn (now program) (now goal) (now places))
+        (numberedAs (mark .variable ∷ [])) (rowConstraint (now row)))) ⌝ }
+    ensures { λ r. ⌜ Writes
+        (lineOf (mark .line ∷ []) (constraintShown (nameIn (now (program .entry)) (now (goal .entry)) (now (places .entry)))
+        (numberedAs (mark .variable ∷ [])) (rowConstraint (now (row .entry))))) at (now (out .entry)) (now (out .exit)) r ⌝ }
 {
-    out[0] = b'S';
-    out[1] = b',';
-    let named = name(program, symbols, row[0]);
-    let end = 2 + copy(&mut out[2..], named);
+    let comma = put_byte(out, at, mark.line);
+    let start = put_byte(out, comma, b',');
+    let s = name(program, goal, places, wide(row[0]));
+    let end = copy(out, start, s);
+    let n = used(&row[1..]);
+    let e = 1 + n;
+    put_fields(out, end, program, goal, places, mark.variable, &row[1..e])
+}
+
+// A line for each constraint.
+pub fn put_rows<'a>(
+    out: &mut [u8],
+    at: usize,
+    program: &'a [u8],
+    goal: &'a [u8],
+    places: &[u16],
+    mark: Mark,
+    cells: &[u16],
+) -> usize
+    requires { ⌜ Countable at (constraintLines (mark .line ∷ []) (nameIn (now program) (now goal) (now places))
+        (numberedAs (mark .variable ∷ [])) (cellConstraints (now cells))) ⌝ }
+    ensures { λ r. ⌜ Writes
+        (constraintLines (mark .line ∷ []) (nameIn (now (program .entry)) (now (goal .entry)) (now (places .entry)))
+        (numberedAs (mark .variable ∷ [])) (cellConstraints (now (cells .entry)))) at (now (out .entry)) (now (out .exit)) r ⌝ }
+{
+    let mut end = at;
+    let mut i = 0;
+    while CONSTRAINT_SIZE * i + CONSTRAINT_SIZE <= cells.len() {
+        let a = CONSTRAINT_SIZE * i;
+        let e = a + CONSTRAINT_SIZE;
+        end = put_row(out, end, program, goal, places, mark, &cells[a..e]);
+        i += 1;
+    }
     end
-        + put_fields(
-            &mut out[end..],
-            program,
-            goal,
-            constants,
-            n,
-            numbers,
-            &row[1..],
-        )
+}
+
+// The front of a goal variable's A line: its letter, or V and its number.
+pub fn put_variable(out: &mut [u8], at: usize, letters: &[u8], x: usize) -> usize
+    requires { ⌜ Countable at (ascii "A," ++ variableName (now letters) x) × (x < 65536) ⌝ }
+    ensures { λ r. ⌜ Writes (ascii "A," ++ variableName (now (letters .entry)) x) at (now (out .entry)) (now (out .exit)) r ⌝ }
+{
+    let start = copy(out, at, b"A,");
+    if x < letters.len() {
+        return put_byte(out, start, letters[x]);
+    }
+    let digits = put_byte(out, start, b'V');
+    put_decimal(out, digits, x + 1)
+}
+
+// A line for each goal variable: its name and what it became.
+pub fn put_bounds<'a>(
+    out: &mut [u8],
+    at: usize,
+    program: &'a [u8],
+    goal: &'a [u8],
+    places: &[u16],
+    letters: &[u8],
+    bound: &[u16],
+) -> usize
+    requires { ⌜ Countable at (boundLines (nameIn (now program) (now goal) (now places)) (numberedAs (ascii "U"))
+        (variableName (now letters)) 0 (map cellTerm (now bound))) × (length (now bound) < 65536) ⌝ }
+    ensures { λ r. ⌜ Writes
+        (boundLines (nameIn (now (program .entry)) (now (goal .entry)) (now (places .entry))) (numberedAs (ascii "U"))
+        (variableName (now (letters .entry))) 0 (map cellTerm (now (bound .entry)))) at (now (out .entry)) (now (out .exit)) r ⌝ }
+{
+    let mut end = at;
+    let mut i = 0;
+    while i < bound.len() {
+        let field = put_variable(out, end, letters, i);
+        let e = i + 1;
+        end = put_fields(out, field, program, goal, places, b'U', &bound[i..e]);
+        i += 1;
+    }
+    end
 }

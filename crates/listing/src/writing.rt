@@ -1,43 +1,43 @@
-// Numbers and parts of a text, put into the front of an output.
-ghost use mathlib.Core.Path.{_≡_};
-ghost use Prim.Native.Nat.{_≤_, _<_, _^_};
-ghost use lib.ListN.{length};
+// Bytes, parts of a text and numbers, put into an output from a place on; each answers the place behind them.
+// Where they do not fit nothing is said of the output, and the place is answered all the same.
+ghost use mathlib.Core.List.{[], _∷_};
 ghost use Rattle.listing.specs.Listing.{decimal};
-ghost use Rattle.listing.specs.Pieces.{Put};
+ghost use Rattle.listing.specs.Writing.{Countable, Writes};
 
-// How many decimal digits a number has.
-pub fn digits(n: usize) -> usize
-    ensures { λ r. ⌜ r ≡ length (decimal n) ⌝ }
+// One byte.
+pub fn put_byte(out: &mut [u8], at: usize, b: u8) -> usize
+    requires { ⌜ Countable at (b ∷ []) ⌝ }
+    ensures { λ r. ⌜ Writes (b ∷ []) at (now (out .entry)) (now (out .exit)) r ⌝ }
 {
-    if n < 10 {
-        return 1;
+    if out.len() <= at {
+        return at + 1;
     }
-    digits(n / 10) + 1
-}
-
-// A number in decimal digits.
-pub fn put_decimal(out: &mut [u8], n: usize) -> usize
-    requires { ⌜ length (decimal n) ≤ length (now out) ⌝ }
-    ensures { λ r. ⌜ Put (decimal n) (now (out .entry)) (now (out .exit)) r ⌝ }
-{
-    if n < 10 {
-        out[0] = b'0' + n as u8;
-        return 1;
-    }
-    let end = put_decimal(out, n / 10);
-    out[end] = b'0' + (n % 10) as u8;
-    end + 1
+    out[at] = b;
+    at + 1
 }
 
 // A part of a text, as it stands there.
-pub fn copy(out: &mut [u8], part: &[u8]) -> usize
-    requires { ⌜ length (now part) ≤ length (now out) ⌝ }
-    ensures { λ r. ⌜ Put (now (part .entry)) (now (out .entry)) (now (out .exit)) r ⌝ }
+pub fn copy(out: &mut [u8], at: usize, part: &[u8]) -> usize
+    requires { ⌜ Countable at (now part) ⌝ }
+    ensures { λ r. ⌜ Writes (now (part .entry)) at (now (out .entry)) (now (out .exit)) r ⌝ }
 {
+    let mut end = at;
     let mut i = 0;
     while i < part.len() {
-        out[i] = part[i];
+        end = put_byte(out, end, part[i]);
         i += 1;
     }
-    i
+    end
+}
+
+// A number in decimal digits.
+pub fn put_decimal(out: &mut [u8], at: usize, n: usize) -> usize
+    requires { ⌜ Countable at (decimal n) ⌝ }
+    ensures { λ r. ⌜ Writes (decimal n) at (now (out .entry)) (now (out .exit)) r ⌝ }
+{
+    if n < 10 {
+        return put_byte(out, at, b'0' + n as u8);
+    }
+    let end = put_decimal(out, at, n / 10);
+    put_byte(out, end, b'0' + (n % 10) as u8)
 }

@@ -1,14 +1,28 @@
-// `rehearsal`: prints the reply of `sheetrun` to each input that an argument names, behind a line with its name.
+// `rehearsal`: prints the reply to each input that an argument names, behind a line with its name.
+// An input whose name begins with r is a program and a goal, as `sheetrun` gets them; any other is a program, over which the empty
+// goal is run. Then it puts each of the 256 bytes at each place of a program and of a goal, and prints the number that each meets.
+mod sweep;
 
-// Writes what is printed on an input.
+use roketuma::put_reply;
+use roketuma::put_run;
+use sweep::swept;
+
+// Writes what is printed on an input that may have a goal.
 fn answer(input: &[u8]) {
     let mut out = [0u8; 32768];
-    let n = printing::put_run(input, &mut out);
+    let n = put_run(input, &mut out);
+    io::write_all(1, &out[..n]);
+}
+
+// Writes what is printed on a program with the empty goal.
+fn answer_program(program: &[u8]) {
+    let mut out = [0u8; 32768];
+    let n = put_reply(program, b"", &mut out);
     io::write_all(1, &out[..n]);
 }
 
 // The reply to the input of a file.
-fn rehearse(path: &[u8]) {
+fn rehearse(path: &[u8], with_goal: bool) {
     let fd = os::open_read(path);
     if fd < 0 {
         os::fail(path);
@@ -17,16 +31,49 @@ fn rehearse(path: &[u8]) {
     let mut input = [0u8; 40000];
     let n = io::read_full(fd, &mut input);
     libc::close(fd);
-    answer(&input[..n])
+    if with_goal {
+        answer(&input[..n])
+    } else {
+        answer_program(&input[..n])
+    }
 }
 
 // The reply to the input that argument i names.
 fn rehearse_argument(i: usize) {
     let mut path = io::buffer();
     let length = os::arg(i, &mut path);
+    if length == 0 {
+        return;
+    }
     io::write_all(1, &path[..length]);
     io::write_all(1, b"\n");
-    rehearse(&path[..length])
+    let first = path[0];
+    rehearse(&path[..length], first == b'r')
+}
+
+// The digit of a text swept, printed.
+fn print_digit(i: usize, b: u8) {
+    let digits = [swept(i, b)];
+    io::write_all(1, &digits);
+}
+
+// All bytes at place i.
+fn sweep_place(i: usize) {
+    let mut b: usize = 0;
+    while b < 256 {
+        print_digit(i, b as u8);
+        b += 1;
+    }
+    io::write_all(1, b"\n");
+}
+
+// All places of both texts.
+fn sweep_all() {
+    let mut i = 0;
+    while i < 42 {
+        sweep_place(i);
+        i += 1;
+    }
 }
 
 fn main() {
@@ -36,4 +83,5 @@ fn main() {
         rehearse_argument(i);
         i += 1;
     }
+    sweep_all();
 }

@@ -3,23 +3,28 @@
 --   Known, appearing-known               a term over listed variables; the constraints' terms are
 --   numbered-below, numbered-instance    a numbered term is below the number of variables, and numbering can be undone
 --   goal-scoped, goal-instance           the same for the goal
+--   goal-appearance                      the goal's variables count by first appearance
 -- Assumes nothing.
-use Prim.Native.Nat.{ℕ}
-use mathlib.Core.Bool.{true, false, cond}
-use mathlib.Core.List.{List, [], _∷_, _++_, map}
+use Prim.Native.Nat.{ℕ, zero, suc, _<_, _≤_}
+use native.Mathlib.Omega.{arith}
+use native.Mathlib.Decide.{decLt}
+use mathlib.Core.Bool.{true, false, cond, _||_}
+use mathlib.Core.List.{List, [], _∷_, _++_, map, append-assoc, append-nil}
 use mathlib.Core.Path.{_≡_, refl, sym, ap, subst, _∙_}
 use lib.Dec.{eqb}
-use lib.ListN.{length, getD}
-use Rattle.text.specs.Lists.{has, placeFrom}
+use lib.ListN.{length, getD, length-append}
+use Rattle.text.specs.Lists.{has, placeFrom, upTo}
 use Rattle.semantics.specs.Terms.{Term, con, var, Constraint, mapTerms}
 use Rattle.semantics.specs.Overlaps.{appearingIn, appearing, numbered, goalOf}
+use Rattle.semantics.specs.Claims.{ByAppearance}
 use Rattle.semantics.proofs.Configurations.{Or, inl, inr, Member, first, later, All, none, also, TermBelow}
 use Rattle.semantics.proofs.Options.{decide, true-false, eqb-equal, apart-eqb}
-use Rattle.semantics.proofs.Bools.{or-cases}
+use Rattle.semantics.proofs.Bools.{eqb-same, or-cases, or-false, or-right}
 use Rattle.semantics.proofs.Removal.{has-last}
 use Rattle.semantics.proofs.Multisets.{all-member, all-of-members, all-map}
 use Rattle.semantics.proofs.MatchLaws.{instantiate}
-use Rattle.semantics.proofs.Places.{getD-at, has-append, place-stands, place-below, Distinct, distinct-append}
+use Rattle.semantics.proofs.Places.{getD-at, has-append, place-stands, place-below, placeFrom-hit, placeFrom-miss}
+use Rattle.semantics.proofs.Places.{Distinct, distinct-append}
 
 -- the seen variables with one more, if it is new
 abbrev seenWith : ℕ → List ℕ → List ℕ
@@ -194,3 +199,103 @@ goal-instance θ cs =
     ap (λ ts. record { symbol = c .symbol; terms = ts })
     (map-equal back (numbered order) (instantiate θ) (all-of-members (c .terms) (λ t j.
     numbered-instance order θ t (all-member (appearing-known i) j))))))
+
+-- what has been seen stays in front
+terms-extend : (seen : List ℕ) (ts : List Term) → (more : List ℕ) × (appearingIn seen ts ≡ seen ++ more)
+unfolding appearingIn
+terms-extend seen [] = ([], sym (append-nil seen))
+terms-extend seen (con c ∷ ts) = terms-extend seen ts
+terms-extend seen (var x ∷ ts) = go (decide (has x seen)) (terms-extend (seenWith x seen) ts)
+  where
+    go :
+        Or (has x seen ≡ true) (has x seen ≡ false)
+        → (more : List ℕ) × (appearingIn (seenWith x seen) ts ≡ seenWith x seen ++ more)
+        → (more : List ℕ) × (appearingIn (seenWith x seen) ts ≡ seen ++ more)
+    go (inl h) (more, e) = (more, e ∙ rw h)
+    go (inr h) (more, e) = (x ∷ more, e ∙ rw h (append-assoc seen (x ∷ []) more))
+
+appearing-extends : (seen : List ℕ) (cs : List Constraint) → (more : List ℕ) × (appearing seen cs ≡ seen ++ more)
+unfolding appearing
+appearing-extends seen [] = ([], sym (append-nil seen))
+appearing-extends seen (c ∷ cs) =
+    let (more, e) = terms-extend seen (c .terms) in
+    let (rest, f) = appearing-extends (appearingIn seen (c .terms)) cs in
+    (more ++ rest, f ∙ ap (_++ rest) e ∙ append-assoc seen more rest)
+
+-- the place of a number that the first of two lists has, and of the first number of the second that the first lacks
+place-left : (x : ℕ) (l m : List ℕ) → has x l ≡ true → placeFrom (eqb x) 0 (l ++ m) < length l
+place-left x [] m h = true-false h refl
+place-left x (y ∷ l) m h = go (decide (eqb x y)) (place-left x l m)
+  where
+    go :
+        Or (eqb x y ≡ true) (eqb x y ≡ false) → (has x l ≡ true → placeFrom (eqb x) 0 (l ++ m) < length l)
+        → placeFrom (eqb x) 0 (y ∷ (l ++ m)) < suc (length l)
+    go (inl e) ih = rw (placeFrom-hit (eqb x) 0 (l ++ m) e) (omega arith)
+    go (inr e) ih = rw (placeFrom-miss (eqb x) 0 (l ++ m) e) (let k = ih (rw e at h) in omega arith)
+
+place-next : (x : ℕ) (l m : List ℕ) → has x l ≡ false → placeFrom (eqb x) 0 (l ++ (x ∷ m)) ≡ length l
+place-next x [] m h = placeFrom-hit (eqb x) 0 m (eqb-same x)
+place-next x (y ∷ l) m h =
+    let (e, f) = or-false (eqb x y) (has x l) h in
+    placeFrom-miss (eqb x) 0 (l ++ (x ∷ m)) e ∙ ap suc (place-next x l m f)
+
+-- the numbers below n
+upTo-has : (n i : ℕ) → i < n → has i (upTo n) ≡ true
+upTo-has zero i l = absurd (omega arith)
+upTo-has (suc n) i l = has-append i (upTo n) (n ∷ []) ∙ go (decLt i n) (upTo-has n i)
+  where
+    go : Dec (i < n) → (i < n → has i (upTo n) ≡ true) → (has i (upTo n) || has i (n ∷ [])) ≡ true
+    go (yes h) ih = rw (ih h)
+    go (no h) ih = or-right (has i (upTo n)) (has i (n ∷ [])) (let e : i ≡ n = omega arith in rw (e, eqb-same n))
+
+upTo-lacks : (n i : ℕ) → n ≤ i → has i (upTo n) ≡ false
+upTo-lacks zero i l = refl
+upTo-lacks (suc n) i l =
+    has-append i (upTo n) (n ∷ [])
+    ∙ rw (upTo-lacks n i (omega arith), apart-eqb {m = i} {n = n} (λ e. omega arith))
+
+-- the variables of numbered terms are the numbers in order, as far as the variables of the terms go
+terms-count :
+    (order seen : List ℕ) (ts : List Term) (rest : List ℕ) → order ≡ appearingIn seen ts ++ rest
+    → appearingIn (upTo (length seen)) (map (numbered order) ts) ≡ upTo (length (appearingIn seen ts))
+unfolding appearingIn numbered
+terms-count order seen [] rest e = refl
+terms-count order seen (con c ∷ ts) rest e = terms-count order seen ts rest e
+terms-count order seen (var x ∷ ts) rest e =
+    ap (λ l. appearingIn l (map (numbered order) ts)) (go (decide (has x seen)) (terms-extend (seenWith x seen) ts))
+    ∙ terms-count order (seenWith x seen) ts rest e
+  where
+    go :
+        Or (has x seen ≡ true) (has x seen ≡ false)
+        → (more : List ℕ) × (appearingIn (seenWith x seen) ts ≡ seenWith x seen ++ more)
+        → seenWith (placeFrom (eqb x) 0 order) (upTo (length seen)) ≡ upTo (length (seenWith x seen))
+    go (inl h) (more, f) =
+        let split : order ≡ seenWith x seen ++ (more ++ rest) =
+        e ∙ ap (_++ rest) f ∙ append-assoc (seenWith x seen) more rest in
+        let known : order ≡ seen ++ (more ++ rest) = rw h at split in
+        let place : placeFrom (eqb x) 0 order < length seen = rw known (place-left x seen (more ++ rest) h) in
+        rw (h, upTo-has (length seen) (placeFrom (eqb x) 0 order) place)
+    go (inr h) (more, f) =
+        let split : order ≡ seenWith x seen ++ (more ++ rest) =
+        e ∙ ap (_++ rest) f ∙ append-assoc (seenWith x seen) more rest in
+        let new : order ≡ (seen ++ (x ∷ [])) ++ (more ++ rest) = rw h at split in
+        let place : placeFrom (eqb x) 0 order ≡ length seen =
+        ap (placeFrom (eqb x) 0) (new ∙ append-assoc seen (x ∷ []) (more ++ rest)) ∙ place-next x seen (more ++ rest) h in
+        let longer : length (seen ++ (x ∷ [])) ≡ suc (length seen) = length-append seen (x ∷ []) ∙ omega arith in
+        rw (place, upTo-lacks (length seen) (length seen) (omega arith), h, longer)
+
+appearing-counts :
+    (order seen : List ℕ) (cs : List Constraint) → order ≡ appearing seen cs
+    → appearing (upTo (length seen)) (map (mapTerms (numbered order)) cs) ≡ upTo (length order)
+unfolding appearing mapTerms
+appearing-counts order seen [] e = ap (λ l. upTo (length l)) (sym e)
+appearing-counts order seen (c ∷ cs) e =
+    let next = appearingIn seen (c .terms) in
+    let (rest, f) = appearing-extends next cs in
+    ap (λ l. appearing l (map (mapTerms (numbered order)) cs)) (terms-count order seen (c .terms) rest (e ∙ f))
+    ∙ appearing-counts order next cs e
+
+-- the variables of the goal of constraints count by first appearance
+pub goal-appearance : (cs : List Constraint) → ByAppearance (goalOf cs)
+unfolding goalOf
+goal-appearance cs = appearing-counts (appearing [] cs) [] cs refl

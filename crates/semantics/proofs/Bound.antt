@@ -1,5 +1,5 @@
 -- No derivation of a well-formed program fires more often than the goal's weight.
---   waiting              the goal's constraints that have not entered
+--   waiting-enters       a constraint that enters was waiting
 --   Bounded              firings, the state's weight and the weight that waits are within the goal's weight
 --   firings-bounded      a derivation's firings are within the goal's weight
 -- Assumes nothing.
@@ -16,13 +16,9 @@ use Rattle.semantics.specs.Terms.{symbolAt, weight, isWellFormed}
 use Rattle.semantics.specs.Firing.{without, fireAt}
 use Rattle.semantics.specs.Variants.{Inserted}
 use Rattle.semantics.specs.Derivations.{Event, enter, fire, Progress, become, taken, entering, firing, follow, followAll}
-use Rattle.semantics.specs.Derivations.{start, derive}
+use Rattle.semantics.specs.Derivations.{start, derive, waiting}
 use Rattle.semantics.proofs.Removal.{has-front, without-none, without-same, without-one}
 use Rattle.semantics.proofs.Weights.{weight-cons, weight-nil, weight-append, weight-inserted, stateWeight, fireAt-lighter}
-
--- the goal's constraints that have not entered
-abbrev pub waiting : Goal → Progress → List Constraint
-waiting g d = without 0 (d .entered) (g .constraints)
 
 -- a constraint that enters was waiting
 pub waiting-enters :

@@ -16,10 +16,11 @@ use Rattle.semantics.specs.Matching.{Assignment, unassigned, matchAt}
 use Rattle.semantics.specs.Firing.{fired, fireAt}
 use Rattle.semantics.specs.Derivations.{NoRuleFits}
 use Rattle.semantics.specs.Strategy.{Match, find, Choice, chooseFrom, choose, advance}
+use Rattle.semantics.specs.Runs.{Before}
 use Rattle.semantics.proofs.Configurations.{Or}
 use Rattle.semantics.proofs.Options.{none-some, bind-some}
 use Rattle.semantics.proofs.Bools.{none-unless}
-use Rattle.semantics.proofs.Search.{Before, find-sound, find-complete, find-smallest}
+use Rattle.semantics.proofs.Search.{find-sound, find-complete, find-smallest}
 
 -- what a choice among rules, the first of them numbered n, has to be: a rule of the list, where it fits, and no earlier one fits
 pub record Chosen (n : ℕ) (rs : List Rule) (cs : List Constraint) (c : Choice) : Type 0 where

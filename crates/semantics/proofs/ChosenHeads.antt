@@ -23,7 +23,7 @@ use Rattle.semantics.proofs.Configurations.{All, none, also}
 use Rattle.semantics.proofs.Options.{none-some, bind-some, cond-some, eqb-equal, equal-eqb, apart-eqb}
 use Rattle.semantics.proofs.Places.{some-equal, getElem-at}
 use Rattle.semantics.proofs.Pairings.{alone}
-use Rattle.semantics.proofs.Choices.{has-rights}
+use Rattle.semantics.proofs.Joinings.{has-rights}
 
 -- the equations between lists of terms, as computed and as related
 terms-equated : (ss ts : List Term) {es : List Equation} → equateTerms ss ts ≡ some es → Equated ss ts es

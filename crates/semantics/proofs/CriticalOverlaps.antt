@@ -1,5 +1,5 @@
 -- The overlaps of a program are the critical pairs of its rules (document 000, definition 3.4), one to one.
---   choices-are-pairings             which heads are equated with which, as it is enumerated
+--   joinings-are-pairings            which heads are equated with which, as it is enumerated
 --   critical-overlap                 a critical pair has an overlap
 --   overlaps-are-critical-pairs      the claim, of every well-formed program
 -- Assumes nothing.
@@ -13,10 +13,10 @@ use lib.ListN.{length, getElem?, length-map}
 use Rattle.semantics.specs.Terms.{Rule, Program, mapTerms, isWellFormed}
 use Rattle.semantics.specs.Overlaps.{pairings, apart, joinEquations, unjoinedHeads, goalOf, Numbered, Overlap, overlapOf}
 use Rattle.semantics.specs.Overlaps.{overlaps}
-use Rattle.semantics.specs.CriticalPairs.{Joint, lefts, rights, Choice, jointsOf, partnersOf, picked, CriticalPair}
+use Rattle.semantics.specs.CriticalPairs.{Joint, lefts, rights, Joining, jointsOf, partnersOf, picked, CriticalPair}
 use Rattle.semantics.specs.CriticalPairs.{pairOf, Critical, critical}
 use Rattle.semantics.specs.Published.{EquatedAll}
-use Rattle.semantics.specs.Correspondence.{ChoicesArePairings, OverlapsAreCriticalPairs}
+use Rattle.semantics.specs.Correspondence.{JoiningsArePairings, OverlapsAreCriticalPairs}
 use Rattle.semantics.proofs.Configurations.{Member, first, All}
 use Rattle.semantics.proofs.Options.{none-some}
 use Rattle.semantics.proofs.Places.{some-equal}
@@ -25,7 +25,7 @@ use Rattle.semantics.proofs.Listings as L
 use Rattle.semantics.proofs.Enumeration.{IsPairing, member-pairings, pairings-member, norepeat-pairings, OverlapParts}
 use Rattle.semantics.proofs.Enumeration.{overlap-parts, Listed, member-overlaps, overlaps-member, norepeat-overlaps}
 use Rattle.semantics.proofs.Valuations.{satisfiable-solved}
-use Rattle.semantics.proofs.Choices.{joints-partners, partners-joints, choice-pairing, pairing-choice}
+use Rattle.semantics.proofs.Joinings.{joints-partners, partners-joints, joining-pairing, pairing-joining}
 use Rattle.semantics.proofs.ChosenHeads.{equated-join, shifted-heads}
 use Rattle.semantics.proofs.OverlapSides.{overlap-critical, overlap-sides}
 
@@ -37,8 +37,8 @@ norepeat-at zero (suc n) (L.apart {l} f h) p q = absurd (f (subst (λ x. Member 
 norepeat-at (suc m) zero (L.apart {l} f h) p q = absurd (f (subst (λ x. Member x l) (some-equal (sym q)) (at-member l m p)))
 norepeat-at (suc m) (suc n) (L.apart f h) p q = ap suc (norepeat-at m n h p q)
 
--- from a choice to its partners and back, and the other way round
-back-joints : (m n : ℕ) (js : List Joint) → Choice m n js → jointsOf (partnersOf m js) ≡ js
+-- from a joining to its partners and back, and the other way round
+back-joints : (m n : ℕ) (js : List Joint) → Joining m n js → jointsOf (partnersOf m js) ≡ js
 unfolding jointsOf partnersOf
 back-joints m n js c = joints-partners m n 0 m (omega arith) (c .joints)
 
@@ -46,11 +46,11 @@ back-partners : (m n : ℕ) (ds : List ℕ) → IsPairing m n ds → partnersOf 
 unfolding jointsOf partnersOf
 back-partners m n ds h = subst (λ k. partnersOf k (jointsOf ds) ≡ ds) (h .long) (partners-joints 0 ds)
 
--- the choices are the pairings
-pub choices-are-pairings : (m n : ℕ) → ChoicesArePairings m n
-choices-are-pairings m n = record {
-  enumerated = λ js c. member-at (member-pairings (choice-pairing m n js c));
-  chosen = λ i ds e. pairing-choice m n ds (listed i ds e);
+-- the joinings are the pairings
+pub joinings-are-pairings : (m n : ℕ) → JoiningsArePairings m n
+joinings-are-pairings m n = record {
+  enumerated = λ js c. member-at (member-pairings (joining-pairing m n js c));
+  joining = λ i ds e. pairing-joining m n ds (listed i ds e);
   back = back-joints m n;
   forth = λ i ds e. back-partners m n ds (listed i ds e);
   once = λ i k ds e f. norepeat-at i k (norepeat-pairings m n) e f;
@@ -59,20 +59,20 @@ choices-are-pairings m n = record {
     listed : (i : ℕ) (ds : List ℕ) → getElem? (pairings m n) i ≡ some ds → IsPairing m n ds
     listed i ds e = pairings-member m n ds (at-member (pairings m n) i e)
 
--- a critical pair has an overlap, by the partners of its choice
+-- a critical pair has an overlap, by the partners of its joining
 pub critical-overlap :
     (i j : Numbered) {js : List Joint} {c : CriticalPair} → Critical (i .rule) (j .rule) js c
     → (o : Overlap) × (overlapOf i j (partnersOf (length (i .rule .heads)) js) ≡ some o)
 unfolding overlapOf jointsOf partnersOf
-critical-overlap i j {js} (critical {es} choice equated sat) =
+critical-overlap i j {js} (critical {es} joining equated sat) =
     let m = length (i .rule .heads) in
     let n = length (j .rule .heads) in
     let ds = partnersOf m js in
     let hs = i .rule .heads in
     let gs = map (mapTerms apart) (j .rule .heads) in
-    let paired = choice-pairing m n js choice in
+    let paired = joining-pairing m n js joining in
     let here : EquatedAll (picked hs (lefts (jointsOf ds))) (picked gs (rights (jointsOf ds))) es =
-    subst₂ (λ k g. EquatedAll (picked hs (lefts k)) (picked g (rights k)) es) (sym (back-joints m n js choice))
+    subst₂ (λ k g. EquatedAll (picked hs (lefts k)) (picked g (rights k)) es) (sym (back-joints m n js joining))
     (sym (shifted-heads (j .rule))) equated in
     let joins : joinEquations hs ds gs ≡ some es =
     equated-join hs 0 hs gs (λ k. ap (getElem? hs) (let z : 0 + k ≡ k = omega arith in z)) (paired .long)
@@ -82,10 +82,10 @@ critical-overlap i j {js} (critical {es} choice equated sat) =
       rw (joins, solved),
     )
 
--- it is of a choice
-critical-choice :
-    {r q : Rule} {js : List Joint} {c : CriticalPair} → Critical r q js c → Choice (length (r .heads)) (length (q .heads)) js
-critical-choice (critical choice equated sat) = choice
+-- it is of a joining
+critical-joining :
+    {r q : Rule} {js : List Joint} {c : CriticalPair} → Critical r q js c → Joining (length (r .heads)) (length (q .heads)) js
+critical-joining (critical joining equated sat) = joining
 
 -- overlaps of the same rules and joints are the same
 same-overlap :
@@ -155,11 +155,12 @@ overlaps-are-critical-pairs p w = record {
         let ds = partnersOf m js in
         let (o, e) = critical-overlap one two k in
         let made = overlap-parts one two ds e .made in
-        let (x, at) = member-at (member-overlaps p i j f g h (member-pairings (choice-pairing m n js (critical-choice k))) e) in (
+        let listed = member-pairings (joining-pairing m n js (critical-joining k)) in
+        let (x, at) = member-at (member-overlaps p i j f g h listed e) in (
           x,
           o,
           at,
           ap (λ (x : Overlap). x .first .number) made,
           ap (λ (x : Overlap). x .second .number) made,
-          ap (λ (x : Overlap). jointsOf (x .partners)) made ∙ back-joints m n js (critical-choice k),
+          ap (λ (x : Overlap). jointsOf (x .partners)) made ∙ back-joints m n js (critical-joining k),
         )

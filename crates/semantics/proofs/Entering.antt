@@ -1,6 +1,8 @@
 -- All constraints of a goal enter in order, before any rule fires.
 --   followAll-append           events one behind the other
+--   tabled-entry               an entry of a table
 --   constraint-itself          before any firing each constraint would enter as it is
+--   every-last                 a test of a list with one more behind it
 --   every-below, every-upTo    a test of all numbers below n
 --   enters                     the events by which the first constraints of a goal enter, in order
 --   arrivedAt                  how far they lead
@@ -20,7 +22,7 @@ use Rattle.text.specs.Lists.{every, has, tabled, upTo}
 use Rattle.semantics.specs.Terms.{Term, con, var, Constraint, Program, Goal, live, mapTerms}
 use Rattle.semantics.specs.Derivations.{Event, enter, Progress, become, taken, entering, follow, followAll, start}
 use Rattle.semantics.specs.Derivations.{allEntered}
-use Rattle.semantics.specs.Strategy.{entered}
+use Rattle.semantics.specs.Strategy.{goalState}
 use Rattle.semantics.proofs.Options.{apart-eqb}
 use Rattle.semantics.proofs.Bools.{eqb-same, and-true, or-right}
 
@@ -46,7 +48,7 @@ own-default (b ∷ l) a d zero e f = e
 own-default (b ∷ l) a d (suc i) e f = own-default l a d i e (λ q. f (ap suc q))
 
 -- an entry of a table, or behind it what the table would have there
-tabled-entry {ℓ} : {A : Type ℓ} (f : ℕ → A) (n i : ℕ) → getD (tabled f n) i (f i) ≡ f i
+pub tabled-entry {ℓ} : {A : Type ℓ} (f : ℕ → A) (n i : ℕ) → getD (tabled f n) i (f i) ≡ f i
 tabled-entry f zero i = refl
 tabled-entry f (suc n) i =
     own-default (tabled f n) (f n) (f i) i (tabled-entry f n i) (λ e. ap f (sym (tabled-length f n) ∙ sym e))
@@ -122,7 +124,7 @@ enters-first p g (suc n) l =
     (rw (enters-first p g n (omega arith)) (entering-next g n l))
 
 -- a test over a list with one more behind it
-every-last : (test : ℕ → Bool) (l : List ℕ) (n : ℕ) → every test l ≡ true → test n ≡ true → every test (l ++ (n ∷ [])) ≡ true
+pub every-last : (test : ℕ → Bool) (l : List ℕ) (n : ℕ) → every test l ≡ true → test n ≡ true → every test (l ++ (n ∷ [])) ≡ true
 every-last test [] n e t = rw t
 every-last test (m ∷ l) n e t =
     let u = and-true (test m) (every test l) e in
@@ -159,8 +161,8 @@ pub enters-all :
 enters-all p g = enters-first p g (length (g .constraints)) (omega arith)
 
 -- then the state is the one that the strategy starts from
-pub arrivedAt-state : (g : Goal) → arrivedAt g (length (g .constraints)) .state ≡ entered g
-unfolding entered
+pub arrivedAt-state : (g : Goal) → arrivedAt g (length (g .constraints)) .state ≡ goalState g
+unfolding goalState
 arrivedAt-state g = rw take-length
 
 -- and all have entered

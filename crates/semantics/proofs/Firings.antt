@@ -18,7 +18,7 @@ use Rattle.semantics.specs.Terms.{Rule, Program, Goal, State, isWellForm
 use Rattle.semantics.specs.Terms as T
 use Rattle.semantics.specs.Firing.{fireAt}
 use Rattle.semantics.specs.Derivations.{NoRuleFits}
-use Rattle.semantics.specs.Strategy.{advance, entered}
+use Rattle.semantics.specs.Strategy.{advance, goalState}
 use Rattle.semantics.specs.Variants.{Variant}
 use Rattle.semantics.proofs.Configurations.{Or, inl, inr, Member, TermBelow, All, also}
 use Rattle.semantics.proofs.Configurations as C
@@ -88,8 +88,8 @@ tabled-below (suc n) =
     all-append (all-mono (λ t h. below-mono (omega arith) t h) (tabled-below n)) (also (omega arith) C.none)
 
 -- all of a goal, entered, is scoped
-pub entered-scoped : (g : Goal) → All (ConstraintBelow (g .variables)) (g .constraints) → ScopedState (entered g)
-unfolding entered
+pub entered-scoped : (g : Goal) → All (ConstraintBelow (g .variables)) (g .constraints) → ScopedState (goalState g)
+unfolding goalState
 entered-scoped g h = record { bound = tabled-below (g .variables); constraints = h }
 
 module _ (p : Program) (w : isWellFormed p ≡ true) where

@@ -18,8 +18,8 @@ use Rattle.semantics.specs.Matching.{Assignment, unassigned, matchAt}
 use Rattle.semantics.specs.Solving.{solve}
 use Rattle.semantics.specs.Firing.{without, instance, settle, fired, fireAt}
 use Rattle.semantics.specs.Derivations.{Event, enter, fire, Progress, become, taken, entering, firing, follow, followAll}
-use Rattle.semantics.specs.Derivations.{start, derive, NoRuleFits, allEntered, Finished, byFailure, byRest}
-use Rattle.semantics.specs.Strategy.{entered}
+use Rattle.semantics.specs.Derivations.{start, derive, waiting, NoRuleFits, allEntered, Finished, byFailure, byRest}
+use Rattle.semantics.specs.Strategy.{goalState}
 use Rattle.semantics.specs.Variants.{Inserted, SameMultiset, put, Variant}
 use Rattle.semantics.proofs.Configurations.{TermBelow, All, also}
 use Rattle.semantics.proofs.Configurations as C
@@ -29,7 +29,7 @@ use Rattle.semantics.proofs.MatchedTerms.{ConstraintBelow, without-all}
 use Rattle.semantics.proofs.Options.{none-some, bind-some}
 use Rattle.semantics.proofs.Bools.{and-true}
 use Rattle.semantics.proofs.Removal.{without-none, without-every}
-use Rattle.semantics.proofs.Bound.{waiting, waiting-enters}
+use Rattle.semantics.proofs.Bound.{waiting-enters}
 use Rattle.semantics.proofs.Entering.{tabled-length, constraint-itself, every-upTo}
 use Rattle.semantics.proofs.Normal.{Reach, arrived, fires}
 use Rattle.semantics.proofs.Reordering.{Reordered, bothFailed, reordered, reordered-refl, reordered-trans}
@@ -115,7 +115,7 @@ reach-last (fires j q qs a b h) k r ps e f = fires j q qs a b (reach-last h k r 
 -- where a derivation stands: what all of the goal reaches by as many firings
 pub record Late (p : Program) (g : Goal) (d : Progress) : Type 0 where
   pub reached : State
-  pub reach : Reach (p .rules) (d .firings) (entered g) reached
+  pub reach : Reach (p .rules) (d .firings) (goalState g) reached
   pub same : Reordered (whole g d) reached
   pub sized : Sized (g .variables) (d .state)
 
@@ -126,11 +126,11 @@ entrants-themselves n (c ∷ ws) = rw (constraint-itself n c, entrants-themselve
 
 -- at the start nothing has entered
 late-start : (p : Program) (g : Goal) → Late p g (start g)
-unfolding start withMore entered
+unfolding start withMore goalState
 late-start p g = record {
-  reached = entered g;
+  reached = goalState g;
   reach = arrived;
-  same = rw (without-none, entrants-themselves) (reordered-refl (entered g));
+  same = rw (without-none, entrants-themselves) (reordered-refl (goalState g));
   sized = tabled-length var (g .variables);
 }
 
@@ -265,7 +265,7 @@ late-entry p g e es = late-all p g es (start g) (goal-below p g e) (late-start p
 -- in particular it is a variant of what is reached
 pub late-entry-variant :
     (p : Program) (g : Goal) → isGoalOf p g ≡ true → (es : List Event)
-    → (u : State) × Reach (p .rules) (derive p g es .firings) (entered g) u × Variant (whole g (derive p g es)) u
+    → (u : State) × Reach (p .rules) (derive p g es .firings) (goalState g) u × Variant (whole g (derive p g es)) u
 late-entry-variant p g e es = let h = late-entry p g e es in (h .reached, h .reach, reordered-variant (h .same))
 
 -- in the end of a finished derivation nothing waits that could change it, and no rule fits
@@ -286,7 +286,8 @@ finished-whole p g d (byRest a f) = (rw none-waits (alone (d .state)), f)
 -- the end of a finished derivation is, up to order, reached from all of the goal by as many firings, and no rule fits there
 pub finished-reaches :
     (p : Program) (g : Goal) → isGoalOf p g ≡ true → (es : List Event) → Finished p g (derive p g es)
-    → (u : State) × Reach (p .rules) (derive p g es .firings) (entered g) u × NoRuleFits p u × Reordered (derive p g es .state) u
+    → (u : State) × Reach (p .rules) (derive p g es .firings) (goalState g) u × NoRuleFits p u
+    × Reordered (derive p g es .state) u
 finished-reaches p g e es f =
     let h = late-entry p g e es in
     let w = finished-whole p g (derive p g es) f in

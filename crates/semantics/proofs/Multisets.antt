@@ -3,6 +3,7 @@
 --   inserted-…              a list with an element put in
 --   multiset-…              equal multisets, up to a relation
 --   multiset-split, -pick   the partners of a part, and of a chosen list in its order
+--   multiset-cancel         what both have in front can be left out
 --   member-…, all-…         the elements of a list
 -- Assumes nothing.
 use Prim.Native.Nat.{suc}
@@ -284,6 +285,12 @@ multiset-unmap {R} f g (x ∷ l) m (put r i s) =
     let h = inserted-unmap g m i in
     put (subst (R (f x)) (h .2) r) (h .4) (multiset-unmap f g l (h .1) (subst (SameMultiset R (map f l)) (h .3) s))
 
+pub multiset-unmap-left :
+    {A B C : Type 0} {R : C → B → Type 0} (f : A → C) (l : List A) {m : List B}
+    → SameMultiset R (map f l) m → SameMultiset (λ a b. R (f a) b) l m
+multiset-unmap-left f [] done = done
+multiset-unmap-left f (x ∷ l) (put r i s) = put r i (multiset-unmap-left f l s)
+
 -- one list behind the other
 pub multiset-append :
     {A B : Type 0} {R : A → B → Type 0} {a b : List A} {c d : List B}
@@ -353,6 +360,20 @@ multiset-pick {A} {B} {R} {l} {n} M L s p = chosen M (multiset-left (multiset-ba
     chosen (x ∷ M) (put {b = y} r i t) =
         let h = chosen M t in
         (y ∷ h .0, h .1, multiset-put refl i here (h .2), each r (h .3), h .4)
+
+-- an element taken out of one list in two ways leaves equal multisets
+pub inserted-same : {A : Type 0} {a : A} {k l m : List A} → Inserted a k m → Inserted a l m → SameMultiset _≡_ k l
+inserted-same {k} here here = multiset-refl (λ x. refl) k
+inserted-same here (there {l} j) = multiset-back (put refl j (multiset-refl (λ x. refl) l))
+inserted-same (there {l} i) here = put refl i (multiset-refl (λ x. refl) l)
+inserted-same (there i) (there j) = put refl here (inserted-same i j)
+
+-- what equal multisets have in front in common can be left out
+pub multiset-cancel :
+    {A : Type 0} (k : List A) {l m : List A} → SameMultiset _≡_ (k ++ l) (k ++ m) → SameMultiset _≡_ l m
+multiset-cancel [] s = s
+multiset-cancel {A} (x ∷ k) {l} {m} (put {m = n} r i s) =
+    multiset-cancel k (multiset-right s (inserted-same (subst (λ y. Inserted y n (x ∷ (k ++ m))) (sym r) i) here))
 
 -- the image of a list in two parts, and more behind it
 pub multiset-parts :

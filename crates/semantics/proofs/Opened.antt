@@ -8,7 +8,7 @@ use Rattle.semantics.specs.Solving.{replace, unify, solve}
 use Rattle.semantics.specs.Firing.{without, instance, settle, fired, fireAt}
 use Rattle.semantics.specs.Derivations.{become, taken, entering, firing, follow, followAll, start, derive}
 use Rattle.semantics.specs.Derivations.{allEntered}
-use Rattle.semantics.specs.Strategy.{firstIn, find, chooseFrom, choose, advance, normalise, entered, run}
+use Rattle.semantics.specs.Strategy.{firstIn, find, chooseFrom, choose, advance, normalise, goalState, run}
 use Rattle.semantics.specs.Variants.{arePartners, arePaired, pairTerm, pairTerms, pairConstraint, tryPartners}
 use Rattle.semantics.specs.Variants.{place, sameState}
 use Rattle.semantics.specs.Overlaps.{partnerLists, isOneToOne, isPairing, pairings, apart, equateTerms, equate}
@@ -19,5 +19,5 @@ use Rattle.semantics.specs.Verdict.{isJoinable, judge, verdict}
 
 -- a name to say on an `unfolding` line
 unfoldable pub opened : ℕ
-unfolding sameTerm mapTerms mapSides noSymbol symbolAt weight isDeclared isBelow isGoalOf alphabet isOfRule isRuleOf isWellFormed unassigned extend matchTerm matchTerms matchConstraint matchAt replace unify solve without instance settle fired fireAt become taken entering firing follow followAll start derive allEntered firstIn find chooseFrom choose advance normalise entered run arePartners arePaired pairTerm pairTerms pairConstraint tryPartners place sameState partnerLists isOneToOne isPairing pairings apart equateTerms equate joinEquations unjoinedHeads secondPositions appearingIn appearing numbered goalOf overlapOf numberedFrom overlapsOf overlapsAmong overlaps sideEnd firstEnd secondEnd isJoinable judge verdict
+unfolding sameTerm mapTerms mapSides noSymbol symbolAt weight isDeclared isBelow isGoalOf alphabet isOfRule isRuleOf isWellFormed unassigned extend matchTerm matchTerms matchConstraint matchAt replace unify solve without instance settle fired fireAt become taken entering firing follow followAll start derive allEntered firstIn find chooseFrom choose advance normalise goalState run arePartners arePaired pairTerm pairTerms pairConstraint tryPartners place sameState partnerLists isOneToOne isPairing pairings apart equateTerms equate joinEquations unjoinedHeads secondPositions appearingIn appearing numbered goalOf overlapOf numberedFrom overlapsOf overlapsAmong overlaps sideEnd firstEnd secondEnd isJoinable judge verdict
 opened = 0

@@ -21,10 +21,11 @@ use Rattle.semantics.specs.Terms.{Term, con, var, Constraint, Symbol, Ru
 use Rattle.semantics.specs.Terms.{isDeclared, isBelow, isGoalOf, alphabet, isOfRule, isRuleOf, isWellFormed, weight}
 use Rattle.semantics.specs.Matching.{Assignment, unassigned, matchAt}
 use Rattle.semantics.specs.Firing.{fired, fireAt}
-use Rattle.semantics.specs.Strategy.{entered, normalise}
+use Rattle.semantics.specs.Strategy.{goalState, normalise}
 use Rattle.semantics.specs.Overlaps.{apart, unjoinedHeads, secondPositions, appearing, numbered, goalOf}
 use Rattle.semantics.specs.Overlaps.{Numbered, Overlap, sideEnd, firstEnd, secondEnd}
 use Rattle.semantics.specs.Variants.{Pointwise, empty, each}
+use Rattle.semantics.specs.Claims.{ByAppearance}
 use Rattle.semantics.proofs.Configurations.{All, none, also, TermBelow}
 use Rattle.semantics.proofs.Options.{none-some, below-isBelow, isBelow-below}
 use Rattle.semantics.proofs.Bools.{and-true}
@@ -38,7 +39,7 @@ use Rattle.semantics.proofs.Listings.{all-every}
 use Rattle.semantics.proofs.Letters.{every-all}
 use Rattle.semantics.proofs.Weights.{every-at}
 use Rattle.semantics.proofs.Enumeration.{OverlapParts, overlap-parts, Listed, pairings-member}
-use Rattle.semantics.proofs.Appearing.{goal-scoped}
+use Rattle.semantics.proofs.Appearing.{goal-appearance, goal-scoped}
 use Rattle.semantics.proofs.JoinLaws.{Holds, join-agreed}
 
 -- the heads of an overlap's second rule, renamed apart
@@ -191,8 +192,8 @@ module _ {i j : Numbered} {ds : List ℕ} {o : Overlap} (parts : OverlapParts i 
 
   -- so both sides of the overlap fire
   pub first-fires :
-      (s : State) × (fireAt (i .rule) (upTo (length (i .rule .heads))) (entered (o .goal)) ≡ some s)
-  unfolding fireAt entered
+      (s : State) × (fireAt (i .rule) (upTo (length (i .rule .heads))) (goalState (o .goal)) ≡ some s)
+  unfolding fireAt goalState
   first-fires =
       let (θ, e, a) = first-fits in (
         fired (i .rule) (upTo (length (i .rule .heads))) θ (o .goal .variables) (tabled var (o .goal .variables))
@@ -203,8 +204,9 @@ module _ {i j : Numbered} {ds : List ℕ} {o : Overlap} (parts : OverlapParts i 
   pub second-fires :
       length ds ≡ length (i .rule .heads)
       → (s : State)
-      × (fireAt (j .rule) (secondPositions 1 (length (i .rule .heads)) (length (j .rule .heads)) ds) (entered (o .goal)) ≡ some s)
-  unfolding fireAt entered
+      × (fireAt (j .rule) (secondPositions 1 (length (i .rule .heads)) (length (j .rule .heads)) ds) (goalState (o .goal))
+      ≡ some s)
+  unfolding fireAt goalState
   second-fires l =
       let (θ, e, a) = second-fits l in (
         fired (j .rule) (secondPositions 1 (length (i .rule .heads)) (length (j .rule .heads)) ds) θ (o .goal .variables)
@@ -268,9 +270,16 @@ listed-goal p {o} w l =
     overlap-goal (overlap-parts (o .first) (o .second) (o .partners) (l .made)) p
     (wellFormed-heads p (o .first .number) w (l .firstRule) .0) (wellFormed-heads p (o .second .number) w (l .secondRule) .0)
 
+-- its goal's variables count by first appearance
+pub listed-appearance : (p : Program) {o : Overlap} → Listed p o → ByAppearance (o .goal)
+listed-appearance p {o} l =
+    let parts = overlap-parts (o .first) (o .second) (o .partners) (l .made) in
+    let heads = o .first .rule .heads ++ unjoinedHeads 1 (secondHeads (o .second)) (o .partners) in
+    subst (λ (x : Overlap). ByAppearance (x .goal)) (sym (parts .made)) (goal-appearance (map (mapTerms (parts .solution)) heads))
+
 -- the end of a side that fires is what the strategy makes of the state after its firing
 side-end :
-    (p : Program) (g : Goal) (r : Rule) (ps : List ℕ) {s : State} → fireAt r ps (entered g) ≡ some s
+    (p : Program) (g : Goal) (r : Rule) (ps : List ℕ) {s : State} → fireAt r ps (goalState g) ≡ some s
     → sideEnd p g r ps ≡ normalise (weight (p .symbols) (g .constraints)) (p .rules) s 1
 unfolding sideEnd
 side-end p g r ps e = rw e
@@ -278,7 +287,7 @@ side-end p g r ps e = rw e
 -- so both sides of an overlap of a program fire, and end so
 pub first-end :
     (p : Program) {o : Overlap} → Listed p o
-    → (s : State) × (fireAt (o .first .rule) (upTo (length (o .first .rule .heads))) (entered (o .goal)) ≡ some s)
+    → (s : State) × (fireAt (o .first .rule) (upTo (length (o .first .rule .heads))) (goalState (o .goal)) ≡ some s)
     × (firstEnd p o ≡ normalise (weight (p .symbols) (o .goal .constraints)) (p .rules) s 1)
 unfolding firstEnd
 first-end p {o} l =
@@ -289,7 +298,7 @@ pub second-end :
     (p : Program) {o : Overlap} → Listed p o
     → (s : State)
     × (fireAt (o .second .rule)
-    (secondPositions 1 (length (o .first .rule .heads)) (length (o .second .rule .heads)) (o .partners)) (entered (o .goal))
+    (secondPositions 1 (length (o .first .rule .heads)) (length (o .second .rule .heads)) (o .partners)) (goalState (o .goal))
     ≡ some s)
     × (secondEnd p o ≡ normalise (weight (p .symbols) (o .goal .constraints)) (p .rules) s 1)
 unfolding secondEnd

@@ -15,9 +15,9 @@ use Rattle.semantics.specs.Terms.{Term, Constraint, Equation, Rule, Prog
 use Rattle.semantics.specs.Terms as T
 use Rattle.semantics.specs.Firing.{without}
 use Rattle.semantics.specs.Overlaps.{unjoinedHeads, appearing, numbered, goalOf, Numbered, Overlap}
-use Rattle.semantics.specs.Published.{EquatedAll, renamed, Emptied, Published, Represents}
+use Rattle.semantics.specs.Published.{EquatedAll, renamed, Cleared, Published, Represents}
 use Rattle.semantics.specs.CriticalPairs.{lefts, rights, jointsOf, picked, shifted, shiftedHeads, pairOf, Critical}
-use Rattle.semantics.specs.CriticalPairs.{critical, leftState, rightState, joined, reading, seen}
+use Rattle.semantics.specs.CriticalPairs.{critical, leftState, rightState, joined, goalTerms, withTerms}
 use Rattle.semantics.specs.Correspondence.{Sides}
 use Rattle.semantics.proofs.Configurations.{Or, inl, inr, Member, first, TermBelow, All, Rep, liftAtom, fireC, confOf}
 use Rattle.semantics.proofs.Options.{true-false}
@@ -36,12 +36,12 @@ use Rattle.semantics.proofs.OverlapGoals.{secondHeads, goal-variables, 
 use Rattle.semantics.proofs.Sides.{first-side, second-side}
 use Rattle.semantics.proofs.Valuations.{solved-satisfiable}
 use Rattle.semantics.proofs.RuleLetters.{AllLetters, program-letters}
-use Rattle.semantics.proofs.Choices.{pairing-choice}
+use Rattle.semantics.proofs.Joinings.{pairing-joining}
 use Rattle.semantics.proofs.ChosenHeads.{join-equated, without-rights, without-lefts, shifted-heads}
-use Rattle.semantics.proofs.Readings.{goalOrder, goalNumber, number-variable, InGoal}
+use Rattle.semantics.proofs.GoalTerms.{goalOrder, goalNumber, number-variable, InGoal}
 use Rattle.semantics.proofs.PairSides.{Within, ownHeads, OfHeads}
 use Rattle.semantics.proofs.JoinedHeads.{heads-same, agreed-member, leftover-member, equated-sides, picked-member}
-use Rattle.semantics.proofs.PairStates.{seen-represents}
+use Rattle.semantics.proofs.PairStates.{side-represents}
 
 -- what is left of a list is of the list
 without-member : {c : Constraint} (k : ℕ) (ps : List ℕ) (cs : List Constraint) → Member c (without k ps cs) → Member c cs
@@ -81,7 +81,7 @@ pub overlap-critical :
     → (parts : OverlapParts i j ds o)
     → Critical (i .rule) (j .rule) (jointsOf ds) (pairOf (i .rule) (j .rule) (jointsOf ds) (parts .equations))
 overlap-critical {i} {j} {ds} paired parts =
-    critical (pairing-choice (length (i .rule .heads)) (length (j .rule .heads)) ds paired) (parts-equated paired parts)
+    critical (pairing-joining (length (i .rule .heads)) (length (j .rule .heads)) ds paired) (parts-equated paired parts)
     (solved-satisfiable (parts .equations) (parts .solved))
 
 module _ (p : Program) (w : isWellFormed p ≡ true) (o : Overlap) (listed : Listed p o) where
@@ -207,20 +207,20 @@ module _ (p : Program) (w : isWellFormed p ≡ true) (o : Overlap) (listed : Lis
   firsts-avoid : All (ConstraintAvoids shifted) firsts
   firsts-avoid = all-mono (λ c h. all-mono letter-avoids h) (letters-one .heads)
 
-  -- the reading of the goal
+  -- the variables of the two rules, in the goal
   abbrev variables : List ℕ
   variables = appearing [] (firsts ++ seconds)
 
   abbrev inGoal : Term → Term
   inGoal = goalNumber es σ (parts .solved) beforehand
 
-  reading-is : reading σ (joined one two (jointsOf ds)) variables ≡ map inGoal (map T.var variables)
-  unfolding reading
-  reading-is =
+  goalTerms-are : goalTerms σ (joined one two (jointsOf ds)) variables ≡ map inGoal (map T.var variables)
+  unfolding goalTerms
+  goalTerms-are =
       ap (λ cs. map (λ x. numbered (appearing [] (map (mapTerms σ) cs)) (σ (T.var x))) variables) joined-heads
       ∙ sym (map-map inGoal T.var variables)
 
-  -- every variable of the goal is one of the reading's terms
+  -- every variable of the goal is one of these terms
   abbrev HeadTerm : Term → Type 0
   HeadTerm t = Or (Within firsts t) (Within seconds t)
 
@@ -257,7 +257,7 @@ module _ (p : Program) (w : isWellFormed p ≡ true) (o : Overlap) (listed : Lis
 
   covered :
       (v : ℕ) → v < o .goal .variables
-      → (n : ℕ) × (getElem? (reading σ (joined one two (jointsOf ds)) variables) n ≡ some (T.var v))
+      → (n : ℕ) × (getElem? (goalTerms σ (joined one two (jointsOf ds)) variables) n ≡ some (T.var v))
   covered v h =
       let order = goalOrder es σ (parts .solved) beforehand in
       let (x, at) = getElem-at order v (subst (λ k. v < k) (goal-variables parts) h) in
@@ -265,7 +265,7 @@ module _ (p : Program) (w : isWellFormed p ≡ true) (o : Overlap) (listed : Lis
       let stands : getElem? variables n ≡ some x =
       place-stands x variables (goal-variable x (has-at x order v at)) in (
         n,
-        ap (λ l. getElem? l n) reading-is ∙ getElem-map inGoal (map T.var variables) n (getElem-map T.var variables n stands)
+        ap (λ l. getElem? l n) goalTerms-are ∙ getElem-map inGoal (map T.var variables) n (getElem-map T.var variables n stands)
             ∙ ap some (number-variable es σ (parts .solved) beforehand v at),
       )
 
@@ -275,12 +275,12 @@ module _ (p : Program) (w : isWellFormed p ≡ true) (o : Overlap) (listed : Lis
 
   -- the first rule's side
   first-represents :
-      (b : Published) → Emptied (leftState (pairOf one two (jointsOf ds) es)) b
-      → Represents b (seen (reading σ (joined one two (jointsOf ds)) variables) (first-end p listed .0))
+      (b : Published) → Cleared [] (leftState (pairOf one two (jointsOf ds) es)) b
+      → Represents b (withTerms (goalTerms σ (joined one two (jointsOf ds)) variables) (first-end p listed .0))
   unfolding leftState pairOf
   first-represents b e =
-      subst (λ ts. Represents b (seen ts (first-end p listed .0))) (sym reading-is)
-      (seen-represents es σ (parts .solved) beforehand one (λ x. x) variables (o .goal .constraints)
+      subst (λ ts. Represents b (withTerms ts (first-end p listed .0))) (sym goalTerms-are)
+      (side-represents es σ (parts .solved) beforehand one (λ x. x) variables (o .goal .constraints)
       (without 0 (rights (jointsOf ds)) seconds) seconds (λ x y h k z. z) letters-one seconds-avoid
       (λ d i. without-member 0 (rights (jointsOf ds)) seconds i)
       (λ e i. let (x, y) = condition-of e i in (inl (itself x), inr y))
@@ -303,12 +303,12 @@ module _ (p : Program) (w : isWellFormed p ≡ true) (o : Overlap) (listed : Lis
 
   -- the second rule's side
   second-represents :
-      (b : Published) → Emptied (rightState (pairOf one two (jointsOf ds) es)) b
-      → Represents b (seen (reading σ (joined one two (jointsOf ds)) variables) (second-end p listed .0))
+      (b : Published) → Cleared [] (rightState (pairOf one two (jointsOf ds) es)) b
+      → Represents b (withTerms (goalTerms σ (joined one two (jointsOf ds)) variables) (second-end p listed .0))
   unfolding rightState pairOf shiftedHeads
   second-represents b e =
-      subst (λ ts. Represents b (seen ts (second-end p listed .0))) (sym reading-is)
-      (seen-represents es σ (parts .solved) beforehand two shifted variables (o .goal .constraints)
+      subst (λ ts. Represents b (withTerms ts (second-end p listed .0))) (sym goalTerms-are)
+      (side-represents es σ (parts .solved) beforehand two shifted variables (o .goal .constraints)
       (without 0 (lefts (jointsOf ds)) firsts) firsts shifted-separates letters-two firsts-avoid
       (λ d i. without-member 0 (lefts (jointsOf ds)) firsts i)
       (λ e i. let (x, y) = condition-of e i in (inr x, inl y))
@@ -333,8 +333,8 @@ module _ (p : Program) (w : isWellFormed p ≡ true) (o : Overlap) (listed : Lis
     unifier = σ;
     solved = parts .solved;
     goal = ap (λ (x : Overlap). x .goal) (parts .made) ∙ ap (λ cs. goalOf (map (mapTerms σ) cs)) (sym joined-heads);
-    terms = reading σ (joined one two (jointsOf ds)) variables;
-    read = refl;
+    terms = goalTerms σ (joined one two (jointsOf ds)) variables;
+    given = refl;
     covered = covered;
     first = record { state = first-end p listed .0; fires = first-end p listed .1; represents = first-represents };
     second = record { state = second-end p listed .0; fires = second-end p listed .1; represents = second-represents };

@@ -9,7 +9,7 @@ use mathlib.Core.List.{List, [], _∷_, _++_, map, append-nil}
 use mathlib.Core.Path.{_≡_, refl, sym, ap, ap₂, subst, subst₂, _∙_}
 use Rattle.semantics.specs.Terms.{Term, Constraint, Equation, Rule, mapTerms, mapSides, alphabet}
 use Rattle.semantics.specs.Variants.{Pointwise, each, SameMultiset}
-use Rattle.semantics.specs.Published.{Item, user, builtIn, Published, renamed, bodyItems, Emptied}
+use Rattle.semantics.specs.Published.{Item, user, builtIn, Published, renamed, bodyItems, Cleared}
 use Rattle.semantics.proofs.Configurations.{Or, inl, inr, Member, first, later, sub, old, new, Eqv, given, same, flip}
 use Rattle.semantics.proofs.Configurations.{chain, Eqn, Iso, eqsOf, flat, headsOf, lift, liftAtom, liftEqn, TermBelow}
 use Rattle.semantics.proofs.Configurations.{All}
@@ -21,7 +21,7 @@ use Rattle.semantics.proofs.Renamings.{Separates, ConstraintAvoids}
 use Rattle.semantics.proofs.RuleLetters.{AllLetters}
 use Rattle.semantics.proofs.FreshVariants.{member-same}
 use Rattle.semantics.proofs.PublishedStates.{confWith}
-use Rattle.semantics.proofs.Emptying.{users, builtIns, emptied-into}
+use Rattle.semantics.proofs.Clearing.{users, builtIns, cleared-into}
 use Rattle.semantics.proofs.RenamedRules.{afterFiring, back, back-renamed, back-other, Settled, fired-heads, renamed-iso}
 use Rattle.semantics.proofs.SimplifyLaws.{body-users, body-builtIns}
 
@@ -151,13 +151,13 @@ module _ (r : Rule) (κ : ℕ → ℕ) (b : List Term) (es : List Equation) (L :
         held e (inr i) = let (x, y) = sides e i in condition-held e i x y
 
 -- emptying a state of a critical pair
-pub pair-emptied :
+pub pair-cleared :
     (r : Rule) (κ : ℕ → ℕ) (L : List Constraint) {es : List Equation} {vs : List ℕ} {c : Published}
-    → Emptied (record { goals = bodyItems κ r ++ map user L; userStore = []; builtInStore = es; variables = vs }) c
+    → Cleared [] (record { goals = bodyItems κ r ++ map user L; userStore = []; builtInStore = es; variables = vs }) c
     → SameMultiset _≡_ (c .builtInStore) (map (mapSides (renamed κ)) (r .equations) ++ es)
     × SameMultiset _≡_ (c .userStore) (map (mapTerms (renamed κ)) (r .body) ++ L) × (c .variables ≡ vs)
-pair-emptied r κ L {es} {c} e =
-    let h = emptied-into e in
+pair-cleared r κ L {es} {c} e =
+    let h = cleared-into e in
     let bs : builtIns (bodyItems κ r ++ map user L) ≡ map (mapSides (renamed κ)) (r .equations) =
     builtIns-append (bodyItems κ r) (map user L)
     ∙ ap₂ _++_ (body-builtIns κ r) (builtIns-user L) ∙ append-nil (map (mapSides (renamed κ)) (r .equations)) in

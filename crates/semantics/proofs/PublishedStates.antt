@@ -2,26 +2,31 @@
 -- when it equals what is left of it once its built-in store is solved.
 --   confP                          a published state as a configuration; its goal store is left out
 --   solved-iso                     solved equations leave an equal configuration without equations
+--   Renamed, renamed-core          a renaming of the solved terms respects and reflects equivalence
+--   renaming-iso                   a published state and one that a renaming of its solved form makes equal, as configurations
 --   represents-rep, rep-represents a state represents a published one exactly when it represents its configuration
 -- Assumes nothing.
 use Prim.Native.Nat.{ℕ}
-use mathlib.Core.List.{List, [], map}
+use mathlib.Core.List.{List, [], _∷_, map}
 use mathlib.Core.Option.{Option, none, some}
-use mathlib.Core.Path.{_≡_, refl, sym, ap, _∙_}
+use mathlib.Core.Path.{_≡_, refl, sym, ap, subst, subst₂, _∙_}
 use Rattle.semantics.specs.Terms.{Term, Constraint, Equation, State, failed, live, mapTerms}
 use Rattle.semantics.specs.Terms as T
 use Rattle.semantics.specs.Solving.{solve}
 use Rattle.semantics.specs.Firing.{settle}
-use Rattle.semantics.specs.Variants.{Variant}
-use Rattle.semantics.specs.Published.{Published, normal, Represents}
+use Rattle.semantics.specs.Variants.{OneToOne, TermVariant, sameCon, Pointwise, empty, each, ConstraintVariant}
+use Rattle.semantics.specs.Variants.{SameMultiset, Variant}
+use Rattle.semantics.specs.Published.{Published, solvedForm, Represents}
 use Rattle.semantics.proofs.Configurations.{Tm, con, var, Eqn, sub, Eqv, same, flip, Config, Iso, Member, lift, liftAtom}
-use Rattle.semantics.proofs.Configurations.{liftEqn, confOf, Rep, hasFailed, isLive}
+use Rattle.semantics.proofs.Configurations.{liftEqn, confOf, Rep, hasFailed, isLive, AtomRel, Core}
 use Rattle.semantics.proofs.Multisets.{pointwise-map, member-unmap, multiset-of-pointwise, pointwise-image}
+use Rattle.semantics.proofs.Multisets.{multiset-map, multiset-mono, multiset-sym, multiset-unmap-left}
+use Rattle.semantics.proofs.Lifting.{down, down-lift, lift-down}
 use Rattle.semantics.proofs.Atoms.{sub-var}
-use Rattle.semantics.proofs.Closure.{eqv-path}
+use Rattle.semantics.proofs.Closure.{eqv-path, eqv-nil}
 use Rattle.semantics.proofs.Isos.{iso-sym, iso-trans, iso-of-maps, same-refl}
-use Rattle.semantics.proofs.SolveLaws.{solve-solution, solve-clash, solution-down}
-use Rattle.semantics.proofs.VariantLaws.{variant-iso, iso-variant}
+use Rattle.semantics.proofs.SolveLaws.{Solution, solve-solution, solve-clash, solution-down, solution-eqv}
+use Rattle.semantics.proofs.VariantLaws.{variant-right, variant-left, down-same, iso-variant}
 use Rattle.semantics.proofs.Represent.{ScopedState, rep-same}
 
 -- a list of terms, equations and constraints as a configuration
@@ -65,9 +70,55 @@ solved-iso b es cs {σ} p =
     undo (con c) = same
     undo (var x) = rw sub-var (flip (solve-solution es p .follows (T.var x)))
 
+-- a term of a state and a term whose solution a renaming makes equal to it
+abbrev pub Renamed : (ℕ → ℕ → Type 0) → (Term → Term) → Tm ℕ → Tm ℕ → Type 0
+Renamed ρ σ s t = TermVariant ρ (σ (down t)) (down s)
+
+-- a one-to-one renaming respects and reflects equivalence under the solved equations
+pub renamed-core :
+    {es : List Equation} {σ : Term → Term} {ρ : ℕ → ℕ → Type 0} → Solution es σ → OneToOne ρ
+    → Core [] (map liftEqn es) (Renamed ρ σ)
+renamed-core {es} {σ} {ρ} q o = record {
+  fixes = λ c. subst (λ t. TermVariant ρ t (T.con c)) (sym (q .fixes c)) sameCon;
+  respects = λ {s} {t} {u} {v} r k h.
+      let e : σ (down u) ≡ σ (down v) =
+      variant-left o r (subst (λ x. TermVariant ρ (σ (down v)) (down x)) (sym (eqv-nil h)) k) in
+      subst₂ (Eqv (map liftEqn es)) (lift-down u) (lift-down v) (solution-eqv q (down u) (down v) e);
+  reflects = λ {s} {t} {u} {v} r k h.
+      eqv-path (down-same s t (variant-right o r
+      (subst (λ x. TermVariant ρ x (down t)) (sym (solution-down q h)) k)));
+}
+
+-- pairs of terms and of constraints, as those of configurations
+pub renamed-terms :
+    (ρ : ℕ → ℕ → Type 0) (σ : Term → Term) (ts : List Term) {us : List Term} → Pointwise (TermVariant ρ) (map σ ts) us
+    → Pointwise (Renamed ρ σ) (map lift us) (map lift ts)
+renamed-terms ρ σ [] empty = empty
+renamed-terms ρ σ (t ∷ ts) (each {b = u} r p) =
+    each (subst₂ (λ x y. TermVariant ρ (σ x) y) (sym (down-lift t)) (sym (down-lift u)) r) (renamed-terms ρ σ ts p)
+
+pub renamed-atoms :
+    (ρ : ℕ → ℕ → Type 0) (σ : Term → Term) (c d : Constraint) → ConstraintVariant ρ (mapTerms σ c) d
+    → AtomRel (Renamed ρ σ) (liftAtom d) (liftAtom c)
+unfolding mapTerms
+renamed-atoms ρ σ c d q = record { symbols = sym (q .symbols); args = renamed-terms ρ σ (c .terms) (q .terms) }
+
+-- a published state and a state that a renaming of its solved form makes equal, as configurations
+abbrev pub renaming-iso :
+    (a : Published) (ρ : ℕ → ℕ → Type 0) (σ : Term → Term) (b : List Term) (cs : List Constraint)
+    → solve (a .builtInStore) (λ t. t) ≡ some σ → OneToOne ρ → Pointwise (TermVariant ρ) (map σ (map T.var (a .variables))) b
+    → SameMultiset (ConstraintVariant ρ) (map (mapTerms σ) (a .userStore)) cs → Iso (confOf b cs) (confP a)
+renaming-iso a ρ σ b cs p o f s = record {
+  R = Renamed ρ σ;
+  core = renamed-core (solve-solution (a .builtInStore) p) o;
+  faces = renamed-terms ρ σ (map T.var (a .variables)) f;
+  stores = multiset-map liftAtom liftAtom (multiset-mono (λ d c q. renamed-atoms ρ σ c d q)
+      (multiset-sym (multiset-unmap-left (mapTerms σ) (a .userStore) s)));
+}
+
 -- a state represents a published one exactly when it represents it as a configuration
 pub represents-rep : (p : Published) (s : State) → ScopedState s → Represents p s → Rep s (confP p)
-unfolding normal settle
+unfolding solvedForm settle
 represents-rep p s scoped = go (solve (p .builtInStore) (λ t. t)) refl s scoped
   where
     go :
@@ -78,13 +129,11 @@ represents-rep p s scoped = go (solve (p .builtInStore) (λ t. t)) refl s scoped
         hasFailed (record { one = one; two = two; apart = d; clash = e })
     go none q (live n b cs) h v = absurd (v .lower)
     go (some σ) q failed h v = absurd (v .lower)
-    go (some σ) q (live n b cs) h v =
-        isLive h (iso-trans (iso-sym (variant-iso 0 n v))
-        (solved-iso (map T.var (p .variables)) (p .builtInStore) (p .userStore) q))
+    go (some σ) q (live n b cs) h (ρ, o, f, m) = isLive h (renaming-iso p ρ σ b cs q o f m)
 
 -- and conversely
 pub rep-represents : (p : Published) (s : State) → Rep s (confP p) → Represents p s
-unfolding normal settle
+unfolding solvedForm settle
 rep-represents p s r = go (solve (p .builtInStore) (λ t. t)) refl r
   where
     same-con : {x y : ℕ} → _≡_ {A = Term} (T.con x) (T.con y) → x ≡ y

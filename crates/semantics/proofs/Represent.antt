@@ -1,5 +1,6 @@
 -- States represent configurations: what one can do the other can, and equal ones stay equal.
 --   rep-iso, rep-same, rep-variant      equal configurations are represented by the same states, and only by equal ones
+--   fireAt-matched, matched-fires       firing at positions, by the constraints there, and conversely
 --   fireAt-sound, fireAt-complete       firing at positions is firing a rule on matched atoms, and conversely
 --   rep-fires, rep-step                 a firing is a step of what the state represents, and conversely
 --   Reach, rep-reach, rep-steps         the same for firings one after the other
@@ -15,20 +16,19 @@ use Rattle.semantics.specs.Terms as T
 use Rattle.semantics.specs.Matching.{unassigned, matchAt}
 use Rattle.semantics.specs.Firing.{without, fired, fireAt}
 use Rattle.semantics.specs.Variants.{Pointwise, SameMultiset, Variant}
-use Rattle.semantics.proofs.Configurations.{Member, first, later, Tm, con, Atom, sub, Eqv, same, Config, Inconsistent}
+use Rattle.semantics.proofs.Configurations.{Member, first, later, Tm, con, Atom, sub, Eqv, Config, Inconsistent}
 use Rattle.semantics.proofs.Configurations.{AtomRel, Iso, Same, iso, bothFail, lift, liftAtom, headsOf}
 use Rattle.semantics.proofs.Configurations.{Fits, fireC, Step, step, Steps, stay, go, confOf, All, none, also, Scoped, Rep}
 use Rattle.semantics.proofs.Configurations.{hasFailed, isLive}
-use Rattle.semantics.proofs.Multisets.{pointwise-refl, pointwise-mono, pointwise-unmap, multiset-mono, multiset-map}
+use Rattle.semantics.proofs.Multisets.{pointwise-mono, pointwise-unmap, multiset-mono, multiset-map}
 use Rattle.semantics.proofs.Multisets.{all-member}
-use Rattle.semantics.proofs.Atoms.{atom-refl}
 use Rattle.semantics.proofs.Closure.{eqv-nil}
 use Rattle.semantics.proofs.Isos.{iso-refl, iso-sym, iso-trans, inconsistent-iso, same-refl, same-sym, same-inconsistent}
-use Rattle.semantics.proofs.Stepping.{fire-rest, fire-iso, step-iso}
+use Rattle.semantics.proofs.Stepping.{fire-rest, step-iso}
 use Rattle.semantics.proofs.Contexts.{steps-inconsistent}
 use Rattle.semantics.proofs.Options.{none-some, bind-some}
 use Rattle.semantics.proofs.Lifting.{down, downAtom, down-lift, liftAtom-downAtom, downAtom-liftAtom, map-inverse}
-use Rattle.semantics.proofs.PositionLaws.{stands-same, without-taken, without-positions}
+use Rattle.semantics.proofs.PositionLaws.{Stands, stands-same, without-taken, without-positions}
 use Rattle.semantics.proofs.MatchLaws.{ConstraintRel, instantiate, matchAt-sound, matchAt-complete}
 use Rattle.semantics.proofs.FireLaws.{Lettered, Firing, fire-represents, fire-fits}
 use Rattle.semantics.proofs.VariantLaws.{variant-iso, iso-variant}
@@ -85,21 +85,36 @@ lift-split {cs} M L h =
     subst (SameMultiset _≡_ (map liftAtom cs)) (map-append liftAtom M L)
     (multiset-map liftAtom liftAtom (multiset-mono (λ a b e. ap liftAtom e) h))
 
+-- firing at positions: the rule fits the constraints there, and the state after it represents the firing on them
+pub fireAt-matched :
+    (r : Rule) (ps : List ℕ) (n : ℕ) (b : List Term) (cs : List Constraint) {s : State} → Lettered r → Scoped n b cs
+    → fireAt r ps (live n b cs) ≡ some s
+    → (M : List Constraint) × Pointwise (Stands cs) ps M × SameMultiset _≡_ cs (M ++ without 0 ps cs)
+    × Fits [] (headsOf r) (map liftAtom M) × Rep s (fireC r (confOf b cs) (map liftAtom M) (map liftAtom (without 0 ps cs)))
+unfolding fireAt
+fireAt-matched r ps n b cs {s} letters scoped p =
+    let (θ, m, e) = bind-some (matchAt (r .heads) ps cs [] unassigned) (λ θ. some (fired r ps θ n b cs)) p in
+    let F : Firing r n b cs ps θ = record { scoped = scoped; fitting = matchAt-sound (r .heads) ps cs [] unassigned m } in
+    let M = F .fitting .matched in
+    let final : fired r ps θ n b cs ≡ s = cc in (
+      M,
+      F .fitting .stand,
+      without-taken cs ps (F .fitting .fresh) (F .fitting .stand),
+      fire-fits r n b cs ps θ F,
+      subst (λ t. Rep t (fireC r (confOf b cs) (map liftAtom M) (map liftAtom (without 0 ps cs)))) final
+          (fire-represents r n b cs ps θ F letters),
+    )
+
 -- firing at positions is a step of the state as a configuration
 pub fireAt-sound :
     {rs : List Rule} (r : Rule) (ps : List ℕ) (n : ℕ) (b : List Term) (cs : List Constraint) {s : State} → Lettered r
     → Scoped n b cs → Member r rs → fireAt r ps (live n b cs) ≡ some s → (D : Config) × Step rs (confOf b cs) D × Rep s D
-unfolding fireAt
-fireAt-sound r ps n b cs {s} letters scoped i p =
-    let (θ, m, e) = bind-some (matchAt (r .heads) ps cs [] unassigned) (λ θ. some (fired r ps θ n b cs)) p in
-    let F : Firing r n b cs ps θ = record { scoped = scoped; fitting = matchAt-sound (r .heads) ps cs [] unassigned m } in
-    let M = F .fitting .matched in
-    let split = lift-split M (without 0 ps cs) (without-taken cs ps (F .fitting .fresh) (F .fitting .stand)) in
-    let D = fireC r (confOf b cs) (map liftAtom M) (map liftAtom (without 0 ps cs)) in
-    let final : fired r ps θ n b cs ≡ s = cc in (
-      D,
-      step r (map liftAtom M) (map liftAtom (without 0 ps cs)) i split (fire-fits r n b cs ps θ F),
-      subst (λ t. Rep t D) final (fire-represents r n b cs ps θ F letters),
+fireAt-sound r ps n b cs letters scoped i p =
+    let (M, stand, split, fits, rep) = fireAt-matched r ps n b cs letters scoped p in
+    let L = without 0 ps cs in (
+      fireC r (confOf b cs) (map liftAtom M) (map liftAtom L),
+      step r (map liftAtom M) (map liftAtom L) i (lift-split M L split) fits,
+      rep,
     )
 
 -- a constraint and a rule's head that fit as atoms do
@@ -117,14 +132,14 @@ fits-down ϑ p =
     lowered (T.con c) t e = ap down e ∙ down-lift t
     lowered (T.var x) t e = ap down e ∙ down-lift t
 
--- where a rule fits matched atoms of a state, it can be fired at positions
-complete-at :
+-- where a rule fits constraints of a state, it can be fired at their positions
+pub matched-fires :
     (r : Rule) (n : ℕ) (b : List Term) (cs M L : List Constraint) → Lettered r → Scoped n b cs → SameMultiset _≡_ cs (M ++ L)
     → Fits [] (headsOf r) (map liftAtom M)
-    → (ps : List ℕ) × (s : State) × (fireAt r ps (live n b cs) ≡ some s)
+    → (ps : List ℕ) × (s : State) × Pointwise (Stands cs) ps M × (fireAt r ps (live n b cs) ≡ some s)
     × Rep s (fireC r (confOf b cs) (map liftAtom M) (map liftAtom L))
 unfolding fireAt unassigned
-complete-at r n b cs M L letters scoped split f =
+matched-fires r n b cs M L letters scoped split f =
     let (ps, fresh, stand, rest) = without-positions cs M L split in
     let heads = fits-down (f .θ) (pointwise-unmap liftAtom liftAtom (r .heads) M (f .fits)) in
     let none-yet : (x : ℕ) (t : Term) → unassigned x ≡ some t → t ≡ down (f .θ x) = λ x t p. none-some refl p in
@@ -132,6 +147,7 @@ complete-at r n b cs M L letters scoped split f =
     let F : Firing r n b cs ps θ = record { scoped = scoped; fitting = matchAt-sound (r .heads) ps cs [] unassigned m } in (
       ps,
       fired r ps θ n b cs,
+      stand,
       ap (λ o. bind o (λ θ. some (fired r ps θ n b cs))) m,
       rep-iso (subst (λ N. Rep (fired r ps θ n b cs) (fireC r (confOf b cs) (map liftAtom N) (map liftAtom (without 0 ps cs))))
           (stands-same cs (F .fitting .stand) stand) (fire-represents r n b cs ps θ F letters))
@@ -155,8 +171,8 @@ pub fireAt-complete :
     → (r : Rule) × (ps : List ℕ) × (s : State) × Member r rs × (fireAt r ps (live n b cs) ≡ some s) × Rep s D
 fireAt-complete n b cs letters scoped (step r M L i split f) =
     let up : (l : List (Atom ℕ)) → map liftAtom (map downAtom l) ≡ l = map-inverse downAtom liftAtom liftAtom-downAtom in
-    let (ps, s, p, h) =
-    complete-at r n b cs (map downAtom M) (map downAtom L) (all-member letters i) scoped (down-split M L split)
+    let (ps, s, stand, p, h) =
+    matched-fires r n b cs (map downAtom M) (map downAtom L) (all-member letters i) scoped (down-split M L split)
     (subst (Fits [] (headsOf r)) (sym (up M)) f) in
     (r, ps, s, i, p, subst₂ (λ M L. Rep s (fireC r (confOf b cs) M L)) (up M) (up L) h)
 

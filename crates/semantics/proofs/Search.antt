@@ -1,5 +1,4 @@
 -- The strategy's search for positions: what it finds fits, it finds something where anything fits, and it finds the smallest.
---   Before                              the strict order of lists of positions, compared from the first
 --   matchAt-cons, matchAt-join          the first head and the rest
 --   firstIn-some, firstIn-none          where the first answer over a list comes from
 --   find-sound, find-complete, find-smallest
@@ -12,19 +11,15 @@ use mathlib.Core.Bool.{false, cond}
 use mathlib.Core.List.{List, [], _∷_, _++_, append-assoc, append-nil}
 use mathlib.Core.Option.{Option, none, some}
 use mathlib.Core.Path.{_≡_, refl, sym, _∙_, ap}
-use lib.ListN.{length, getElem?}
+use lib.ListN.{getElem?}
 use Rattle.text.specs.Lists.{bind, orElse, has}
 use Rattle.semantics.specs.Terms.{Constraint}
 use Rattle.semantics.specs.Matching.{Assignment, unassigned, matchConstraint, matchAt}
 use Rattle.semantics.specs.Strategy.{Match, firstIn, find}
+use Rattle.semantics.specs.Runs.{Before, atFirst, atLater}
 use Rattle.semantics.proofs.Configurations.{Or, inl, inr}
 use Rattle.semantics.proofs.Options.{none-some, bind-some, cond-some-not}
 use Rattle.semantics.proofs.Bools.{none-unless}
-
--- the strict order of lists of positions of one length, compared from the first
-pub data Before : List ℕ → List ℕ → Type 0 where
-  atFirst : {p q : ℕ} {ps qs : List ℕ} → p < q → length ps ≡ length qs → Before (p ∷ ps) (q ∷ qs)
-  atLater : {p : ℕ} {ps qs : List ℕ} → Before ps qs → Before (p ∷ ps) (p ∷ qs)
 
 -- what a first head at a position needs: the position is not chosen yet, the head fits there, and the rest fits behind it
 pub record FirstFits
@@ -55,17 +50,11 @@ pub matchAt-join :
 unfolding matchAt
 matchAt-join f = rw (f .free, f .stands, f .fits) (f .rest)
 
--- there are as many positions as heads
-pub matchAt-length :
-    (hs : List Constraint) (ps : List ℕ) (cs : List Constraint) (chosen : List ℕ) (θ end : Assignment)
-    → matchAt hs ps cs chosen θ ≡ some end → length ps ≡ length hs
+-- heads match at no fewer positions
+matchAt-few :
+    (h : Constraint) (hs cs : List Constraint) (chosen : List ℕ) (θ : Assignment) → matchAt (h ∷ hs) [] cs chosen θ ≡ none
 unfolding matchAt
-matchAt-length [] [] cs chosen θ end e = refl
-matchAt-length [] (p ∷ ps) cs chosen θ end e = none-some refl e
-matchAt-length (h ∷ hs) [] cs chosen θ end e = none-some refl e
-matchAt-length (h ∷ hs) (p ∷ ps) cs chosen θ end e =
-    let f = matchAt-cons h hs p ps cs chosen θ end e in
-    ap suc (matchAt-length hs ps cs (chosen ++ (p ∷ [])) (f .next) end (f .rest))
+matchAt-few h hs cs chosen θ = refl
 
 -- where the first answer over a list comes from: every earlier element has none
 pub record FirstAt {A : Type 0} (p : ℕ) (cs : List Constraint) (try : ℕ → Constraint → Option A) (a : A) : Type 0 where
@@ -216,9 +205,7 @@ found-join h hs cs chosen θ m f next free fits g = record {
         (q : ℕ) (qs : List ℕ) (end : Assignment) → FirstFits h hs q qs cs chosen θ end
         → Or (f .at < q) (Or (f .at ≡ q) (q < f .at))
         → Or (q ∷ qs ≡ f .at ∷ g .positions) (Before (f .at ∷ g .positions) (q ∷ qs))
-    by-order q qs end k (inl l) = inr (atFirst l
-        (matchAt-length hs (g .positions) cs (chosen ++ (f .at ∷ [])) next (m .assignment) (g .fits)
-        ∙ sym (matchAt-length hs qs cs (chosen ++ (q ∷ [])) (k .next) end (k .rest))))
+    by-order q qs end k (inl l) = inr (atFirst l)
     by-order q qs end k (inr (inl e)) = rw (← e) (at-same qs end (rw (← e) at k))
     by-order q qs end k (inr (inr l)) =
         let n = f .earlier q (k .constraint) l (k .stands) in
@@ -228,7 +215,7 @@ found-join h hs cs chosen θ m f next free fits g = record {
     smallest :
         (qs : List ℕ) (end : Assignment) → matchAt (h ∷ hs) qs cs chosen θ ≡ some end
         → Or (qs ≡ f .at ∷ g .positions) (Before (f .at ∷ g .positions) qs)
-    smallest [] end e = absurd (omega (arith, matchAt-length (h ∷ hs) [] cs chosen θ end e))
+    smallest [] end e = none-some (matchAt-few h hs cs chosen θ) e
     smallest (q ∷ qs) end e = by-order q qs end (matchAt-cons h hs q qs cs chosen θ end e) (compared (f .at) q)
 
 -- what the search finds

@@ -13,7 +13,7 @@ use lib.ListN.{length, length-map}
 use Rattle.text.specs.Lists.{every, tabled, upTo}
 use Rattle.semantics.specs.Terms.{Constraint, Rule, Program, State, weight, mapTerms, isWellFormed}
 use Rattle.semantics.specs.Terms as T
-use Rattle.semantics.specs.Strategy.{Final, normalise, entered}
+use Rattle.semantics.specs.Strategy.{Final, normalise, goalState}
 use Rattle.semantics.specs.Overlaps.{Overlap, apart, isOneToOne, isPairing, secondPositions, firstEnd, secondEnd}
 use Rattle.semantics.specs.Variants.{Variant}
 use Rattle.semantics.specs.Verdict.{isJoinable}
@@ -57,14 +57,14 @@ module _ (p : Program) (w : isWellFormed p ≡ true) (o : Overlap) (listed : Lis
 
   -- its goal, entered, is scoped
   goal-scoped : Scoped (o .goal .variables) (tabled T.var (o .goal .variables)) (o .goal .constraints)
-  unfolding entered
+  unfolding goalState
   goal-scoped = entered-scoped (o .goal) (overlap-scoped parts)
 
   -- the first rule fires on its heads, and leaves what is not joined of the second's
   pub first-side :
       Rep (first-end p listed .0)
       (afterwards o (o .first .rule) (goalFirst parts) (leftover 1 (goalSecond parts) (o .partners)))
-  unfolding entered
+  unfolding goalState
   first-side =
       fired-on
       (fired-at (o .first .rule) (upTo (length (o .first .rule .heads))) (o .goal .variables) (tabled T.var (o .goal .variables))
@@ -76,7 +76,7 @@ module _ (p : Program) (w : isWellFormed p ≡ true) (o : Overlap) (listed : Lis
   -- the second rule fires on its own, and leaves what is not joined of the first's
   pub second-side :
       Rep (second-end p listed .0) (afterwards o (o .second .rule) (goalSecond parts) (alone (goalFirst parts) (o .partners)))
-  unfolding entered isPairing
+  unfolding goalState isPairing
   second-side =
       let ones = goalFirst parts in
       let twos = goalSecond parts in

@@ -22,7 +22,7 @@ use Rattle.semantics.proofs.Equating.{equated-related}
 use Rattle.semantics.proofs.Entailment.{heads-pairs, pairs-renamed, with-left, with-right}
 use Rattle.semantics.proofs.FreshVariants.{member-same, matched-avoids, rest-avoids, builtIn-avoids, variables-avoid}
 use Rattle.semantics.proofs.PublishedStates.{confWith}
-use Rattle.semantics.proofs.Emptying.{users, builtIns}
+use Rattle.semantics.proofs.Clearing.{users, builtIns}
 use Rattle.semantics.proofs.RenamedRules.{afterFiring, back, back-renamed, back-other, Settled, fired-heads, renamed-iso}
 
 -- the user-defined and the built-in constraints of a rule's body

@@ -4,6 +4,7 @@
 --   hold-eqv                       what they make equivalent has equal values
 --   generic, generic-holds         the valuation of a solution, by which unequal terms differ
 --   read, read-above               which term of the solution a value stands for
+--   solving-is-exact                            what solving means
 --   satisfiable-solved, solved-satisfiable      a store is not false exactly when solving it has an answer
 -- Assumes nothing.
 use Prim.Native.Nat.{ℕ, _+_, _-_, _<_}
@@ -16,6 +17,7 @@ use lib.Dec.{ltb, ltb→lt, lt→ltb}
 use Rattle.semantics.specs.Terms.{Term, con, var, Equation}
 use Rattle.semantics.specs.Solving.{solve}
 use Rattle.semantics.specs.Published.{value, Hold, all, and, Satisfiable}
+use Rattle.semantics.specs.Correspondence.{SolvingIsExact}
 use Rattle.semantics.proofs.Configurations.{Or, inl, inr, Member, first, later, Tm, Eqv, given, same, flip, chain, lift}
 use Rattle.semantics.proofs.Configurations.{liftEqn}
 use Rattle.semantics.proofs.Configurations as C
@@ -98,3 +100,15 @@ satisfiable-solved es s = go (solve es (λ t. t)) refl
 
 pub solved-satisfiable : (es : List Equation) {σ : Term → Term} → solve es (λ t. t) ≡ some σ → Satisfiable es
 solved-satisfiable es {σ} p = record { valuation = generic 0 σ; holds = generic-holds 0 (solve-solution es p) }
+
+-- solving is exact: values make the equations hold exactly when they respect the answer, and never where there is none
+pub solving-is-exact : (es : List Equation) → SolvingIsExact es
+unfolding value
+solving-is-exact es = record {
+  answer = λ σ p α.
+      (let q = solve-solution es p in (
+        λ h t. sym (simp down-lift at (hold-eqv h (q .follows t))),
+        λ h. hold-members es (λ e i. sym (h (e .left)) ∙ ap (value α) (q .joins i) ∙ h (e .right)),
+      ));
+  refusal = λ p α h. (let (a, b, d, e) = solve-clash es p in d (hold-eqv h e));
+}

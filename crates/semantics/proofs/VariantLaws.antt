@@ -1,4 +1,5 @@
 -- Equal states are equal configurations, so being equal is an equivalence of states.
+--   variant-right, variant-left               a term has one partner under a renaming
 --   variant-iso, iso-variant                  equal live states, as configurations, and back
 --   variant-refl, variant-sym, variant-trans  an equivalence
 -- Assumes nothing.
@@ -17,16 +18,16 @@ use Rattle.semantics.proofs.Isos.{iso-refl, iso-sym, iso-trans}
 use Rattle.semantics.proofs.Lifting.{down, down-lift, lift-down}
 
 -- under a one-to-one renaming a term has one partner, on either side
-variant-right : {ρ : ℕ → ℕ → Type 0} {s t u : Term} → OneToOne ρ → TermVariant ρ s t → TermVariant ρ s u → t ≡ u
+pub variant-right : {ρ : ℕ → ℕ → Type 0} {s t u : Term} → OneToOne ρ → TermVariant ρ s t → TermVariant ρ s u → t ≡ u
 variant-right o sameCon sameCon = refl
 variant-right o (partners {x} {y} r) (partners {y = z} q) = ap T.var (o .0 x y z r q)
 
-variant-left : {ρ : ℕ → ℕ → Type 0} {s t u : Term} → OneToOne ρ → TermVariant ρ s u → TermVariant ρ t u → s ≡ t
+pub variant-left : {ρ : ℕ → ℕ → Type 0} {s t u : Term} → OneToOne ρ → TermVariant ρ s u → TermVariant ρ t u → s ≡ t
 variant-left o sameCon sameCon = refl
 variant-left o (partners {x} {y} r) (partners {x = z} q) = ap T.var (o .1 x z y r q)
 
 -- a term of a configuration is what it is down below
-down-same : (s t : Tm ℕ) → down s ≡ down t → s ≡ t
+pub down-same : (s t : Tm ℕ) → down s ≡ down t → s ≡ t
 down-same s t p = sym (lift-down s) ∙ ap lift p ∙ lift-down t
 
 -- equal states are equal configurations

@@ -3,7 +3,7 @@
 --   Spoken                                 a live state over declared symbols, such constants and variables below its number
 --   fireAt-spoken                          a firing keeps that, and numbers 26 variables more
 --   reach-spoken                           so do firings one after the other
---   run-spoken                             the end of a run is over the vocabulary of its goal and its rules
+--   run-spoken, side-spoken                the end of a run, and of a side, is over the vocabulary of its goal and its rules
 -- Assumes nothing.
 use Prim.Native.Nat.{ℕ, zero, suc, _+_, _*_, _≤_}
 use native.Mathlib.Omega.{arith}
@@ -19,7 +19,8 @@ use Rattle.semantics.specs.Terms.{isDeclared, isBelow, isGoalOf, isOfRul
 use Rattle.semantics.specs.Matching.{Assignment, unassigned, matchAt}
 use Rattle.semantics.specs.Solving.{solve}
 use Rattle.semantics.specs.Firing.{without, instance, settle, fired, fireAt}
-use Rattle.semantics.specs.Strategy.{entered, run}
+use Rattle.semantics.specs.Strategy.{Final, goalState, normalise, run}
+use Rattle.semantics.specs.Overlaps.{sideEnd}
 use Rattle.semantics.proofs.Configurations.{Or, inl, inr, Member, TermBelow, All, also, Scoped}
 use Rattle.semantics.proofs.Configurations as C
 use Rattle.semantics.proofs.Bools.{and-true}
@@ -199,8 +200,8 @@ tabled-size (suc n) = simp length-append (omega (arith, tabled-size n))
 -- a goal over a program's symbols, all of whose constraints have entered
 entered-spoken :
     (p : Program) (P : ℕ → Type 0) (g : Goal) → isGoalOf p g ≡ true → All (ConstraintOver P) (g .constraints)
-    → SpokenState (p .symbols) P (g .variables) (g .variables) (entered g)
-unfolding entered isGoalOf
+    → SpokenState (p .symbols) P (g .variables) (g .variables) (goalState g)
+unfolding goalState isGoalOf
 entered-spoken p P g w o =
     let all = every-all (λ c. isDeclared (p .symbols) c && every (isBelow (g .variables)) (c .terms)) (g .constraints) w in
     let parts : (c : Constraint) → (isDeclared (p .symbols) c && every (isBelow (g .variables)) (c .terms)) ≡ true
@@ -219,15 +220,53 @@ entered-spoken p P g w o =
       declared = all-mono (λ c h. parts c h .0) all;
     }
 
--- the end of a run is over the vocabulary of its goal and its rules, and each firing numbers 26 variables
+-- what is reached from a goal is over the vocabulary of the goal and the rules, and each firing numbers 26 variables
+pub reached-spoken :
+    (p : Program) (P : ℕ → Type 0) (g : Goal) → isWellFormed p ≡ true → isGoalOf p g ≡ true → All (RuleOver P) (p .rules)
+    → All (ConstraintOver P) (g .constraints)
+    → {n : ℕ} {u : State} → Reach (p .rules) n (goalState g) u
+    → SpokenState (p .symbols) P (g .variables) (g .variables + alphabet * n) u
+unfolding isWellFormed
+reached-spoken p P g w goal rules constraints reach =
+    reach-spoken (p .symbols) P (g .variables) (every-all (isRuleOf (p .symbols)) (p .rules) w) rules (g .variables)
+    (entered-spoken p P g goal constraints) reach
+
+-- so is the end of a run
 pub run-spoken :
     (p : Program) (P : ℕ → Type 0) (g : Goal) → isWellFormed p ≡ true → isGoalOf p g ≡ true → All (RuleOver P) (p .rules)
     → All (ConstraintOver P) (g .constraints)
     → SpokenState (p .symbols) P (g .variables) (g .variables + alphabet * run p g .firings) (run p g .state)
-unfolding run isWellFormed
+unfolding run
 run-spoken p P g w goal rules constraints =
-    let (n, reach, count) = normalise-reach (p .rules) (weight (p .symbols) (g .constraints)) (entered g) 0 in
-    let number : ℕ = g .variables in
-    subst (λ k. SpokenState (p .symbols) P number (number + alphabet * k) (run p g .state)) (omega arith)
-    (reach-spoken (p .symbols) P number (every-all (isRuleOf (p .symbols)) (p .rules) w) rules number
-    (entered-spoken p P g goal constraints) reach)
+    let (n, reach, count) = normalise-reach (p .rules) (weight (p .symbols) (g .constraints)) (goalState g) 0 in
+    subst (λ k. SpokenState (p .symbols) P (g .variables) (g .variables + alphabet * k) (run p g .state)) (omega arith)
+    (reached-spoken p P g w goal rules constraints reach)
+
+-- the end of a side, by what its own firing answers
+abbrev endFrom : Program → Goal → Option State → Final
+endFrom p g o =
+    onward o (record { state = goalState g; firings = 0 })
+    (λ s. normalise (weight (p .symbols) (g .constraints)) (p .rules) s 1)
+
+-- the end of a side of an overlap is reached from its goal
+pub side-reach :
+    (p : Program) (g : Goal) (k : ℕ) (r : Rule) (ps : List ℕ) → getElem? (p .rules) k ≡ some r
+    → Reach (p .rules) (sideEnd p g r ps .firings) (goalState g) (sideEnd p g r ps .state)
+unfolding sideEnd
+side-reach p g k r ps e = go (fireAt r ps (goalState g)) refl
+  where
+    go :
+        (o : Option State) → fireAt r ps (goalState g) ≡ o
+        → Reach (p .rules) (endFrom p g o .firings) (goalState g) (endFrom p g o .state)
+    go none f = arrived
+    go (some t) f =
+        let (n, reach, count) = normalise-reach (p .rules) (weight (p .symbols) (g .constraints)) t 1 in
+        subst (λ m. Reach (p .rules) m (goalState g) (endFrom p g (some t) .state)) (omega arith) (fires k r ps e f reach)
+
+-- so it is over the vocabulary too
+pub side-spoken :
+    (p : Program) (P : ℕ → Type 0) (g : Goal) (k : ℕ) (r : Rule) (ps : List ℕ) → isWellFormed p ≡ true → isGoalOf p g ≡ true
+    → All (RuleOver P) (p .rules) → All (ConstraintOver P) (g .constraints) → getElem? (p .rules) k ≡ some r
+    → SpokenState (p .symbols) P (g .variables) (g .variables + alphabet * sideEnd p g r ps .firings) (sideEnd p g r ps .state)
+side-spoken p P g k r ps w goal rules constraints e =
+    reached-spoken p P g w goal rules constraints (side-reach p g k r ps e)

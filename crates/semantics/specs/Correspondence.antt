@@ -1,7 +1,9 @@
 -- What is claimed beside the published system (document 000; document 01: demand 2): firing is Simplify, and the overlaps are the
 -- critical pairs.
---   FiringIsSimplify             of a state and the published state that it represents
---   ChoicesArePairings           of the numbers of heads of two rules
+--   SolvingIsExact               of equations and their solution
+--   JoiningsArePairings          of the numbers of heads of two rules
+--   Groundwork                   both, whatever the program
+--   StandAt, FiringIsSimplify    of a state and the published state that it represents
 --   Side, Sides                  of an overlap and a critical pair
 --   OverlapsAreCriticalPairs     of a program
 --   Demand2                      all of demand 2, as one claim
@@ -9,57 +11,85 @@
 use Prim.Native.Nat.{ℕ, _<_, _≤_}
 use mathlib.Core.Bool.{true}
 use mathlib.Core.List.{List, [], map}
+use mathlib.Core.Logic.{_↔_}
 use mathlib.Core.Option.{none, some}
 use mathlib.Core.Path.{_≡_}
 use lib.ListN.{length, getElem?}
 use Rattle.text.specs.Lists.{upTo}
-use Rattle.semantics.specs.Terms.{Term, var, Rule, Program, Goal, State, mapTerms, isGoalOf}
+use Rattle.semantics.specs.Terms.{Term, var, Constraint, Equation, Rule, Program, Goal, State, live, mapTerms, isGoalOf}
 use Rattle.semantics.specs.Solving.{solve}
 use Rattle.semantics.specs.Firing.{fireAt}
-use Rattle.semantics.specs.Derivations.{Event, derive, NoRuleFits}
-use Rattle.semantics.specs.Strategy.{entered}
+use Rattle.semantics.specs.Derivations.{Event, derive, waiting, NoRuleFits}
+use Rattle.semantics.specs.Strategy.{goalState}
+use Rattle.semantics.specs.Runs.{RunsByChoice}
+use Rattle.semantics.specs.Variants.{OneToOne, TermVariant, Pointwise, ConstraintVariant, SameMultiset}
 use Rattle.semantics.specs.Overlaps.{pairings, Numbered, Overlap, secondPositions, goalOf, overlapOf, overlaps}
-use Rattle.semantics.specs.Published.{Published, Simplify, Emptied, Represents, Goes}
-use Rattle.semantics.specs.CriticalPairs.{Joint, Choice, jointsOf, partnersOf, CriticalPair, Critical, leftState}
-use Rattle.semantics.specs.CriticalPairs.{rightState, joined, reading, seen}
+use Rattle.semantics.specs.Published.{user, Published, initial, value, Hold, Simplify, Goes, Reaches, Cleared, Represents}
+use Rattle.semantics.specs.CriticalPairs.{Joint, Joining, jointsOf, partnersOf, CriticalPair, Critical, leftState}
+use Rattle.semantics.specs.CriticalPairs.{rightState, joined, goalTerms, withTerms}
 
--- firing in a state is Simplify in the published state that it represents, whose goal store is empty
-pub record FiringIsSimplify (p : Program) (a : Published) (s : State) : Type 1 where
-  -- every firing is a Simplify step, followed by the Introduce and Solve steps of the body
-  pub published :
-      (n : ℕ) (r : Rule) (ps : List ℕ) (t : State) → getElem? (p .rules) n ≡ some r → fireAt r ps s ≡ some t
-      → (b : Published) × (c : Published) × Simplify r a b × Emptied b c × Represents c t
-  -- every Simplify step, followed by the Introduce and Solve steps of the body in any order, is a firing
-  pub fires :
-      (n : ℕ) (r : Rule) (b c : Published) → getElem? (p .rules) n ≡ some r → Simplify r a b → Emptied b c
-      → (ps : List ℕ) × (t : State) × (fireAt r ps s ≡ some t) × Represents c t
-  -- where no rule fits, no step is possible
-  pub final : NoRuleFits p s → (b : Published) → Goes p a b → ⊥
+-- what solving means: where it has an answer, values make the equations hold exactly when they are the same before and after the
+-- answer is put in; where it has none, no values make them hold
+pub record SolvingIsExact (es : List Equation) : Type 0 where
+  pub answer :
+      (σ : Term → Term) → solve es (λ t. t) ≡ some σ → (α : ℕ → ℕ) → Hold α es ↔ ((t : Term) → value α (σ t) ≡ value α t)
+  pub refusal : solve es (λ t. t) ≡ none → (α : ℕ → ℕ) → Hold α es → ⊥
 
--- the choices of heads to be equated, of m heads and n heads, are the pairings that are enumerated, one to one, and none of these
--- is enumerated twice
-pub record ChoicesArePairings (m n : ℕ) : Type 0 where
-  pub enumerated : (js : List Joint) → Choice m n js → (i : ℕ) × (getElem? (pairings m n) i ≡ some (partnersOf m js))
-  pub chosen : (i : ℕ) (ds : List ℕ) → getElem? (pairings m n) i ≡ some ds → Choice m n (jointsOf ds)
-  pub back : (js : List Joint) → Choice m n js → jointsOf (partnersOf m js) ≡ js
+-- the joinings of m heads and n heads are the pairings that are enumerated, one to one, and none of these is enumerated twice
+pub record JoiningsArePairings (m n : ℕ) : Type 0 where
+  pub enumerated : (js : List Joint) → Joining m n js → (i : ℕ) × (getElem? (pairings m n) i ≡ some (partnersOf m js))
+  pub joining : (i : ℕ) (ds : List ℕ) → getElem? (pairings m n) i ≡ some ds → Joining m n (jointsOf ds)
+  pub back : (js : List Joint) → Joining m n js → jointsOf (partnersOf m js) ≡ js
   pub forth : (i : ℕ) (ds : List ℕ) → getElem? (pairings m n) i ≡ some ds → partnersOf m (jointsOf ds) ≡ ds
   pub once : (i k : ℕ) (ds : List ℕ) → getElem? (pairings m n) i ≡ some ds → getElem? (pairings m n) k ≡ some ds → i ≡ k
 
+-- the part of demand 2 that is about no program: solving is exact, and the joinings are the pairings
+pub record Groundwork : Type 0 where
+  pub solving : (es : List Equation) → SolvingIsExact es
+  pub joinings : (m n : ℕ) → JoiningsArePairings m n
+
+-- constraints of a published state stand at positions of a state that represents it: one renaming makes equal what each variable
+-- became, the constraints as multisets, and each of these constraints, solved, and the one at its position
+pub data StandAt (a : Published) (cs : List Constraint) (ps : List ℕ) : State → Type 1 where
+  stand :
+      {σ : Term → Term} {next : ℕ} {bound : List Term} {ds : List Constraint} (ρ : ℕ → ℕ → Type 0)
+      → solve (a .builtInStore) (λ t. t) ≡ some σ → OneToOne ρ
+      → Pointwise (TermVariant ρ) (map σ (map var (a .variables))) bound
+      → SameMultiset (ConstraintVariant ρ) (map (mapTerms σ) (a .userStore)) ds
+      → Pointwise (λ c p. (d : Constraint) × ConstraintVariant ρ (mapTerms σ c) d × (getElem? ds p ≡ some d)) cs ps
+      → StandAt a cs ps (live next bound ds)
+
+-- firing in a state is Simplify in the published state whose stores it represents
+pub record FiringIsSimplify (p : Program) (a : Published) (s : State) : Type 1 where
+  -- every firing is a Simplify step on the constraints at its positions, followed by the Introduce and Solve steps of the body
+  pub published :
+      (n : ℕ) (r : Rule) (ps : List ℕ) (t : State) → getElem? (p .rules) n ≡ some r → fireAt r ps s ≡ some t
+      → (cs : List Constraint) × (b : Published) × (c : Published) × StandAt a cs ps s × Simplify r cs a b
+      × Cleared (a .goals) b c × Represents c t
+  -- every Simplify step, followed by the Introduce and Solve steps of the body in any order, is a firing at the positions of the
+  -- constraints that it matches
+  pub fires :
+      (n : ℕ) (r : Rule) (cs : List Constraint) (b c : Published) → getElem? (p .rules) n ≡ some r → Simplify r cs a b
+      → Cleared (a .goals) b c
+      → (ps : List ℕ) × (t : State) × StandAt a cs ps s × (fireAt r ps s ≡ some t) × Represents c t
+  -- where no rule fits and the goal store is empty, no step is possible
+  pub final : NoRuleFits p s → a .goals ≡ [] → (b : Published) → Goes p a b → ⊥
+
 -- one side of an overlap is one state of a critical pair: the side's rule fires at its positions, and however the goal store of
--- the pair's state is emptied, the state after the firing represents it, seen by a reading
+-- the pair's state is emptied, the state after the firing represents it, with what has become of the pair's variables
 pub record Side (o : Overlap) (r : Rule) (ps : List ℕ) (ts : List Term) (a : Published) : Type 1 where
   pub state : State
-  pub fires : fireAt r ps (entered (o .goal)) ≡ some state
-  pub represents : (b : Published) → Emptied a b → Represents b (seen ts state)
+  pub fires : fireAt r ps (goalState (o .goal)) ≡ some state
+  pub represents : (b : Published) → Cleared [] a b → Represents b (withTerms ts state)
 
 -- the two sides of an overlap are the two states of a critical pair, under the unifier of the pair's condition, which makes the
--- overlap's goal of the joined heads. The reading, what the pair's variables are in the goal, leaves out no variable of the goal
+-- overlap's goal of the joined heads. What the pair's variables are in the goal leaves out no variable of the goal
 pub record Sides (o : Overlap) (js : List Joint) (c : CriticalPair) : Type 1 where
   pub unifier : Term → Term
   pub solved : solve (c .condition) (λ t. t) ≡ some unifier
   pub goal : o .goal ≡ goalOf (map (mapTerms unifier) (joined (o .first .rule) (o .second .rule) js))
   pub terms : List Term
-  pub read : terms ≡ reading unifier (joined (o .first .rule) (o .second .rule) js) (c .variables)
+  pub given : terms ≡ goalTerms unifier (joined (o .first .rule) (o .second .rule) js) (c .variables)
   pub covered : (v : ℕ) → v < o .goal .variables → (n : ℕ) × (getElem? terms n ≡ some (var v))
   pub first : Side o (o .first .rule) (upTo (length (o .first .rule .heads))) terms (leftState c)
   pub second :
@@ -94,14 +124,17 @@ pub record OverlapsAreCriticalPairs (p : Program) : Type 1 where
       → o .first .number ≡ u .first .number → o .second .number ≡ u .second .number
       → jointsOf (o .partners) ≡ jointsOf (u .partners) → m ≡ n
 
--- demand 2 of a program: every state of a derivation of one of its goals represents a published state, and firing in it is
--- Simplify there; the choices of heads are the pairings; and the overlaps are the critical pairs
+-- demand 2 of a program: every state of a derivation of one of its goals represents a published state that is reached from the
+-- goal's initial state, and whose goal store holds what has not entered; firing in it is Simplify there; the overlaps are the
+-- critical pairs; and the run is by the order of choice
 pub record Demand2 (p : Program) : Type 1 where
+  pub groundwork : Groundwork
   pub represented :
       (g : Goal) (es : List Event) → isGoalOf p g ≡ true
-      → (a : Published) × (a .goals ≡ []) × Represents a (derive p g es .state)
+      → (a : Published) × Reaches p (initial g) a × SameMultiset _≡_ (a .goals) (map user (waiting g (derive p g es)))
+      × Represents a (derive p g es .state)
   pub firing :
-      (g : Goal) (es : List Event) (a : Published) → isGoalOf p g ≡ true → a .goals ≡ [] → Represents a (derive p g es .state)
+      (g : Goal) (es : List Event) (a : Published) → isGoalOf p g ≡ true → Represents a (derive p g es .state)
       → FiringIsSimplify p a (derive p g es .state)
-  pub choices : (m n : ℕ) → ChoicesArePairings m n
   pub overlaps : OverlapsAreCriticalPairs p
+  pub runs : RunsByChoice p

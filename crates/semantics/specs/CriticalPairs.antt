@@ -1,10 +1,17 @@
--- Critical pairs, from document 000, definition 3.4, for simplification rules without guards: heads of one rule are equated with
--- heads of another, and each rule leaves its body and the heads of the other that are not equated.
---   Joint, Choice                    which heads are equated with which
+-- Critical pairs, from document 000, definition 3.4: heads of one rule are equated with heads of another, and each rule leaves
+-- its body and the heads of the other that are not equated.
+--   Joint, Joining                   which heads are equated with which
 --   jointsOf, partnersOf             the same, as for each head of the first rule its partner, and back
 --   CriticalPair, pairOf, Critical   the tuple (Ḡ, B ∧ H'rest =#= B' ∧ Hrest, V), where the chosen heads can be equated
 --   leftState, rightState            its two states (definition 3.5)
---   reading, seen                    a state of an overlap's goal, seen from the variables of the two rules
+--   goalTerms, withTerms             what the rules' variables are in an overlap's goal, and have become in a state of it
+-- Where this departs from the paper:
+--   rules have no guards, so that Ḡ are the equations of the chosen heads alone;
+--   the definition numbers heads by two permutations; here equated pairs stand in the order of the first rule's heads, so that a
+--   choice is given once, and the heads that are left stand in their order;
+--   rules share their letters, so the second is always renamed apart, where the paper's rules have disjoint variables;
+--   trivial pairs (the paper's footnote) are critical pairs like any other;
+--   a pair is of two rules in an order: which of the paper's pairs are taken, `OverlapsAreCriticalPairs` says.
 -- Assumes nothing.
 use Prim.Native.Nat.{ℕ, zero, suc, _+_, _<_, _≤_}
 use mathlib.Core.Bool.{false, cond}
@@ -38,8 +45,8 @@ pub data Joints (m n : ℕ) : ℕ → List Joint → Type 0 where
       {k : ℕ} {j : Joint} {js : List Joint} → k ≤ j .left → j .left < m → j .right < n → has (j .right) (rights js) ≡ false
       → Joints m n (suc (j .left)) js → Joints m n k (j ∷ js)
 
--- a choice of heads to be equated: one pair or more
-pub record Choice (m n : ℕ) (js : List Joint) : Type 0 where
+-- a joining: heads to be equated, one pair or more
+pub record Joining (m n : ℕ) (js : List Joint) : Type 0 where
   pub joints : Joints m n 0 js
   pub nonempty : js ≡ [] → ⊥
 
@@ -82,7 +89,7 @@ pub record CriticalPair : Type 0 where
   pub right : List Item
   pub variables : List ℕ
 
--- the pair of two rules, a choice of heads and the equations between these. V are the variables of all heads
+-- the pair of two rules, a joining of their heads and the equations between these. V are the variables of all heads
 unfoldable pub pairOf : Rule → Rule → List Joint → List Equation → CriticalPair
 pairOf r q js es = record {
   condition = es;
@@ -94,7 +101,7 @@ pairOf r q js es = record {
 -- it is a critical pair if the chosen heads can be equated
 pub data Critical (r q : Rule) (js : List Joint) : CriticalPair → Type 0 where
   critical :
-      {es : List Equation} → Choice (length (r .heads)) (length (q .heads)) js
+      {es : List Equation} → Joining (length (r .heads)) (length (q .heads)) js
       → EquatedAll (picked (r .heads) (lefts js)) (picked (shiftedHeads q) (rights js)) es → Satisfiable es
       → Critical r q js (pairOf r q js es)
 
@@ -110,10 +117,10 @@ unfoldable pub joined : Rule → Rule → List Joint → List Constraint
 joined r q js = r .heads ++ without 0 (rights js) (shiftedHeads q)
 
 -- what variables are under a unifier, in the goal of constraints under it
-unfoldable pub reading : (Term → Term) → List Constraint → List ℕ → List Term
-reading σ cs vs = map (λ x. numbered (appearing [] (map (mapTerms σ) cs)) (σ (var x))) vs
+unfoldable pub goalTerms : (Term → Term) → List Constraint → List ℕ → List Term
+goalTerms σ cs vs = map (λ x. numbered (appearing [] (map (mapTerms σ) cs)) (σ (var x))) vs
 
--- a state of a goal with what these terms of the goal have become, in place of what its variables have
-unfoldable pub seen : List Term → State → State
-seen ts failed = failed
-seen ts (live next bound cs) = live next (map (become bound) ts) cs
+-- a state of a goal, with what these terms of the goal have become instead of what its variables have
+unfoldable pub withTerms : List Term → State → State
+withTerms ts failed = failed
+withTerms ts (live next bound cs) = live next (map (become bound) ts) cs

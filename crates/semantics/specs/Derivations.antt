@@ -1,5 +1,6 @@
 -- Derivations (document 01: runs): lists of events, from the state with no constraints.
 --   Event, Progress, follow, derive      one event after the other; an event that does not apply changes nothing
+--   waiting                              the constraints that have not entered
 --   NoRuleFits, Finished                 a derivation's end
 -- Assumes nothing.
 use Prim.Native.Nat.{ℕ, suc}
@@ -11,7 +12,7 @@ use lib.ListN.{length, getD, getElem?}
 use Rattle.text.specs.Lists.{onward, every, has, tabled, upTo}
 use Rattle.semantics.specs.Terms.{Term, con, var, Constraint, Rule, Program, Goal, State, failed, live}
 use Rattle.semantics.specs.Terms.{mapTerms}
-use Rattle.semantics.specs.Firing.{fireAt}
+use Rattle.semantics.specs.Firing.{without, fireAt}
 
 -- an event: the goal's constraint of a number, from 0, enters; or the rule of a number, from 0, fires at positions
 pub data Event : Type 0 where
@@ -65,6 +66,10 @@ start g = record { state = live (g .variables) (tabled var (g .variables)) []; e
 -- the derivation of a goal by a list of events (document 01: a run)
 unfoldable pub derive : Program → Goal → List Event → Progress
 derive p g es = followAll p g es (start g)
+
+-- the constraints of the goal that have not entered
+abbrev pub waiting : Goal → Progress → List Constraint
+waiting g d = without 0 (d .entered) (g .constraints)
 
 -- no rule of the program can fire in a state, at any positions
 abbrev pub NoRuleFits : Program → State → Type 0

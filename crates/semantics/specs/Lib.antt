@@ -5,6 +5,7 @@ pub mod Solving
 pub mod Firing
 pub mod Derivations
 pub mod Strategy
+pub mod Runs
 pub mod Variants
 pub mod Overlaps
 pub mod Verdict

@@ -15,7 +15,7 @@ use Rattle.semantics.specs.Terms.{Term, con, var, Constraint, Equation, 
 use Rattle.semantics.specs.Terms.{weight, alphabet}
 use Rattle.semantics.specs.Solving.{solve}
 use Rattle.semantics.specs.Firing.{fireAt}
-use Rattle.semantics.specs.Strategy.{Final, normalise, entered}
+use Rattle.semantics.specs.Strategy.{Final, normalise, goalState}
 
 -- all lists of m numbers from 0 to n, smaller first, compared from the left
 unfoldable pub partnerLists : ℕ → ℕ → List (List ℕ)
@@ -139,7 +139,7 @@ overlaps p = overlapsAmong (numberedFrom 0 (p .rules))
 -- the strategy follows
 unfoldable pub sideEnd : Program → Goal → Rule → List ℕ → Final
 sideEnd p g r ps =
-    onward (fireAt r ps (entered g)) (record { state = entered g; firings = 0 })
+    onward (fireAt r ps (goalState g)) (record { state = goalState g; firings = 0 })
     (λ s. normalise (weight (p .symbols) (g .constraints)) (p .rules) s 1)
 
 -- the side that fires the first rule, on its heads

@@ -1,19 +1,27 @@
 -- The published system, from document 000, section 2.2.3 and figure 1: states of four parts and the steps Solve, Introduce and
--- Simplify, for rules without guards, the built-in theory being syntactic equality over constants and variables. The paper ends
--- each step in the normal form N of its state. Here N stands where states are compared: it has no influence on which steps are
--- possible (lemma 2.3).
---   Published                its states
+-- Simplify.
+--   Published, initial       its states, and that from which the computations of a goal begin (definition 2.8)
 --   Solve, Introduce         a built-in constraint, or a user-defined one, leaves the goal store
 --   Simplify                 constraints that match the heads of a fresh variant of a rule are replaced by its body
---   Emptied, Goes            Introduce and Solve steps until the goal store is empty; any step by a program
---   normal, Represents       what is left of a state when its built-in store is solved; a state of ours that equals it
+--   Goes, Reaches            any step by a program; any number of them
+--   Cleared                  Introduce and Solve steps until only certain items are left in the goal store
+--   solvedForm, Represents   what is left of the stores when the built-in one is solved; a state of ours that equals it
+-- Where this departs from the paper:
+--   rules have no guards, and the built-in theory is syntactic equality over constants and variables, said by values;
+--   each step of figure 1 ends in the normal form N of its state. Here N stands where states are compared: it has no influence on
+--   which steps are possible (lemma 2.3);
+--   figure 1 does not say that the built-in store of a Simplify step is not false, as the text does; here the step asks it;
+--   a conjunction is a list whose order does not matter, and `true` is the empty list of equations;
+--   a false built-in store is not made one state at once: what is left of each such state is the failed one;
+--   V of an initial state are all of a goal's variables, in the order of their numbers, also those that no constraint has.
 -- Assumes nothing.
 use Prim.Native.Nat.{ℕ, _<_}
 use mathlib.Core.List.{List, [], _∷_, _++_, map}
 use mathlib.Core.Option.{some}
 use mathlib.Core.Path.{_≡_}
 use lib.ListN.{getElem?}
-use Rattle.semantics.specs.Terms.{Term, con, var, Constraint, Equation, Rule, Program, State, mapTerms, mapSides}
+use Rattle.text.specs.Lists.{upTo}
+use Rattle.semantics.specs.Terms.{Term, con, var, Constraint, Equation, Rule, Program, Goal, State, mapTerms, mapSides}
 use Rattle.semantics.specs.Terms.{alphabet}
 use Rattle.semantics.specs.Solving.{solve}
 use Rattle.semantics.specs.Firing.{settle}
@@ -31,6 +39,10 @@ pub record Published : Type 0 where
   pub userStore : List Constraint
   pub builtInStore : List Equation
   pub variables : List ℕ
+
+-- the initial state ⟨G, ⊤, true, V⟩ of a goal
+unfoldable pub initial : Goal → Published
+initial g = record { goals = map user (g .constraints); userStore = []; builtInStore = []; variables = upTo (g .variables) }
 
 -- the value of a term where each variable has a value. Values are the constants: the theory of equality over infinitely many
 -- different constants is complete, so what holds of all values holds in all its models
@@ -124,38 +136,43 @@ pub data Introduce : Published → Published → Type 0 where
       → Introduce (record { goals = gs; userStore = us; builtInStore = bs; variables = vs })
       (record { goals = rest; userStore = c ∷ us; builtInStore = bs; variables = vs })
 
--- Simplify by a rule: H' of the user-defined store matches the heads H of a fresh variant; H' is replaced by the body, and H ≐ H'
--- joins the built-in store, which is not false
-pub data Simplify (r : Rule) : Published → Published → Type 0 where
+-- Simplify by a rule: the constraints H' of the user-defined store match the heads H of a fresh variant; H' is replaced by the
+-- body, and H ≐ H' joins the built-in store, which is not false
+pub data Simplify (r : Rule) (matched : List Constraint) : Published → Published → Type 0 where
   simplifies :
-      {matched rest us : List Constraint} {gs : List Item} {bs es : List Equation} {vs : List ℕ} (ρ : ℕ → ℕ)
+      {rest us : List Constraint} {gs : List Item} {bs es : List Equation} {vs : List ℕ} (ρ : ℕ → ℕ)
       → Satisfiable bs
       → FreshFor (record { goals = gs; userStore = us; builtInStore = bs; variables = vs }) ρ
       → SameMultiset _≡_ us (matched ++ rest)
       → EquatedAll (map (mapTerms (renamed ρ)) (r .heads)) matched es
       → Implies ρ bs es
-      → Simplify r (record { goals = gs; userStore = us; builtInStore = bs; variables = vs })
+      → Simplify r matched (record { goals = gs; userStore = us; builtInStore = bs; variables = vs })
       (record { goals = gs ++ bodyItems ρ r; userStore = rest; builtInStore = es ++ bs; variables = vs })
-
--- Introduce and Solve steps, until the goal store is empty
-pub data Emptied : Published → Published → Type 0 where
-  isEmpty : {us : List Constraint} {bs : List Equation} {vs : List ℕ}
-      → Emptied (record { goals = []; userStore = us; builtInStore = bs; variables = vs })
-      (record { goals = []; userStore = us; builtInStore = bs; variables = vs })
-  bySolve : {p q r : Published} → Solve p q → Emptied q r → Emptied p r
-  byIntroduce : {p q r : Published} → Introduce p q → Emptied q r → Emptied p r
-
--- what is left of a state whose goal store is empty when its built-in store is solved and the solution put in throughout (the
--- paper's N): failed where it is false, and otherwise what the variables have become and the constraints
-unfoldable pub normal : Published → State
-normal p = settle (solve (p .builtInStore) (λ t. t)) 0 (map var (p .variables)) (p .userStore)
-
--- a state of ours represents a published one whose goal store is empty: it equals what is left of that
-abbrev pub Represents : Published → State → Type 1
-Represents p s = Variant (normal p) s
 
 -- the transition relation of a program: one of the three steps
 pub data Goes (p : Program) : Published → Published → Type 0 where
   solving : {a b : Published} → Solve a b → Goes p a b
   introducing : {a b : Published} → Introduce a b → Goes p a b
-  simplifying : {a b : Published} (n : ℕ) (r : Rule) → getElem? (p .rules) n ≡ some r → Simplify r a b → Goes p a b
+  simplifying :
+      {a b : Published} {matched : List Constraint} (n : ℕ) (r : Rule) → getElem? (p .rules) n ≡ some r → Simplify r matched a b
+      → Goes p a b
+
+-- any number of steps
+pub data Reaches (p : Program) : Published → Published → Type 0 where
+  stays : {a : Published} → Reaches p a a
+  goes : {a b c : Published} → Goes p a b → Reaches p b c → Reaches p a c
+
+-- Introduce and Solve steps, until only these items are left in the goal store
+pub data Cleared (left : List Item) : Published → Published → Type 0 where
+  isClear : {a : Published} → SameMultiset _≡_ (a .goals) left → Cleared left a a
+  bySolve : {a b c : Published} → Solve a b → Cleared left b c → Cleared left a c
+  byIntroduce : {a b c : Published} → Introduce a b → Cleared left b c → Cleared left a c
+
+-- what is left of a state's stores when the built-in one is solved and the solution put in throughout (the paper's N): failed
+-- where it is false, and otherwise what the variables have become and the constraints
+unfoldable pub solvedForm : Published → State
+solvedForm a = settle (solve (a .builtInStore) (λ t. t)) 0 (map var (a .variables)) (a .userStore)
+
+-- a state of ours represents the stores of a published one: it equals what is left of them
+abbrev pub Represents : Published → State → Type 1
+Represents a s = Variant (solvedForm a) s

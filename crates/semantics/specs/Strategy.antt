@@ -64,9 +64,9 @@ normalise zero rs s f = record { state = s; firings = f }
 normalise (suc fuel) rs s f = onward (advance rs s) (record { state = s; firings = f }) (λ t. normalise fuel rs t (suc f))
 
 -- the state in which all constraints of a goal have entered, in order
-unfoldable pub entered : Goal → State
-entered g = live (g .variables) (tabled var (g .variables)) (g .constraints)
+unfoldable pub goalState : Goal → State
+goalState g = live (g .variables) (tabled var (g .variables)) (g .constraints)
 
 -- the run of a goal: all constraints enter, then the strategy fires. Weights make it end, so the goal's weight is fuel enough
 unfoldable pub run : Program → Goal → Final
-run p g = normalise (weight (p .symbols) (g .constraints)) (p .rules) (entered g) 0
+run p g = normalise (weight (p .symbols) (g .constraints)) (p .rules) (goalState g) 0

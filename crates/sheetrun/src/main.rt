@@ -1,10 +1,10 @@
 // `sheetrun`: runs the goal over the program that standard input holds, and prints the listing or the refusal.
-// 40,000 bytes decide every longer input (`prefix-decides`, crates/library/proofs/Prefix.antt).
+// 40,000 bytes decide every longer input (`prefix-decides`, crates/roketuma/proofs/Prefix.antt).
 
 // Writes what is printed on an input.
 fn answer(input: &[u8]) {
     let mut out = [0u8; 32768];
-    let n = printing::put_run(input, &mut out);
+    let n = roketuma::put_run(input, &mut out);
     io::write_all(1, &out[..n]);
 }
 

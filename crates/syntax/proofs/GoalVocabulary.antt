@@ -11,7 +11,7 @@ use mathlib.Core.List.{List, [], _∷_, _++_, append-assoc, append-nil}
 use mathlib.Core.Option.{none}
 use mathlib.Core.Path.{_≡_, refl, sym, ap, subst, _∙_}
 use lib.Dec.{leb, ltb, eqb}
-use lib.ListN.{length, length-map, length-append, drop}
+use lib.ListN.{length, length-map, length-append, drop, getD}
 use borrow.Author.Tests.{lt-ltb, le-ltb, ltb-true, ltb-false, leb-true, leb-false, eqb-true, eqb-false, ne-eqb, eq-eqb}
 use Rattle.text.specs.Bytes.{between}
 use Rattle.text.specs.Lists.{every, placeFrom, placeOf, sameBytes, isKnown, withName}
@@ -28,13 +28,14 @@ use Rattle.semantics.proofs.Vocabulary.{ConstraintOver}
 use Rattle.syntax.specs.Answers.{accepted}
 use Rattle.syntax.specs.Forms.{formOf, fieldAt, constantsAfter, termOf, isConstraintFaulty, isUndeclared, symbolNumber}
 use Rattle.syntax.specs.Forms.{constraintOf}
-use Rattle.syntax.specs.Programs.{Reading, maxText, maxConstants}
-use Rattle.syntax.specs.Goals.{GoalDraft, GoalReading, maxGoal, maxWeight, lettersAfter, readConstraintOfGoal, isGoalForm}
+use Rattle.syntax.specs.Programs.{Reading, Found, constraintLine, maxText}
+use Rattle.syntax.specs.Goals.{GoalDraft, GoalReading, lettersAfter, readConstraintOfGoal, isGoalForm, readGoalFields}
 use Rattle.syntax.specs.Goals.{readGoalLine, readGoalLines, readGoal}
-use Rattle.syntax.proofs.WellFormed.{Holds, holds-refuseIf, holds-andThen, holds-accepted, and-both, and-parts}
-use Rattle.syntax.proofs.WellFormed.{or-neither, not-false}
+use Rattle.syntax.proofs.WellFormed.{Holds, holds-refuseIf, holds-andThen, holds-accepted, holds-constraintLine}
+use Rattle.syntax.proofs.WellFormed.{and-both, and-parts, or-neither, not-false}
 use Rattle.syntax.proofs.Known.{grown, grown-front, grown-known, letters-grown}
 use Rattle.syntax.proofs.Vocabulary.{ConstantOf, constraints-more, constants-more, constraint-over}
+use Rattle.text.proofs.Keys.{variable-range}
 
 -- whether a name is known behind others: among them, or as the last
 place-split :
@@ -122,15 +123,11 @@ present-adds (suc n) j names h =
 
 -- a letter's field
 variable-field : (f : List ℕ) → isVariable f ≡ true → (j : ℕ) × (j < 26) × (f ≡ letterField j)
-unfolding isVariable between
-variable-field [] h = absurd (let z : _≡_ {A = ℕ} 0 1 = cc in omega arith)
-variable-field (b ∷ []) h =
-    let (low, high) = and-parts (leb 65 b) (leb b 90) h in
-    let least = leb-true 65 b low in
-    let most = leb-true b 90 high in
+variable-field f h =
+    let b : ℕ = getD f 0 0 in
+    let (one, least, most) = variable-range f h in
     let same : b ≡ 65 + (b - 65) = omega arith in
-    (b - 65, omega arith, ap (λ (x : ℕ). x ∷ []) same)
-variable-field (b ∷ c ∷ s) h = absurd (let z : _≡_ {A = ℕ} 0 1 = cc in omega arith)
+    (b - 65, omega arith, one ∙ ap (λ (x : ℕ). x ∷ []) same)
 
 -- a term field that is no name is a letter's
 term-variable : (f : List ℕ) → isTerm f ≡ true → isName f ≡ false → isVariable f ≡ true
@@ -237,43 +234,59 @@ blank-goal p h =
     none-known zero = refl
     none-known (suc n) = omega (arith, none-known n)
 
+-- what a G line finds
+record FoundGoal (symbols : List Symbol) (letters before fs : List (List ℕ)) (room : Type 0) (found : Found) : Type 0 where
+  terms : every isTerm (drop 2 fs) ≡ true
+  fits : room
+  most : length (found .constants) ≤ 64
+  front : (more : List (List ℕ)) × (found .constants ≡ before ++ more)
+  declared : isDeclared symbols (found .constraint) ≡ true
+  below : ConstraintBelow (length letters) (found .constraint)
+  over : ConstraintOver (ConstantOf (length (found .constants))) (found .constraint)
+
 -- each line keeps a draft so
 constraint-goal :
     (p : Reading) (n : ℕ) (fs : List (List ℕ)) (d : GoalDraft) → GoalSmall p d
     → Holds (GoalSmall p) (readConstraintOfGoal (p .program .symbols) n fs d)
-unfolding readConstraintOfGoal maxGoal maxConstants isConstraintFaulty
+unfolding readConstraintOfGoal isConstraintFaulty
 constraint-goal p n fs d s =
     let symbols = p .program .symbols in
-    let constants = constantsAfter (drop 2 fs) (d .constants) in
     let letters = lettersAfter (drop 2 fs) (d .letters) in
-    let faulty = not (between 2 6 (length fs)) || not (isName (fieldAt 1 fs)) in
-    holds-refuseIf (GoalSmall p) (faulty || not (every isTerm (drop 2 fs))) 4 n _
-    λ fine. holds-refuseIf (GoalSmall p) (isUndeclared symbols fs) 6 n _
-    λ known. holds-refuseIf (GoalSmall p) (leb 64 (length (d .constraints)) || ltb 64 (length constants)) 7 n _
-    λ room. (let (counted, fits) = or-neither (leb 64 (length (d .constraints))) (ltb 64 (length constants)) room in
-    let terms = not-false _ (or-neither faulty (not (every isTerm (drop 2 fs))) fine .1) in
-    let (more, e) = constants-more (drop 2 fs) (d .constants) in
-    let (old, k) = s .front in
-    let least : length (d .constants) ≤ length constants = omega (arith, ap length e, length-append (d .constants) more) in
+    let variable : List ℕ → ℕ = λ f. placeOf f letters in
+    let full = leb 64 (length (d .constraints)) in
+    holds-andThen (FoundGoal symbols letters (d .constants) fs (length (d .constraints) < 64)) (GoalSmall p)
+    (constraintLine full symbols variable (d .constants) n fs) _
+    (holds-constraintLine _ full symbols variable (d .constants) n fs
+    λ fine known room few. (let formed = not (between 2 6 (length fs)) || not (isName (fieldAt 1 fs)) in
     record {
-      few = simp length-append (omega (arith, leb-false 64 (length (d .constraints)) counted));
-      few-constants = ltb-false 64 (length constants) fits;
+      terms = not-false _ (or-neither formed (not (every isTerm (drop 2 fs))) fine .1);
+      fits = leb-false 64 (length (d .constraints)) room;
+      most = few;
+      front = constants-more (drop 2 fs) (d .constants);
+      declared = constraint-declared symbols variable (constantsAfter (drop 2 fs) (d .constants)) fs known;
+      below = constraint-lettered symbols (constantsAfter (drop 2 fs) (d .constants)) fs (d .letters);
+      over = constraint-over symbols variable fs (d .constants);
+    }))
+    λ found _ h. (let (more, e) = h .front in
+    let (old, k) = s .front in
+    let least : length (d .constants) ≤ length (found .constants) =
+    omega (arith, ap length e, length-append (d .constants) more) in
+    record {
+      few = simp length-append (omega (arith, h .fits));
+      few-constants = h .most;
       front = (old ++ more, e ∙ ap (λ cs. cs ++ more) k ∙ append-assoc (p .constants) old more);
-      counted = letters-counted (drop 2 fs) (d .letters) terms (s .counted);
-      declared =
-          all-append (s .declared) (also (constraint-declared symbols (λ f. placeOf f letters) constants fs known) C.none);
+      counted = letters-counted (drop 2 fs) (d .letters) (h .terms) (s .counted);
+      declared = all-append (s .declared) (also (h .declared) C.none);
       below =
           all-append (all-mono (λ c. all-mono (below-mono (letters-least (drop 2 fs) (d .letters)))) (s .below))
-          (also (constraint-lettered symbols constants fs (d .letters)) C.none);
-      over =
-          all-append (constraints-more least (s .over))
-          (also (constraint-over symbols (λ f. placeOf f letters) fs (d .constants)) C.none);
+          (also (h .below) C.none);
+      over = all-append (constraints-more least (s .over)) (also (h .over) C.none);
     })
 
 line-goal :
     (p : Reading) (n : ℕ) (l : Line) (d : GoalDraft) → GoalSmall p d
     → Holds (GoalSmall p) (readGoalLine (p .program .symbols) n l d)
-unfolding readGoalLine
+unfolding readGoalLine readGoalFields
 line-goal p n l d s =
     holds-refuseIf (GoalSmall p) (lineIsFaulty l) 2 n _
     λ _. holds-refuseIf (GoalSmall p) (not (isGoalForm (formOf (fieldAt 0 (fields (l .bytes)))))) 3 n _
@@ -309,13 +322,14 @@ goal-tests symbols n (c ∷ cs) (also d ds) (also b bs) =
     and-both (and-both d (all-every (isBelow n) (all-mono (below-isBelow n) b))) (goal-tests symbols n cs ds bs)
 
 -- what reads as a goal over a program
-pub goal-small : (p : Reading) (s : List ℕ) {g : GoalReading} → length (p .constants) ≤ 64 → readGoal p s ≡ accepted g
-    → ReadGoal p g
-unfolding readGoal isGoalOf maxWeight
+pub goal-small :
+    (p : Reading) (s : List ℕ) {g : GoalReading} → length (p .constants) ≤ 64
+    → readGoal (p .program .symbols) (p .constants) s ≡ accepted g → ReadGoal p g
+unfolding readGoal isGoalOf
 goal-small p s {g} h e =
     let symbols = p .program .symbols in
     let start : GoalDraft = record { constraints = []; letters = []; constants = p .constants } in
-    holds-accepted (ReadGoal p) (readGoal p s)
+    holds-accepted (ReadGoal p) (readGoal symbols (p .constants) s)
     (holds-refuseIf (ReadGoal p) (ltb maxText (length s)) 1 0 _
     λ _. holds-andThen (GoalSmall p) (ReadGoal p) (readGoalLines symbols 1 start (lines s)) _
     (lines-goal p 1 start (lines s) (blank-goal p h))

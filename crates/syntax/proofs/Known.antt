@@ -45,7 +45,7 @@ place-behind t i (x ∷ xs) y e = go (place-behind t (suc i) xs y e) (t x)
     go more true = omega arith
     go more false = omega arith
 
-same-refl : (s : List ℕ) → sameBytes s s ≡ true
+pub same-refl : (s : List ℕ) → sameBytes s s ≡ true
 same-refl [] = refl
 same-refl (b ∷ s) = rw (eqb-same b) (same-refl s)
 
@@ -90,7 +90,7 @@ grown-front pick (f ∷ fs) names =
     (one ++ more, k ∙ ap (λ ns. ns ++ more) e ∙ append-assoc names one more)
 
 -- a name that was added is known
-with-known : (f : List ℕ) (names : List (List ℕ)) → isKnown f (withName f names) ≡ true
+pub with-known : (f : List ℕ) (names : List (List ℕ)) → isKnown f (withName f names) ≡ true
 unfolding withName
 with-known f names = go (isKnown f names) refl
   where

@@ -11,13 +11,13 @@ use mathlib.Core.List.{List, [], _∷_, _++_, map}
 use mathlib.Core.Option.{Option, none, some}
 use mathlib.Core.Path.{_≡_, refl, ap}
 use lib.Dec.{leb, ltb, eqb}
-use lib.ListN.{length, length-append, drop}
+use lib.ListN.{length, length-append, length-map, drop}
 use borrow.Author.Tests.{ltb-true, ltb-false, leb-true, leb-false}
 use Rattle.text.specs.Bytes.{between}
-use Rattle.text.specs.Lists.{onward, every, isKnown, placeOf}
+use Rattle.text.specs.Lists.{onward, isKnown, placeOf}
 use Rattle.text.specs.Lines.{Line, lines, lineIsFaulty}
-use Rattle.text.specs.Fields.{fields, isName, isTerm, isNumber, isNumberIn, valueOf}
-use Rattle.semantics.specs.Terms.{Term, con, var, Constraint, Symbol, Rule}
+use Rattle.text.specs.Fields.{fields, isName, isNumber, isNumberIn, valueOf}
+use Rattle.semantics.specs.Terms.{Term, con, var, Constraint, Symbol, Rule, weight}
 use Rattle.semantics.proofs.Configurations.{All, also}
 use Rattle.semantics.proofs.Configurations as C
 use Rattle.semantics.proofs.Multisets.{all-mono, all-append, all-map}
@@ -25,19 +25,17 @@ use Rattle.semantics.proofs.Vocabulary.{TermOver, ConstraintOver, RuleOver}
 use Rattle.syntax.specs.Answers.{Answer, refused, accepted}
 use Rattle.syntax.specs.Forms.{Form, symbolForm, ruleForm, headForm, bodyForm, equationForm, goalForm, noForm, formOf}
 use Rattle.syntax.specs.Forms.{Place, placeAfter, fieldAt, constantsAfter, firstConstant, termOf, letterNumber}
-use Rattle.syntax.specs.Forms.{isConstraintFaulty, isUndeclared, constraintOf}
-use Rattle.syntax.specs.Programs.{Draft, Reading, blank, onLast, lastRule, withHead, withBody, withEquation, withRule}
-use Rattle.syntax.specs.Programs.{readSymbol, readRule, readConstraint, readEquation, readForm, readLine, readLines}
-use Rattle.syntax.specs.Programs.{checkRules}
-use Rattle.syntax.specs.Programs.{readProgram, maxSymbols, maxRules, maxHeads, maxBody, maxEquations, maxConstants, maxText}
-use Rattle.syntax.proofs.WellFormed.{Holds, holds-refuseIf, holds-andThen, holds-accepted, and-parts, or-neither}
-use Rattle.syntax.proofs.WellFormed.{not-false}
-use Rattle.syntax.proofs.WellFormed.{length-onLast}
+use Rattle.syntax.specs.Forms.{isSymbolFaulty, isRuleFaulty, isEquationFaulty, constraintOf}
+use Rattle.syntax.specs.Programs.{Draft, RuleRead, Reading, Found, blank, atPlace, onLast, lastRule, withHead, withBody}
+use Rattle.syntax.specs.Programs.{withEquation, withRule, readSymbol, readRule, constraintLine, readConstraint, readEquation}
+use Rattle.syntax.specs.Programs.{readForm, readFields, readLine, readLines, checkRules, readProgram, maxText}
+use Rattle.syntax.proofs.WellFormed.{Holds, holds-refuseIf, holds-andThen, holds-accepted, holds-constraintLine}
+use Rattle.syntax.proofs.WellFormed.{and-parts, or-neither, not-false, length-onLast}
 use Rattle.syntax.proofs.Known.{grown, grown-front, grown-known, constants-grown}
 
 -- the numbers of k constants
 abbrev pub ConstantOf : ℕ → ℕ → Type 0
-ConstantOf k c = (32 ≤ c) × (c < 32 + k)
+ConstantOf k c = (firstConstant ≤ c) × (c < firstConstant + k)
 
 -- a symbol within the limits
 pub record SymbolSmall (s : Symbol) : Type 0 where
@@ -79,12 +77,12 @@ rule-more h r s =
 pub term-over :
     (variable : List ℕ → ℕ) (constants : List (List ℕ)) (f : List ℕ) → (isName f ≡ true → isKnown f constants ≡ true)
     → TermOver (ConstantOf (length constants)) (termOf variable constants f)
-unfolding termOf firstConstant isKnown
+unfolding termOf isKnown
 term-over variable constants f h = go (isName f) refl
   where
     go :
         (b : Bool) → isName f ≡ b
-        → TermOver (ConstantOf (length constants)) (cond b (con (32 + placeOf f constants)) (var (variable f)))
+        → TermOver (ConstantOf (length constants)) (cond b (con (firstConstant + placeOf f constants)) (var (variable f)))
     go true e = let k : placeOf f constants < length constants = ltb-true _ _ (h e) in (omega arith, omega arith)
     go false e = tt
 
@@ -92,7 +90,7 @@ term-over variable constants f h = go (isName f) refl
 pub constants-more : (fs before : List (List ℕ)) → (more : List (List ℕ)) × (constantsAfter fs before ≡ before ++ more)
 constants-more fs before = rw (constants-grown fs before) (grown-front isName fs before)
 
-constants-least : (fs before : List (List ℕ)) → length before ≤ length (constantsAfter fs before)
+pub constants-least : (fs before : List (List ℕ)) → length before ≤ length (constantsAfter fs before)
 constants-least fs before =
     let (more, e) = constants-more fs before in
     omega (arith, ap length e, length-append before more)
@@ -114,12 +112,12 @@ constraint-over symbols variable fs before = all-map _ (fields-over variable (dr
 
 -- the last rule is changed, and the others stay
 all-onLast :
-    {P : Rule → Type 0} (f : Rule → Rule) (rs : List Rule) → (P (lastRule rs) → P (f (lastRule rs))) → All P rs
-    → All P (onLast f rs)
+    (P : Rule → Type 0) (f : Rule → Rule) (rs : List RuleRead) → (P (lastRule rs) → P (f (lastRule rs)))
+    → All (λ r. P (r .rule)) rs → All (λ r. P (r .rule)) (onLast f rs)
 unfolding onLast lastRule
-all-onLast f [] k C.none = C.none
-all-onLast f (r ∷ []) k (also h C.none) = also (k h) C.none
-all-onLast f (r ∷ q ∷ rs) k (also h more) = also h (all-onLast f (q ∷ rs) k more)
+all-onLast P f [] k C.none = C.none
+all-onLast P f (r ∷ []) k (also h C.none) = also (k h) C.none
+all-onLast P f (r ∷ q ∷ rs) k (also h more) = also h (all-onLast P f (q ∷ rs) k more)
 
 -- a draft within the limits
 pub record Small (d : Draft) : Type 0 where
@@ -127,7 +125,7 @@ pub record Small (d : Draft) : Type 0 where
   pub few-rules : length (d .rules) ≤ 32
   pub few-constants : length (d .constants) ≤ 64
   pub symbols : All SymbolSmall (d .symbols)
-  pub rules : All (RuleSmall (length (d .constants))) (d .rules)
+  pub rules : All (λ r. RuleSmall (length (d .constants)) (r .rule)) (d .rules)
 
 blank-small : Small blank
 unfolding blank
@@ -142,36 +140,42 @@ number-in lo hi f h =
     let (a, b) = and-parts (leb lo (valueOf f)) (leb (valueOf f) hi) range in
     (leb-true lo (valueOf f) a, leb-true (valueOf f) hi b)
 
--- each line keeps a draft within the limits
-symbol-small : (n : ℕ) (place : Place) (fs : List (List ℕ)) (d : Draft) → Small d → Holds Small (readSymbol n place fs d)
-unfolding readSymbol maxSymbols
-symbol-small n place fs d s =
-    let name = fieldAt 1 fs in
+-- the symbol of a K line of the right form
+symbol-fields :
+    (fs : List (List ℕ)) → isSymbolFaulty fs ≡ false
+    → SymbolSmall (record { name = fieldAt 1 fs; arity = valueOf (fieldAt 2 fs); weight = valueOf (fieldAt 3 fs) })
+unfolding isSymbolFaulty
+symbol-fields fs fine =
     let a = not (eqb (length fs) 4) in
-    let b = not (isName name) in
+    let b = not (isName (fieldAt 1 fs)) in
     let c = not (isNumberIn 0 4 (fieldAt 2 fs)) in
     let e = not (isNumberIn 1 31 (fieldAt 3 fs)) in
-    holds-refuseIf Small (a || b || c || e) 4 n _
-    λ fine. holds-refuseIf Small (isKnown name (map (λ s. s .name) (d .symbols))) 5 n _
-    λ _. holds-refuseIf Small (leb 32 (length (d .symbols))) 7 n _
-    λ room. (let (abc, weighs) = or-neither (a || b || c) e fine in
+    let (abc, weighs) = or-neither (a || b || c) e fine in
     let counts = or-neither (a || b) c abc .1 in
     let arity = number-in 0 4 (fieldAt 2 fs) (not-false _ counts) in
     let weight = number-in 1 31 (fieldAt 3 fs) (not-false _ weighs) in
-    record {
+    record { few = arity .1; heavy = weight .0; light = weight .1 }
+
+-- each line keeps a draft within the limits
+symbol-small : (n : ℕ) (fs : List (List ℕ)) (d : Draft) → Small d → Holds Small (readSymbol n fs d)
+unfolding readSymbol
+symbol-small n fs d s =
+    holds-refuseIf Small (isSymbolFaulty fs) 4 n _
+    λ fine. holds-refuseIf Small (isKnown (fieldAt 1 fs) (map (λ s. s .name) (d .symbols))) 5 n _
+    λ _. holds-refuseIf Small (leb 32 (length (d .symbols))) 7 n _
+    λ room. record {
       few-symbols = simp length-append (omega (arith, leb-false 32 (length (d .symbols)) room));
       few-rules = s .few-rules;
       few-constants = s .few-constants;
-      symbols = all-append (s .symbols) (also (record { few = arity .1; heavy = weight .0; light = weight .1 }) C.none);
+      symbols = all-append (s .symbols) (also (symbol-fields fs fine) C.none);
       rules = s .rules;
-    })
+    }
 
-rule-small : (n : ℕ) (place : Place) (fs : List (List ℕ)) (d : Draft) → Small d → Holds Small (readRule n place fs d)
-unfolding readRule maxRules
-rule-small n place fs d s =
-    let name = fieldAt 1 fs in
-    holds-refuseIf Small (not (eqb (length fs) 2) || not (isName name)) 4 n _
-    λ _. holds-refuseIf Small (isKnown name (map (λ r. r .name) (d .rules))) 5 n _
+rule-small : (n : ℕ) (fs : List (List ℕ)) (d : Draft) → Small d → Holds Small (readRule n fs d)
+unfolding readRule
+rule-small n fs d s =
+    holds-refuseIf Small (isRuleFaulty fs) 4 n _
+    λ _. holds-refuseIf Small (isKnown (fieldAt 1 fs) (map (λ r. r .rule .name) (d .rules))) 5 n _
     λ _. holds-refuseIf Small (leb 32 (length (d .rules))) 7 n _
     λ room. record {
       few-symbols = s .few-symbols;
@@ -189,33 +193,45 @@ rule-small n place fs d s =
 
 -- a line that changes the last rule
 change-small :
-    (place : Place) (f : Rule → Rule) (constants : List (List ℕ)) (d : Draft) → Small d → length (d .constants) ≤ length constants
+    (f : Rule → Rule) (constants : List (List ℕ)) (d : Draft) → Small d → length (d .constants) ≤ length constants
     → length constants ≤ 64
     → (RuleSmall (length constants) (lastRule (d .rules)) → RuleSmall (length constants) (f (lastRule (d .rules))))
-    → Small (withRule place f constants d)
+    → Small (withRule f constants d)
 unfolding withRule
-change-small place f constants d s least most k =
+change-small f constants d s least most k =
     record {
       few-symbols = s .few-symbols;
       few-rules = rw (length-onLast f (d .rules)) (s .few-rules);
       few-constants = most;
       symbols = s .symbols;
-      rules = all-onLast f (d .rules) k (all-mono (rule-more least) (s .rules));
+      rules = all-onLast (RuleSmall (length constants)) f (d .rules) k (all-mono (λ r. rule-more least (r .rule)) (s .rules));
     }
 
+-- what an H or B line finds, over the constants after it
+record FoundSmall (before : List (List ℕ)) (room : Type 0) (found : Found) : Type 0 where
+  least : length before ≤ length (found .constants)
+  most : length (found .constants) ≤ 64
+  over : ConstraintOver (ConstantOf (length (found .constants))) (found .constraint)
+  fits : room
+
 constraint-small :
-    (n : ℕ) (place : Place) (count most : ℕ) (add : Constraint → Rule → Rule) (fs : List (List ℕ)) (d : Draft) → Small d
+    (count most : ℕ) (add : Constraint → Rule → Rule) (n : ℕ) (fs : List (List ℕ)) (d : Draft) → Small d
     → ((k : ℕ) (c : Constraint) → ConstraintOver (ConstantOf k) c → count < most → RuleSmall k (lastRule (d .rules))
     → RuleSmall k (add c (lastRule (d .rules))))
-    → Holds Small (readConstraint n place count most add fs d)
-unfolding readConstraint maxConstants
-constraint-small n place count most add fs d s k =
-    let constants = constantsAfter (drop 2 fs) (d .constants) in
-    holds-refuseIf Small (isConstraintFaulty fs) 4 n _ λ _. holds-refuseIf Small (isUndeclared (d .symbols) fs) 6 n _
-    λ _. holds-refuseIf Small (leb most count || ltb 64 (length constants)) 7 n _
-    λ room. (let (counted, known) = or-neither (leb most count) (ltb 64 (length constants)) room in
-    change-small place _ constants d s (constants-least (drop 2 fs) (d .constants)) (ltb-false 64 (length constants) known)
-    (k (length constants) _ (constraint-over (d .symbols) letterNumber fs (d .constants)) (leb-false most count counted)))
+    → Holds Small (readConstraint count most add n fs d)
+unfolding readConstraint
+constraint-small count most add n fs d s k =
+    holds-andThen (FoundSmall (d .constants) (count < most)) Small
+    (constraintLine (leb most count) (d .symbols) letterNumber (d .constants) n fs) _
+    (holds-constraintLine _ (leb most count) (d .symbols) letterNumber (d .constants) n fs
+    λ _ _ room few. record {
+      least = constants-least (drop 2 fs) (d .constants);
+      most = few;
+      over = constraint-over (d .symbols) letterNumber fs (d .constants);
+      fits = leb-false most count room;
+    })
+    λ found _ h. change-small _ (found .constants) d s (h .least) (h .most)
+    (k (length (found .constants)) (found .constraint) (h .over) (h .fits))
 
 head-small :
     (k : ℕ) (c : Constraint) (r : Rule) → ConstraintOver (ConstantOf k) c → length (r .heads) < 4 → RuleSmall k r
@@ -245,26 +261,25 @@ body-small k c r o few s =
 
 -- the two sides of an equation, by their fields
 sides-over :
-    (P : Term → Type 0) (term : List ℕ → Term) (fs : List (List ℕ)) → eqb (length fs) 3 ≡ true
+    (P : Term → Type 0) (term : List ℕ → Term) (fs : List (List ℕ)) → isEquationFaulty fs ≡ false
     → All (λ f. P (term f)) (drop 1 fs) → P (term (fieldAt 1 fs)) × P (term (fieldAt 2 fs))
-unfolding fieldAt
+unfolding fieldAt isEquationFaulty
 sides-over P term [] e h = let z : _≡_ {A = ℕ} 0 1 = cc in absurd (omega arith)
 sides-over P term (a ∷ []) e h = let z : _≡_ {A = ℕ} 0 1 = cc in absurd (omega arith)
 sides-over P term (a ∷ b ∷ []) e h = let z : _≡_ {A = ℕ} 0 1 = cc in absurd (omega arith)
 sides-over P term (a ∷ b ∷ c ∷ fs) e (also h (also k more)) = (h, k)
 
-equation-small : (n : ℕ) (place : Place) (fs : List (List ℕ)) (d : Draft) → Small d → Holds Small (readEquation n place fs d)
-unfolding readEquation withEquation maxEquations maxConstants
-equation-small n place fs d s =
+equation-small : (n : ℕ) (fs : List (List ℕ)) (d : Draft) → Small d → Holds Small (readEquation n fs d)
+unfolding readEquation withEquation
+equation-small n fs d s =
     let constants = constantsAfter (drop 1 fs) (d .constants) in
     let last = lastRule (d .rules) in
-    holds-refuseIf Small (not (eqb (length fs) 3) || not (every isTerm (drop 1 fs))) 4 n _
+    holds-refuseIf Small (isEquationFaulty fs) 4 n _
     λ fine. holds-refuseIf Small (leb 4 (length (last .equations)) || ltb 64 (length constants)) 7 n _
-    λ room. (let three = or-neither (not (eqb (length fs) 3)) (not (every isTerm (drop 1 fs))) fine .0 in
-    let (counted, known) = or-neither (leb 4 (length (last .equations))) (ltb 64 (length constants)) room in
-    let sides = sides-over (TermOver (ConstantOf (length constants))) (termOf letterNumber constants) fs (not-false _ three)
+    λ room. (let (counted, known) = or-neither (leb 4 (length (last .equations))) (ltb 64 (length constants)) room in
+    let sides = sides-over (TermOver (ConstantOf (length constants))) (termOf letterNumber constants) fs fine
     (fields-over letterNumber (drop 1 fs) (d .constants)) in
-    change-small place _ constants d s (constants-least (drop 1 fs) (d .constants)) (ltb-false 64 (length constants) known)
+    change-small _ constants d s (constants-least (drop 1 fs) (d .constants)) (ltb-false 64 (length constants) known)
     λ small. record {
       heads-few = small .heads-few;
       body-few = small .body-few;
@@ -273,30 +288,41 @@ equation-small n place fs d s =
       over = record { body = small .over .body; equations = all-append (small .over .equations) (also sides C.none) };
     })
 
-form-small : (form : Form) (n : ℕ) (place : Place) (fs : List (List ℕ)) (d : Draft) → Small d
-    → Holds Small (readForm form n place fs d)
-unfolding readForm maxHeads maxBody
-form-small symbolForm n place fs d s = symbol-small n place fs d s
-form-small ruleForm n place fs d s = rule-small n place fs d s
-form-small headForm n place fs d s =
-    constraint-small n place (length (lastRule (d .rules) .heads)) 4 withHead fs d s (λ k c. head-small k c (lastRule (d .rules)))
-form-small bodyForm n place fs d s =
-    constraint-small n place (length (lastRule (d .rules) .body)) 6 withBody fs d s (λ k c. body-small k c (lastRule (d .rules)))
-form-small equationForm n place fs d s = equation-small n place fs d s
-form-small goalForm n place fs d s = tt
-form-small noForm n place fs d s = tt
+form-small : (form : Form) (n : ℕ) (fs : List (List ℕ)) (d : Draft) → Small d → Holds Small (readForm form n fs d)
+unfolding readForm
+form-small symbolForm n fs d s = symbol-small n fs d s
+form-small ruleForm n fs d s = rule-small n fs d s
+form-small headForm n fs d s =
+    constraint-small (length (lastRule (d .rules) .heads)) 4 withHead n fs d s (λ k c. head-small k c (lastRule (d .rules)))
+form-small bodyForm n fs d s =
+    constraint-small (length (lastRule (d .rules) .body)) 6 withBody n fs d s (λ k c. body-small k c (lastRule (d .rules)))
+form-small equationForm n fs d s = equation-small n fs d s
+form-small goalForm n fs d s = tt
+form-small noForm n fs d s = tt
+
+moved-small : (place : Place) (d : Draft) → Small d → Small (atPlace place d)
+unfolding atPlace
+moved-small place d s =
+    record {
+      few-symbols = s .few-symbols;
+      few-rules = s .few-rules;
+      few-constants = s .few-constants;
+      symbols = s .symbols;
+      rules = s .rules;
+    }
+
+fields-small : (n : ℕ) (fs : List (List ℕ)) (d : Draft) → Small d → Holds Small (readFields n fs d)
+unfolding readFields
+fields-small n fs d s = go (placeAfter (formOf (fieldAt 0 fs)) (d .place))
+  where
+    go : (o : Option Place)
+        → Holds Small (onward o (refused 3 n) (λ place. readForm (formOf (fieldAt 0 fs)) n fs (atPlace place d)))
+    go none = tt
+    go (some place) = form-small (formOf (fieldAt 0 fs)) n fs (atPlace place d) (moved-small place d s)
 
 line-small : (n : ℕ) (l : Line) (d : Draft) → Small d → Holds Small (readLine n l d)
 unfolding readLine
-line-small n l d s = holds-refuseIf Small (lineIsFaulty l) 2 n _ λ _. go
-    (placeAfter (formOf (fieldAt 0 (fields (l .bytes)))) (d .place))
-  where
-    go :
-        (o : Option Place)
-        → Holds Small (onward o (refused 3 n)
-        (λ place. readForm (formOf (fieldAt 0 (fields (l .bytes)))) n place (fields (l .bytes)) d))
-    go none = tt
-    go (some place) = form-small (formOf (fieldAt 0 (fields (l .bytes)))) n place (fields (l .bytes)) d s
+line-small n l d s = holds-refuseIf Small (lineIsFaulty l) 2 n _ λ _. fields-small n (fields (l .bytes)) d s
 
 lines-small : (n : ℕ) (d : Draft) (ls : List Line) → Small d → Holds Small (readLines n d ls)
 unfolding readLines
@@ -304,10 +330,16 @@ lines-small n d [] s = s
 lines-small n d (l ∷ ls) s = holds-andThen Small Small (readLine n l d) _ (line-small n l d s)
     (λ e _ t. lines-small (suc n) e ls t)
 
--- whatever the answer
-holds-any : {A : Type 0} (r : Answer A) → Holds (λ _. Unit {0}) r
-holds-any (refused number line) = tt
-holds-any (accepted a) = tt
+-- rules that met neither 8 nor 9, whatever they are
+holds-checked :
+    {A : Type 0} (P : A → Type 0) (symbols : List Symbol) (rs : List RuleRead) (otherwise : Answer A) → Holds P otherwise
+    → Holds P (checkRules symbols rs otherwise)
+unfolding checkRules
+holds-checked P symbols [] otherwise h = h
+holds-checked P symbols (r ∷ rs) otherwise h =
+    holds-refuseIf P (eqb (length (r .rule .heads)) 0) 8 (r .line) _
+    λ _. holds-refuseIf P (leb (weight symbols (r .rule .heads)) (weight symbols (r .rule .body))) 9 (r .line) _
+    λ _. holds-checked P symbols rs otherwise h
 
 -- a program as read is within the limits
 pub record ReadSmall (p : Reading) : Type 0 where
@@ -323,13 +355,12 @@ read-small s {p} e =
     holds-accepted ReadSmall (readProgram s)
     (holds-refuseIf ReadSmall (ltb maxText (length s)) 1 0 _
     λ _. holds-andThen Small ReadSmall (readLines 1 blank (lines s)) _ (lines-small 1 blank (lines s) blank-small)
-    λ d _ t. holds-andThen (λ _. Unit {0}) ReadSmall (checkRules (d .symbols) (d .rules) (d .starts)) _
-    (holds-any (checkRules (d .symbols) (d .rules) (d .starts)))
-    λ _ _ _. record {
+    λ d _ t. holds-checked ReadSmall (d .symbols) (d .rules) _
+    (record {
       few-symbols = t .few-symbols;
-      few-rules = t .few-rules;
+      few-rules = rw length-map (t .few-rules);
       few-constants = t .few-constants;
       symbols = t .symbols;
-      rules = t .rules;
-    })
+      rules = all-map _ (t .rules);
+    }))
     e

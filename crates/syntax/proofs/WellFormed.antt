@@ -8,11 +8,13 @@ use mathlib.Core.List.{List, [], _∷_, _++_, map}
 use mathlib.Core.Option.{Option, none, some}
 use mathlib.Core.Path.{_≡_, refl, sym, ap, subst, _∙_}
 use lib.Dec.{T, leb, ltb, eqb, leb→le, le→leb, nleb→lt}
-use lib.ListN.{length, length-map, length-append, drop, getD}
+use lib.ListN.{length, length-map, drop, getD}
+use borrow.Author.Tests.{ltb-false}
 use Rattle.text.specs.Bytes.{between}
 use Rattle.text.specs.Lists.{onward, every, isKnown}
 use Rattle.text.specs.Lines.{Line, lines, lineIsFaulty}
 use Rattle.text.specs.Fields.{fields, isName, isVariable, isTerm, isNumberIn}
+use Rattle.text.proofs.Keys.{variable-range}
 use Rattle.semantics.specs.Terms.{Term, con, var, Constraint, Equation, Symbol, Rule, Program, weight}
 use Rattle.semantics.specs.Terms.{isDeclared, isBelow, alphabet, isOfRule, isRuleOf, isWellFormed, symbolAt}
 use Rattle.semantics.proofs.Configurations.{Or, inl, inr}
@@ -20,10 +22,12 @@ use Rattle.semantics.proofs.Options.{decide, true-false, true-T, T-true, none-s
 use Rattle.syntax.specs.Answers.{Answer, refused, accepted, refuseIf, andThen}
 use Rattle.syntax.specs.Forms.{Form, symbolForm, ruleForm, headForm, bodyForm, equationForm, goalForm, noForm, formOf}
 use Rattle.syntax.specs.Forms.{Place, inSymbols, inHeads, inBody, inEquations, placeAfter, fieldAt, constantsAfter}
-use Rattle.syntax.specs.Forms.{termOf, letterNumber, isConstraintFaulty, isUndeclared, symbolNumber, constraintOf}
-use Rattle.syntax.specs.Programs.{Draft, Reading, blank, onLast, lastRule, withHead, withBody, withEquation, withRule}
-use Rattle.syntax.specs.Programs.{readSymbol, readRule, readConstraint, readEquation, readForm, readLine, readLines}
-use Rattle.syntax.specs.Programs.{checkRules, readProgram, maxSymbols, maxRules, maxEquations, maxConstants, maxText}
+use Rattle.syntax.specs.Forms.{termOf, letterNumber, isSymbolFaulty, isRuleFaulty, isEquationFaulty, isConstraintFaulty}
+use Rattle.syntax.specs.Forms.{isUndeclared, symbolNumber, constraintOf}
+use Rattle.syntax.specs.Programs.{Draft, RuleRead, Reading, Found, blank, atPlace, onLast, lastRule, withHead, withBody}
+use Rattle.syntax.specs.Programs.{withEquation, withRule, readSymbol, readRule, constraintLine, readConstraint, readEquation}
+use Rattle.syntax.specs.Programs.{readForm, readFields, readLine, readLines, checkRules, readProgram}
+use Rattle.syntax.specs.Programs.{maxSymbols, maxRules, maxEquations, maxConstants, maxText}
 
 -- what holds of an answer: of the value, if it is accepted
 abbrev pub Holds : {A : Type 0} → (A → Type 0) → Answer A → Type 0
@@ -83,11 +87,10 @@ every-map t u f (x ∷ l) k p =
 
 -- a letter is one of the alphabet
 letter-below : (f : List ℕ) → isVariable f ≡ true → isBelow alphabet (var (letterNumber f)) ≡ true
-unfolding isVariable between isBelow letterNumber alphabet
+unfolding isVariable isBelow letterNumber alphabet
 letter-below [] p = true-false p refl
 letter-below (b ∷ []) p =
-    let h = and-parts (leb 65 b) (leb b 90) p in
-    let k : b ≤ 90 = leb→le b 90 (true-T (h .1)) in
+    let k : b ≤ 90 = variable-range (b ∷ []) p .2 in
     T-true (ltb (b - 65) 26) (le→leb (suc (b - 65)) 26 (omega arith))
 letter-below (b ∷ c ∷ s) p = true-false p refl
 
@@ -159,16 +162,16 @@ over-equation symbols k q r p =
 
 -- changing the last rule keeps a test that the change keeps
 every-onLast :
-    (t : Rule → Bool) (f : Rule → Rule) (rs : List Rule) → ((r : Rule) → t r ≡ true → t (f r) ≡ true) → every t rs ≡ true
-    → every t (onLast f rs) ≡ true
+    (t : Rule → Bool) (f : Rule → Rule) (rs : List RuleRead) → ((r : Rule) → t r ≡ true → t (f r) ≡ true)
+    → every (λ r. t (r .rule)) rs ≡ true → every (λ r. t (r .rule)) (onLast f rs) ≡ true
 unfolding onLast
 every-onLast t f [] k p = p
-every-onLast t f (r ∷ []) k p = and-both (k r (and-parts (t r) true p .0)) refl
+every-onLast t f (r ∷ []) k p = and-both (k (r .rule) (and-parts (t (r .rule)) true p .0)) refl
 every-onLast t f (r ∷ q ∷ rs) k p =
-    let h = and-parts (t r) (every t (q ∷ rs)) p in
+    let h = and-parts (t (r .rule)) (every (λ r. t (r .rule)) (q ∷ rs)) p in
     and-both (h .0) (every-onLast t f (q ∷ rs) k (h .1))
 
-pub length-onLast : (f : Rule → Rule) (rs : List Rule) → length (onLast f rs) ≡ length rs
+pub length-onLast : (f : Rule → Rule) (rs : List RuleRead) → length (onLast f rs) ≡ length rs
 unfolding onLast
 length-onLast f [] = refl
 length-onLast f (r ∷ []) = refl
@@ -177,12 +180,11 @@ length-onLast f (r ∷ q ∷ rs) = ap suc (length-onLast f (q ∷ rs))
 -- a draft whose rules are over its symbols, and which has none while symbols are still declared
 record Sound (d : Draft) : Type 0 where
   before : d .place ≡ inSymbols → d .rules ≡ []
-  over : every (isOver (d .symbols)) (d .rules) ≡ true
-  lined : length (d .starts) ≡ length (d .rules)
+  over : every (λ r. isOver (d .symbols) (r .rule)) (d .rules) ≡ true
 
 blank-sound : Sound blank
 unfolding blank
-blank-sound = record { before = λ _. refl; over = refl; lined = refl }
+blank-sound = record { before = λ _. refl; over = refl }
 
 -- a K line stands among the K lines
 symbol-place : (place after : Place) → placeAfter symbolForm place ≡ some after → place ≡ inSymbols
@@ -214,116 +216,127 @@ rule-place goalForm place after e n k = none-some refl e
 rule-place noForm place after e n k = none-some refl e
 
 -- each line keeps a draft sound
-symbol-sound : (n : ℕ) (place : Place) (fs : List (List ℕ)) (d : Draft) → d .rules ≡ [] → length (d .starts) ≡ length (d .rules)
-    → Holds Sound (readSymbol n place fs d)
+symbol-sound : (n : ℕ) (fs : List (List ℕ)) (d : Draft) → d .rules ≡ [] → Holds Sound (readSymbol n fs d)
 unfolding readSymbol
-symbol-sound n place fs d e k =
-    let name = fieldAt 1 fs in
-    holds-refuseIf Sound
-    (not (eqb (length fs) 4) || not (isName name) || not (isNumberIn 0 4 (fieldAt 2 fs)) || not (isNumberIn 1 31 (fieldAt 3 fs)))
-    4 n _ λ _. holds-refuseIf Sound (isKnown name (map (λ s. s .name) (d .symbols))) 5 n _
-    λ _. holds-refuseIf Sound (leb maxSymbols (length (d .symbols))) 7 n _ λ _. record
-    { before = λ _. e; over = rw e refl; lined = k }
+symbol-sound n fs d e =
+    holds-refuseIf Sound (isSymbolFaulty fs) 4 n _
+    λ _. holds-refuseIf Sound (isKnown (fieldAt 1 fs) (map (λ s. s .name) (d .symbols))) 5 n _
+    λ _. holds-refuseIf Sound (leb maxSymbols (length (d .symbols))) 7 n _ λ _. record { before = λ _. e; over = rw e refl }
 
-rule-sound :
-    (n : ℕ) (place : Place) (fs : List (List ℕ)) (d : Draft) → Sound d → (place ≡ inSymbols → ⊥)
-    → Holds Sound (readRule n place fs d)
+rule-sound : (n : ℕ) (fs : List (List ℕ)) (d : Draft) → Sound d → (d .place ≡ inSymbols → ⊥) → Holds Sound (readRule n fs d)
 unfolding readRule
-rule-sound n place fs d s o =
-    let name = fieldAt 1 fs in
-    holds-refuseIf Sound (not (eqb (length fs) 2) || not (isName name)) 4 n _
-    λ _. holds-refuseIf Sound (isKnown name (map (λ r. r .name) (d .rules))) 5 n _
+rule-sound n fs d s o =
+    holds-refuseIf Sound (isRuleFaulty fs) 4 n _
+    λ _. holds-refuseIf Sound (isKnown (fieldAt 1 fs) (map (λ r. r .rule .name) (d .rules))) 5 n _
     λ _. holds-refuseIf Sound (leb maxRules (length (d .rules))) 7 n _
     λ _. record {
       before = λ k. absurd (o k);
-      over = every-append (isOver (d .symbols)) (d .rules) _ (s .over) refl;
-      lined = simp length-append (omega (arith, s .lined));
+      over = every-append (λ (r : RuleRead). isOver (d .symbols) (r .rule)) (d .rules) _ (s .over) refl;
     }
 
+-- what an H, B or G line finds
+pub holds-constraintLine :
+    (P : Found → Type 0) (full : Bool) (symbols : List Symbol) (variable : List ℕ → ℕ) (constants : List (List ℕ)) (n : ℕ)
+    (fs : List (List ℕ))
+    → (isConstraintFaulty fs ≡ false → isUndeclared symbols fs ≡ false → full ≡ false
+    → length (constantsAfter (drop 2 fs) constants) ≤ 64
+    → P (record {
+      constraint = constraintOf symbols variable (constantsAfter (drop 2 fs) constants) fs;
+      constants = constantsAfter (drop 2 fs) constants;
+    }))
+    → Holds P (constraintLine full symbols variable constants n fs)
+unfolding constraintLine
+holds-constraintLine P full symbols variable constants n fs k =
+    let after = constantsAfter (drop 2 fs) constants in
+    holds-refuseIf P (isConstraintFaulty fs) 4 n _ λ a. holds-refuseIf P (isUndeclared symbols fs) 6 n _
+    λ b. holds-refuseIf P (full || ltb 64 (length after)) 7 n _
+    λ c. (let (room, few) = or-neither full (ltb 64 (length after)) c in
+    k a b room (ltb-false 64 (length after) few))
+
 constraint-sound :
-    (n : ℕ) (place : Place) (count most : ℕ) (add : Constraint → Rule → Rule) (fs : List (List ℕ)) (d : Draft) → Sound d
-    → (place ≡ inSymbols → ⊥)
+    (count most : ℕ) (add : Constraint → Rule → Rule) (n : ℕ) (fs : List (List ℕ)) (d : Draft) → Sound d
+    → (d .place ≡ inSymbols → ⊥)
     → ((c : Constraint) → isOfRule (d .symbols) c ≡ true → (r : Rule) → isOver (d .symbols) r ≡ true
     → isOver (d .symbols) (add c r) ≡ true)
-    → Holds Sound (readConstraint n place count most add fs d)
+    → Holds Sound (readConstraint count most add n fs d)
 unfolding readConstraint withRule
-constraint-sound n place count most add fs d s o k =
-    let constants = constantsAfter (drop 2 fs) (d .constants) in
-    holds-refuseIf Sound (isConstraintFaulty fs) 4 n _ λ a. holds-refuseIf Sound (isUndeclared (d .symbols) fs) 6 n _
-    λ b. holds-refuseIf Sound (leb most count || ltb maxConstants (length constants)) 7 n _
-    λ _. record {
+constraint-sound count most add n fs d s o k =
+    holds-andThen (λ found. isOfRule (d .symbols) (found .constraint) ≡ true) Sound
+    (constraintLine (leb most count) (d .symbols) letterNumber (d .constants) n fs) _
+    (holds-constraintLine _ (leb most count) (d .symbols) letterNumber (d .constants) n fs
+    λ a b _ _. constraint-ofRule (d .symbols) (constantsAfter (drop 2 fs) (d .constants)) fs a b)
+    λ found _ h. record {
       before = λ q. absurd (o q);
-      over =
-          every-onLast (isOver (d .symbols)) _ (d .rules)
-          (k _ (constraint-ofRule (d .symbols) (constantsAfter (drop 2 fs) (d .constants)) fs a b)) (s .over);
-      lined = s .lined ∙ sym (length-onLast _ (d .rules));
+      over = every-onLast (isOver (d .symbols)) _ (d .rules) (k (found .constraint) h) (s .over);
     }
 
 -- the two sides of an equation, by their fields
 sides-below :
-    (constants fs : List (List ℕ)) → eqb (length fs) 3 ≡ true → every isTerm (drop 1 fs) ≡ true
+    (constants fs : List (List ℕ)) → isEquationFaulty fs ≡ false
     → (isBelow alphabet (termOf letterNumber constants (fieldAt 1 fs))
     && isBelow alphabet (termOf letterNumber constants (fieldAt 2 fs))) ≡ true
-unfolding fieldAt
-sides-below constants [] e p = true-false e refl
-sides-below constants (a ∷ []) e p = true-false e refl
-sides-below constants (a ∷ b ∷ []) e p = true-false e refl
-sides-below constants (a ∷ b ∷ c ∷ fs) e p =
+unfolding fieldAt isEquationFaulty
+sides-below constants [] e = true-false refl e
+sides-below constants (a ∷ []) e = true-false refl e
+sides-below constants (a ∷ b ∷ []) e = true-false refl e
+sides-below constants (a ∷ b ∷ c ∷ fs) e =
+    let p = not-false _ (or-neither (not (eqb (length (a ∷ b ∷ c ∷ fs)) 3)) (not (every isTerm (b ∷ c ∷ fs))) e .1) in
     let h = and-parts (isTerm b) (every isTerm (c ∷ fs)) p in
     let k = and-parts (isTerm c) (every isTerm fs) (h .1) in
     rw (term-below constants b (h .0), term-below constants c (k .0))
 
-equation-sound :
-    (n : ℕ) (place : Place) (fs : List (List ℕ)) (d : Draft) → Sound d → (place ≡ inSymbols → ⊥)
-    → Holds Sound (readEquation n place fs d)
+equation-sound : (n : ℕ) (fs : List (List ℕ)) (d : Draft) → Sound d → (d .place ≡ inSymbols → ⊥) → Holds Sound (readEquation n fs d)
 unfolding readEquation withRule
-equation-sound n place fs d s o =
+equation-sound n fs d s o =
     let constants = constantsAfter (drop 1 fs) (d .constants) in
-    holds-refuseIf Sound (not (eqb (length fs) 3) || not (every isTerm (drop 1 fs))) 4 n _
+    holds-refuseIf Sound (isEquationFaulty fs) 4 n _
     λ a. holds-refuseIf Sound (leb maxEquations (length (lastRule (d .rules) .equations)) || ltb maxConstants (length constants))
     7 n _
-    λ _. (let h = or-neither (not (eqb (length fs) 3)) (not (every isTerm (drop 1 fs))) a in
-    record {
+    λ _. record {
       before = λ q. absurd (o q);
       over =
           every-onLast (isOver (d .symbols)) _ (d .rules)
-          (over-equation (d .symbols) _
-          (sides-below (constantsAfter (drop 1 fs) (d .constants)) fs (not-false _ (h .0)) (not-false _ (h .1))))
-          (s .over);
-      lined = s .lined ∙ sym (length-onLast _ (d .rules));
-    })
+          (over-equation (d .symbols) _ (sides-below (constantsAfter (drop 1 fs) (d .constants)) fs a)) (s .over);
+    }
+
+-- a draft at another place, which is behind the K lines
+moved-sound : (place : Place) (d : Draft) → Sound d → (place ≡ inSymbols → ⊥) → Sound (atPlace place d)
+unfolding atPlace
+moved-sound place d s o = record { before = λ k. absurd (o k); over = s .over }
 
 form-sound :
     (form : Form) (n : ℕ) (place : Place) (fs : List (List ℕ)) (d : Draft) → Sound d → placeAfter form (d .place) ≡ some place
-    → Holds Sound (readForm form n place fs d)
-unfolding readForm
-form-sound symbolForm n place fs d s e = symbol-sound n place fs d (s .before (symbol-place (d .place) place e)) (s .lined)
+    → Holds Sound (readForm form n fs (atPlace place d))
+unfolding readForm atPlace
+form-sound symbolForm n place fs d s e = symbol-sound n fs (atPlace place d) (s .before (symbol-place (d .place) place e))
 form-sound ruleForm n place fs d s e =
-    rule-sound n place fs d s (rule-place ruleForm (d .place) place e (λ k. let z : _≡_ {A = ℕ} 0 1 = cc in omega arith))
+    let o = rule-place ruleForm (d .place) place e (λ k. let z : _≡_ {A = ℕ} 0 1 = cc in omega arith) in
+    rule-sound n fs (atPlace place d) (moved-sound place d s o) o
 form-sound headForm n place fs d s e =
-    constraint-sound n place _ _ withHead fs d s
-    (rule-place headForm (d .place) place e (λ k. let z : _≡_ {A = ℕ} 0 1 = cc in omega arith)) (over-head (d .symbols))
+    let o = rule-place headForm (d .place) place e (λ k. let z : _≡_ {A = ℕ} 0 1 = cc in omega arith) in
+    constraint-sound _ _ withHead n fs (atPlace place d) (moved-sound place d s o) o (over-head (d .symbols))
 form-sound bodyForm n place fs d s e =
-    constraint-sound n place _ _ withBody fs d s
-    (rule-place bodyForm (d .place) place e (λ k. let z : _≡_ {A = ℕ} 0 1 = cc in omega arith)) (over-body (d .symbols))
+    let o = rule-place bodyForm (d .place) place e (λ k. let z : _≡_ {A = ℕ} 0 1 = cc in omega arith) in
+    constraint-sound _ _ withBody n fs (atPlace place d) (moved-sound place d s o) o (over-body (d .symbols))
 form-sound equationForm n place fs d s e =
-    equation-sound n place fs d s
-    (rule-place equationForm (d .place) place e (λ k. let z : _≡_ {A = ℕ} 0 1 = cc in omega arith))
+    let o = rule-place equationForm (d .place) place e (λ k. let z : _≡_ {A = ℕ} 0 1 = cc in omega arith) in
+    equation-sound n fs (atPlace place d) (moved-sound place d s o) o
 form-sound goalForm n place fs d s e = tt
 form-sound noForm n place fs d s e = tt
 
-line-sound : (n : ℕ) (l : Line) (d : Draft) → Sound d → Holds Sound (readLine n l d)
-unfolding readLine
-line-sound n l d s = holds-refuseIf Sound (lineIsFaulty l) 2 n _ λ _. go
-    (placeAfter (formOf (fieldAt 0 (fields (l .bytes)))) (d .place)) refl
+fields-sound : (n : ℕ) (fs : List (List ℕ)) (d : Draft) → Sound d → Holds Sound (readFields n fs d)
+unfolding readFields
+fields-sound n fs d s = go (placeAfter (formOf (fieldAt 0 fs)) (d .place)) refl
   where
     go :
-        (o : Option Place) → placeAfter (formOf (fieldAt 0 (fields (l .bytes)))) (d .place) ≡ o
-        → Holds Sound
-        (onward o (refused 3 n)
-        (λ place. readForm (formOf (fieldAt 0 (fields (l .bytes)))) n place (fields (l .bytes)) d))
+        (o : Option Place) → placeAfter (formOf (fieldAt 0 fs)) (d .place) ≡ o
+        → Holds Sound (onward o (refused 3 n) (λ place. readForm (formOf (fieldAt 0 fs)) n fs (atPlace place d)))
     go none e = tt
-    go (some place) e = form-sound (formOf (fieldAt 0 (fields (l .bytes)))) n place (fields (l .bytes)) d s e
+    go (some place) e = form-sound (formOf (fieldAt 0 fs)) n place fs d s e
+
+line-sound : (n : ℕ) (l : Line) (d : Draft) → Sound d → Holds Sound (readLine n l d)
+unfolding readLine
+line-sound n l d s = holds-refuseIf Sound (lineIsFaulty l) 2 n _ λ _. fields-sound n (fields (l .bytes)) d s
 
 lines-sound : (n : ℕ) (d : Draft) (ls : List Line) → Sound d → Holds Sound (readLines n d ls)
 unfolding readLines
@@ -331,22 +344,21 @@ lines-sound n d [] s = s
 lines-sound n d (l ∷ ls) s =
     holds-andThen Sound Sound (readLine n l d) _ (line-sound n l d s) (λ e _ t. lines-sound (suc n) e ls t)
 
--- rules that met neither 8 nor 9 lower the weight; each has its R line
-rules-checked :
-    (symbols : List Symbol) (rs : List Rule) (starts : List ℕ) → length starts ≡ length rs → every (isOver symbols) rs ≡ true
-    → Holds (λ _. every (isRuleOf symbols) rs ≡ true) (checkRules symbols rs starts)
+-- rules that met neither 8 nor 9 lower the weight
+pub holds-checkRules :
+    {A : Type 0} (P : A → Type 0) (symbols : List Symbol) (rs : List RuleRead) (otherwise : Answer A)
+    → every (λ r. isOver symbols (r .rule)) rs ≡ true
+    → (every (isRuleOf symbols) (map (λ r. r .rule) rs) ≡ true → Holds P otherwise) → Holds P (checkRules symbols rs otherwise)
 unfolding checkRules isRuleOf
-rules-checked symbols [] starts e p = refl
-rules-checked symbols (r ∷ rs) [] e p = absurd (omega arith)
-rules-checked symbols (r ∷ rs) (n ∷ starts) e p =
-    let h = and-parts (isOver symbols r) (every (isOver symbols) rs) p in
-    holds-refuseIf _ (eqb (length (r .heads)) 0) 8 n _
-    λ _. holds-refuseIf _ (leb (weight symbols (r .heads)) (weight symbols (r .body))) 9 n _
-    λ b. (let lower : weight symbols (r .body) < weight symbols (r .heads) =
-    nleb→lt (weight symbols (r .heads)) (weight symbols (r .body)) (true-T (ap not b)) in
-    let test = T-true (ltb (weight symbols (r .body)) (weight symbols (r .heads))) (le→leb _ _ lower) in
-    holds-mono _ _ (checkRules symbols rs starts) (λ _ q. and-both (and-both (h .0) test) q)
-    (rules-checked symbols rs starts (omega arith) (h .1)))
+holds-checkRules P symbols [] otherwise p k = k refl
+holds-checkRules P symbols (r ∷ rs) otherwise p k =
+    let h = and-parts (isOver symbols (r .rule)) (every (λ r. isOver symbols (r .rule)) rs) p in
+    holds-refuseIf P (eqb (length (r .rule .heads)) 0) 8 (r .line) _
+    λ _. holds-refuseIf P (leb (weight symbols (r .rule .heads)) (weight symbols (r .rule .body))) 9 (r .line) _
+    λ b. (let lower : weight symbols (r .rule .body) < weight symbols (r .rule .heads) =
+    nleb→lt (weight symbols (r .rule .heads)) (weight symbols (r .rule .body)) (true-T (ap not b)) in
+    let test = T-true (ltb (weight symbols (r .rule .body)) (weight symbols (r .rule .heads))) (le→leb _ _ lower) in
+    holds-checkRules P symbols rs otherwise (h .1) (λ q. k (and-both (and-both (h .0) test) q)))
 
 -- what reads as a program is well formed
 pub read-wellFormed : (s : List ℕ) {p : Reading} → readProgram s ≡ accepted p → isWellFormed (p .program) ≡ true
@@ -355,7 +367,5 @@ read-wellFormed s {p} e =
     holds-accepted (λ q. isWellFormed (q .program) ≡ true) (readProgram s)
     (holds-refuseIf _ (ltb maxText (length s)) 1 0 _
     λ _. holds-andThen Sound _ (readLines 1 blank (lines s)) _ (lines-sound 1 blank (lines s) blank-sound)
-    λ d _ t. holds-andThen (λ _. every (isRuleOf (d .symbols)) (d .rules) ≡ true) _
-    (checkRules (d .symbols) (d .rules) (d .starts)) _
-    (rules-checked (d .symbols) (d .rules) (d .starts) (t .lined) (t .over)) λ _ _ q. q)
+    λ d _ t. holds-checkRules _ (d .symbols) (d .rules) _ (t .over) λ q. q)
     e

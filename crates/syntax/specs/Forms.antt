@@ -2,6 +2,7 @@
 --   Form, formOf             what a line means, by its first field
 --   Place, placeAfter        which form may follow which
 --   constantsAfter, termOf   constants and variables, numbered by first appearance
+--   isSymbolFaulty, isRuleFaulty, isEquationFaulty, isConstraintFaulty    number 4 of each form
 -- Assumes nothing.
 use Prim.Native.Nat.{ℕ, _+_, _-_}
 use mathlib.Core.Bool.{Bool, true, false, cond, not, _&&_, _||_}
@@ -10,8 +11,8 @@ use mathlib.Core.Option.{Option, none, some}
 use lib.Dec.{ltb, eqb}
 use lib.ListN.{length, getD, drop}
 use Rattle.text.specs.Bytes.{between}
-use Rattle.text.specs.Lists.{every, placeOf, isKnown, withName}
-use Rattle.text.specs.Fields.{isName, isTerm}
+use Rattle.text.specs.Lists.{every, placeOf, withName}
+use Rattle.text.specs.Fields.{isName, isTerm, isNumberIn}
 use Rattle.semantics.specs.Terms.{Term, con, var, Constraint, Symbol, symbolAt}
 
 -- the forms of a line: K, R, H, B, E and G, and any other
@@ -67,9 +68,9 @@ unfoldable pub constantsAfter : List (List ℕ) → List (List ℕ) → List (Li
 constantsAfter [] constants = constants
 constantsAfter (f ∷ fs) constants = constantsAfter fs (cond (isName f) (withName f constants) constants)
 
--- the number of the constant that appears first: constants count from 32, behind every symbol's number
-unfoldable pub firstConstant : ℕ
-firstConstant = 32
+-- the number of the constant that appears first: constants count from 64, behind every symbol's number
+abbrev pub firstConstant : ℕ
+firstConstant = 64
 
 -- what a term field stands for: a constant by its place, or a variable by the number that its letter has
 unfoldable pub termOf : (List ℕ → ℕ) → List (List ℕ) → List ℕ → Term
@@ -79,7 +80,21 @@ termOf variable constants f = cond (isName f) (con (firstConstant + placeOf f co
 unfoldable pub letterNumber : List ℕ → ℕ
 letterNumber f = getD f 0 65 - 65
 
--- whether an H, B or G line has the wrong count of fields (two to six) or a field of wrong form
+-- number 4 of a K line: not four fields, a name, 0 to 4 terms and a weight from 1 to 31
+unfoldable pub isSymbolFaulty : List (List ℕ) → Bool
+isSymbolFaulty fs =
+    not (eqb (length fs) 4) || not (isName (fieldAt 1 fs)) || not (isNumberIn 0 4 (fieldAt 2 fs))
+    || not (isNumberIn 1 31 (fieldAt 3 fs))
+
+-- number 4 of an R line: not two fields, a name
+unfoldable pub isRuleFaulty : List (List ℕ) → Bool
+isRuleFaulty fs = not (eqb (length fs) 2) || not (isName (fieldAt 1 fs))
+
+-- number 4 of an E line: not three fields, two terms
+unfoldable pub isEquationFaulty : List (List ℕ) → Bool
+isEquationFaulty fs = not (eqb (length fs) 3) || not (every isTerm (drop 1 fs))
+
+-- number 4 of an H, B or G line: not two to six fields, a name, terms
 unfoldable pub isConstraintFaulty : List (List ℕ) → Bool
 isConstraintFaulty fs = not (between 2 6 (length fs)) || not (isName (fieldAt 1 fs)) || not (every isTerm (drop 2 fs))
 

@@ -1,9 +1,9 @@
--- Reading a goal over a program: refusals 1 to 7 and 10.
+-- Reading a goal over the symbols and constants of a program: refusals 1 to 7 and 10.
 --   GoalReading     a goal as read, with its variables' letters and all constants
 --   readGoal        a goal's text
 -- Assumes nothing.
 use Prim.Native.Nat.{ℕ, suc}
-use mathlib.Core.Bool.{Bool, true, false, cond, not, _||_}
+use mathlib.Core.Bool.{Bool, true, false, cond, not}
 use mathlib.Core.List.{List, [], _∷_, _++_}
 use lib.Dec.{leb, ltb}
 use lib.ListN.{length, drop}
@@ -13,14 +13,14 @@ use Rattle.text.specs.Fields.{fields, isName}
 use Rattle.semantics.specs.Terms.{Constraint, Symbol, Goal, weight}
 use Rattle.syntax.specs.Answers.{Answer, refused, accepted, refuseIf, andThen}
 use Rattle.syntax.specs.Forms.{Form, symbolForm, ruleForm, headForm, bodyForm, equationForm, goalForm, noForm, formOf}
-use Rattle.syntax.specs.Forms.{fieldAt, constantsAfter, isConstraintFaulty, isUndeclared, constraintOf}
-use Rattle.syntax.specs.Programs.{maxText, maxConstants, Reading}
+use Rattle.syntax.specs.Forms.{fieldAt}
+use Rattle.syntax.specs.Programs.{maxText, Found, constraintLine}
 
 -- the most constraints of a goal's text, and their greatest weight
-unfoldable pub maxGoal : ℕ
+abbrev pub maxGoal : ℕ
 maxGoal = 64
 
-unfoldable pub maxWeight : ℕ
+abbrev pub maxWeight : ℕ
 maxWeight = 512
 
 -- what the lines so far have given: the goal's constraints, the letters of its variables and all constants, the program's
@@ -44,17 +44,10 @@ lettersAfter (f ∷ fs) letters = lettersAfter fs (cond (isName f) letters (with
 -- a G line at line n
 unfoldable pub readConstraintOfGoal : List Symbol → ℕ → List (List ℕ) → GoalDraft → Answer GoalDraft
 readConstraintOfGoal symbols n fs d =
-    let constants = constantsAfter (drop 2 fs) (d .constants) in
     let letters = lettersAfter (drop 2 fs) (d .letters) in
-    refuseIf (isConstraintFaulty fs) 4 n
-    (refuseIf (isUndeclared symbols fs) 6 n
-    (refuseIf (leb maxGoal (length (d .constraints)) || ltb maxConstants (length constants)) 7 n
-    (accepted
-    (record {
-      constraints = d .constraints ++ (constraintOf symbols (λ f. placeOf f letters) constants fs ∷ []);
-      letters = letters;
-      constants = constants;
-    }))))
+    andThen (constraintLine (leb maxGoal (length (d .constraints))) symbols (λ f. placeOf f letters) (d .constants) n fs)
+    (λ found. accepted
+    (record { constraints = d .constraints ++ (found .constraint ∷ []); letters = letters; constants = found .constants }))
 
 -- whether a line of a form may stand in a goal
 unfoldable pub isGoalForm : Form → Bool
@@ -66,24 +59,25 @@ isGoalForm equationForm = false
 isGoalForm goalForm = true
 isGoalForm noForm = false
 
--- line n of a goal: number 2, then 3, then 4 to 7
+-- the fields of line n of a goal: number 3, then 4 to 7
+unfoldable pub readGoalFields : List Symbol → ℕ → List (List ℕ) → GoalDraft → Answer GoalDraft
+readGoalFields symbols n fs d =
+    refuseIf (not (isGoalForm (formOf (fieldAt 0 fs)))) 3 n (readConstraintOfGoal symbols n fs d)
+
+-- line n of a goal: number 2, then 3 to 7
 unfoldable pub readGoalLine : List Symbol → ℕ → Line → GoalDraft → Answer GoalDraft
-readGoalLine symbols n l d =
-    let fs = fields (l .bytes) in
-    refuseIf (lineIsFaulty l) 2 n
-    (refuseIf (not (isGoalForm (formOf (fieldAt 0 fs)))) 3 n (readConstraintOfGoal symbols n fs d))
+readGoalLine symbols n l d = refuseIf (lineIsFaulty l) 2 n (readGoalFields symbols n (fields (l .bytes)) d)
 
 -- the lines from line n on
 unfoldable pub readGoalLines : List Symbol → ℕ → GoalDraft → List Line → Answer GoalDraft
 readGoalLines symbols n d [] = accepted d
 readGoalLines symbols n d (l ∷ ls) = andThen (readGoalLine symbols n l d) (λ e. readGoalLines symbols (suc n) e ls)
 
--- a goal's text over a program: number 1, its lines in order, then 10
-unfoldable pub readGoal : Reading → List ℕ → Answer GoalReading
-readGoal p s =
-    let symbols = p .program .symbols in
+-- a goal's text over the symbols and constants of a program: number 1, its lines in order, then 10
+unfoldable pub readGoal : List Symbol → List (List ℕ) → List ℕ → Answer GoalReading
+readGoal symbols constants s =
     refuseIf (ltb maxText (length s)) 1 0
-    (andThen (readGoalLines symbols 1 (record { constraints = []; letters = []; constants = p .constants }) (lines s))
+    (andThen (readGoalLines symbols 1 (record { constraints = []; letters = []; constants = constants }) (lines s))
     (λ d. refuseIf (ltb maxWeight (weight symbols (d .constraints))) 10 0
     (accepted
     (record {

@@ -1,8 +1,9 @@
 -- Reading a program: what each line means, refusals 1 to 9 in document 01's order, and the limits on every count.
---   Reading         a program as read, with its constants
---   Draft           what the lines so far have given
---   readLine        one line: number 2, then 3 to 7
---   readProgram     a program's text
+--   Reading           a program as read, with its constants
+--   Draft, RuleRead   what the lines so far have given; a rule with its R line
+--   constraintLine    an H, B or G line: numbers 4, 6 and 7
+--   readLine          one line: number 2, then 3 to 7
+--   readProgram       a program's text
 -- Assumes nothing.
 use Prim.Native.Nat.{ℕ, suc}
 use mathlib.Core.Bool.{Bool, true, false, cond, not, _||_}
@@ -10,35 +11,35 @@ use mathlib.Core.List.{List, [], _∷_, _++_, map}
 use mathlib.Core.Option.{Option, none, some}
 use lib.Dec.{leb, ltb, eqb}
 use lib.ListN.{length, drop}
-use Rattle.text.specs.Lists.{onward, every, isKnown}
+use Rattle.text.specs.Lists.{onward, isKnown}
 use Rattle.text.specs.Lines.{Line, lines, lineIsFaulty}
-use Rattle.text.specs.Fields.{fields, isName, isTerm, isNumberIn, valueOf}
+use Rattle.text.specs.Fields.{fields, valueOf}
 use Rattle.semantics.specs.Terms.{Term, Constraint, Equation, Symbol, Rule, Program, weight}
 use Rattle.syntax.specs.Answers.{Answer, refused, accepted, refuseIf, andThen}
 use Rattle.syntax.specs.Forms.{Form, symbolForm, ruleForm, headForm, bodyForm, equationForm, goalForm, noForm, formOf}
 use Rattle.syntax.specs.Forms.{Place, inSymbols, placeAfter, fieldAt, constantsAfter, termOf, letterNumber}
-use Rattle.syntax.specs.Forms.{isConstraintFaulty, isUndeclared, constraintOf}
+use Rattle.syntax.specs.Forms.{isSymbolFaulty, isRuleFaulty, isEquationFaulty, isConstraintFaulty, isUndeclared, constraintOf}
 
 -- the most that document 01 allows of each
-unfoldable pub maxText : ℕ
+abbrev pub maxText : ℕ
 maxText = 16384
 
-unfoldable pub maxSymbols : ℕ
+abbrev pub maxSymbols : ℕ
 maxSymbols = 32
 
-unfoldable pub maxRules : ℕ
+abbrev pub maxRules : ℕ
 maxRules = 32
 
-unfoldable pub maxHeads : ℕ
+abbrev pub maxHeads : ℕ
 maxHeads = 4
 
-unfoldable pub maxBody : ℕ
+abbrev pub maxBody : ℕ
 maxBody = 6
 
-unfoldable pub maxEquations : ℕ
+abbrev pub maxEquations : ℕ
 maxEquations = 4
 
-unfoldable pub maxConstants : ℕ
+abbrev pub maxConstants : ℕ
 maxConstants = 64
 
 -- a program as read: the program, and the spelling of its constants in order of first appearance
@@ -46,29 +47,37 @@ pub record Reading : Type 0 where
   pub program : Program
   pub constants : List (List ℕ)
 
--- what the lines so far have given: the place behind the last one, the symbols, the rules, the lines of their R lines, and the
--- constants. The last rule is the one that H, B and E lines add to
+-- a rule as read, and its R line
+pub record RuleRead : Type 0 where
+  pub rule : Rule
+  pub line : ℕ
+
+-- what the lines so far have given: the place behind the last one, the symbols, the rules and the constants. The last rule is the
+-- one that H, B and E lines add to
 pub record Draft : Type 0 where
   pub place : Place
   pub symbols : List Symbol
-  pub rules : List Rule
-  pub starts : List ℕ
+  pub rules : List RuleRead
   pub constants : List (List ℕ)
 
 -- where reading starts
 unfoldable pub blank : Draft
-blank = record { place = inSymbols; symbols = []; rules = []; starts = []; constants = [] }
+blank = record { place = inSymbols; symbols = []; rules = []; constants = [] }
 
--- a list with its last element changed
-unfoldable pub onLast : (Rule → Rule) → List Rule → List Rule
+-- a draft at another place
+unfoldable pub atPlace : Place → Draft → Draft
+atPlace place d = record { place = place; symbols = d .symbols; rules = d .rules; constants = d .constants }
+
+-- the rules with the last one changed
+unfoldable pub onLast : (Rule → Rule) → List RuleRead → List RuleRead
 onLast f [] = []
-onLast f (r ∷ []) = f r ∷ []
+onLast f (r ∷ []) = record { rule = f (r .rule); line = r .line } ∷ []
 onLast f (r ∷ q ∷ rs) = r ∷ onLast f (q ∷ rs)
 
 -- the rule that H, B and E lines add to
-unfoldable pub lastRule : List Rule → Rule
+unfoldable pub lastRule : List RuleRead → Rule
 lastRule [] = record { name = []; heads = []; body = []; equations = [] }
-lastRule (r ∷ []) = r
+lastRule (r ∷ []) = r .rule
 lastRule (r ∷ q ∷ rs) = lastRule (q ∷ rs)
 
 -- a rule with one more head, one more constraint of the body, one more equation
@@ -81,106 +90,108 @@ withBody c r = record { name = r .name; heads = r .heads; body = r .body ++ (c �
 unfoldable pub withEquation : Equation → Rule → Rule
 withEquation e r = record { name = r .name; heads = r .heads; body = r .body; equations = r .equations ++ (e ∷ []) }
 
--- a K line at line n: four fields, a name, 0 to 4 terms, a weight from 1 to 31
-unfoldable pub readSymbol : ℕ → Place → List (List ℕ) → Draft → Answer Draft
-readSymbol n place fs d =
+-- a K line at line n
+unfoldable pub readSymbol : ℕ → List (List ℕ) → Draft → Answer Draft
+readSymbol n fs d =
     let name = fieldAt 1 fs in
-    refuseIf
-    (not (eqb (length fs) 4) || not (isName name) || not (isNumberIn 0 4 (fieldAt 2 fs)) || not (isNumberIn 1 31 (fieldAt 3 fs)))
-    4 n
+    refuseIf (isSymbolFaulty fs) 4 n
     (refuseIf (isKnown name (map (λ s. s .name) (d .symbols))) 5 n
     (refuseIf (leb maxSymbols (length (d .symbols))) 7 n
     (accepted
     (record {
-      place = place;
+      place = d .place;
       symbols = d .symbols ++ (record { name = name; arity = valueOf (fieldAt 2 fs); weight = valueOf (fieldAt 3 fs) } ∷ []);
       rules = d .rules;
-      starts = d .starts;
       constants = d .constants;
     }))))
 
--- an R line at line n: two fields, a name
-unfoldable pub readRule : ℕ → Place → List (List ℕ) → Draft → Answer Draft
-readRule n place fs d =
+-- an R line at line n
+unfoldable pub readRule : ℕ → List (List ℕ) → Draft → Answer Draft
+readRule n fs d =
     let name = fieldAt 1 fs in
-    refuseIf (not (eqb (length fs) 2) || not (isName name)) 4 n
-    (refuseIf (isKnown name (map (λ r. r .name) (d .rules))) 5 n
+    refuseIf (isRuleFaulty fs) 4 n
+    (refuseIf (isKnown name (map (λ r. r .rule .name) (d .rules))) 5 n
     (refuseIf (leb maxRules (length (d .rules))) 7 n
     (accepted
     (record {
-      place = place;
+      place = d .place;
       symbols = d .symbols;
-      rules = d .rules ++ (record { name = name; heads = []; body = []; equations = [] } ∷ []);
-      starts = d .starts ++ (n ∷ []);
+      rules = d .rules ++ (record { rule = record { name = name; heads = []; body = []; equations = [] }; line = n } ∷ []);
       constants = d .constants;
     }))))
 
+-- a constraint of a line, and all constants after it
+pub record Found : Type 0 where
+  pub constraint : Constraint
+  pub constants : List (List ℕ)
+
+-- an H, B or G line at line n, over the constants before it; `full` says that there are as many as there may be
+unfoldable pub constraintLine : Bool → List Symbol → (List ℕ → ℕ) → List (List ℕ) → ℕ → List (List ℕ) → Answer Found
+constraintLine full symbols variable constants n fs =
+    let after = constantsAfter (drop 2 fs) constants in
+    refuseIf (isConstraintFaulty fs) 4 n
+    (refuseIf (isUndeclared symbols fs) 6 n
+    (refuseIf (full || ltb maxConstants (length after)) 7 n
+    (accepted (record { constraint = constraintOf symbols variable after fs; constants = after }))))
+
 -- the draft after a line that changes the last rule and may bring constants
-unfoldable pub withRule : Place → (Rule → Rule) → List (List ℕ) → Draft → Draft
-withRule place change constants d =
-    record {
-      place = place;
-      symbols = d .symbols;
-      rules = onLast change (d .rules);
-      starts = d .starts;
-      constants = constants;
-    }
+unfoldable pub withRule : (Rule → Rule) → List (List ℕ) → Draft → Draft
+withRule change constants d =
+    record { place = d .place; symbols = d .symbols; rules = onLast change (d .rules); constants = constants }
 
 -- an H or B line at line n, of which the last rule has `count` and may have `most`
-unfoldable pub readConstraint : ℕ → Place → ℕ → ℕ → (Constraint → Rule → Rule) → List (List ℕ) → Draft → Answer Draft
-readConstraint n place count most add fs d =
-    let constants = constantsAfter (drop 2 fs) (d .constants) in
-    refuseIf (isConstraintFaulty fs) 4 n
-    (refuseIf (isUndeclared (d .symbols) fs) 6 n
-    (refuseIf (leb most count || ltb maxConstants (length constants)) 7 n
-    (accepted (withRule place (add (constraintOf (d .symbols) letterNumber constants fs)) constants d))))
+unfoldable pub readConstraint : ℕ → ℕ → (Constraint → Rule → Rule) → ℕ → List (List ℕ) → Draft → Answer Draft
+readConstraint count most add n fs d =
+    andThen (constraintLine (leb most count) (d .symbols) letterNumber (d .constants) n fs)
+    (λ found. accepted (withRule (add (found .constraint)) (found .constants) d))
 
--- an E line at line n: three fields, two terms
-unfoldable pub readEquation : ℕ → Place → List (List ℕ) → Draft → Answer Draft
-readEquation n place fs d =
+-- an E line at line n
+unfoldable pub readEquation : ℕ → List (List ℕ) → Draft → Answer Draft
+readEquation n fs d =
     let constants = constantsAfter (drop 1 fs) (d .constants) in
     let side : ℕ → Term = λ k. termOf letterNumber constants (fieldAt k fs) in
-    refuseIf (not (eqb (length fs) 3) || not (every isTerm (drop 1 fs))) 4 n
+    refuseIf (isEquationFaulty fs) 4 n
     (refuseIf (leb maxEquations (length (lastRule (d .rules) .equations)) || ltb maxConstants (length constants)) 7 n
-    (accepted (withRule place (withEquation (record { left = side 1; right = side 2 })) constants d)))
+    (accepted (withRule (withEquation (record { left = side 1; right = side 2 })) constants d)))
 
 -- a line of a form that may stand where it does
-unfoldable pub readForm : Form → ℕ → Place → List (List ℕ) → Draft → Answer Draft
-readForm symbolForm n place fs d = readSymbol n place fs d
-readForm ruleForm n place fs d = readRule n place fs d
-readForm headForm n place fs d = readConstraint n place (length (lastRule (d .rules) .heads)) maxHeads withHead fs d
-readForm bodyForm n place fs d = readConstraint n place (length (lastRule (d .rules) .body)) maxBody withBody fs d
-readForm equationForm n place fs d = readEquation n place fs d
-readForm goalForm n place fs d = refused 3 n
-readForm noForm n place fs d = refused 3 n
+unfoldable pub readForm : Form → ℕ → List (List ℕ) → Draft → Answer Draft
+readForm symbolForm n fs d = readSymbol n fs d
+readForm ruleForm n fs d = readRule n fs d
+readForm headForm n fs d = readConstraint (length (lastRule (d .rules) .heads)) maxHeads withHead n fs d
+readForm bodyForm n fs d = readConstraint (length (lastRule (d .rules) .body)) maxBody withBody n fs d
+readForm equationForm n fs d = readEquation n fs d
+readForm goalForm n fs d = refused 3 n
+readForm noForm n fs d = refused 3 n
 
--- line n: number 2, then 3, then what its form asks
-unfoldable pub readLine : ℕ → Line → Draft → Answer Draft
-readLine n l d =
-    let fs = fields (l .bytes) in
+-- the fields of line n: number 3, then what its form asks
+unfoldable pub readFields : ℕ → List (List ℕ) → Draft → Answer Draft
+readFields n fs d =
     let form = formOf (fieldAt 0 fs) in
-    refuseIf (lineIsFaulty l) 2 n
-    (onward (placeAfter form (d .place)) (refused 3 n) (λ place. readForm form n place fs d))
+    onward (placeAfter form (d .place)) (refused 3 n) (λ place. readForm form n fs (atPlace place d))
+
+-- line n: number 2, then 3 to 7
+unfoldable pub readLine : ℕ → Line → Draft → Answer Draft
+readLine n l d = refuseIf (lineIsFaulty l) 2 n (readFields n (fields (l .bytes)) d)
 
 -- the lines from line n on
 unfoldable pub readLines : ℕ → Draft → List Line → Answer Draft
 readLines n d [] = accepted d
 readLines n d (l ∷ ls) = andThen (readLine n l d) (λ e. readLines (suc n) e ls)
 
--- the rules in order, each with its R line: number 8, then 9
-unfoldable pub checkRules : List Symbol → List Rule → List ℕ → Answer ℕ
-checkRules symbols [] starts = accepted 0
-checkRules symbols (r ∷ rs) [] = accepted 0
-checkRules symbols (r ∷ rs) (n ∷ starts) =
-    let more = checkRules symbols rs starts in
-    refuseIf (eqb (length (r .heads)) 0) 8 n
-    (refuseIf (leb (weight symbols (r .heads)) (weight symbols (r .body))) 9 n more)
+-- the rules in order, each at its R line: number 8, then 9; else what follows
+unfoldable pub checkRules : {A : Type 0} → List Symbol → List RuleRead → Answer A → Answer A
+checkRules symbols [] otherwise = otherwise
+checkRules symbols (r ∷ rs) otherwise =
+    let more = checkRules symbols rs otherwise in
+    refuseIf (eqb (length (r .rule .heads)) 0) 8 (r .line)
+    (refuseIf (leb (weight symbols (r .rule .heads)) (weight symbols (r .rule .body))) 9 (r .line) more)
 
 -- a program's text: number 1, its lines in order, then its rules in order
 unfoldable pub readProgram : List ℕ → Answer Reading
 readProgram s =
     refuseIf (ltb maxText (length s)) 1 0
     (andThen (readLines 1 blank (lines s))
-    (λ d. andThen (checkRules (d .symbols) (d .rules) (d .starts))
-    (λ _. accepted
-    (record { program = record { symbols = d .symbols; rules = d .rules }; constants = d .constants }))))
+    (λ d. checkRules (d .symbols) (d .rules)
+    (accepted
+    (record { program = record { symbols = d .symbols; rules = map (λ r. r .rule) (d .rules) }; constants = d .constants }))))

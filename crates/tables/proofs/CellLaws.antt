@@ -4,15 +4,17 @@
 --   same-cell                 two cells are the same term where they are the same cell
 --   terms-none, terms-more, terms-end              the terms of cells from one on
 --   constraints-at, constraints-short              the constraints of cells from one on
+--   element-row, element-none                      the constraint of a number
 -- Assumes nothing.
-use Prim.Native.Nat.{ℕ, suc, _+_, _-_, _*_, _≤_, _<_}
+use Prim.Native.Nat.{ℕ, zero, suc, _+_, _-_, _*_, _≤_, _<_}
 use native.Mathlib.Omega.{arith}
 use mathlib.Core.Bool.{Bool, true, false}
 use mathlib.Core.List.{List, [], _∷_}
 use mathlib.Core.Logic.{_⊎_, inl, inr, ⊎-elim}
-use mathlib.Core.Path.{_≡_, refl, sym, _∙_}
+use mathlib.Core.Option.{none, some}
+use mathlib.Core.Path.{_≡_, refl, sym, ap, _∙_}
 use lib.Dec.{eqb, leb}
-use lib.ListN.{length, getD, take, drop, length-drop, drop-of-length-le}
+use lib.ListN.{length, getD, getElem?, take, drop, length-drop, drop-of-length-le}
 use lib.Seq.{drop-cons, drop-drop}
 use borrow.Author.Tests.{lt-ltb, le-ltb, eq-eqb, ne-eqb, eqb-true, eqb-false, leb-true, leb-false, ltb-true}
 use Rattle.text.specs.Lists.{every}
@@ -121,3 +123,25 @@ constraints-short l i h = few (drop (5 * i) l) (omega (arith, length-drop (5 * i
     few (k₀ ∷ a ∷ b ∷ []) k = refl
     few (k₀ ∷ a ∷ b ∷ c ∷ []) k = refl
     few (k₀ ∷ a ∷ b ∷ c ∷ d ∷ m) k = absurd (omega arith)
+
+-- the constraint of number k
+pub element-row :
+    (cells : List ℕ) (k : ℕ) → 5 * k + 5 ≤ length cells
+    → getElem? (cellConstraints cells) k ≡ some (rowConstraint (take 5 (drop (5 * k) cells)))
+element-row cells zero h = ap (λ l. getElem? l 0) (constraints-at cells 0 (omega arith))
+element-row cells (suc k) h =
+    let e : 5 + 5 * k ≡ 5 * suc k = omega arith in
+    ap (λ l. getElem? l (suc k)) (constraints-at cells 0 (omega arith))
+    ∙ element-row (drop 5 cells) k (omega (arith, length-drop 5 cells))
+    ∙ ap (λ l. some (rowConstraint (take 5 l))) (drop-drop (5 * k) 5 cells ∙ ap (λ n. drop n cells) e)
+
+-- there is none behind the last
+pub element-none : (cells : List ℕ) (k : ℕ) → length cells < 5 * k + 5 → getElem? (cellConstraints cells) k ≡ none
+unfolding cellConstraints
+element-none [] k h = refl
+element-none (a ∷ []) k h = refl
+element-none (a ∷ b ∷ []) k h = refl
+element-none (a ∷ b ∷ c ∷ []) k h = refl
+element-none (a ∷ b ∷ c ∷ d ∷ []) k h = refl
+element-none (a ∷ b ∷ c ∷ d ∷ e ∷ l) zero h = absurd (omega arith)
+element-none (a ∷ b ∷ c ∷ d ∷ e ∷ l) (suc k) h = element-none l k (omega arith)

@@ -2,7 +2,7 @@
 --   word-here, word-step, word-end    how many bytes stand before the first comma or line feed, one byte on
 --   name-cut, name-none               the name that starts at a place, as it is cut out
 --   name-program, name-goal           the name of a number, from the text that its place says
---   name-whole                        a word of at most eight bytes is the name that starts where it does
+--   name-whole, name-short            a word of at most eight bytes is the name that starts where it does; none has more
 -- Assumes nothing.
 use mathlib.Core.Path.{_≡_, refl, sym, ap, _∙_}
 use mathlib.Core.Bool.{Bool, true, false, cond, _||_}
@@ -68,6 +68,16 @@ module _ (text : List ℕ) (at : ℕ) where
   pub name-whole : length (word text at) ≤ 8 → nameAt text at ≡ word text at
   unfolding nameAt
   name-whole h = take-all maxName (word text at) h
+
+-- a name has at most eight bytes
+pub name-short : (program goal places : List ℕ) (n : ℕ) → length (nameIn program goal places n) ≤ 8
+unfolding nameIn placedAt nameAt
+name-short program goal places n = go (ltb (getD places n 0) goalPlace)
+  where
+    go : (b : Bool)
+        → length (cond b (take maxName (word program (getD places n 0))) (take maxName (word goal (getD places n 0 - goalPlace)))) ≤ 8
+    go true = omega (arith, length-take maxName (word program (getD places n 0)))
+    go false = omega (arith, length-take maxName (word goal (getD places n 0 - goalPlace)))
 
 -- behind the last entry stands 0
 pub no-entry : (places : List ℕ) (n : ℕ) → length places ≤ n → 0 ≡ getD places n 0

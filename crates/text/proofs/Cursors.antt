@@ -89,7 +89,7 @@ lines-split b (c ∷ s) =
     let h : Cut c s = lines-split c s in
     elim (ℕ-discrete b 10) [ yes e ↦ cut-here b (c ∷ s) e | no e ↦ cut-on b c s e h ]
 
-lines-from : (l : List ℕ) → 0 < length l → lines l ≡ cutLines l (before 10 l)
+pub lines-from : (l : List ℕ) → 0 < length l → lines l ≡ cutLines l (before 10 l)
 lines-from [] h = absurd (not-suc-le-zero h)
 lines-from (b ∷ s) h = lines-split b s
 

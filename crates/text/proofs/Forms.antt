@@ -9,17 +9,18 @@ use mathlib.Core.Bool.{Bool, true, false, cond, not, _&&_, _||_}
 use mathlib.Core.List.{List, [], _∷_, _++_, append-nil, append-assoc}
 use Prim.Native.Nat.{ℕ, zero, suc, _+_, _-_, _*_, _≤_, _<_, min}
 use native.Mathlib.Nat.{le-of-suc-le-suc, not-suc-le-zero}
-use native.Mathlib.Decide.{decLt}
+use native.Mathlib.Decide.{decLt, ℕ-discrete}
 use native.Mathlib.Omega.{arith}
-use borrow.Author.Tests.{eq-eqb, ne-eqb, lt-ltb, le-ltb, le-leb, lt-leb, leb-true}
+use borrow.Author.Tests.{eq-eqb, ne-eqb, eqb-false, lt-ltb, le-ltb, le-leb, lt-leb, not-true}
 use lib.Dec.{leb, ltb, eqb}
 use lib.ListN.{length, take, drop, getD, length-drop, length-take, drop-of-length-le}
 use lib.Seq.{drop-drop, drop-cons, take-suc, append-snoc}
-use Rattle.text.specs.Bytes.{between, ascii}
+use Rattle.text.specs.Bytes.{between, digit, isClass, ascii}
 use Rattle.text.specs.Lists.{every, sameBytes}
 use Rattle.text.specs.Lines.{Line, lineIsFaulty, isOther, goalLine, Parts, inProgram, partedFrom}
 use Rattle.text.specs.Fields.{isNumber, isNumberIn, valueFrom, valueOf}
 use Rattle.text.specs.Places.{behind, partsAt}
+use Rattle.text.proofs.ClassLaws.{and-true as and-both, between-true, is-digit}
 
 abbrev line : List ℕ → Bool → Line
 line s t = record { bytes = s; ended = t }
@@ -41,24 +42,40 @@ module _ (s : List ℕ) (some : 0 < length s) (short : length s ≤ 80) where
   unfolding lineIsFaulty
   faulty-bytes = rw (ne-eqb (length s) 0 (λ q. omega arith), le-ltb 80 (length s) short)
 
-and-true : (t : Bool) → (t && true) ≡ t
-and-true true = refl
-and-true false = refl
-
 abbrev shortNumber : List ℕ → Bool
 shortNumber f = leb (length f) 2 && isNumber f
 
 pub number-one : (f : List ℕ) → length f ≡ 1 → shortNumber f ≡ between 48 57 (getD f 0 0)
 unfolding isNumber
 number-one [] h = absurd (omega arith)
-number-one (b ∷ []) h = refl
+number-one (b ∷ []) h = is-digit b
 number-one (b ∷ c ∷ s) h = absurd (omega arith)
+
+-- a digit that is not 0
+digit-more : (b : ℕ) → between 49 57 b ≡ (not (eqb b 48) && between 48 57 b)
+unfolding between
+digit-more b = elim (decLt 48 b) [
+  | yes h ↦ rw (le-leb 49 b h, ne-eqb b 48 (λ e. omega arith), le-leb 48 b (omega arith))
+  | no h ↦ rw (lt-leb 49 b (omega (arith, h))) (sym (none h))
+]
+  where
+    none : (48 < b → ⊥) → (not (eqb b 48) && (leb 48 b && leb b 57)) ≡ false
+    none h = elim (ℕ-discrete b 48) [
+      | yes e ↦ rw (eq-eqb b 48 e)
+      | no e ↦ rw (ne-eqb b 48 e, lt-leb 48 b (omega (arith, h, e)))
+    ]
 
 pub number-two : (f : List ℕ) → length f ≡ 2 → shortNumber f ≡ (between 49 57 (getD f 0 0) && between 48 57 (getD f 1 0))
 unfolding isNumber
 number-two [] h = absurd (omega arith)
 number-two (b ∷ []) h = absurd (omega arith)
-number-two (b ∷ c ∷ []) h = rw (and-true (between 48 57 c))
+number-two (b ∷ c ∷ []) h = rw (is-digit b, is-digit c, digit-more b) (go (not (eqb b 48)) (between 48 57 b) (between 48 57 c))
+  where
+    go : (s t u : Bool) → (s && (t && (u && true))) ≡ ((s && t) && u)
+    go true true true = refl
+    go true true false = refl
+    go true false u = refl
+    go false t u = refl
 number-two (b ∷ c ∷ d ∷ s) h = absurd (omega arith)
 
 pub number-more : (f : List ℕ) → (length f ≡ 1 → ⊥) → (length f ≡ 2 → ⊥) → shortNumber f ≡ false
@@ -91,10 +108,6 @@ unfolding valueFrom
 value-grows v [] = omega arith
 value-grows v (b ∷ s) = omega (arith, value-grows (v * 10 + (b - 48)) s)
 
-and-left : (a b : Bool) → (a && b) ≡ true → a ≡ true
-and-left true b h = refl
-and-left false b h = h
-
 -- a number of three digits or more is at least 100
 pub number-long : (f : List ℕ) → 2 < length f → isNumber f ≡ true → 100 ≤ valueOf f
 unfolding isNumber valueOf valueFrom between
@@ -102,8 +115,10 @@ number-long [] h e = absurd (not-suc-le-zero h)
 number-long (b ∷ []) h e = absurd (omega arith)
 number-long (b ∷ c ∷ []) h e = absurd (omega arith)
 number-long (b ∷ c ∷ d ∷ s) h e =
-    let least : 49 ≤ b = leb-true 49 b
-    (and-left (leb 49 b) (leb b 57) (and-left (leb 49 b && leb b 57) (every (between 48 57) (c ∷ d ∷ s)) e)) in
+    let both = and-both (not (eqb b 48)) (every (isClass digit) (b ∷ c ∷ d ∷ s)) e in
+    let first : isClass digit b ≡ true = and-both (isClass digit b) (every (isClass digit) (c ∷ d ∷ s)) (both .1) .0 in
+    let range = between-true 48 57 b (sym (is-digit b) ∙ first) in
+    let least : 49 ≤ b = omega (arith, range .0, eqb-false b 48 (not-true (eqb b 48) (both .0))) in
     omega (arith, least, value-grows (((0 * 10 + (b - 48)) * 10 + (c - 48)) * 10 + (d - 48)) s)
 
 module _ (lo hi : ℕ) (f : List ℕ) where

@@ -1,6 +1,6 @@
 -- Laws of places in texts and lines, as the code's cursors meet them.
 --   before-here, before-step, before-end    the count of the bytes before the first of a value, one place on
---   every-fails, every-step, every-end      a test of all bytes from a place on
+--   every-fails, every-step, every-end      a test of all bytes from a place on; every-append: of two lists
 --   same-fails, same-step, same-end         two parts compared from a place on; same-lengths: of different lengths
 --   tabled-length, tabled-at                the length of a table, an entry of it
 --   variable-one, variable-none             a variable by its length
@@ -20,6 +20,7 @@ use Rattle.text.specs.Bytes.{between, Class, small, capital, digit, comm
 use Rattle.text.specs.Lists.{every, sameBytes, tabled}
 use Rattle.text.specs.Fields.{isVariable}
 use Rattle.text.specs.Places.{before}
+use Rattle.text.proofs.ClassLaws.{and-true, is-capital}
 
 module _ (x : ℕ) where
   pub before-here : (s : List ℕ) (i : ℕ) → i < length s → getD s i 0 ≡ x → before x (drop i s) ≡ 0
@@ -51,6 +52,22 @@ module _ (test : ℕ → Bool) where
   every-end [] (suc i) h = refl
   every-end (b ∷ s) zero h = absurd (not-suc-le-zero h)
   every-end (b ∷ s) (suc i) h = every-end s i (le-of-suc-le-suc h)
+
+and-assoc : (a b c : Bool) → ((a && b) && c) ≡ (a && (b && c))
+and-assoc true b c = refl
+and-assoc false b c = refl
+
+pub every-append {ℓ} : {A : Type ℓ} (test : A → Bool) (p q : List A) → every test (p ++ q) ≡ (every test p && every test q)
+every-append test [] q = refl
+every-append test (x ∷ p) q =
+    ap (λ (t : Bool). test x && t) (every-append test p q) ∙ sym (and-assoc (test x) (every test p) (every test q))
+
+-- a test that holds of all elements is followed by another
+pub every-implied : (p q : ℕ → Bool) → ((b : ℕ) → p b ≡ true → q b ≡ true) → (s : List ℕ) → every p s ≡ true → every q s ≡ true
+every-implied p q f [] h = refl
+every-implied p q f (b ∷ s) h =
+    let both = and-true (p b) (every p s) h in
+    rw (f b (both .0), every-implied p q f s (both .1))
 
 and-false : (t : Bool) → (t && false) ≡ false
 and-false true = refl
@@ -91,7 +108,7 @@ module _ {ℓ} {A : Type ℓ} (f : ℕ → A) where
 pub variable-one : (f : List ℕ) → length f ≡ 1 → isVariable f ≡ between 65 90 (getD f 0 0)
 unfolding isVariable
 variable-one [] h = absurd (let z : _≡_ {A = ℕ} 0 1 = h in omega arith)
-variable-one (b ∷ []) h = refl
+variable-one (b ∷ []) h = is-capital b
 variable-one (b ∷ c ∷ s) h = absurd (omega arith)
 
 pub variable-none : (f : List ℕ) → (length f ≡ 1 → ⊥) → isVariable f ≡ false

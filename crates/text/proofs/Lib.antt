@@ -3,3 +3,9 @@ pub mod Opened
 pub mod Laws
 pub mod Cursors
 pub mod Forms
+pub mod ClassLaws
+pub mod Keys
+pub mod Words
+pub mod Passing
+pub mod Splitting
+pub mod SplitLaws

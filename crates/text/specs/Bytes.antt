@@ -1,5 +1,5 @@
 -- The bytes of a text: the six classes, and quoted words as bytes.
---   Class, classOf    document 01's class of a byte
+--   Class, classOf    document 01's class of a byte; isClass: whether a byte is of a class
 --   ascii             a quoted word as its bytes
 -- Assumes nothing.
 use Prim.Native.Nat.{ℕ}
@@ -31,6 +31,10 @@ classNumber digit = 2
 classNumber comma = 3
 classNumber lineFeed = 4
 classNumber other = 5
+
+-- whether a byte is of a class
+unfoldable pub isClass : Class → ℕ → Bool
+isClass k b = eqb (classNumber (classOf b)) (classNumber k)
 
 -- the bytes that a name may have: small letters and digits
 unfoldable pub isNameClass : Class → Bool

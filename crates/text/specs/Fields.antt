@@ -8,7 +8,7 @@ use mathlib.Core.Bool.{Bool, true, false, cond, not, _&&_, _||_}
 use mathlib.Core.List.{List, [], _∷_}
 use lib.Dec.{leb, eqb}
 use lib.ListN.{length}
-use Rattle.text.specs.Bytes.{between, classOf, isNameClass}
+use Rattle.text.specs.Bytes.{capital, digit, between, classOf, isClass, isNameClass}
 use Rattle.text.specs.Lists.{every}
 
 -- a byte put in front of the first field
@@ -28,7 +28,7 @@ isName f = between 1 8 (length f) && every (λ b. isNameClass (classOf b)) f
 -- a variable: one capital letter
 unfoldable pub isVariable : List ℕ → Bool
 isVariable [] = false
-isVariable (b ∷ []) = between 65 90 b
+isVariable (b ∷ []) = isClass capital b
 isVariable (b ∷ c ∷ s) = false
 
 -- a term: a constant or a variable
@@ -38,8 +38,8 @@ isTerm f = isName f || isVariable f
 -- digits without a leading zero; 0 alone is one
 unfoldable pub isNumber : List ℕ → Bool
 isNumber [] = false
-isNumber (b ∷ []) = between 48 57 b
-isNumber (b ∷ c ∷ s) = between 49 57 b && every (between 48 57) (c ∷ s)
+isNumber (b ∷ []) = isClass digit b
+isNumber (b ∷ c ∷ s) = not (eqb b 48) && every (isClass digit) (b ∷ c ∷ s)
 
 -- the value of digits that follow others of value v
 unfoldable pub valueFrom : ℕ → List ℕ → ℕ

@@ -5,3 +5,4 @@ pub mod Lines
 pub mod Fields
 pub mod Keys
 pub mod Places
+pub mod Splits

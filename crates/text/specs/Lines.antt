@@ -8,7 +8,7 @@ use mathlib.Core.Bool.{Bool, true, false, cond, not, _&&_, _||_}
 use mathlib.Core.List.{List, [], _∷_}
 use lib.Dec.{ltb, eqb}
 use lib.ListN.{length, take, drop}
-use Rattle.text.specs.Bytes.{other, classOf, classNumber, ascii}
+use Rattle.text.specs.Bytes.{other, isClass, ascii}
 use Rattle.text.specs.Lists.{every, sameBytes}
 
 -- a line without its line feed, and whether it had one
@@ -28,7 +28,7 @@ lines (b ∷ s) = cond (eqb b 10) (record { bytes = []; ended = true } ∷ lines
 
 -- whether a byte may not stand in any line
 unfoldable pub isOther : ℕ → Bool
-isOther b = eqb (classNumber (classOf b)) (classNumber other)
+isOther b = isClass other b
 
 -- number 2: the line is empty, is longer than 80 bytes, lacks its line feed, or holds a byte of class other
 unfoldable pub lineIsFaulty : Line → Bool

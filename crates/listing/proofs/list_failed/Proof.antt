@@ -1,59 +1,56 @@
 -- `listing::list_failed` meets its contract. Assumes nothing.
-use mathlib.Core.List.{[], _∷_}
+use borrow.Author.Needs.{needs}
 use native.Mathlib.Omega.{arith}
-use Rattle.listing.proofs.Decimals.{decimal-few}
-use Rattle.listing.proofs.LineLaws.{head-size}
-use Rattle.listing.proofs.RunLaws.{listed-short, listed-written}
+use Rattle.listing.proofs.WriteLaws.{wrote-is}
+use Rattle.listing.proofs.EndLaws.{failed-is, listed-short, listed-written}
+use Rattle.listing.proofs.SizeLaws.{failed-count}
 use Rattle.listing.proofs.list_failed.Statement.{statement}
 use Rattle.listing.proofs.list_failed.Tie as tie
 
-digits-requires : tie.Need-digits-requires
-digits-requires c κs = tt
-
-add-size : tie.Need-add-size
-add-size c =
-    let start = c .before .before in
-    omega (arith, decimal-few (start .args .firings), c .digits .ensures, (start .pre))
-
-returns : tie.Need-returns
-returns c =
-    let at-digits = c .before in
-    let start = at-digits .before .before in
-    let whole = head-size (70 ∷ 65 ∷ 73 ∷ 76 ∷ 69 ∷ 68 ∷ 44 ∷ []) (start .args .firings) in
-    listed-short (omega (arith, whole, at-digits .digits .ensures, c .if1 .taken))
+array-borrow-prefix-none : tie.Need-array-borrow-prefix-none
+array-borrow-prefix-none c = search needs
 
 slice-aggregate-put-head : tie.Need-slice-aggregate-put-head
-slice-aggregate-put-head c = omega arith
+slice-aggregate-put-head c = search needs
+
+slice-aggregate-put-head-2 : tie.Need-slice-aggregate-put-head-2
+slice-aggregate-put-head-2 c = search needs
 
 put-head-requires : tie.Need-put-head-requires
-put-head-requires c κs =
-    let at-if1 = c .before .before in
-    let at-digits = at-if1 .before in
-    let start = at-digits .before .before in
-    let whole = head-size (70 ∷ 65 ∷ 73 ∷ 76 ∷ 69 ∷ 68 ∷ 44 ∷ []) (start .args .firings) in
-    omega (arith, whole, at-digits .digits .ensures, at-if1 .if1 .left)
+put-head-requires c κs = failed-count _ (omega arith)
+
+returns : tie.Need-returns
+returns c = 
+    let at-head = c .before .before in
+    listed-short (wrote-is (failed-is _) (at-head .put-head .ensures)) (c .if1 .taken)
+
+slice-aggregate-put-head-3 : tie.Need-slice-aggregate-put-head-3
+slice-aggregate-put-head-3 c = search needs
+
+put-head-requires-2 : tie.Need-put-head-requires-2
+put-head-requires-2 c κs = failed-count _ (omega arith)
 
 same-length : tie.Need-same-length
-same-length c = omega arith
+same-length c = search needs
 
 returns-2 : tie.Need-returns-2
-returns-2 c =
-    let at-put-head = c .before .before in
-    let at-if1 = at-put-head .before .before .before in
-    let at-digits = at-if1 .before in
-    let start = at-digits .before .before in
-    let whole = head-size (70 ∷ 65 ∷ 73 ∷ 76 ∷ 69 ∷ 68 ∷ 44 ∷ []) (start .args .firings) in
-    listed-written (omega (arith, whole, at-digits .digits .ensures, at-if1 .if1 .left))
-    (omega (arith, whole, at-digits .digits .ensures)) (at-put-head .put-head .ensures)
+returns-2 c = 
+    let at-last = c .before .before in
+    let at-if = at-last .before .before .before in
+    let at-head = at-if .before .before in
+    listed-written (wrote-is (failed-is _) (at-head .put-head .ensures)) (at-if .if1 .left)
+    (wrote-is (failed-is _) (at-last .put-head2 .ensures))
 
 pub list-failed-spec : {M : Type 1} → statement M
 list-failed-spec =
     tie.close
     (tie.spec
-    digits-requires
-    add-size
-    returns
+    array-borrow-prefix-none
     slice-aggregate-put-head
+    slice-aggregate-put-head-2
     put-head-requires
+    returns
+    slice-aggregate-put-head-3
+    put-head-requires-2
     same-length
     returns-2)

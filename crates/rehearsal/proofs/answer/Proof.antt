@@ -1,7 +1,6 @@
 -- `rehearsal::answer` meets its contract: what is put lies inside the output. Assumes nothing.
 use borrow.Author.Needs.{needs}
-use mathlib.Core.Path.{sym}
-use lib.Seq.{length-take-le}
+use Rattle.roketuma.proofs.PrintLaws.{printed-within, printed-front}
 use Rattle.rehearsal.proofs.answer.Statement.{statement}
 use Rattle.rehearsal.proofs.answer.Tie as tie
 
@@ -9,10 +8,10 @@ put-run-requires : tie.Need-put-run-requires
 put-run-requires c κs = search needs
 
 array-share-prefix-out : tie.Need-array-share-prefix-out
-array-share-prefix-out c = c .put-run .ensures .1
+array-share-prefix-out c = printed-within (c .put-run .ensures)
 
 slice-aggregate-write-all : tie.Need-slice-aggregate-write-all
-slice-aggregate-write-all c = sym (length-take-le _ _ (c .before .put-run .ensures .1))
+slice-aggregate-write-all c = printed-front _ (c .before .put-run .ensures)
 
 write-all-requires : tie.Need-write-all-requires
 write-all-requires c κs = search needs

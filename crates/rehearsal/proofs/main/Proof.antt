@@ -29,6 +29,9 @@ loop-less c = search needs
 loop-again : tie.Need-loop-again Inv-loop μ-loop
 loop-again c = search needs
 
+sweep-all-requires : tie.Need-sweep-all-requires Inv-loop μ-loop
+sweep-all-requires c κs = search needs
+
 returns : tie.Need-returns Inv-loop μ-loop
 returns c = search needs
 
@@ -44,4 +47,5 @@ main-spec =
     add-i
     loop-less
     loop-again
+    sweep-all-requires
     returns)

@@ -8,7 +8,7 @@ use native.Mathlib.Omega.{arith}
 use borrow.Author.Tests.{eq-eqb, ne-eqb}
 use lib.Dec.{eqb}
 use lib.ListN.{length, drop, getD}
-use Rattle.text.specs.Bytes.{classOf, classNumber}
+use Rattle.text.specs.Bytes.{classOf, classNumber, isClass}
 use Rattle.text.specs.Lists.{every}
 use Rattle.text.specs.Lines.{isOther}
 use Rattle.text.proofs.Laws.{every-fails, every-step, every-end}
@@ -34,7 +34,7 @@ class-of-requires : tie.Need-class-of-requires Inv-loop μ-loop
 class-of-requires c κs = search needs
 
 returns : tie.Need-returns Inv-loop μ-loop
-unfolding isOther classNumber
+unfolding isOther isClass classNumber
 returns c =
     let args′ = c .before .before .before .before .before .before .before .args in
     let loop′ = c .before .before .before .before .loop in
@@ -52,7 +52,7 @@ loop-less : tie.Need-loop-less Inv-loop μ-loop
 loop-less c = search needs
 
 loop-again : tie.Need-loop-again Inv-loop μ-loop
-unfolding isOther classNumber
+unfolding isOther isClass classNumber
 loop-again c =
     let args′ = c .before .before .before .before .before .before .before .args in
     let loop′ = c .before .before .before .before .loop in

@@ -1,133 +1,111 @@
--- `lines::heads::constraint_head` meets its contract: number 4, then 6. Assumes nothing.
+-- `lines::heads::constraint_head` meets its contract: numbers 4 and 6, or the symbol. Assumes nothing.
 use borrow.Author.Needs.{needs}
-use mathlib.Core.Path.{refl, sym, ap, _∙_}
-use mathlib.Core.Logic.{inl, inr}
-use Prim.Native.Nat.{ℕ}
-use native.Mathlib.Numerals.{add-one}
+use mathlib.Core.Path.{_≡_, sym, ap, _∙_}
+use mathlib.Core.Bool.{false}
+use mathlib.Core.List.{List}
+use Prim.Native.Nat.{ℕ, _≤_, _<_}
 use native.Mathlib.Omega.{arith}
-use lib.ListN.{length, take}
-use lib.Seq.{length-take-le}
-use Rattle.text.specs.Places.{fieldsFrom}
-use Rattle.text.proofs.Cursors.{drop-take}
-use Rattle.syntax.specs.Tables.{symbolsOf}
-use Rattle.lines.specs.Read.{NamedAt}
-use Rattle.lines.proofs.Shapes.{head-none, head-found}
+use lib.ListN.{length, getD}
+use Rattle.text.specs.Fields.{isName}
+use Rattle.text.specs.Keys.{keyOf}
+use Rattle.text.specs.Splits.{Holds}
+use Rattle.syntax.specs.Forms.{isConstraintFaulty, fieldAt}
+use Rattle.lines.proofs.Held.{second-name, second-key}
+use Rattle.lines.proofs.Named.{Wide}
+use Rattle.lines.proofs.HeadLaws.{head-faulty, head-unknown, head-other, head-found}
 use Rattle.lines.proofs.heads.constraint_head.Statement.{statement}
 use Rattle.lines.proofs.heads.constraint_head.Tie as tie
 
-slice-aggregate-line : tie.Need-slice-aggregate-line
-slice-aggregate-line c =
-    let args′ = c .before .before .before .before .before .args in
-    let pre′ = c .before .before .before .before .before .pre in
-    sym (length-take-le (args′ .end) (args′ .second .now) (pre′ .2))
-
-constraint-form-requires : tie.Need-constraint-form-requires
-constraint-form-requires c κs =
-    let pre′ = c .before .before .before .before .before .pre in
-    let args′ = c .before .before .before .before .before .args in
-    (pre′ .0, omega (arith, length-take-le (args′ .end) (args′ .second .now) (pre′ .2)))
-
-enum-told : tie.Need-enum-told
-enum-told c = search needs
-
-enum-known-start : tie.Need-enum-known-start
-enum-known-start c = search needs
-
-add-from : tie.Need-add-from
-add-from c =
-    let args′ = c .before .before .before .before .before .before .before .before .before .args in
-    let second′ = args′ .second .now in
-    let pre′ = c .before .before .before .before .before .before .before .before .before .pre in
-    let start′ = c .before .start in
-    let named : NamedAt (take (args′ .end) second′) (args′ .at) (start′ .given .0 .0) (start′ .given .0 .1 .0) =
-    rw (start′ .given .1) at ((c .before .before .before .constraint-form) .ensures) in
-    record { fits = omega (arith, named .stops, length-take-le (args′ .end) second′ (pre′ .2), pre′ .2, pre′ .3) }
-
-sub-declared : tie.Need-sub-declared
-sub-declared c =
-    let args′ = c .before .before .before .before .before .before .before .before .before .args in
-    let start′ = c .before .start in
-    let named : NamedAt (take (args′ .end) (args′ .second .now)) (args′ .at) (start′ .given .0 .0) (start′ .given .0 .1 .0) =
-    rw (start′ .given .1) at ((c .before .before .before .constraint-form) .ensures) in
-    named .starts
-
-part-declared-start : tie.Need-part-declared-start
-part-declared-start c =
-    let args′ = c .before .before .before .before .before .before .before .before .before .args in
-    let start′ = c .before .start in
-    let named : NamedAt (take (args′ .end) (args′ .second .now)) (args′ .at) (start′ .given .0 .0) (start′ .given .0 .1 .0) =
-    rw (start′ .given .1) at ((c .before .before .before .constraint-form) .ensures) in
-    named .starts
-
-part-declared-end : tie.Need-part-declared-end
-part-declared-end c =
-    let args′ = c .before .before .before .before .before .before .before .before .before .args in
-    let start′ = c .before .start in
-    let named : NamedAt (take (args′ .end) (args′ .second .now)) (args′ .at) (start′ .given .0 .0) (start′ .given .0 .1 .0) =
-    rw (start′ .given .1) at ((c .before .before .before .constraint-form) .ensures) in
-    named .stops
-
-fields-left-requires : tie.Need-fields-left-requires
-fields-left-requires c κs = search needs
-
-declared-requires : tie.Need-declared-requires
-declared-requires c κs = search needs
+is-faulty-requires : tie.Need-is-faulty-requires
+is-faulty-requires c κs = search needs
 
 returns : tie.Need-returns
-returns c =
-    let args′ = c .before .before .before .before .before .before .before .before .before .before .before .before .before .args in
-    let second′ = args′ .second .now in
-    let constraint-form′ = c .before .before .before .before .before .before .before .constraint-form in
-    let start′ = c .before .before .before .before .before .start in
-    let fields-left′ = c .before .before .fields-left in
-    let declared′ = c .before .declared in
-    let named : NamedAt (take (args′ .end) second′) (args′ .at) (start′ .given .0 .0) (start′ .given .0 .1 .0) =
-    rw (start′ .given .1) at (constraint-form′ .ensures) in
-    inr (
-      named .fine,
-      head-none (symbolsOf (args′ .first .now) (args′ .symbols .now) (args′ .k)) (take (args′ .end) second′) _
-          (args′ .at) (start′ .given .0 .0) (start′ .given .0 .1 .0) (fields-left′ .result) (args′ .k) (declared′ .result) named
-          (sym (drop-take (start′ .given .0 .0) (start′ .given .0 .1 .0) (take (args′ .end) second′) (named .starts)))
-          (fields-left′ .ensures ∙ ap (λ (n : ℕ). length (fieldsFrom (take (args′ .end) second′) n))
-          (add-one (start′ .given .0 .1 .0)))
-          (declared′ .ensures) ((c .if1) .taken),
-      refl,
-    )
+returns c = (
+  λ fs n k h e. head-faulty _ n fs (sym (c .before .is-faulty .ensures .0 fs h) ∙ c .if1 .taken),
+  omega arith,
+)
+
+array-read-find-key : tie.Need-array-read-find-key
+array-read-find-key c = search needs
+
+find-key-requires : tie.Need-find-key-requires
+find-key-requires c κs = search needs
+
+mul-at : tie.Need-mul-at
+mul-at c = search needs
+
+-- what is known once the key is looked for
+module _ (c : tie.After-find-key) where
+  abbrev fine : c .before .before .before .is-faulty .result ≡ false
+  fine = c .before .before .if1 .left
+
+  counted : (2 ≤ c .before .before .before .before .before .before .args .f .count)
+      × (c .before .before .before .before .before .before .args .f .count ≤ 6)
+  counted = c .before .before .before .is-faulty .ensures .1 fine
+
+  wide : Wide (c .before .before .before .before .before .before .args .names .now)
+  wide i = omega (arith, c .before .before .before .before .before .shared-slice-known .given i)
+
+  module _ (fs : List (List ℕ)) (h : Holds fs (c .before .before .before .before .before .before .args .f)) where
+    formed : isConstraintFaulty fs ≡ false
+    formed = sym (c .before .before .before .is-faulty .ensures .0 fs h) ∙ fine
 
 returns-2 : tie.Need-returns-2
-returns-2 c = inl (rw ((c .enum-told) .given .1) at ((c .before .before .constraint-form) .ensures), refl)
+returns-2 c = (
+  λ fs n k h e.
+      let p = c .before in
+      head-unknown fs _ _ n k _ _ (formed p fs h) (wide p) e (p .before .before .before .before .before .before .pre) (second-name fs (formed p fs h))
+      (second-key fs (formed p fs h) _ (h .keyed)) (p .find-key .ensures .0) (c .if2 .taken),
+  omega arith,
+)
+
+mul-wide : tie.Need-mul-wide
+mul-wide c = search needs
+
+shared-slice-read-wide : tie.Need-shared-slice-read-wide
+shared-slice-read-wide c = search needs
+
+wide-requires : tie.Need-wide-requires
+wide-requires c κs = search needs
+
+add-if3 : tie.Need-add-if3
+add-if3 c = search needs
 
 returns-3 : tie.Need-returns-3
-returns-3 c =
-    let args′ = c .before .before .before .before .before .before .before .before .before .before .before .before .before .args in
-    let second′ = args′ .second .now in
-    let constraint-form′ = c .before .before .before .before .before .before .before .constraint-form in
-    let start′ = c .before .before .before .before .before .start in
-    let fields-left′ = c .before .before .fields-left in
-    let declared′ = c .before .declared in
-    let named : NamedAt (take (args′ .end) second′) (args′ .at) (start′ .given .0 .0) (start′ .given .0 .1 .0) =
-    rw (start′ .given .1) at (constraint-form′ .ensures) in
-    rw (add-one (start′ .given .0 .1 .0)) (head-found (symbolsOf (args′ .first .now) (args′ .symbols .now) (args′ .k))
-    (take (args′ .end) second′) _
-    (args′ .at) (start′ .given .0 .0) (start′ .given .0 .1 .0) (fields-left′ .result) (args′ .k) (declared′ .result) named
-    (sym (drop-take (start′ .given .0 .0) (start′ .given .0 .1 .0) (take (args′ .end) second′) (named .starts)))
-    (fields-left′ .ensures ∙ ap (λ (n : ℕ). length (fieldsFrom (take (args′ .end) second′) n)) (add-one (start′ .given .0 .1 .0)))
-    (declared′ .ensures) ((c .if1) .left))
+returns-3 c = (
+  λ fs n k h e.
+      let p = c .before .before .before .before .before in
+      let two = counted p .0 in
+      head-other fs _ _ n k _ _ (formed p fs h) (wide p) e (p .before .before .before .before .before .before .pre) (second-name fs (formed p fs h))
+      (second-key fs (formed p fs h) _ (h .keyed)) (p .find-key .ensures .0) (c .before .before .before .before .if2 .left)
+      (omega (arith, h .counted, two))
+      (λ z. c .if3 .taken (omega (arith, z, c .before .before .wide .ensures .0, h .counted))),
+  omega arith,
+)
+
+returns-4 : tie.Need-returns-4
+returns-4 c = (
+  λ fs n k h e.
+      let p = c .before .before .before .before .before in
+      head-found fs _ _ n k _ _ (formed p fs h) (wide p) e (p .before .before .before .before .before .before .pre) (second-name fs (formed p fs h))
+      (second-key fs (formed p fs h) _ (h .keyed)) (p .find-key .ensures .0) (c .before .before .before .before .if2 .left)
+      (omega (arith, c .before .before .wide .ensures .0, h .counted)),
+  (counted (c .before .before .before .before .before) .0, counted (c .before .before .before .before .before) .1, omega arith),
+)
 
 pub constraint-head-spec : {M : Type 1} → statement M
 constraint-head-spec =
     tie.close
     (tie.spec
-    slice-aggregate-line
-    constraint-form-requires
-    enum-told
-    enum-known-start
-    add-from
-    sub-declared
-    part-declared-start
-    part-declared-end
-    fields-left-requires
-    declared-requires
+    is-faulty-requires
     returns
+    array-read-find-key
+    find-key-requires
+    mul-at
     returns-2
-    returns-3)
+    mul-wide
+    shared-slice-read-wide
+    wide-requires
+    add-if3
+    returns-3
+    returns-4)

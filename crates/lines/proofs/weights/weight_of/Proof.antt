@@ -7,28 +7,30 @@ use Prim.Native.Nat.{ℕ, _≤_, _+_, _-_, _*_}
 use native.Mathlib.Omega.{arith}
 use lib.ListN.{length, drop}
 use Rattle.semantics.specs.Terms.{Symbol, symbolAt, weight}
-use Rattle.syntax.specs.Tables.{cellConstraints, symbolsOf}
-use Rattle.lines.proofs.Constraints.{weight-step, weight-end}
+use Rattle.tables.specs.Cells.{cellConstraints}
+use Rattle.tables.specs.Rows.{symbolsOf}
+use Rattle.lines.proofs.Weighing.{weight-step, weight-end}
 use Rattle.lines.proofs.weights.weight_of.Statement.{statement}
 use Rattle.lines.proofs.weights.weight_of.Tie as tie
 
 abbrev Inv-loop : tie.InvT-loop
-Inv-loop symbols k cells sum₀ at₀ sum at =
+Inv-loop symbols cells sum₀ at₀ sum at =
     (at ≤ length cells) × (sum ≤ 65536 * at)
-    × ((text : List ℕ) → sum + weight (symbolsOf text symbols k) (cellConstraints (drop at cells))
-    ≡ weight (symbolsOf text symbols k) (cellConstraints cells))
+    × ((names : List ℕ) (k : ℕ) → length symbols ≡ 2 * k
+    → sum + weight (symbolsOf names symbols k) (cellConstraints (drop at cells))
+    ≡ weight (symbolsOf names symbols k) (cellConstraints cells))
 
 abbrev μ-loop : tie.MeasureT-loop
-μ-loop symbols k cells sum₀ at₀ sum at = length cells - at
+μ-loop symbols cells sum₀ at₀ sum at = length cells - at
 
 loop-holds : tie.Need-loop-holds Inv-loop μ-loop
-loop-holds c = (omega arith, omega arith, λ text. omega arith)
+loop-holds c = (omega arith, omega arith, λ names k e. omega arith)
 
 add-loop : tie.Need-add-loop Inv-loop μ-loop
-add-loop c = record { fits = omega (arith, (c .loop) .inv .0, (c .before .before .before .pre) .1) }
+add-loop c = record { fits = omega (arith, (c .loop) .inv .0, (c .before .before .before .pre)) }
 
 mul-wide : tie.Need-mul-wide Inv-loop μ-loop
-mul-wide c = record { fits = omega (arith, (c .loop-test) .taken, (c .before .before .before .before .pre) .1) }
+mul-wide c = record { fits = omega (arith, (c .loop-test) .taken, (c .before .before .before .before .pre)) }
 
 shared-slice-read-wide : tie.Need-shared-slice-read-wide Inv-loop μ-loop
 shared-slice-read-wide c = omega (arith, (c .before .loop-test) .taken)
@@ -37,18 +39,18 @@ wide-requires : tie.Need-wide-requires Inv-loop μ-loop
 wide-requires c κs = search needs
 
 weight-at-requires : tie.Need-weight-at-requires Inv-loop μ-loop
-weight-at-requires c κs = (c .before .before .before .before .before .before .pre) .0
+weight-at-requires c κs = c .wide .ensures .1
 
 add-sum : tie.Need-add-sum Inv-loop μ-loop
 add-sum c =
     let pre′ = c .before .before .before .before .before .before .before .pre in
     let loop′ = c .before .before .before .before .loop in
-    record { fits = omega (arith, loop′ .inv .0, loop′ .inv .1, (c .weight-at) .ensures .1, pre′ .1) }
+    record { fits = omega (arith, loop′ .inv .0, loop′ .inv .1, (c .weight-at) .ensures .1, pre′) }
 
 add-at : tie.Need-add-at Inv-loop μ-loop
 add-at c =
     let pre′ = c .before .before .before .before .before .before .before .pre in
-    record { fits = omega (arith, (c .before .before .before .loop-test) .taken, pre′ .1) }
+    record { fits = omega (arith, (c .before .before .before .loop-test) .taken, pre′) }
 
 loop-less : tie.Need-loop-less Inv-loop μ-loop
 loop-less c = omega (arith, (c .before .before .before .loop-test) .taken)
@@ -61,12 +63,12 @@ loop-again c =
     let weight′ = c .weight-at in (
       omega (arith, test′ .taken),
       omega (arith, loop′ .inv .1, weight′ .ensures .1),
-      λ text.
-          let symbols : List Symbol = symbolsOf text (args′ .symbols .now) (args′ .k) in
+      λ names k e.
+          let symbols : List Symbol = symbolsOf names (args′ .symbols .now) k in
           omega (
             arith,
-            weight′ .ensures .0 text ∙ ap (λ (s : ℕ). symbolAt symbols s .weight) ((c .before .wide) .ensures .0),
-            loop′ .inv .2 text,
+            weight′ .ensures .0 names k e ∙ ap (λ (s : ℕ). symbolAt symbols s .weight) ((c .before .wide) .ensures .0),
+            loop′ .inv .2 names k e,
             weight-step symbols (args′ .cells .now) (loop′ .at) (test′ .taken),
           ),
     )
@@ -75,10 +77,10 @@ returns : tie.Need-returns Inv-loop μ-loop
 returns c =
     let args′ = c .before .before .before .before .args in
     let loop′ = c .before .loop in
-    λ text. omega (
+    λ names k e. omega (
       arith,
-      loop′ .inv .2 text,
-      weight-end (symbolsOf text (args′ .symbols .now) (args′ .k)) (args′ .cells .now) (loop′ .at) ((c .loop-test) .left),
+      loop′ .inv .2 names k e,
+      weight-end (symbolsOf names (args′ .symbols .now) k) (args′ .cells .now) (loop′ .at) ((c .loop-test) .left),
     )
 
 pub weight-of-spec : {M : Type 1} → statement M

@@ -1,53 +1,43 @@
--- `listing::lines::put_head` meets its contract: the word, the number behind it, the line feed. Assumes nothing.
-use native.Mathlib.Omega.{arith}
-use Rattle.listing.proofs.Laying.{put-length}
-use Rattle.listing.proofs.LineLaws.{word-room, number-inside, number-room, head-feed, head-put}
+-- `listing::lines::put_head` meets its contract. Assumes nothing.
+use borrow.Author.Needs.{needs}
+use Rattle.listing.proofs.WriteLaws.{wrote-then, count-first, count-next}
 use Rattle.listing.proofs.lines.put_head.Statement.{statement}
 use Rattle.listing.proofs.lines.put_head.Tie as tie
 
 copy-requires : tie.Need-copy-requires
-copy-requires c κs = search word-room
-
-sub-put-decimal : tie.Need-sub-put-decimal
-sub-put-decimal c = search number-inside
-
-part-put-decimal-start : tie.Need-part-put-decimal-start
-part-put-decimal-start c = omega (arith, sub-put-decimal c)
-
-part-put-decimal-end : tie.Need-part-put-decimal-end
-part-put-decimal-end c = omega arith
+copy-requires c κs = count-first _ (c .before .before .before .pre)
 
 put-decimal-requires : tie.Need-put-decimal-requires
-put-decimal-requires c κs = search number-room
+put-decimal-requires c κs = 
+    let at-copy = c .before .before .before in
+    let start = at-copy .before .before .before .before in
+    count-first _ (count-next (start .pre) (at-copy .copy .ensures))
 
-returns : tie.Need-returns
-returns c = search head-put
-
-add-end : tie.Need-add-end
-add-end c =
-    omega (arith, returns c .counted, c .before .before .before .before .before .before .before .before .before .before .pre)
-
-slice-write-out : tie.Need-slice-write-out
-slice-write-out c = search head-feed
-
-add-result : tie.Need-add-result
-add-result c =
-    omega (arith, returns c .counted, c .before .before .before .before .before .before .before .before .before .before .pre)
+put-byte-requires : tie.Need-put-byte-requires
+put-byte-requires c κs = 
+    let at-decimal = c .before .before .before in
+    let at-copy = at-decimal .before .before .before .before in
+    let start = at-copy .before .before .before .before in
+    count-next (count-next (start .pre) (at-copy .copy .ensures)) (at-decimal .put-decimal .ensures)
 
 same-length : tie.Need-same-length
-same-length c = put-length (returns c) (c .before .before .before .before .before .before .before .before .before .before .pre)
+same-length c = search needs
+
+returns : tie.Need-returns
+returns c = 
+    let at-byte = c .before .before in
+    let at-decimal = at-byte .before .before .before .before in
+    let at-copy = at-decimal .before .before .before .before in
+    wrote-then (at-copy .copy .ensures)
+    (wrote-then (at-decimal .put-decimal .ensures) (at-byte .put-byte .ensures) (at-decimal .put-decimal .kept .0))
+    (at-copy .copy .kept .0)
 
 pub put-head-spec : {M : Type 1} → statement M
 put-head-spec =
     tie.close
     (tie.spec
     copy-requires
-    sub-put-decimal
-    part-put-decimal-start
-    part-put-decimal-end
     put-decimal-requires
-    add-end
-    slice-write-out
-    add-result
+    put-byte-requires
     same-length
     returns)

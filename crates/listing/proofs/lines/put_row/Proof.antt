@@ -1,105 +1,107 @@
--- `listing::lines::put_row` meets its contract: two bytes, the name behind them, the fields behind it. Assumes nothing.
-use Prim.Native.Nat.{_≤_}
+-- `listing::lines::put_row` meets its contract: its letter, a comma, its name and its terms. Assumes nothing.
+use borrow.Author.Needs.{needs}
 use native.Mathlib.Omega.{arith}
-use lib.ListN.{length, length-set}
-use Rattle.listing.proofs.Laying.{put-length}
-use Rattle.listing.proofs.LineLaws.{row-two, name-room, fields-inside, fields-room, row-put, shown-from}
+use Rattle.listing.proofs.LineLaws.{line-count, line-comma, line-name, line-fields, line-wrote, used-within}
 use Rattle.listing.proofs.lines.put_row.Statement.{statement}
 use Rattle.listing.proofs.lines.put_row.Tie as tie
 
--- the function's entry
-abbrev start : tie.After-slice-known3 → tie.Start
-start c =
-    let at-name = c .before .before .before .before .before .before .before .before .before in
-    at-name .before .before .before .before .before .before .before .before .before
+put-byte-requires : tie.Need-put-byte-requires
+put-byte-requires c κs = search line-count
 
--- the output has room for the first two bytes
-two : (s : tie.Start) → 2 ≤ length (s .args .out .now)
-two s = search row-two
+put-byte-requires-2 : tie.Need-put-byte-requires-2
+put-byte-requires-2 c κs = search line-comma
 
-slice-write-out : tie.Need-slice-write-out
-slice-write-out c = omega (arith, two (c .before .before .before .before .before .before .before))
+shared-slice-read-wide : tie.Need-shared-slice-read-wide
+shared-slice-read-wide c = search needs
 
-slice-write-out-2 : tie.Need-slice-write-out-2
-slice-write-out-2 c = simp length-set (omega (arith, two (c .before .before .before .before .before .before .before)))
-
-shared-slice-read-name : tie.Need-shared-slice-read-name
-shared-slice-read-name c = omega arith
+wide-requires : tie.Need-wide-requires
+wide-requires c κs = search needs
 
 name-requires : tie.Need-name-requires
-name-requires c κs = omega arith
-
-sub-copy : tie.Need-sub-copy
-sub-copy c = simp length-set (omega (arith, two (c .before .before .before .before .before .before .before .before .before)))
-
-part-copy-start : tie.Need-part-copy-start
-part-copy-start c =
-    simp length-set (omega (arith, two (c .before .before .before .before .before .before .before .before .before)))
-
-part-copy-end : tie.Need-part-copy-end
-part-copy-end c = omega arith
+name-requires c κs = search needs
 
 copy-requires : tie.Need-copy-requires
-copy-requires c κs = search name-room
+copy-requires c κs = search line-name
 
-add-end : tie.Need-add-end
-add-end c = omega arith
+sub-used : tie.Need-sub-used
+sub-used c = search needs
+
+part-used-start : tie.Need-part-used-start
+part-used-start c = search needs
+
+part-used-end : tie.Need-part-used-end
+part-used-end c = search needs
+
+used-requires : tie.Need-used-requires
+used-requires c κs = search needs
+
+add-e : tie.Need-add-e
+add-e c = omega (arith, c .used .ensures .1)
 
 sub-put-fields : tie.Need-sub-put-fields
-sub-put-fields c = search fields-inside
+sub-put-fields c = search needs
 
 part-put-fields-start : tie.Need-part-put-fields-start
-part-put-fields-start c = omega (arith, sub-put-fields c)
+part-put-fields-start c = search needs
 
 part-put-fields-end : tie.Need-part-put-fields-end
-part-put-fields-end c = omega arith
-
-sub-put-fields-2 : tie.Need-sub-put-fields-2
-sub-put-fields-2 c = omega arith
-
-part-put-fields-start-2 : tie.Need-part-put-fields-start-2
-part-put-fields-start-2 c = omega arith
-
-part-put-fields-end-2 : tie.Need-part-put-fields-end-2
-part-put-fields-end-2 c = omega arith
+part-put-fields-end c = 
+    let at-used = c .before in
+    let at-copy = at-used .before .before .before .before in
+    let at-name = at-copy .before .before in
+    let at-wide = at-name .before in
+    let at-byte2 = at-wide .before .before .before .before in
+    let at-byte = at-byte2 .before .before .before .before in
+    let start = at-byte .before .before .before .before .before .before .before in
+    used-within _ (start .args .row .now) (start .pre .0) (at-used .used .ensures .1)
 
 put-fields-requires : tie.Need-put-fields-requires
-put-fields-requires c κs =
-    let at-name = c .before .before .before .before .before .before in
-    let entry = at-name .before .before .before .before .before .before .before .before .before in (
-      search shown-from,
-      search (fields-room, entry .pre .1, at-name .name .ensures, c .before .before .before .before .copy .ensures),
-    )
-
-returns : tie.Need-returns
-returns c = search row-put
-
-add-result : tie.Need-add-result
-add-result c = omega (arith, returns c .counted, start c .pre .1)
+put-fields-requires c κs = 
+    let at-used = c .before .before in
+    let at-copy = at-used .before .before .before .before in
+    let at-name = at-copy .before .before in
+    let at-wide = at-name .before in
+    let at-byte2 = at-wide .before .before .before .before in
+    let at-byte = at-byte2 .before .before .before .before in
+    let start = at-byte .before .before .before .before .before .before .before in
+    line-fields _ _ _ _ _ _ (start .pre .1) (at-wide .wide .ensures .0) (at-name .name .ensures) (at-byte .put-byte .ensures)
+    (at-byte2 .put-byte2 .ensures) (at-copy .copy .ensures) (at-used .used .ensures .0)
 
 same-length : tie.Need-same-length
-same-length c = put-length (returns c) (start c .pre .1)
+same-length c = search needs
+
+returns : tie.Need-returns
+returns c = 
+    let at-fields = c .before .before in
+    let at-used = at-fields .before .before .before in
+    let at-copy = at-used .before .before .before .before in
+    let at-name = at-copy .before .before in
+    let at-wide = at-name .before in
+    let at-byte2 = at-wide .before .before .before .before in
+    let at-byte = at-byte2 .before .before .before .before in
+    let start = at-byte .before .before .before .before .before .before .before in
+    line-wrote _ _ _ _ _ _ (at-wide .wide .ensures .0) (at-name .name .ensures) (at-byte .put-byte .ensures)
+    (at-byte2 .put-byte2 .ensures) (at-copy .copy .ensures) (at-used .used .ensures .0) (at-fields .put-fields .ensures)
+    (at-byte .put-byte .kept .0) (at-byte2 .put-byte2 .kept .0) (at-copy .copy .kept .0)
 
 pub put-row-spec : {M : Type 1} → statement M
 put-row-spec =
     tie.close
     (tie.spec
-    slice-write-out
-    slice-write-out-2
-    shared-slice-read-name
+    put-byte-requires
+    put-byte-requires-2
+    shared-slice-read-wide
+    wide-requires
     name-requires
-    sub-copy
-    part-copy-start
-    part-copy-end
     copy-requires
-    add-end
+    sub-used
+    part-used-start
+    part-used-end
+    used-requires
+    add-e
     sub-put-fields
     part-put-fields-start
     part-put-fields-end
-    sub-put-fields-2
-    part-put-fields-start-2
-    part-put-fields-end-2
     put-fields-requires
-    add-result
     same-length
     returns)

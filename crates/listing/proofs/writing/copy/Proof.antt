@@ -1,67 +1,42 @@
--- `listing::writing::copy` meets its contract: at i the output's front is the part's first i bytes. Assumes nothing.
-use mathlib.Core.Path.{_≡_, refl, ap, _∙_}
-use mathlib.Core.List.{List, _++_}
-use Prim.Native.Nat.{ℕ, _-_, _≤_}
+-- `listing::writing::copy` meets its contract: the bytes before i are written. Assumes nothing.
+use borrow.Author.Needs.{needs}
+use Prim.Native.Nat.{_≤_, _-_}
 use native.Mathlib.Omega.{arith}
-use native.Mathlib.Nat.{le-antisymm}
-use native.Mathlib.Numerals.{add-one}
-use lib.ListN.{length, take, drop, length-set}
-use lib.Seq.{take-length}
-use Rattle.listing.specs.Pieces.{laid}
-use Rattle.listing.proofs.Laying.{copied-more}
+use lib.ListN.{length, drop}
+use Rattle.listing.proofs.WriteLaws.{Writing, writing-start}
+use Rattle.listing.proofs.LineLaws.{copy-count, copy-next, copy-end}
 use Rattle.listing.proofs.writing.copy.Statement.{statement}
 use Rattle.listing.proofs.writing.copy.Tie as tie
 
 abbrev Inv-loop : tie.InvT-loop
-Inv-loop out₀ part i₀ out i = (i ≤ length part) × (length out ≡ length out₀) × (out ≡ take i part ++ drop i out₀)
+Inv-loop out₀ at part end₀ i₀ out end i = (i ≤ length part) × Writing part at out₀ out end (drop i part)
 
 abbrev μ-loop : tie.MeasureT-loop
-μ-loop out₀ part i₀ out i = length part - i
+μ-loop out₀ at part end₀ i₀ out end i = length part - i
 
 loop-holds : tie.Need-loop-holds Inv-loop μ-loop
-loop-holds c = (omega arith, refl, refl)
+loop-holds c = (omega arith, writing-start _ _ _)
 
-shared-slice-read-out : tie.Need-shared-slice-read-out Inv-loop μ-loop
-shared-slice-read-out c = omega arith
+shared-slice-read-put-byte : tie.Need-shared-slice-read-put-byte Inv-loop μ-loop
+shared-slice-read-put-byte c = search needs
 
-slice-write-out : tie.Need-slice-write-out Inv-loop μ-loop
-slice-write-out c = omega arith
+put-byte-requires : tie.Need-put-byte-requires Inv-loop μ-loop
+put-byte-requires c κs = search copy-count
 
 add-i : tie.Need-add-i Inv-loop μ-loop
-add-i c = omega arith
+add-i c = search needs
 
 loop-less : tie.Need-loop-less Inv-loop μ-loop
-loop-less c = omega arith
+loop-less c = search needs
 
 loop-again : tie.Need-loop-again Inv-loop μ-loop
-loop-again c =
-    let at-loop = c .before .before in
-    let start = at-loop .before in
-    let part = start .args .part .now in
-    let out = start .args .out .now in (
-      omega arith,
-      simp length-set (at-loop .loop .inv .1),
-      rw (add-one (at-loop .loop .i), at-loop .loop .inv .2)
-          (copied-more part out (at-loop .loop .i) (omega arith) (omega arith)),
-    )
+loop-again c = (omega arith, search copy-next)
 
 same-length : tie.Need-same-length Inv-loop μ-loop
-same-length c = omega arith
+same-length c = search needs
 
 returns : tie.Need-returns Inv-loop μ-loop
-unfolding laid
-returns c =
-    let at-loop = c .before in
-    let start = at-loop .before in
-    let part = start .args .part .now in
-    let out = start .args .out .now in
-    let end = le-antisymm (at-loop .loop .inv .0) (c .loop-test .left) in
-    record {
-      placed =
-          at-loop .loop .inv .2 ∙ ap (λ (k : ℕ). take k part ++ drop k out) end
-          ∙ ap (λ (l : List ℕ). l ++ drop (length part) out) (take-length part);
-      counted = end;
-    }
+returns c = search copy-end
 
 pub copy-spec : {M : Type 1} → statement M
 copy-spec =
@@ -70,8 +45,8 @@ copy-spec =
     Inv-loop
     μ-loop
     loop-holds
-    shared-slice-read-out
-    slice-write-out
+    shared-slice-read-put-byte
+    put-byte-requires
     add-i
     loop-less
     loop-again

@@ -10,13 +10,17 @@ name-at-requires : tie.Need-name-at-requires
 name-at-requires c κs = tt
 
 returns : tie.Need-returns
-returns c = search name-program
+returns c =
+    let at-if = c .before in
+    name-program _ _ _ _ _ _ (at-if .before .place .ensures) (at-if .if1 .taken) (c .name-at .ensures)
 
 name-at-requires-2 : tie.Need-name-at-requires-2
 name-at-requires-2 c κs = tt
 
 returns-2 : tie.Need-returns-2
-returns-2 c = search name-goal
+returns-2 c =
+    let at-if = c .before in
+    name-goal _ _ _ _ _ _ (at-if .before .place .ensures) (at-if .if1 .left) (c .name-at2 .ensures)
 
 pub name-spec : {M : Type 1} → statement M
 name-spec =

@@ -1,0 +1,82 @@
+-- `match_at` meets its contract: the heads from number h on, under the bindings so far, give the answer for all of them.
+-- Assumes nothing.
+use Prim.Native.Nat.{_-_}
+use native.Mathlib.Omega.{arith}
+use borrow.Author.Needs.{needs}
+use borrow.Author.Tests.{not-true, not-false}
+use Rattle.engine.specs.Stated.{matchRow}
+use Rattle.engine.proofs.StatedLaws.{Matching, matching-start, matching-end, matching-away, matching-rows}
+use Rattle.engine.proofs.StatedLaws.{matching-misfit, matching-fits}
+use Rattle.engine.proofs.stated.match_at.Statement.{statement}
+use Rattle.engine.proofs.stated.match_at.Tie as tie
+
+abbrev Inv-loop : tie.InvT-loop
+Inv-loop row cells m positions n e heads bindings₀ h₀ bindings h =
+    Matching heads n cells m positions bindings h (matchRow row positions cells)
+
+abbrev μ-loop : tie.MeasureT-loop
+μ-loop row cells m positions n e heads bindings₀ h₀ bindings h = n - h
+
+shared-slice-read-wide : tie.Need-shared-slice-read-wide Inv-loop μ-loop
+shared-slice-read-wide c = search needs
+
+wide-requires : tie.Need-wide-requires Inv-loop μ-loop
+wide-requires c κs = search needs
+
+part-heads-end : tie.Need-part-heads-end Inv-loop μ-loop
+part-heads-end c = search needs
+
+loop-holds : tie.Need-loop-holds Inv-loop μ-loop
+loop-holds c =
+    let start = c .before .before .before .before .before in
+    matching-start _ _ _ _ _ (start .pre .0) (start .pre .1) (start .pre .2) (c .before .wide .ensures .0)
+
+returns : tie.Need-returns Inv-loop μ-loop
+returns c = search matching-away
+
+fit-at-requires : tie.Need-fit-at-requires Inv-loop μ-loop
+fit-at-requires c κs = (search matching-rows, omega arith, search needs)
+
+returns-2 : tie.Need-returns-2 Inv-loop μ-loop
+returns-2 c =
+    let placed = c .before .before in
+    let tested = placed .before .before .before in
+    matching-misfit _ _ _ _ _ _ _ _ (tested .before .before .loop .inv) (tested .before .loop-test .taken) (tested .if1 .left) _ _
+    (placed .fit-at .ensures) (not-true _ (c .if2 .taken))
+
+loop-again : tie.Need-loop-again Inv-loop μ-loop
+loop-again c =
+    let placed = c .before .before .before in
+    let tested = placed .before .before .before in
+    matching-fits _ _ _ _ _ _ _ _ (tested .before .before .loop .inv) (tested .before .loop-test .taken) (tested .if1 .left) _ _
+    (placed .fit-at .ensures) (not-false _ (c .before .if2 .left))
+
+returns-3 : tie.Need-returns-3 Inv-loop μ-loop
+returns-3 c = search matching-end
+
+-- the needs in the code's order: sums, products and bounds are arithmetic
+pub match-at-spec : {M : Type 1} → statement M
+match-at-spec =
+    tie.close
+    (tie.spec
+    Inv-loop
+    μ-loop
+    shared-slice-read-wide
+    wide-requires
+    -- e and the heads' cells
+    (λ c. search needs) (λ c. search needs) (λ c. search needs) (λ c. search needs)
+    part-heads-end
+    loop-holds
+    -- p
+    (λ c. omega arith) (λ c. omega arith)
+    returns
+    -- a, b, c, d and the cells of the head and of the constraint
+    (λ c. omega arith) (λ c. omega arith) (λ c. omega arith) (λ c. omega arith)
+    (λ c. omega arith) (λ c. omega arith) (λ c. omega arith) (λ c. omega arith)
+    (λ c. omega arith) (λ c. omega arith) (λ c. omega arith) (λ c. omega arith)
+    fit-at-requires
+    returns-2
+    -- h
+    (λ c. omega arith) (λ c. omega arith)
+    loop-again
+    returns-3)

@@ -1,0 +1,35 @@
+-- `listing::writing::put_byte` meets its contract. Assumes nothing.
+use borrow.Author.Needs.{needs}
+use native.Mathlib.Omega.{arith}
+use Rattle.listing.proofs.WriteLaws.{wrote-byte, wrote-over}
+use Rattle.listing.proofs.writing.put_byte.Statement.{statement}
+use Rattle.listing.proofs.writing.put_byte.Tie as tie
+
+add-result : tie.Need-add-result
+add-result c = omega (arith, c .before .pre .few)
+
+returns : tie.Need-returns
+returns c = search wrote-over
+
+slice-write-out : tie.Need-slice-write-out
+slice-write-out c = search needs
+
+add-result-2 : tie.Need-add-result-2
+add-result-2 c = search needs
+
+same-length : tie.Need-same-length
+same-length c = search needs
+
+returns-2 : tie.Need-returns-2
+returns-2 c = search wrote-byte
+
+pub put-byte-spec : {M : Type 1} → statement M
+put-byte-spec =
+    tie.close
+    (tie.spec
+    add-result
+    returns
+    slice-write-out
+    add-result-2
+    same-length
+    returns-2)

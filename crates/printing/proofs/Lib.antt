@@ -1,2 +1,0 @@
--- Laws of what is printed. Assumes nothing.
-pub mod PrintLaws

@@ -1,0 +1,67 @@
+-- Two instances of demand 3, which show that it is not empty.
+--   leq-confluent        LEQ is confluent: any two finished derivations of any goal over it agree
+--   twoWays-not          the sheet of document 01's section 'Printed answers' is not, and its goal is shown
+-- Assumes nothing.
+use mathlib.Core.List.{[], _∷_}
+use mathlib.Core.Path.{_≡_, refl}
+use Rattle.text.specs.Bytes.{ascii}
+use Rattle.text.proofs.Opened.{opened as textOpened}
+use Rattle.semantics.specs.Terms.{Goal}
+use Rattle.semantics.specs.Strategy.{Final}
+use Rattle.semantics.specs.Overlaps.{Overlap}
+use Rattle.semantics.specs.Verdict.{verdict, confluent, unjoined}
+use Rattle.semantics.specs.Claims.{OneOutcome, Counterexample}
+use Rattle.semantics.proofs.Opened.{opened as semanticsOpened}
+use Rattle.semantics.proofs.Demand3.{verdict-exact}
+use Rattle.syntax.specs.Answers.{Answer, refused, accepted}
+use Rattle.syntax.specs.Programs.{Reading, readProgram}
+use Rattle.syntax.proofs.Opened.{opened as syntaxOpened}
+use Rattle.syntax.proofs.WellFormed.{read-wellFormed}
+use Rattle.roketuma.specs.Starred.{leq, twoWays}
+use Rattle.roketuma.proofs.Opened.{opened as libraryOpened}
+
+-- what an answer reads, or the empty program
+abbrev readingOf : Answer Reading → Reading
+readingOf (refused number line) = record { program = record { symbols = []; rules = [] }; constants = [] }
+readingOf (accepted r) = r
+
+-- LEQ and the sheet with two ways, as read from their texts
+pub leqReading : Reading
+leqReading = readingOf (readProgram (ascii leq))
+
+pub twoWaysReading : Reading
+twoWaysReading = readingOf (readProgram (ascii twoWays))
+
+pub leq-reads : readProgram (ascii leq) ≡ accepted leqReading
+unfolding leqReading textOpened semanticsOpened syntaxOpened libraryOpened
+leq-reads = refl
+
+pub twoWays-reads : readProgram (ascii twoWays) ≡ accepted twoWaysReading
+unfolding twoWaysReading textOpened semanticsOpened syntaxOpened libraryOpened
+twoWays-reads = refl
+
+-- the verdict on LEQ
+leq-verdict : verdict (leqReading .program) ≡ confluent 23
+unfolding leqReading textOpened semanticsOpened syntaxOpened libraryOpened
+leq-verdict = refl
+
+-- LEQ is confluent: any two finished derivations of any goal over it end in equal states
+pub leq-confluent : OneOutcome (leqReading .program)
+leq-confluent = verdict-exact (leqReading .program) (read-wellFormed (ascii leq) leq-reads) .exact .0 (23, leq-verdict)
+
+-- the goal a, of the first symbol
+pub goalA : Goal
+goalA = record { variables = 0; constraints = record { symbol = 0; terms = [] } ∷ [] }
+
+-- the verdict on the sheet with two ways shows the goal a
+twoWays-verdict :
+    (o : Overlap) × (one : Final) × (two : Final) × (verdict (twoWaysReading .program) ≡ unjoined o one two) × (o .goal ≡ goalA)
+unfolding twoWaysReading goalA textOpened semanticsOpened syntaxOpened libraryOpened
+twoWays-verdict = (_, _, _, refl, refl)
+
+-- the sheet with two ways is not confluent: its goal a has two finished derivations whose ends are not equal
+pub twoWays-not :
+    (o : Overlap) × (one : Final) × (two : Final) × Counterexample (twoWaysReading .program) o one two × (o .goal ≡ goalA)
+twoWays-not =
+    let (o, one, two, v, g) = twoWays-verdict in
+    (o, one, two, verdict-exact (twoWaysReading .program) (read-wellFormed (ascii twoWays) twoWays-reads) .shown o one two v, g)

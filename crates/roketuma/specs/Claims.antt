@@ -1,0 +1,68 @@
+-- Demands 2 and 3, on the bytes of the texts and of the replies.
+--   verdictReply      the reply that lists a verdict
+--   Decided           a program is passed or failed
+--   Demand3On         demand 3 for a text that can be read
+--   Demand2On         demand 2 for a text that can be read
+-- `check-exact` of proofs/Demand3.antt and `run-published` of proofs/Demand2.antt say that these hold of every such text.
+-- Assumes nothing.
+use Prim.Native.Nat.{ℕ, _≤_}
+use mathlib.Core.Bool.{true}
+use mathlib.Core.List.{List, []}
+use mathlib.Core.Logic.{_↔_}
+use mathlib.Core.Path.{_≡_}
+use lib.ListN.{length}
+use Rattle.text.specs.Fields.{isNumber, valueOf}
+use Rattle.semantics.specs.Terms.{isGoalOf}
+use Rattle.semantics.specs.Strategy.{Final}
+use Rattle.semantics.specs.Runs.{RunsTo}
+use Rattle.semantics.specs.Overlaps.{Overlap, overlaps}
+use Rattle.semantics.specs.Verdict.{Verdict, confluent, unjoined}
+use Rattle.semantics.specs.Claims.{OneOutcome, OneOutcomeByAppearance, Bounded, Counterexample}
+use Rattle.semantics.specs.Correspondence.{Demand2}
+use Rattle.syntax.specs.Answers.{accepted}
+use Rattle.syntax.specs.Programs.{Reading}
+use Rattle.syntax.specs.Goals.{GoalReading, readGoal}
+use Rattle.listing.specs.Listing.{decimal, endListing, verdictListing}
+use Rattle.roketuma.specs.Replies.{Reply, listing, namingOf, runListing, checkListing, runReply, checkReply}
+
+-- the reply that lists a verdict
+unfoldable pub verdictReply : Reading → Verdict → Reply
+verdictReply r v = listing (verdictListing (namingOf (r .program) (r .constants)) v)
+
+-- a program is passed, with a number; or failed, with an overlap that is shown with two ends and is a counterexample
+pub data Decided (s : List ℕ) (room : ℕ) (r : Reading) : Type 1 where
+  passes : (n : ℕ) → checkReply s room ≡ verdictReply r (confluent n) → Decided s room r
+  fails :
+      (o : Overlap) (one two : Final) → checkReply s room ≡ verdictReply r (unjoined o one two)
+      → Counterexample (r .program) o one two → Decided s room r
+
+-- the check of a text that reads as r, in a room that the listing fits: the program is passed or failed, and failed only with a
+-- counterexample shown; it is passed exactly when each goal over its symbols, of any length, has one outcome over all lists of
+-- events; and a pass says the number of its overlaps
+pub record Checked (s : List ℕ) (room : ℕ) (r : Reading) : Type 1 where
+  pub decided : Decided s room r
+  pub exact : ((n : ℕ) × (checkReply s room ≡ verdictReply r (confluent n))) ↔ OneOutcome (r .program)
+  pub counted : OneOutcome (r .program) → checkReply s room ≡ verdictReply r (confluent (length (overlaps (r .program))))
+
+-- demand 3 for a text that reads as r: its check, wherever the listing fits; for one outcome of all goals it is enough that those
+-- whose variables count by first appearance have one; no derivation fires more often than its goal's weight; and a number is shown in
+-- digits without a leading zero, whose value it is
+pub record Demand3On (s : List ℕ) (r : Reading) : Type 1 where
+  pub checked : (room : ℕ) → length (checkListing r) ≤ room → Checked s room r
+  pub enough : OneOutcomeByAppearance (r .program) → OneOutcome (r .program)
+  pub bounded : Bounded (r .program)
+  pub decimals : (n : ℕ) → (isNumber (decimal n) ≡ true) × (valueOf (decimal n) ≡ n)
+
+-- the reply to a goal's text that reads as g, in a room that the listing fits: the listing of an end, and the run of the goal, which
+-- is over the program's symbols, ends so
+pub record Ran (s t : List ℕ) (room : ℕ) (r : Reading) (g : GoalReading) : Type 0 where
+  pub goal : isGoalOf (r .program) (g .goal) ≡ true
+  pub end : Final
+  pub reply : runReply s t room ≡ listing (endListing (namingOf (r .program) (g .constants)) (g .letters) end)
+  pub runs : RunsTo (r .program) (g .goal) [] end
+
+-- demand 2 for a text that reads as r: that of the program, and every run on bytes is one
+pub record Demand2On (s : List ℕ) (r : Reading) : Type 1 where
+  pub program : Demand2 (r .program)
+  pub ran :
+      (t : List ℕ) (room : ℕ) (g : GoalReading) → readGoal r t ≡ accepted g → length (runListing r g) ≤ room → Ran s t room r g

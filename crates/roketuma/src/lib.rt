@@ -1,0 +1,39 @@
+// The two replies, from bytes to bytes: the public functions, thin over the readers, the engine and the listing.
+// Their promises are the definitions of specs/Replies.antt, through specs/Answers.antt.
+mod exported;
+mod printing;
+mod running;
+
+pub use printing::put_refusal;
+pub use printing::put_reply;
+pub use printing::put_run;
+pub use running::run;
+
+// The letter of a text: S for a program's, G for a goal's.
+pub enum TextName {
+    S,
+    G,
+}
+
+// A refusal: document 01's number, the text, and the line counted from 1, or 0 where no line is meant.
+pub struct Refusal {
+    pub number: u8,
+    pub text: TextName,
+    pub line: u16,
+}
+
+// The answer of a run: a refusal, or the length of the listing that was written.
+pub enum RunReply {
+    Refused(Refusal),
+    Listed(usize),
+}
+
+// What reading has counted: symbols, rules, constants of the program and more of the goal's, constraints and goal variables.
+pub struct Sizes {
+    pub symbols: usize,
+    pub rules: usize,
+    pub own: usize,
+    pub more: usize,
+    pub constraints: usize,
+    pub variables: usize,
+}

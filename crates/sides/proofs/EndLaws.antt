@@ -1,0 +1,120 @@
+-- What a caller has of a side: an overlap's goal can be run from it, and its end is that of the definition.
+--   goal-light                    a weight for each constraint
+--   read-side                     what a side asks, from what the reading of a program promises
+--   first-side, second-side       the ends of an overlap's two sides (the main laws)
+--   side-lives                    an end that lives is over the vocabulary of its goal and its rules
+-- Assumes nothing.
+use Prim.Native.Nat.{ℕ, zero, suc, _+_, _*_, _≤_, _<_}
+use native.Mathlib.Omega.{arith}
+use mathlib.Core.Bool.{Bool, true}
+use mathlib.Core.List.{List, [], _∷_, map}
+use mathlib.Core.Path.{_≡_, refl, ap, sym, subst, _∙_}
+use lib.ListN.{length, getD, take, drop, length-drop}
+use lib.Seq.{length-take-le}
+use Rattle.text.specs.Lists.{upTo}
+use Rattle.semantics.specs.Terms.{Constraint, Symbol, Program, noSymbol, symbolAt, weight, isWellFormed, isGoalOf, alphabet}
+use Rattle.semantics.specs.Strategy.{Final}
+use Rattle.semantics.specs.Overlaps.{Overlap, secondPositions, sideEnd, firstEnd, secondEnd}
+use Rattle.semantics.proofs.Configurations.{All, none, also}
+use Rattle.semantics.proofs.Vocabulary.{ConstraintOver, RuleOver, Spoken, SpokenState, side-spoken}
+use Rattle.tables.specs.Cells.{cellTerm, cellConstraints, stateOf}
+use Rattle.tables.specs.Layout.{firstRule}
+use Rattle.tables.specs.Rows.{nameOf, symbolsOf, ruleOfRow, ruleOf, rulesOf, rowOf}
+use Rattle.engine.specs.Places.{Row}
+use Rattle.engine.specs.Stated.{statedAt}
+use Rattle.engine.proofs.RunLaws.{length-constraints}
+use Rattle.engine.proofs.GoalLaws.{AsRead, programOf, rule-stands, goal-runnable}
+use Rattle.sides.specs.Sides.{cellGoal, Sidable, Sided}
+
+-- a symbol's weight, where all symbols weigh at most 31
+symbol-light :
+    {symbols : List Symbol} → All (λ (s : Symbol). s .weight ≤ 31) symbols → (k : ℕ) → symbolAt symbols k .weight ≤ 31
+unfolding symbolAt noSymbol
+symbol-light none k = omega arith
+symbol-light (also h more) zero = h
+symbol-light (also h more) (suc k) = symbol-light more k
+
+-- the weight of constraints, an overlap's at most 7 among them
+pub goal-light :
+    (symbols : List Symbol) (cs : List Constraint) → All (λ (s : Symbol). s .weight ≤ 31) symbols
+    → weight symbols cs ≤ 31 * length cs
+unfolding weight
+goal-light symbols [] h = omega arith
+goal-light symbols (c ∷ cs) h = omega (arith, symbol-light h (c .symbol), goal-light symbols cs h)
+
+-- a goal over a program as it is read can be run from a side
+pub read-side :
+    (names symbols : List ℕ) (k : ℕ) (rules : List ℕ) (n i : ℕ) (positions goal : List ℕ) (m v : ℕ) (cells : List ℕ)
+    → AsRead names symbols k rules n → isGoalOf (programOf names symbols k rules n) (cellGoal v goal) ≡ true
+    → weight (symbolsOf names symbols k) (cellConstraints goal) ≤ 512 → i < n → length positions ≡ 4 → length goal ≡ 5 * m
+    → v ≤ 50000 → 2590 ≤ length cells → Sidable rules n i positions goal m v cells
+unfolding cellGoal
+read-side names symbols k rules n i positions goal m v cells r is-goal light l p g few space =
+    record {
+      rule = l;
+      positions-size = p;
+      goal-size = g;
+      runs = goal-runnable names symbols k rules n r (cellGoal v goal) is-goal light;
+      variables = few;
+      space = space;
+    }
+
+-- the first positions, as the code has them for the first rule
+first-stated :
+    (name row : List ℕ) → Row row → statedAt row (0 ∷ 1 ∷ 2 ∷ 3 ∷ []) ≡ upTo (length (ruleOfRow name row .heads))
+unfolding ruleOfRow
+first-stated name row r =
+    few (getD row 3 0) (r .heads-few)
+    ∙ ap upTo (sym (length-constraints (getD row 3 0) (take (5 * getD row 3 0) (drop 6 row))
+    (length-take-le (5 * getD row 3 0) (drop 6 row) (omega (arith, r .heads-few, r .size, length-drop 6 row)))))
+  where
+    few : (k : ℕ) → k ≤ 4 → take k (0 ∷ 1 ∷ 2 ∷ 3 ∷ []) ≡ upTo k
+    few zero l = refl
+    few (suc zero) l = refl
+    few (suc (suc zero)) l = refl
+    few (suc (suc (suc zero))) l = refl
+    few (suc (suc (suc (suc zero)))) l = refl
+    few (suc (suc (suc (suc (suc k))))) l = absurd (omega arith)
+
+module _ (p : Program) (names rules : List ℕ) (n : ℕ) (whole : p .rules ≡ rulesOf names rules n) (w : isWellFormed p ≡ true)
+    (i : ℕ) (positions goal : List ℕ) (v : ℕ) (bound′ cells′ : List ℕ) (alive : Bool) (count number firings : ℕ)
+    (t : Sided rules n i positions goal v bound′ cells′ alive count number firings) where
+  -- the end in cells
+  abbrev end : Final
+  end = record { state = stateOf alive number bound′ (take (5 * count) cells′); firings = firings }
+
+  -- the end of the first rule's side, at the first positions
+  pub first-side :
+      (o : Overlap) → o .goal ≡ cellGoal v goal → o .first .rule ≡ ruleOf names rules i → Row (rowOf rules i)
+      → positions ≡ 0 ∷ 1 ∷ 2 ∷ 3 ∷ [] → end ≡ firstEnd p o
+  unfolding firstEnd ruleOf
+  first-side o g r row e =
+      t .same p names whole w
+      ∙ ap (sideEnd p (cellGoal v goal) (ruleOf names rules i))
+      (ap (statedAt (rowOf rules i)) e ∙ first-stated (nameOf names (firstRule + i)) (rowOf rules i) row)
+      ∙ λ j. sideEnd p (sym g j) (sym r j) (upTo (length (sym r j .heads)))
+
+  -- the end of the second rule's side
+  pub second-side :
+      (o : Overlap) → o .goal ≡ cellGoal v goal → o .second .rule ≡ ruleOf names rules i
+      → statedAt (rowOf rules i) positions
+      ≡ secondPositions 1 (length (o .first .rule .heads)) (length (o .second .rule .heads)) (o .partners)
+      → end ≡ secondEnd p o
+  unfolding secondEnd
+  second-side o g r e =
+      t .same p names whole w ∙ ap (sideEnd p (cellGoal v goal) (ruleOf names rules i)) e
+      ∙ λ j. sideEnd p (sym g j) (sym r j)
+      (secondPositions 1 (length (o .first .rule .heads)) (length (o .second .rule .heads)) (o .partners))
+
+  -- an end that lives is over the vocabulary, and each firing has numbered 26 variables
+  pub side-lives :
+      (P : ℕ → Type 0) → isGoalOf p (cellGoal v goal) ≡ true → All (RuleOver P) (p .rules)
+      → All (ConstraintOver P) (cellConstraints goal) → i < n → alive ≡ true
+      → Spoken (p .symbols) P v (v + alphabet * firings) number (map cellTerm bound′) (cellConstraints (take (5 * count) cells′))
+  unfolding stateOf cellGoal
+  side-lives P is-goal over goal-over l y =
+      let spoken : SpokenState (p .symbols) P v (v + alphabet * firings) (end .state) =
+      subst (λ (f : Final). SpokenState (p .symbols) P v (v + alphabet * f .firings) (f .state)) (sym (t .same p names whole w))
+      (side-spoken p P (cellGoal v goal) i (ruleOf names rules i) (statedAt (rowOf rules i) positions) w is-goal over goal-over
+      (rw whole (rule-stands names rules n i l))) in
+      rw y at spoken

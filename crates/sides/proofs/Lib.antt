@@ -1,0 +1,3 @@
+-- Laws of the sides of an overlap. Assumes nothing.
+pub mod SideLaws
+pub mod EndLaws

@@ -1,0 +1,150 @@
+-- A side on cells is a side on states: one law for each way that the code goes.
+--   side-rests, side-fails, side-ends     the rule does not fit, the state fails, the strategy follows
+-- Assumes nothing.
+use Prim.Native.Nat.{ℕ, _+_, _*_, _≤_, _<_}
+use native.Mathlib.Omega.{arith}
+use mathlib.Core.Bool.{Bool, true, false, cond}
+use mathlib.Core.List.{List, map}
+use mathlib.Core.Path.{_≡_, ap, sym, _∙_}
+use lib.ListN.{length, take}
+use lib.Seq.{take-all}
+use Rattle.text.specs.Lists.{tabled}
+use Rattle.semantics.specs.Terms.{Program, failed, live, var, weight}
+use Rattle.semantics.specs.Firing.{fireAt}
+use Rattle.semantics.specs.Strategy.{goalState, normalise}
+use Rattle.semantics.specs.Overlaps.{sideEnd}
+use Rattle.tables.specs.Layout.{firstRule}
+use Rattle.tables.specs.Cells.{cellTerm, cellConstraints, stateOf}
+use Rattle.tables.specs.Rows.{nameOf, ruleOf, rowOf}
+use Rattle.engine.specs.Runs.{weightBy, Lowers, storeOf, Startable, Continued}
+use Rattle.engine.specs.Stated.{statedAt, fireRow, Stated, FiredAt}
+use Rattle.engine.proofs.ChooseLaws.{lentRow, row-cells}
+use Rattle.engine.proofs.RunLaws.{count-weight, normalise-rests, failed-rests}
+use Rattle.engine.proofs.StepLaws.{no-way}
+use Rattle.engine.proofs.GoalLaws.{well-formed-lowers}
+use Rattle.sides.specs.Sides.{cellGoal, Sidable, Sided}
+
+module _ (rules : List ℕ) (n i : ℕ) (positions goal : List ℕ) (m v : ℕ) (cells : List ℕ)
+    (s : Sidable rules n i positions goal m v cells) where
+  -- no more constraints than the weight
+  few : m ≤ 512
+  unfolding storeOf
+  few =
+      let all : take (5 * m) goal ≡ goal = take-all (5 * m) goal (omega (arith, s .goal-size)) in
+      let k : m ≤ weightBy (s .runs .weigh) (cellConstraints goal) =
+      rw all at (count-weight (s .runs .weigh) goal m (s .runs .positive) (omega (arith, s .goal-size))) in
+      omega (arith, s .runs .light)
+
+  -- the goal's cells find room
+  pub side-room : length goal ≤ length cells
+  side-room = omega (arith, few, s .goal-size, s .space)
+
+  module _ (cells₁ : List ℕ) (c : take (length goal) cells₁ ≡ goal) (size : length cells₁ ≡ length cells) where
+    -- the goal has entered
+    store : storeOf cells₁ m ≡ cellConstraints goal
+    unfolding storeOf
+    store = ap cellConstraints (ap (λ k. take k cells₁) (sym (s .goal-size)) ∙ c)
+
+    -- what firing asks
+    pub side-stated : Stated (lentRow rules i) positions v cells₁ m
+    side-stated =
+        record {
+          given = rw (row-cells i) (s .runs .table .rows i (s .rule));
+          positions-size = s .positions-size;
+          room = omega (arith, s .variables);
+          space = omega (arith, few, size, s .space);
+          low = rw store (s .runs .low);
+        }
+
+    module _ (bound₁ : List ℕ) (b : map cellTerm bound₁ ≡ tabled var v) (bound₂ cells₂ : List ℕ) (fired alive : Bool) (count : ℕ)
+        (given : FiredAt (lentRow rules i) positions v bound₁ cells₁ m bound₂ cells₂ fired alive count) where
+      f : FiredAt (rowOf rules i) positions v bound₁ cells₁ m bound₂ cells₂ fired alive count
+      f = rw (row-cells i) at given
+
+      -- the side's own firing
+      own :
+          (names : List ℕ)
+          → fireAt (ruleOf names rules i) (statedAt (rowOf rules i) positions) (goalState (cellGoal v goal))
+          ≡ fireRow (nameOf names (firstRule + i)) (rowOf rules i) positions v bound₁ cells₁ m
+      unfolding fireRow ruleOf goalState cellGoal
+      own names = rw (b, store)
+
+      -- the rule does not fit there
+      pub side-rests : fired ≡ false → Sided rules n i positions goal v bound₂ cells₂ true m v 0
+      unfolding sideEnd stateOf goalState cellGoal storeOf
+      side-rests z =
+          rw (f .rests z .0, f .rests z .1) (record {
+            same = λ p names e w.
+                rw (own names ∙ f .rests z .2 (nameOf names (firstRule + i)))
+                (λ j. record { state = live v (b j) (store j); firings = 0 });
+            bounded = λ w lw. omega arith;
+            few = λ y. few;
+          })
+
+      module _ (z : fired ≡ true) where
+        -- the side, from the state after its own firing
+        follows :
+            (p : Program) (names : List ℕ)
+            → sideEnd p (cellGoal v goal) (ruleOf names rules i) (statedAt (rowOf rules i) positions)
+            ≡ normalise (weight (p .symbols) (cellConstraints goal)) (p .rules)
+            (stateOf alive (v + 26) bound₂ (take (5 * count) cells₂)) 1
+        unfolding sideEnd cellGoal
+        follows p names = rw (own names ∙ f .moves z (nameOf names (firstRule + i)))
+
+        -- it lowers every weighing that the rules lower
+        lighter :
+            (w : ℕ → ℕ) → Lowers w rules n
+            → cond alive (weightBy w (storeOf cells₂ count)) 0 < weightBy w (cellConstraints goal)
+        lighter w lw = rw (← store) (f .lighter z w (lw .falls i (s .rule)))
+
+        -- the state has failed
+        pub side-fails : alive ≡ false → Sided rules n i positions goal v bound₂ cells₂ false count (v + 26) 1
+        unfolding stateOf
+        side-fails y =
+            record {
+              same = λ p names e w.
+                  sym (rw y at (follows p names)
+                  ∙ normalise-rests (weight (p .symbols) (cellConstraints goal)) (p .rules) failed 1 (failed-rests (p .rules)));
+              bounded = λ w lw. omega (arith, lighter w lw);
+              few = λ x. no-way x;
+            }
+
+        module _ (y : alive ≡ true) where
+          lighter-now :
+              (w : ℕ → ℕ) → Lowers w rules n → weightBy w (storeOf cells₂ count) < weightBy w (cellConstraints goal)
+          lighter-now w lw = rw y at (lighter w lw)
+
+          -- what the strategy asks
+          pub side-starts : length cells₂ ≡ length cells₁ → Startable rules n cells₂ count (v + 26)
+          side-starts e =
+              record {
+                runs = record {
+                  table = s .runs .table;
+                  low = f .low z y;
+                  weigh = s .runs .weigh;
+                  positive = s .runs .positive;
+                  lowers = s .runs .lowers;
+                  light = omega (arith, lighter-now (s .runs .weigh) (s .runs .lowers), s .runs .light);
+                };
+                space = omega (arith, e, size, s .space);
+                there = omega (arith, f .few, few);
+                room = omega (arith, s .variables);
+              }
+
+          -- it has come to its end
+          pub side-ends :
+              (bound′ cells′ : List ℕ) (lives : Bool) (k number firings : ℕ)
+              → Continued rules n bound₂ cells₂ count (v + 26) 1 bound′ cells′ lives k number firings
+              → Sided rules n i positions goal v bound′ cells′ lives k number firings
+          unfolding stateOf weight weightBy storeOf
+          side-ends bound′ cells′ lives k number firings t =
+              record {
+                same = λ p names e w.
+                    let lw = well-formed-lowers p names rules n e w in
+                    t .same names (weight (p .symbols) (cellConstraints goal))
+                    (omega (arith, t .bounded _ lw, lighter-now _ lw))
+                    ∙ sym (rw y at (follows p names) ∙ ap (λ rs. normalise (weight (p .symbols) (cellConstraints goal)) rs
+                    (live (v + 26) (map cellTerm bound₂) (storeOf cells₂ count)) 1) e);
+                bounded = λ w lw. omega (arith, t .bounded w lw, lighter-now w lw);
+                few = t .few;
+              }

@@ -1,0 +1,2 @@
+-- What a side of an overlap asks and promises. Assumes nothing.
+pub mod Sides
