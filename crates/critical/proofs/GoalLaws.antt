@@ -12,12 +12,14 @@ use lib.Seq.{length-take-le, take-at}
 use Rattle.text.specs.Lists.{every}
 use Rattle.semantics.specs.Terms.{Constraint, Goal, mapTerms, isBelow}
 use Rattle.semantics.specs.Overlaps.{unjoinedHeads, appearingIn, appearing, numbered, goalOf}
-use Rattle.tables.specs.Cells.{cellConstraints}
+use Rattle.tables.specs.Cells.{cellConstraints, isLow}
 use Rattle.tables.specs.Numbers.{orderOf, isWithin, Renumberable, Renumbered}
+use Rattle.tables.proofs.MapLaws.{low-kept}
+use Rattle.engine.proofs.RunLaws.{length-constraints}
 use Rattle.critical.specs.Joins.{goalFrom}
 use Rattle.critical.specs.Cells.{Unjoined}
 use Rattle.critical.specs.Overlapped.{Whole, Finished}
-use Rattle.critical.proofs.WithinLaws.{unjoined-within}
+use Rattle.critical.proofs.WithinLaws.{within-low, unjoined-within, rows-few}
 
 module _ (cells : List ℕ) (m n : ℕ) (partners : List ℕ) (w : Whole cells m n partners) (kept : List ℕ) (count : ℕ)
     (u : Unjoined m n (take m partners) cells kept count) (size : length kept ≡ length cells) where
@@ -51,8 +53,25 @@ module _ (cells : List ℕ) (m n : ℕ) (partners : List ℕ) (w : Whole cells m
             ∙ goal-of (cellConstraints (take (5 * count) kept)) (sym (r .counted))
             (sym (r .same) ∙ ap cellConstraints (sym (take-at front rest (5 * count) s)));
         few = u .few;
+        left =
+            sym (length-constraints count (take (5 * count) kept) (length-take-le (5 * count) kept goal-room))
+            ∙ ap length (u .same)
+            ∙ length-append (take m (cellConstraints cells)) (unjoinedHeads 1 (drop m (cellConstraints cells)) (take m partners))
+            ∙ ap (_+ length (unjoinedHeads 1 (drop m (cellConstraints cells)) (take m partners)))
+            (length-take-le m (cellConstraints cells) (omega (arith, all)));
+        variables-few =
+            let most = rows-few [] count (take (5 * count) kept) (length-take-le (5 * count) kept goal-room) in
+            omega (arith, most, r .counted);
+        low =
+            ap (λ l. every isLow (cellConstraints l)) (take-at front rest (5 * count) s)
+            ∙ ap (every isLow) (r .same)
+            ∙ low-kept (numbered (orderOf [] (take (5 * count) kept))) (cellConstraints (take (5 * count) kept))
+            ∙ within-low 52 (cellConstraints (take (5 * count) kept)) (goal-renumberable .within);
       }
     where
+      all : length (cellConstraints cells) ≡ m + n
+      all = length-constraints (m + n) cells (w .size)
+
       goal-of :
           (cs : List Constraint) {v : ℕ} {ds : List Constraint} → length (appearing [] cs) ≡ v
           → map (mapTerms (numbered (appearing [] cs))) cs ≡ ds

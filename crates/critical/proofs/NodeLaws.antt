@@ -28,7 +28,7 @@ use Rattle.critical.specs.Cells.{joinedOf, Partner, RuleRow, RulePair, h
 use Rattle.critical.specs.Overlapped.{Node, Whole}
 use Rattle.critical.proofs.TermLaws.{replaced-none}
 use Rattle.critical.proofs.PairedLaws.{paired-start, paired-next}
-use Rattle.critical.proofs.WithinLaws.{next-within}
+use Rattle.critical.proofs.WithinLaws.{within-low, next-within}
 
 -- a rule's letters, and the second's behind them
 low-letter : (t : Term) → isBelow alphabet t ≡ true → isBelow 52 t ≡ true
@@ -91,14 +91,6 @@ node-start first second start cells r s e =
       first-few = omega (arith, r .first-row .given .heads-few);
       second-few = omega (arith, r .second-row .given .heads-few);
     }
-
--- symbols that lie below the variables
-pub within-low : (v : ℕ) (cs : List Constraint) → every (isWithin v) cs ≡ true → every isLow cs ≡ true
-unfolding isWithin
-within-low v [] h = refl
-within-low v (c ∷ cs) h =
-    let (a, b) = and-true (isLow c && every (isBelow v) (c .terms)) (every (isWithin v) cs) h in
-    rw (and-true (isLow c) (every (isBelow v) (c .terms)) a .0) (within-low v cs b)
 
 module _ (hs gs : List Constraint) (ds cells : List ℕ) (w : Node hs gs ds cells) where
   -- what making the goal asks

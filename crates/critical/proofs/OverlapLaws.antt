@@ -20,9 +20,9 @@ use Rattle.tables.specs.Rows.{ruleOfRow}
 use Rattle.critical.specs.Joins.{joinNext, paired, goalFrom}
 use Rattle.critical.specs.Cells.{joinedOf, Partner, RulePair, headsOf}
 use Rattle.critical.specs.Overlapped.{Node, Whole, Finished, Partners, AllJoined, OverlapOf}
-use Rattle.critical.proofs.WithinLaws.{next-within}
+use Rattle.critical.proofs.WithinLaws.{within-low, next-within}
 use Rattle.critical.proofs.PairedLaws.{paired-cut, paired-overlap, paired-clash}
-use Rattle.critical.proofs.NodeLaws.{within-low, heads-count, node-start, node-whole, node-next, node-cut}
+use Rattle.critical.proofs.NodeLaws.{heads-count, node-start, node-whole, node-next, node-cut}
 
 -- the first h heads are joined, whichever heads these are
 pub record AllJoining (start : List ℕ) (m n : ℕ) (partners cells : List ℕ) (h : ℕ) : Type 0 where

@@ -1,25 +1,28 @@
--- The variables of joined heads stay below those of the heads.
+-- The variables of joined heads stay below those of the heads, and how many heads and variables are left.
 --   next-within        with one more head joined
 --   unjoined-within    those heads of which the goal is made
+--   rows-few           how many there are at most
+--   unjoined-fewer     fewer heads are left where one is joined
 -- Assumes nothing.
-use Prim.Native.Nat.{ℕ, zero, suc, _+_}
+use Prim.Native.Nat.{ℕ, zero, suc, _+_, _-_, _*_, _≤_, _<_}
+use native.Mathlib.Omega.{arith}
 use mathlib.Core.Bool.{Bool, true, false, cond, _&&_}
 use mathlib.Core.List.{List, [], _∷_, _++_, map}
 use mathlib.Core.Option.{Option, none, some}
 use mathlib.Core.Path.{_≡_, refl, sym, ap, subst, _∙_}
 use lib.Dec.{eqb}
-use lib.ListN.{length, take, drop, getElem?}
+use lib.ListN.{length, take, drop, getD, getElem?, length-append}
 use Rattle.text.specs.Lists.{bind, every, has}
-use Rattle.semantics.specs.Terms.{Term, Constraint, Equation, mapTerms, isBelow}
+use Rattle.semantics.specs.Terms.{Term, con, var, Constraint, Equation, mapTerms, isBelow}
 use Rattle.semantics.specs.Solving.{solve}
-use Rattle.semantics.specs.Overlaps.{equateTerms, equate, unjoinedHeads}
+use Rattle.semantics.specs.Overlaps.{equateTerms, equate, unjoinedHeads, appearingIn, appearing}
 use Rattle.semantics.proofs.Configurations.{Or, inl, inr, Member}
-use Rattle.semantics.proofs.Options.{none-some, bind-some, cond-some, cond-some-not}
-use Rattle.semantics.proofs.Bools.{and-true}
+use Rattle.semantics.proofs.Options.{decide, true-false, none-some, bind-some, cond-some, cond-some-not, eqb-equal, equal-eqb}
+use Rattle.semantics.proofs.Bools.{and-true, or-cases, or-right}
 use Rattle.semantics.proofs.Multisets.{member-cons, member-nil}
 use Rattle.semantics.proofs.Places.{some-equal}
 use Rattle.semantics.proofs.SolveLaws.{solve-keeps}
-use Rattle.tables.specs.Cells.{isLow}
+use Rattle.tables.specs.Cells.{cellTerm, cellTerms, cellConstraints, isLow}
 use Rattle.tables.specs.Numbers.{isWithin}
 use Rattle.engine.proofs.RuleLaws.{every-append}
 use Rattle.critical.specs.Joins.{joined, joinNext}
@@ -42,6 +45,14 @@ drop-passes : {A : Type 0} (p : A → Bool) (k : ℕ) (l : List A) → every p l
 drop-passes p zero l h = h
 drop-passes p (suc k) [] h = refl
 drop-passes p (suc k) (a ∷ l) h = drop-passes p k l (and-true (p a) (every p l) h .1)
+
+-- symbols that lie below the variables
+pub within-low : (v : ℕ) (cs : List Constraint) → every (isWithin v) cs ≡ true → every isLow cs ≡ true
+unfolding isWithin
+within-low v [] h = refl
+within-low v (c ∷ cs) h =
+    let (a, b) = and-true (isLow c && every (isBelow v) (c .terms)) (every (isWithin v) cs) h in
+    rw (and-true (isLow c) (every (isBelow v) (c .terms)) a .0) (within-low v cs b)
 
 -- the sides of equations between terms that pass a test pass it
 sides-pass :
@@ -126,3 +137,100 @@ pub unjoined-within :
 unjoined-within p m cs ds h =
     every-append p (take m cs) (unjoinedHeads 1 (drop m cs) ds) (take-passes p m cs h)
     (unjoined-passes p 1 (drop m cs) ds (drop-passes p m cs h))
+
+-- terms bring at most one variable each
+terms-few : (seen : List ℕ) (ts : List Term) → length (appearingIn seen ts) ≤ length seen + length ts
+unfolding appearingIn
+terms-few seen [] = omega arith
+terms-few seen (con c ∷ ts) = let more = terms-few seen ts in omega (arith, more)
+terms-few seen (var x ∷ ts) = go (has x seen) (λ s. terms-few s ts)
+  where
+    go : (b : Bool) → ((s : List ℕ) → length (appearingIn s ts) ≤ length s + length ts)
+        → length (appearingIn (cond b seen (seen ++ (x ∷ []))) ts) ≤ length seen + suc (length ts)
+    go true f = let more = f seen in omega (arith, more)
+    go false f = let more = f (seen ++ (x ∷ [])) in omega (arith, more, length-append seen (x ∷ []))
+
+cells-few : (l : List ℕ) → length (cellTerms l) ≤ length l
+unfolding cellTerms
+cells-few [] = omega arith
+cells-few (x ∷ l) = go (eqb x 0) (cells-few l)
+  where
+    go : (b : Bool) → length (cellTerms l) ≤ length l → length (cond b [] (cellTerm x ∷ cellTerms l)) ≤ suc (length l)
+    go true h = omega arith
+    go false h = omega arith
+
+-- and k constraints at most four each
+pub rows-few :
+    (seen : List ℕ) (k : ℕ) (l : List ℕ) → length l ≡ 5 * k
+    → length (appearing seen (cellConstraints l)) ≤ length seen + 4 * k
+unfolding appearing cellConstraints
+rows-few seen k [] e = omega arith
+rows-few seen k (a ∷ []) e = absurd (omega arith)
+rows-few seen k (a ∷ b ∷ []) e = absurd (omega arith)
+rows-few seen k (a ∷ b ∷ c ∷ []) e = absurd (omega arith)
+rows-few seen k (a ∷ b ∷ c ∷ d ∷ []) e = absurd (omega arith)
+rows-few seen k (a ∷ b ∷ c ∷ d ∷ f ∷ l) e =
+    let ts = cellTerms (b ∷ c ∷ d ∷ f ∷ []) in
+    let four = cells-few (b ∷ c ∷ d ∷ f ∷ []) in
+    let first = terms-few seen ts in
+    let more = rows-few (appearingIn seen ts) (k - 1) l (omega arith) in
+    omega (arith, four, first, more)
+
+-- a head that is joined is not left
+unjoined-most : (n : ℕ) (gs : List Constraint) (ds : List ℕ) → length (unjoinedHeads n gs ds) ≤ length gs
+unfolding unjoinedHeads
+unjoined-most n [] ds = omega arith
+unjoined-most n (g ∷ gs) ds = go (has n ds) (unjoined-most (suc n) gs ds)
+  where
+    go : (b : Bool) → length (unjoinedHeads (suc n) gs ds) ≤ length gs
+        → length (cond b (unjoinedHeads (suc n) gs ds) (g ∷ unjoinedHeads (suc n) gs ds)) ≤ suc (length gs)
+    go true h = omega arith
+    go false h = omega arith
+
+unjoined-less :
+    (n x : ℕ) (gs : List Constraint) (ds : List ℕ) → has x ds ≡ true → n ≤ x → x < n + length gs
+    → length (unjoinedHeads n gs ds) < length gs
+unfolding unjoinedHeads
+unjoined-less n x [] ds h l k = absurd (omega arith)
+unjoined-less n x (g ∷ gs) ds h l k = go (decide (has n ds)) (unjoined-most (suc n) gs ds) (unjoined-less (suc n) x gs ds h)
+  where
+    here : has n ds ≡ false → n ≡ x → ⊥
+    here f e = true-false (subst (λ y. has y ds ≡ true) (sym e) h) f
+
+    go : Or (has n ds ≡ true) (has n ds ≡ false) → length (unjoinedHeads (suc n) gs ds) ≤ length gs
+        → (suc n ≤ x → x < suc n + length gs → length (unjoinedHeads (suc n) gs ds) < length gs)
+        → length (cond (has n ds) (unjoinedHeads (suc n) gs ds) (g ∷ unjoinedHeads (suc n) gs ds)) < suc (length gs)
+    go (inl t) most more = rw t (omega arith)
+    go (inr t) most more =
+        let apart : n ≡ x → ⊥ = here t in
+        let less = more (omega arith) (omega arith) in
+        rw t (omega (arith, less))
+
+-- where one of the partners is a head, fewer than all are left
+some-partner : (ds : List ℕ) → every (eqb 0) ds ≡ false → (x : ℕ) × (has x ds ≡ true) × (x ≡ 0 → ⊥)
+some-partner [] h = true-false refl h
+some-partner (d ∷ ds) h = go (decide (eqb 0 d)) (some-partner ds)
+  where
+    go : Or (eqb 0 d ≡ true) (eqb 0 d ≡ false)
+        → (every (eqb 0) ds ≡ false → (x : ℕ) × (has x ds ≡ true) × (x ≡ 0 → ⊥))
+        → (x : ℕ) × (has x (d ∷ ds) ≡ true) × (x ≡ 0 → ⊥)
+    go (inl t) more =
+        let (x, a, b) = more (rw t at h) in
+        (x, or-right (eqb x d) (has x ds) a, b)
+    go (inr t) more = (d, rw (equal-eqb {m = d} {n = d} refl), λ e. true-false (equal-eqb (sym e)) t)
+
+has-below : (x b : ℕ) (ds : List ℕ) → ((h : ℕ) → h < length ds → getD ds h 0 ≤ b) → has x ds ≡ true → x ≤ b
+has-below x b [] f h = true-false h refl
+has-below x b (d ∷ ds) f h = go (or-cases (eqb x d) (has x ds) h) (has-below x b ds (λ k l. f (suc k) (omega arith)))
+  where
+    go : Or (eqb x d ≡ true) (has x ds ≡ true) → (has x ds ≡ true → x ≤ b) → x ≤ b
+    go (inl e) more = let same : x ≡ d = eqb-equal e in let first = f 0 (omega arith) in omega (arith, same, first)
+    go (inr e) more = more e
+
+pub unjoined-fewer :
+    (gs : List Constraint) (ds : List ℕ) → ((h : ℕ) → h < length ds → getD ds h 0 ≤ length gs) → every (eqb 0) ds ≡ false
+    → length (unjoinedHeads 1 gs ds) < length gs
+unjoined-fewer gs ds f h =
+    let (x, a, b) = some-partner ds h in
+    let most = has-below x (length gs) ds f a in
+    unjoined-less 1 x gs ds a (omega arith) (omega (arith, most))

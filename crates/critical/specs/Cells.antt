@@ -30,22 +30,22 @@ termsFrom cells at k = cellTerms (take k (drop at cells))
 -- what joining the heads at two places asks: all symbols lie below the variables' cells
 pub record Heads (cells : List ℕ) (a b : ℕ) : Type 0 where
   pub low : every isLow (cellConstraints cells) ≡ true
-  pub first : a + 5 ≤ length cells
-  pub second : b + 5 ≤ length cells
+  pub first : a + constraintSize ≤ length cells
+  pub second : b + constraintSize ≤ length cells
 
 -- what joining head h to partner d asks: there are such heads, and partners for the heads before
 pub record Partner (cells : List ℕ) (m : ℕ) (partners : List ℕ) (h d : ℕ) : Type 0 where
   pub low : every isLow (cellConstraints cells) ≡ true
   pub first : h < m
   pub few : m ≤ 4
-  pub second : 5 * (m + d) ≤ length cells
+  pub second : constraintSize * (m + d) ≤ length cells
   pub partners-size : length partners ≡ 4
 
 -- k heads are left: the m of the first rule, and those of the second's n that the partners leave alone
 pub record Unjoined (m n : ℕ) (ds cells cells′ : List ℕ) (k : ℕ) : Type 0 where
   pub few : k ≤ m + n
   pub same :
-      cellConstraints (take (5 * k) cells′)
+      cellConstraints (take (constraintSize * k) cells′)
       ≡ take m (cellConstraints cells) ++ unjoinedHeads 1 (drop m (cellConstraints cells)) ds
 
 -- a rule's row whose heads can be joined: their symbols lie below the variables' cells

@@ -9,12 +9,12 @@ use mathlib.Core.Bool.{Bool, true, false, cond}
 use mathlib.Core.List.{List, []}
 use mathlib.Core.Option.{none, some}
 use mathlib.Core.Path.{_≡_}
-use lib.ListN.{length, take, getD}
+use lib.ListN.{length, take, drop, getD}
 use Rattle.text.specs.Lists.{every}
 use Rattle.semantics.specs.Terms.{Constraint}
-use Rattle.semantics.specs.Overlaps.{isOneToOne, Numbered, overlapOf}
+use Rattle.semantics.specs.Overlaps.{isOneToOne, unjoinedHeads, Numbered, overlapOf}
 use Rattle.tables.specs.Layout.{constraintSize, headsCell}
-use Rattle.tables.specs.Cells.{cellConstraints}
+use Rattle.tables.specs.Cells.{cellConstraints, isLow}
 use Rattle.tables.specs.Rows.{ruleOfRow}
 use Rattle.tables.specs.Numbers.{isWithin}
 use Rattle.critical.specs.Joins.{paired, goalFrom}
@@ -45,6 +45,9 @@ pub record Finished (cells : List ℕ) (m n : ℕ) (partners cells′ : List ℕ
       goalFrom m (take m partners) (cellConstraints cells)
       ≡ record { variables = variables; constraints = cellConstraints (take (constraintSize * count) cells′) }
   pub few : count ≤ m + n
+  pub left : count ≡ m + length (unjoinedHeads 1 (drop m (cellConstraints cells)) (take m partners))
+  pub variables-few : variables ≤ 4 * count
+  pub low : every isLow (cellConstraints (take (constraintSize * count) cells′)) ≡ true
 
 -- partners for the heads of a rule, each of them one of n
 pub record Partners (partners : List ℕ) (m n : ℕ) : Type 0 where

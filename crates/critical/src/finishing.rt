@@ -10,12 +10,13 @@ ghost use lib.Dec.{eqb};
 ghost use lib.ListN.{length, take};
 ghost use Rattle.text.specs.Lists.{placeFrom};
 ghost use Rattle.semantics.specs.Overlaps.{secondPositions};
+ghost use Rattle.tables.specs.Layout.{constraintSize};
 ghost use Rattle.critical.specs.Cells.{Unjoined};
 ghost use Rattle.critical.specs.Overlapped.{Whole, Finished};
 
 // Removes the joined heads of the second rule, whose n heads stand behind m of the first; answers how many are left in all.
 pub fn drop_joined(cells: &mut [u16], m: usize, n: usize, partners: [usize; 4]) -> usize
-    requires { ⌜ (length (now cells) ≡ 5 * (m + n)) × (m ≤ 4) × (n ≤ 4) × (length partners ≡ 4) ⌝ }
+    requires { ⌜ (length (now cells) ≡ constraintSize * (m + n)) × (m ≤ 4) × (n ≤ 4) × (length partners ≡ 4) ⌝ }
     ensures { λ r. ⌜ Unjoined m n (take m partners) (now (cells .entry)) (now (cells .exit)) r ⌝ }
 {
     let mut g = 0;

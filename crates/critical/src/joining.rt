@@ -2,9 +2,11 @@
 // terms throughout.
 use engine::search::is_chosen;
 use engine::solving::unify;
+use tables::layout::CONSTRAINT_SIZE;
 ghost use mathlib.Core.Path.{_≡_};
 ghost use Prim.Native.Nat.{_+_, _*_, _≤_, _<_};
 ghost use lib.ListN.{length, take, drop};
+ghost use Rattle.tables.specs.Layout.{constraintSize};
 ghost use Rattle.tables.specs.Cells.{rowConstraint, cellConstraints};
 ghost use Rattle.critical.specs.Joins.{joinedTerms, joined, joinNext};
 ghost use Rattle.critical.specs.Cells.{joinedOf, termsFrom, Heads, Partner};
@@ -19,7 +21,7 @@ pub fn join_terms(cells: &mut [u16], a: usize, b: usize) -> bool
     let mut equations = [0u16; 0];
     let mut bound = [0u16; 0];
     let mut c = 1;
-    while c < 5 {
+    while c < CONSTRAINT_SIZE {
         let x = cells[a + c];
         let y = cells[b + c];
         if x == 0 {
@@ -38,13 +40,13 @@ pub fn join_terms(cells: &mut [u16], a: usize, b: usize) -> bool
 
 // Joins the heads at two positions: they unify throughout, or the answer is false.
 pub fn join_heads(cells: &mut [u16], h: usize, g: usize) -> bool
-    requires { ⌜ Heads (now cells) (5 * h) (5 * g) ⌝ }
+    requires { ⌜ Heads (now cells) (constraintSize * h) (constraintSize * g) ⌝ }
     ensures { λ r. ⌜ joinedOf r (now (cells .exit))
-        ≡ joined (rowConstraint (take 5 (drop (5 * h) (now (cells .entry)))))
-        (rowConstraint (take 5 (drop (5 * g) (now (cells .entry))))) (cellConstraints (now (cells .entry))) ⌝ }
+        ≡ joined (rowConstraint (take constraintSize (drop (constraintSize * h) (now (cells .entry)))))
+        (rowConstraint (take constraintSize (drop (constraintSize * g) (now (cells .entry))))) (cellConstraints (now (cells .entry))) ⌝ }
 {
-    let a = 5 * h;
-    let b = 5 * g;
+    let a = CONSTRAINT_SIZE * h;
+    let b = CONSTRAINT_SIZE * g;
     if cells[a] != cells[b] {
         return false;
     }
