@@ -36,7 +36,10 @@ loop-less : tie.Need-loop-less Inv-loop μ-loop
 loop-less c = omega arith
 
 loop-again : tie.Need-loop-again Inv-loop μ-loop
-loop-again c = (search standing-joined, omega arith)
+loop-again c =
+    let turn = c .before .before in
+    (standing-joined _ _ _ _ _ _ (turn .before .loop .inv .0) (turn .loop-test .taken) _ (c .before .partner-of .ensures .0)
+    (c .if1 .taken), omega arith)
 
 mul-positions-2 : tie.Need-mul-positions-2 Inv-loop μ-loop
 mul-positions-2 c = omega arith

@@ -2,7 +2,7 @@
 -- Assumes nothing.
 use Prim.Native.Nat.{_-_}
 use native.Mathlib.Omega.{arith}
-use mathlib.Core.Path.{_≡_}
+use mathlib.Core.Path.{_≡_, refl}
 use lib.ListN.{length}
 use borrow.Author.Needs.{needs}
 use borrow.Author.Tests.{not-true, not-false}
@@ -22,7 +22,7 @@ abbrev μ-loop : tie.MeasureT-loop
 μ-loop cells₀ a b equations₀ bound₀ c₀ cells equations bound c = 5 - c
 
 loop-holds : tie.Need-loop-holds Inv-loop μ-loop
-loop-holds c = search (needs, joining-start)
+loop-holds c = (joining-start _ _ _ (c .before .pre), refl, refl)
 
 add-x : tie.Need-add-x Inv-loop μ-loop
 add-x c = omega arith

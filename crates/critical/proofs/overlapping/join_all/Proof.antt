@@ -16,7 +16,7 @@ abbrev μ-loop : tie.MeasureT-loop
 μ-loop cells₀ m n partners h₀ cells h = m - h
 
 loop-holds : tie.Need-loop-holds Inv-loop μ-loop
-loop-holds c = search all-start
+loop-holds c = all-start _ _ _ _ (c .before .pre .0) (c .before .pre .1)
 
 mul-join-partner : tie.Need-mul-join-partner Inv-loop μ-loop
 mul-join-partner c = omega arith
