@@ -17,7 +17,8 @@ use lib.Seq.{take-at, drop-at, drop-nil}
 use Rattle.text.specs.Lists.{bind}
 use Rattle.semantics.specs.Terms.{Term, Constraint, Equation, mapTerms, mapSides}
 use Rattle.semantics.specs.Solving.{unify, solve}
-use Rattle.semantics.specs.Overlaps.{equateTerms, equate, joinEquations, unjoinedHeads, goalOf, apart, Numbered, Overlap, overlapOf}
+use Rattle.semantics.specs.Overlaps.{equateTerms, equate, joinEquations, unjoinedHeads, goalOf, apart}
+use Rattle.semantics.specs.Overlaps.{Numbered, Overlap, overlapOf}
 use Rattle.semantics.proofs.Options.{bind-some, none-some}
 use Rattle.semantics.proofs.Places.{some-equal}
 use Rattle.semantics.proofs.Pairings.{leftover-map, unjoined-leftover}

@@ -29,13 +29,15 @@ module _ (p : Program) where
   judged-none n shown = record { goes = λ h more. refl; stops = λ h. true-false h refl }
 
   -- an overlap that joins
-  pub judged-joins : (n : ℕ) (o : Overlap) (shown : Option Overlap) → isJoinable p o ≡ true → Judged p n (o ∷ []) false (suc n) shown
+  pub judged-joins :
+      (n : ℕ) (o : Overlap) (shown : Option Overlap) → isJoinable p o ≡ true → Judged p n (o ∷ []) false (suc n) shown
   unfolding judge
   judged-joins n o shown e = record { goes = λ h more. rw e; stops = λ h. true-false h refl }
 
   -- an overlap that does not
   pub judged-parts :
-      (n k : ℕ) (o : Overlap) (shown : Option Overlap) → isJoinable p o ≡ false → shown ≡ some o → Judged p n (o ∷ []) true k shown
+      (n k : ℕ) (o : Overlap) (shown : Option Overlap) → isJoinable p o ≡ false → shown ≡ some o
+      → Judged p n (o ∷ []) true k shown
   unfolding judge
   judged-parts n k o shown e s = record { goes = λ h. true-false refl h; stops = λ h. (o, s, λ more. rw e) }
 

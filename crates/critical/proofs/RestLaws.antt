@@ -16,7 +16,8 @@ use lib.Seq.{drop-cons}
 use Rattle.text.specs.Lists.{onward, bind, has, answers, gather, tabled, upTo}
 use Rattle.text.proofs.Laws.{tabled-length, tabled-at}
 use Rattle.semantics.specs.Terms.{mapTerms}
-use Rattle.semantics.specs.Overlaps.{partnerLists, isOneToOne, isPairing, pairings, apart, Numbered, Overlap, overlapOf, overlapsOf}
+use Rattle.semantics.specs.Overlaps.{partnerLists, isOneToOne, isPairing, pairings, apart}
+use Rattle.semantics.specs.Overlaps.{Numbered, Overlap, overlapOf, overlapsOf}
 use Rattle.semantics.proofs.Configurations.{Or, inl, inr}
 use Rattle.semantics.proofs.Options.{decide, true-false, apart-eqb, equal-eqb, eqb-equal}
 use Rattle.semantics.proofs.Bools.{and-true, or-false}
@@ -178,7 +179,8 @@ module _ (i j : Numbered) where
   -- the numbers from d on
   from-next : (n d : ℕ) → d < n → drop d (upTo n) ≡ d ∷ drop (suc d) (upTo n)
   from-next n d h =
-      drop-cons (upTo n) d 0 (omega (arith, tabled-length (λ e. e) n)) ∙ ap (_∷ drop (suc d) (upTo n)) (tabled-at (λ e. e) n d 0 h)
+      drop-cons (upTo n) d 0 (omega (arith, tabled-length (λ e. e) n))
+      ∙ ap (_∷ drop (suc d) (upTo n)) (tabled-at (λ e. e) n d 0 h)
 
   -- partner d, and the later ones
   pub rest-next :

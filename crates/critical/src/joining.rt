@@ -43,7 +43,8 @@ pub fn join_heads(cells: &mut [u16], h: usize, g: usize) -> bool
     requires { ⌜ Heads (now cells) (constraintSize * h) (constraintSize * g) ⌝ }
     ensures { λ r. ⌜ joinedOf r (now (cells .exit))
         ≡ joined (rowConstraint (take constraintSize (drop (constraintSize * h) (now (cells .entry)))))
-        (rowConstraint (take constraintSize (drop (constraintSize * g) (now (cells .entry))))) (cellConstraints (now (cells .entry))) ⌝ }
+        (rowConstraint (take constraintSize (drop (constraintSize * g) (now (cells .entry)))))
+        (cellConstraints (now (cells .entry))) ⌝ }
 {
     let a = CONSTRAINT_SIZE * h;
     let b = CONSTRAINT_SIZE * g;

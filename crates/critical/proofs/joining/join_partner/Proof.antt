@@ -31,7 +31,7 @@ same-length c = search needs
 returns-3 : tie.Need-returns-3
 returns-3 c =
     let here = c .before .before .before .before in
-    partner-new _ _ _ _ _ (c .before .before .before .before .before .before .before .before .pre) (here .before .before .if1 .left) _ _ _ (here .if2 .left)
+    partner-new _ _ _ _ _ (here .before .before .before .before .pre) (here .before .before .if1 .left) _ _ _ (here .if2 .left)
     (here .before .is-chosen .ensures) (c .before .before .join-heads .ensures)
 
 pub join-partner-spec : {M : Type 1} → statement M
