@@ -105,7 +105,7 @@ module _ (start : List ℕ) (m n : ℕ) (partners cells : List ℕ) (h : ℕ) (w
             joins = λ z. true-false z refl;
             clashes = λ z hs gs a b v.
                 let q : take m partners
-                    ≡ (take h partners ++ (getD partners h 0 ∷ [])) ++ take (m - suc h) (drop (suc h) partners) =
+                ≡ (take h partners ++ (getD partners h 0 ∷ [])) ++ take (m - suc h) (drop (suc h) partners) =
                 let k : m ≡ suc h + (m - suc h) = omega arith in
                 ap (λ k. take k partners) k ∙ take-add (suc h) (m - suc h) partners
                 ∙ ap (_++ take (m - suc h) (drop (suc h) partners)) more in
@@ -145,9 +145,10 @@ module _ (first second start partners : List ℕ) (pair : RulePair first second 
   -- what joining all heads asks
   pub overlap-whole :
       Partners partners (getD first 3 0) (getD second 3 0) → Whole cells m n partners × Partners partners m n
-  overlap-whole b =
-      (whole-of [] cells node,
-      subst (λ k. Partners partners k n) (sym em) (subst (λ k. Partners partners (getD first 3 0) k) (sym en) b))
+  overlap-whole b = (
+    whole-of [] cells node,
+    subst (λ k. Partners partners k n) (sym em) (subst (λ k. Partners partners (getD first 3 0) k) (sym en) b),
+  )
 
   -- rules that have these heads
   of-rules :
@@ -189,7 +190,7 @@ module _ (first second start partners : List ℕ) (pair : RulePair first second 
                 let e : paired (i .rule .heads) ds (map (mapTerms apart) (j .rule .heads)) ≡ some (cellConstraints cells′) =
                 of-rules i j a b ds ∙ ap (λ k. paired hs (take k partners) gs) (sym em) ∙ joint .same in
                 let g : goalFrom (length (i .rule .heads)) ds (cellConstraints cells′)
-                    ≡ record { variables = variables; constraints = cellConstraints (take (5 * count) made) } =
+                ≡ record { variables = variables; constraints = cellConstraints (take (5 * count) made) } =
                 ap (λ k. goalFrom k ds (cellConstraints cells′)) (ap length a ∙ first-count)
                 ∙ ap (λ k. goalFrom m (take k partners) (cellConstraints cells′)) (sym em) ∙ f .goal in
                 paired-overlap i j ds (cellConstraints cells′) e

@@ -86,8 +86,5 @@ pub fn finish(cells: &mut [u16], m: usize, n: usize, partners: [usize; 4]) -> Go
     let mut table = [0; 52];
     let mut bound = [0; 0];
     let variables = number(&mut table, &mut bound, &mut cells[..e]);
-    Goal {
-        count,
-        variables,
-    }
+    Goal { count, variables }
 }

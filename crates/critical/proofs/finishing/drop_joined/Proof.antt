@@ -41,9 +41,12 @@ loop-less c = omega arith
 loop-again : tie.Need-loop-again Inv-loop μ-loop
 loop-again c =
     let here = c .before .before .before .before in
-    let turn = here .before .before in
-    (dropping-kept _ _ _ _ _ _ _ (turn .before .loop .inv .0) (turn .loop-test .taken) _ _ (not-true _ (here .if1 .taken))
-    (here .before .is-chosen .ensures) (c .before .before .move-row .ensures), search needs, search needs)
+    let turn = here .before .before in (
+      dropping-kept _ _ _ _ _ _ _ (turn .before .loop .inv .0) (turn .loop-test .taken) _ _ (not-true _ (here .if1 .taken))
+          (here .before .is-chosen .ensures) (c .before .before .move-row .ensures),
+      search needs,
+      search needs,
+    )
 
 loop-less-2 : tie.Need-loop-less-2 Inv-loop μ-loop
 loop-less-2 c = omega arith

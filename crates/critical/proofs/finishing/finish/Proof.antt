@@ -37,9 +37,10 @@ slice-aggregate-number-3 c =
 number-requires : tie.Need-number-requires
 number-requires c κs =
     let dropped = c .before .before .before .before .before in
-    let start = dropped .before .before .before in
-    (zeros (replicate 52 0) 52 refl,
-    goal-renumberable _ _ _ _ (start .pre) _ _ (dropped .drop-joined .ensures) (dropped .drop-joined .kept .0))
+    let start = dropped .before .before .before in (
+      zeros (replicate 52 0) 52 refl,
+      goal-renumberable _ _ _ _ (start .pre) _ _ (dropped .drop-joined .ensures) (dropped .drop-joined .kept .0),
+    )
 
 same-length : tie.Need-same-length
 same-length c = search needs

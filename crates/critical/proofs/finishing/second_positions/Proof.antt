@@ -37,9 +37,11 @@ loop-less c = omega arith
 
 loop-again : tie.Need-loop-again Inv-loop μ-loop
 loop-again c =
-    let turn = c .before .before in
-    (standing-joined _ _ _ _ _ _ (turn .before .loop .inv .0) (turn .loop-test .taken) _ (c .before .partner-of .ensures .0)
-    (c .if1 .taken), omega arith)
+    let turn = c .before .before in (
+      standing-joined _ _ _ _ _ _ (turn .before .loop .inv .0) (turn .loop-test .taken) _ (c .before .partner-of .ensures .0)
+          (c .if1 .taken),
+      omega arith,
+    )
 
 mul-positions-2 : tie.Need-mul-positions-2 Inv-loop μ-loop
 mul-positions-2 c = omega arith

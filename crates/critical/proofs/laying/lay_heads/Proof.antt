@@ -28,9 +28,12 @@ slice-aggregate-lay c = sym (length-take-le _ _ (omega arith))
 
 lay-requires : tie.Need-lay-requires
 lay-requires c κs =
-    let start = c .before .before .before .before .before .before in
-    (search needs, length-take-le (5 * c .before .wide .result) (start .args .cells .now) (omega arith)
-    ∙ ap (5 *_) (c .before .wide .ensures .0), omega arith)
+    let start = c .before .before .before .before .before .before in (
+      search needs,
+      length-take-le (5 * c .before .wide .result) (start .args .cells .now) (omega arith)
+          ∙ ap (5 *_) (c .before .wide .ensures .0),
+      omega arith,
+    )
 
 mul-lay : tie.Need-mul-lay
 mul-lay c = search needs
