@@ -1,0 +1,3 @@
+-- Laws of the comparison. Assumes nothing.
+pub mod PairLaws
+pub mod PlaceLaws

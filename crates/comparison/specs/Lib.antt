@@ -1,0 +1,3 @@
+-- What the comparison's tables stand for, and what its functions promise. Assumes nothing.
+pub mod Renamings
+pub mod Placements
