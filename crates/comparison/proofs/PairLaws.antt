@@ -191,7 +191,7 @@ module _ (x y : ℕ) (f b : List ℕ) where
                 joined = λ ps g t. (
                   record { left = x - 256; right = y - 256 } ∷ ps,
                   pair-high f b ps g x y hx hy
-                  ∙ rw (ne-eqb (getD f x 0) y other-partner, eq-eqb (getD f x 0) 0 zx, eq-eqb (getD b y 0) 0 zy),
+                      ∙ rw (ne-eqb (getD f x 0) y other-partner, eq-eqb (getD f x 0) 0 zx, eq-eqb (getD b y 0) 0 zy),
                   graph-new f b ps g x y hx hy lx ly zx zy,
                 );
                 apart = λ ps g t. true-false refl t;
@@ -299,8 +299,10 @@ module _ (a b f₀ g₀ f g : List ℕ) (fresh : List Bool) (i : ℕ) (r : Rows 
   unfolding pairTerms cellTerms
   columns-done l =
       answer true
-      (λ qs k t. rw (drop-of-length-le a {i = suc i} (omega (arith, r .left-size)),
-      drop-of-length-le b {i = suc i} (omega (arith, r .right-size))))
+      (λ qs k t. rw (
+        drop-of-length-le a {i = suc i} (omega (arith, r .left-size)),
+        drop-of-length-le b {i = suc i} (omega (arith, r .right-size)),
+      ))
       (λ qs k t. true-false (sym t) refl)
 
   module _ (l : i < 4) where
@@ -315,10 +317,14 @@ module _ (a b f₀ g₀ f g : List ℕ) (fresh : List Bool) (i : ℕ) (r : Rows 
     unfolding pairTerms
     columns-end z =
         rw (add-one i) (answer (eqb (getD b (suc i) 0) 0)
-        (λ qs k t. rw (terms-none a (suc i) inside (rw (add-one i) at z),
-        terms-none b (suc i) inside′ (eqb-true (getD b (suc i) 0) 0 t)))
-        (λ qs k t. rw (terms-none a (suc i) inside (rw (add-one i) at z),
-        terms-more b (suc i) inside′ (eqb-false (getD b (suc i) 0) 0 t))))
+        (λ qs k t. rw (
+          terms-none a (suc i) inside (rw (add-one i) at z),
+          terms-none b (suc i) inside′ (eqb-true (getD b (suc i) 0) 0 t),
+        ))
+        (λ qs k t. rw (
+          terms-none a (suc i) inside (rw (add-one i) at z),
+          terms-more b (suc i) inside′ (eqb-false (getD b (suc i) 0) 0 t),
+        )))
 
     module _ (nz : getD a (i + 1) 0 ≡ 0 → ⊥) where
       more : cellTerms (drop (suc i) a) ≡ cellTerm (getD a (suc i) 0) ∷ cellTerms (drop (suc (suc i)) a)

@@ -26,13 +26,14 @@ use Rattle.comparison.specs.Renamings.{Graph, Marks, Below, Rows, RowsLi
 use Rattle.comparison.specs.Placements.{attempted, placed, Placing, Tried}
 
 -- no mark is set
-pub marks-none : (n : ℕ) → Marks (replicate n false) []
-marks-none n = record { marked = go n }
+pub marks-none : (m n : ℕ) → Marks (take m (replicate n false)) []
+marks-none m n = record { marked = go m n }
   where
-    go : (n j : ℕ) → getD (replicate n false) j false ≡ false
-    go zero j = refl
-    go (suc n) zero = refl
-    go (suc n) (suc j) = go n j
+    go : (m n j : ℕ) → getD (take m (replicate n false)) j false ≡ false
+    go zero n j = refl
+    go (suc m) zero j = refl
+    go (suc m) (suc n) zero = refl
+    go (suc m) (suc n) (suc j) = go m n j
 
 -- a number stands in a list with another behind it
 has-behind : (j : ℕ) (us : List ℕ) (k : ℕ) → has j (us ++ (k ∷ [])) ≡ (has j us || eqb j k)
@@ -165,20 +166,20 @@ module _ (a b : List ℕ) (j : ℕ) (used : List Bool) (f g : List ℕ) (s : Pla
 
       -- what the tables are without what was made
       module _ (f″ g″ : List ℕ) (cf : f″ ≡ cleared fresh (drop 1 (take 5 a)) f′) (cg : g″ ≡ cleared fresh (drop 1 (lent b j)) g′)
-          where
-        forth-again : f″ ≡ f
-        forth-again = cf ∙ w .forth-back
+        where
+          forth-again : f″ ≡ f
+          forth-again = cf ∙ w .forth-back
 
-        back-again : g″ ≡ g
-        back-again = cg ∙ w .back-back
+          back-again : g″ ≡ g
+          back-again = cg ∙ w .back-back
 
-        -- nor one whose terms cannot be made equal
-        pub try-apart : fits ≡ false → Tried false (attempted a b j) used f g used f″ g″
-        try-apart t =
-            record {
-              same = λ us ps m k. sym (at-terms us ps m ∙ rw (w .same .apart ps k t));
-              kept = λ z. (refl, forth-again, back-again);
-            }
+          -- nor one whose terms cannot be made equal
+          pub try-apart : fits ≡ false → Tried false (attempted a b j) used f g used f″ g″
+          try-apart t =
+              record {
+                same = λ us ps m k. sym (at-terms us ps m ∙ rw (w .same .apart ps k t));
+                kept = λ z. (refl, forth-again, back-again);
+              }
 
       module _ (t : fits ≡ true) (lf : length f′ ≡ length f) (lg : length g′ ≡ length g) where
         -- what placing the others asks

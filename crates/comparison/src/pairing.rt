@@ -88,25 +88,16 @@ pub fn pair_rows(a: &[u16], b: &[u16], forth: &mut [u16], back: &mut [u16]) -> L
             };
         }
         if y == 0 {
-            return Links {
-                fits: false,
-                fresh,
-            };
+            return Links { fits: false, fresh };
         }
         let link = pair(x, y, forth, back);
         fresh[i] = link.fresh;
         if !link.fits {
-            return Links {
-                fits: false,
-                fresh,
-            };
+            return Links { fits: false, fresh };
         }
         i += 1;
     }
-    Links {
-        fits: true,
-        fresh,
-    }
+    Links { fits: true, fresh }
 }
 
 // Forgets the partners that were made in the columns of two constraints.

@@ -7,7 +7,14 @@ ghost use lib.ListN.{length};
 ghost use Rattle.comparison.specs.Placements.{Placing, Tried, attempted, placed};
 
 // Whether the first of the constraints that are left can be the one at position j, the others being placed behind it.
-pub fn attempt(a: &[u16], b: &[u16], j: usize, used: &mut [bool], forth: &mut [u16], back: &mut [u16]) -> bool
+pub fn attempt(
+    a: &[u16],
+    b: &[u16],
+    j: usize,
+    used: &mut [bool],
+    forth: &mut [u16],
+    back: &mut [u16],
+) -> bool
     requires { ⌜ Placing (now a) (now b) (now used) (now forth) (now back) × (j < length (now used)) × (5 ≤ length (now a)) ⌝ }
     ensures { λ r. ⌜ Tried r (attempted (now (a .entry)) (now (b .entry)) j) (now (used .entry)) (now (forth .entry))
         (now (back .entry)) (now (used .exit)) (now (forth .exit)) (now (back .exit)) ⌝ }

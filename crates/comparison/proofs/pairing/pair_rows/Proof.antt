@@ -60,9 +60,10 @@ pair-requires c κs =
     let pre′ = (c .before .before .before .before .before .before .before .before .before .before .before .before .pre) in
     let loop′ = (c .before .before .before .before .before .before .before .loop) in
     let loop-test′ = (c .before .before .before .before .before .before .loop-test) in
-    let if1′ = (c .before .before .before .if1) in
-    (columns-left _ _ _ _ _ _ _ _ pre′ (loop′ .inv) (loop-test′ .taken) (if1′ .left),
-    columns-right _ _ _ _ _ _ _ _ pre′ (loop′ .inv) (loop-test′ .taken) (if1′ .left))
+    let if1′ = (c .before .before .before .if1) in (
+      columns-left _ _ _ _ _ _ _ _ pre′ (loop′ .inv) (loop-test′ .taken) (if1′ .left),
+      columns-right _ _ _ _ _ _ _ _ pre′ (loop′ .inv) (loop-test′ .taken) (if1′ .left),
+    )
 
 array-write-fresh : tie.Need-array-write-fresh Inv-loop μ-loop
 array-write-fresh c = omega arith

@@ -111,9 +111,11 @@ attempt-pair-rows-requires t c κs =
 attempt-unpair-requires : (t : ℕ) → attempt-lts.Need-unpair-requires (attempt-calls t) (attempt-at t) attempt.Post
 attempt-unpair-requires t c κs =
     let pre′ = (c .before .before .before .before .before .before .before .before .before .before .before .before .before .before .before .before .before .before .before .before .before .before .before .before .pre) in
-    let pair-rows′ = (c .before .before .before .before .before .before .before .before .before .pair-rows) in
-    (try-rows-in _ _ _ _ _ _ (pre′ .1 .0) (pre′ .1 .1) (pre′ .1 .2) _ _ (pair-rows′ .kept .1 .1 .0)
-    (pair-rows′ .kept .1 .1 .1 .0), pair-rows′ .ensures .size)
+    let pair-rows′ = (c .before .before .before .before .before .before .before .before .before .pair-rows) in (
+      try-rows-in _ _ _ _ _ _ (pre′ .1 .0) (pre′ .1 .1) (pre′ .1 .2) _ _ (pair-rows′ .kept .1 .1 .0)
+          (pair-rows′ .kept .1 .1 .1 .0),
+      pair-rows′ .ensures .size,
+    )
 
 attempt-same-length : (t : ℕ) → attempt-lts.Need-same-length (attempt-calls t) (attempt-at t) attempt.Post
 attempt-same-length t c = search needs
@@ -150,9 +152,11 @@ attempt-place-requires t c κs =
     let if1′ = (c .before .before .before .before .before .before .before .before .before .before .before .before .before .before .before .before .before .before .before .if1) in
     let if2′ = (c .before .before .before .before .before .before .before .before .before .before .before .before .before .before .before .before .if2) in
     let pair-rows′ = (c .before .before .before .before .before .before .before .before .before .before .before .pair-rows) in
-    let if3′ = (c .before .before .before .before .if3) in
-    (omega (arith, pre′ .0), try-others _ _ _ _ _ _ (pre′ .1 .0) (pre′ .1 .1) (pre′ .1 .2) (if1′ .left) (if2′ .left) _ _ _ _
-    (pair-rows′ .ensures) (not-false _ (if3′ .left)) (pair-rows′ .kept .1 .1 .0) (pair-rows′ .kept .1 .1 .1 .0))
+    let if3′ = (c .before .before .before .before .if3) in (
+      omega (arith, pre′ .0),
+      try-others _ _ _ _ _ _ (pre′ .1 .0) (pre′ .1 .1) (pre′ .1 .2) (if1′ .left) (if2′ .left) _ _ _ _
+          (pair-rows′ .ensures) (not-false _ (if3′ .left)) (pair-rows′ .kept .1 .1 .0) (pair-rows′ .kept .1 .1 .1 .0),
+    )
 
 attempt-same-length-3 : (t : ℕ) → attempt-lts.Need-same-length-3 (attempt-calls t) (attempt-at t) attempt.Post
 attempt-same-length-3 t c =
@@ -195,10 +199,12 @@ attempt-unpair-requires-2 : (t : ℕ) → attempt-lts.Need-unpair-requires-2 (at
 attempt-unpair-requires-2 t c κs =
     let pre′ = (c .before .before .before .before .before .before .before .before .before .before .before .before .before .before .before .before .before .before .before .before .before .before .before .before .before .before .before .before .before .before .before .before .before .before .before .before .pre) in
     let place′ = (c .before .before .before .before .before .before .before .before .before .place) in
-    let pair-rows′ = (c .before .before .before .before .before .before .before .before .before .before .before .before .before .before .before .before .before .before .before .before .before .pair-rows) in
-    (try-rows-in _ _ _ _ _ _ (pre′ .1 .0) (pre′ .1 .1) (pre′ .1 .2) _ _
-    (place′ .kept .1 .1 .1 .0 ∙ pair-rows′ .kept .1 .1 .0)
-    (place′ .kept .1 .1 .1 .1 .0 ∙ pair-rows′ .kept .1 .1 .1 .0), pair-rows′ .ensures .size)
+    let pair-rows′ = (c .before .before .before .before .before .before .before .before .before .before .before .before .before .before .before .before .before .before .before .before .before .pair-rows) in (
+      try-rows-in _ _ _ _ _ _ (pre′ .1 .0) (pre′ .1 .1) (pre′ .1 .2) _ _
+          (place′ .kept .1 .1 .1 .0 ∙ pair-rows′ .kept .1 .1 .0)
+          (place′ .kept .1 .1 .1 .1 .0 ∙ pair-rows′ .kept .1 .1 .1 .0),
+      pair-rows′ .ensures .size,
+    )
 
 attempt-same-length-6 : (t : ℕ) → attempt-lts.Need-same-length-6 (attempt-calls t) (attempt-at t) attempt.Post
 attempt-same-length-6 t c =
