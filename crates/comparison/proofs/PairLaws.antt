@@ -249,6 +249,12 @@ pub record Columns (a b forth₀ back₀ forth back : List ℕ) (fresh : List Bo
   pub forth-back : cleared fresh (drop 1 a) forth ≡ forth₀
   pub back-back : cleared fresh (drop 1 b) back ≡ back₀
 
+-- the cell of a column has its place
+second : (n : ℕ) (l : List ℕ) (i : ℕ) → Below n (drop 1 l) → getD l (i + 1) 0 < n
+second n l i b =
+    let e : 1 + i ≡ i + 1 = omega arith in
+    rw (getD-drop 1 l i 0, e) at (b .below i)
+
 -- no column yet
 no-flags : (k : ℕ) → getD (false ∷ false ∷ false ∷ false ∷ []) k false ≡ false
 no-flags zero = refl
@@ -339,10 +345,10 @@ module _ (a b f₀ g₀ f g : List ℕ) (fresh : List Bool) (i : ℕ) (r : Rows 
 
       -- what pairing the next terms asks
       pub columns-left : getD a (i + 1) 0 < length f
-      columns-left = omega (arith, r .left .below (i + 1), w .forth-size)
+      columns-left = rw (w .forth-size) (second (length f₀) a i (r .left))
 
       pub columns-right : getD b (i + 1) 0 < length g
-      columns-right = omega (arith, r .right .below (i + 1), w .back-size)
+      columns-right = rw (w .back-size) (second (length g₀) b i (r .right))
 
       module _ (nz′ : getD b (i + 1) 0 ≡ 0 → ⊥) (fits made : Bool) (f′ g′ : List ℕ)
           (k : Linked (getD a (i + 1) 0) (getD b (i + 1) 0) fits made f g f′ g′) where
@@ -471,11 +477,14 @@ module _ (a b f₀ g₀ f g : List ℕ) (fresh : List Bool) (i : ℕ) (r : Rows 
         }
 
     -- the cells have their places
+    at-column : i - 1 + 1 ≡ i
+    at-column = omega arith
+
     pub clearing-left : (x : ℕ) → x ≡ getD a i 0 → x < length f
-    clearing-left x e = omega (arith, r .left .below i, w .forth-size)
+    clearing-left x e = rw (e, w .forth-size) (rw at-column at (second (length f₀) a (i - 1) (r .left)))
 
     pub clearing-right : (y : ℕ) → y ≡ getD b i 0 → y < length g
-    clearing-right y e = omega (arith, r .right .below i, w .back-size)
+    clearing-right y e = rw (e, w .back-size) (rw at-column at (second (length g₀) b (i - 1) (r .right)))
 
 -- the terms before i are paired: those from i on, under the renaming by now, give the answer for all
 pub record Binding (a b forth₀ back₀ forth back : List ℕ) (i : ℕ) : Type 0 where

@@ -13,7 +13,7 @@ use mathlib.Core.Option.{Option, none, some}
 use mathlib.Core.Path.{_≡_, refl, sym, ap, _∙_}
 use lib.Dec.{eqb}
 use lib.ListN.{length, getD, set, take, drop, replicate, length-set, length-drop, length-take, drop-of-length-le}
-use lib.Seq.{getD-set-same, getD-set-other, set-set, set-getD, getD-drop, getD-take, length-take-le, take-all}
+use lib.Seq.{getD-set-same, getD-set-other, set-set, set-getD, getD-drop, getD-take, length-take-le, take-all, drop-drop}
 use borrow.Author.Tests.{eq-eqb, ne-eqb, eqb-true, eqb-false}
 use Rattle.text.specs.Lists.{onward, has}
 use Rattle.semantics.specs.Terms.{Constraint}
@@ -22,7 +22,7 @@ use Rattle.semantics.proofs.Options.{true-false}
 use Rattle.syntax.specs.Tables.{cellConstraints, cellTerms}
 use Rattle.engine.specs.Cells.{rowConstraint}
 use Rattle.engine.proofs.CellLaws.{either, le-or-lt, constraints-at}
-use Rattle.comparison.specs.Renamings.{Graph, Marks, Below, Rows, RowsLinked, cleared}
+use Rattle.comparison.specs.Renamings.{Graph, Marks, TermsBelow, Rows, RowsLinked, cleared}
 use Rattle.comparison.specs.Placements.{attempted, placed, Placing, Tried}
 
 -- no mark is set
@@ -65,22 +65,14 @@ marks-more used us j l m = record { marked = λ k. rw (has-behind k us j) (go k 
     go k (inr e) =
         rw (e, getD-set-other used j k true false (λ z. eqb-false k j e z), m .marked k) (left (has k us))
 
--- the cells of a part have their places too
-pub below-drop : (n k : ℕ) (l : List ℕ) → Below n l → Below n (drop k l)
-below-drop n k l b = record { below = λ i. rw (getD-drop k l i 0) (b .below (k + i)) }
-
-pub below-take : (n k : ℕ) (l : List ℕ) → Below n l → Below n (take k l)
-below-take n k l b = record { below = λ i. go k l i (b .below) }
-  where
-    go : (k : ℕ) (l : List ℕ) (i : ℕ) → ((i : ℕ) → getD l i 0 < n) → getD (take k l) i 0 < n
-    go zero l i h = omega (arith, h (length l), out l)
-      where
-        out : (l : List ℕ) → _≡_ {A = ℕ} (getD l (length l) 0) 0
-        out [] = refl
-        out (x ∷ l) = out l
-    go (suc k) [] i h = h i
-    go (suc k) (x ∷ l) zero h = h 0
-    go (suc k) (x ∷ l) (suc i) h = go k l i (λ j. h (suc j))
+-- the terms of the other constraints have their places too
+pub terms-drop : (n : ℕ) (l : List ℕ) → TermsBelow n l → TermsBelow n (drop 5 l)
+terms-drop n l b =
+    record {
+      below = λ i.
+          let e : 5 + 5 * i ≡ 5 * suc i = omega arith in
+          rw (drop-drop (5 * i) 5 l, e) (b .below (suc i));
+    }
 
 -- a row as the code lends it
 abbrev pub lent : List ℕ → ℕ → List ℕ
@@ -112,8 +104,8 @@ module _ (a b : List ℕ) (j : ℕ) (used : List Bool) (f g : List ℕ) (s : Pla
       record {
         left-size = length-take-le 5 a h;
         right-size = rw (five j) (length-take-le 5 (drop (5 * j) b) (omega (arith, length-drop (5 * j) b, row)));
-        left = below-take (length f) 5 a (s .left);
-        right = below-take (length g) (5 * j + 5 - 5 * j) (drop (5 * j) b) (below-drop (length g) (5 * j) b (s .right));
+        left = s .left .below 0;
+        right = rw (five j) (s .right .below j);
       }
 
   -- in tables of the same size too
@@ -188,7 +180,7 @@ module _ (a b : List ℕ) (j : ℕ) (used : List Bool) (f g : List ℕ) (s : Pla
             rw (behind-drop a)
             (record {
               partners = rw (length-set used j true) (s .partners);
-              left = rw lf (below-drop (length f) 5 a (s .left));
+              left = rw lf (terms-drop (length f) a (s .left));
               right = rw lg (s .right);
             })
 

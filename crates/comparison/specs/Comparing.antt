@@ -8,7 +8,7 @@ use mathlib.Core.Path.{_≡_}
 use lib.ListN.{length}
 use Rattle.semantics.specs.Terms.{State, live}
 use Rattle.syntax.specs.Tables.{cellTerm, cellConstraints}
-use Rattle.comparison.specs.Renamings.{Below}
+use Rattle.comparison.specs.Renamings.{Below, TermsBelow}
 
 -- what the goal variables became and the constraints, as a final state. Which variable would come next is no part of what is
 -- compared
@@ -20,5 +20,5 @@ pub record Side (cells : List ℕ) (n : ℕ) (bound : List ℕ) : Type 0 where
   pub size : length cells ≡ 5 * n
   pub few : n ≤ 512
   pub bound-few : length bound ≤ 28
-  pub cells-below : Below 13596 cells
+  pub cells-below : TermsBelow 13596 cells
   pub bound-below : Below 13596 bound

@@ -12,7 +12,7 @@ use Rattle.text.specs.Lists.{onward, has}
 use Rattle.semantics.specs.Variants.{Pair, pairConstraint, place}
 use Rattle.syntax.specs.Tables.{cellConstraints}
 use Rattle.engine.specs.Cells.{rowConstraint}
-use Rattle.comparison.specs.Renamings.{Graph, Marks, Below}
+use Rattle.comparison.specs.Renamings.{Graph, Marks, TermsBelow}
 
 -- whether the first of the constraints a can be the one at position j of b, the others being placed behind it
 unfoldable pub attempted : List ℕ → List ℕ → ℕ → List ℕ → List Pair → Bool
@@ -25,11 +25,11 @@ attempted a b j us ps =
 unfoldable pub placed : List ℕ → List ℕ → List ℕ → List Pair → Bool
 placed a b us ps = place (cellConstraints a) (cellConstraints b) us ps
 
--- a mark for each constraint of b, and a place in the tables for each cell
+-- a mark for each constraint of b, and a place in the tables for each term
 pub record Placing (a b : List ℕ) (used : List Bool) (forth back : List ℕ) : Type 0 where
   pub partners : length b ≡ 5 * length used
-  pub left : Below (length forth) a
-  pub right : Below (length back) b
+  pub left : TermsBelow (length forth) a
+  pub right : TermsBelow (length back) b
 
 -- the answer is the definition's for the positions and the renaming that marks and tables stand for, and false leaves them as they
 -- were

@@ -3,15 +3,15 @@
 --   Joined                     a function on renamings, done on tables
 --   cleared                    a table with the partners of some columns forgotten
 --   Linked, RowsLinked         what pairing two terms and two constraints promises
---   Below, Rows                cells that have a place in a table
+--   Below, TermsBelow, Rows    cells that have a place in a table
 -- Assumes nothing.
-use Prim.Native.Nat.{ℕ, _+_, _<_}
+use Prim.Native.Nat.{ℕ, _+_, _*_, _<_}
 use mathlib.Core.Bool.{Bool, true, false, cond, not, _&&_}
 use mathlib.Core.List.{List, [], _∷_}
 use mathlib.Core.Option.{Option, none, some}
 use mathlib.Core.Path.{_≡_}
 use lib.Dec.{eqb}
-use lib.ListN.{length, getD, set, drop}
+use lib.ListN.{length, getD, set, take, drop}
 use Rattle.text.specs.Lists.{has}
 use Rattle.semantics.specs.Variants.{Pair, arePartners, arePaired, pairTerm, pairTerms}
 use Rattle.syntax.specs.Tables.{cellTerm, cellTerms}
@@ -47,12 +47,16 @@ pub record Linked (x y : ℕ) (fits fresh : Bool) (forth back forth′ back′ :
 pub record Below (n : ℕ) (cells : List ℕ) : Type 0 where
   pub below : (i : ℕ) → getD cells i 0 < n
 
--- two constraints of five cells, which have their places in the tables
+-- every term of a list of constraints has its place in a table of n
+pub record TermsBelow (n : ℕ) (cells : List ℕ) : Type 0 where
+  pub below : (i : ℕ) → Below n (drop 1 (take 5 (drop (5 * i) cells)))
+
+-- two constraints of five cells, whose terms have their places in the tables
 pub record Rows (a b forth back : List ℕ) : Type 0 where
   pub left-size : length a ≡ 5
   pub right-size : length b ≡ 5
-  pub left : Below (length forth) a
-  pub right : Below (length back) b
+  pub left : Below (length forth) (drop 1 a)
+  pub right : Below (length back) (drop 1 b)
 
 -- the terms of two constraints are paired, and the tables without what was made are as before
 pub record RowsLinked (a b : List ℕ) (fits : Bool) (fresh : List Bool) (forth back forth′ back′ : List ℕ) : Type 0 where
