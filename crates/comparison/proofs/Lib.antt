@@ -2,3 +2,5 @@
 pub mod PairLaws
 pub mod PlaceLaws
 pub mod SearchLaws
+pub mod ColourLaws
+pub mod RoundLaws

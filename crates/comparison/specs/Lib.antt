@@ -2,3 +2,4 @@
 pub mod Renamings
 pub mod Placements
 pub mod Comparing
+pub mod Colours
