@@ -4,3 +4,4 @@ pub mod PlaceLaws
 pub mod SearchLaws
 pub mod ColourLaws
 pub mod RoundLaws
+pub mod AgreeLaws
