@@ -24,6 +24,7 @@ use Rattle.engine.proofs.CellLaws.{either, le-or-lt, same-cell, terms-none, ter
 use Rattle.comparison.specs.Renamings.{Below, TermsBelow}
 use Rattle.comparison.specs.Colours.{mixed, plus, added, signed, signature, gains, gathered, withTerms, Colours, Signed}
 use Rattle.comparison.specs.Colours.{Spread, Given, Absorbed, Empty}
+use Rattle.comparison.proofs.RowLaws.{terms-row}
 
 -- the square of 32 bits fits 64
 pub square-small :
@@ -160,7 +161,7 @@ lent-terms l i =
 
 -- they have their places
 pub lent-below : (m : ℕ) (l : List ℕ) (i : ℕ) → TermsBelow m l → Below m (lentTerms l i)
-lent-below m l i b = rw (lent-terms l i) (b .below i)
+lent-below m l i b = rw (lent-terms l i) (terms-row m l i b)
 
 -- the row's length
 pub lent-length : (l : List ℕ) (i n : ℕ) → length l ≡ 5 * n → i < n → length (lent l i) ≡ 5

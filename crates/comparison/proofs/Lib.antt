@@ -1,4 +1,5 @@
 -- Laws of the comparison. Assumes nothing.
+pub mod RowLaws
 pub mod PairLaws
 pub mod PlaceLaws
 pub mod SearchLaws

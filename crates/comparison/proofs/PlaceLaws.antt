@@ -13,7 +13,7 @@ use mathlib.Core.Option.{Option, none, some}
 use mathlib.Core.Path.{_≡_, refl, sym, ap, _∙_}
 use lib.Dec.{eqb}
 use lib.ListN.{length, getD, set, take, drop, replicate, length-set, length-drop, length-take, drop-of-length-le}
-use lib.Seq.{getD-set-same, getD-set-other, set-set, set-getD, getD-drop, getD-take, length-take-le, take-all, drop-drop}
+use lib.Seq.{getD-set-same, getD-set-other, set-set, set-getD, getD-drop, getD-take, length-take-le, take-all}
 use borrow.Author.Tests.{eq-eqb, ne-eqb, eqb-true, eqb-false}
 use Rattle.text.specs.Lists.{onward, has}
 use Rattle.semantics.specs.Terms.{Constraint}
@@ -22,8 +22,9 @@ use Rattle.semantics.proofs.Options.{true-false}
 use Rattle.syntax.specs.Tables.{cellConstraints, cellTerms}
 use Rattle.engine.specs.Cells.{rowConstraint}
 use Rattle.engine.proofs.CellLaws.{either, le-or-lt, constraints-at}
-use Rattle.comparison.specs.Renamings.{Graph, Marks, TermsBelow, Rows, RowsLinked, cleared}
+use Rattle.comparison.specs.Renamings.{Graph, Marks, Rows, RowsLinked, cleared}
 use Rattle.comparison.specs.Placements.{attempted, placed, Placing, Tried}
+use Rattle.comparison.proofs.RowLaws.{terms-row, terms-drop}
 
 -- no mark is set
 pub marks-none : (m n : ℕ) → Marks (take m (replicate n false)) []
@@ -65,15 +66,6 @@ marks-more used us j l m = record { marked = λ k. rw (has-behind k us j) (go k 
     go k (inr e) =
         rw (e, getD-set-other used j k true false (λ z. eqb-false k j e z), m .marked k) (left (has k us))
 
--- the terms of the other constraints have their places too
-pub terms-drop : (n : ℕ) (l : List ℕ) → TermsBelow n l → TermsBelow n (drop 5 l)
-terms-drop n l b =
-    record {
-      below = λ i.
-          let e : 5 + 5 * i ≡ 5 * suc i = omega arith in
-          rw (drop-drop (5 * i) 5 l, e) (b .below (suc i));
-    }
-
 -- a row as the code lends it
 abbrev pub lent : List ℕ → ℕ → List ℕ
 lent l j = take (5 * j + 5 - 5 * j) (drop (5 * j) l)
@@ -104,8 +96,8 @@ module _ (a b : List ℕ) (j : ℕ) (used : List Bool) (f g : List ℕ) (s : Pla
       record {
         left-size = length-take-le 5 a h;
         right-size = rw (five j) (length-take-le 5 (drop (5 * j) b) (omega (arith, length-drop (5 * j) b, row)));
-        left = s .left .below 0;
-        right = rw (five j) (s .right .below j);
+        left = terms-row (length f) a 0 (s .left);
+        right = rw (five j) (terms-row (length g) b j (s .right));
       }
 
   -- in tables of the same size too

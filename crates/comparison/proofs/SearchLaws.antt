@@ -1,5 +1,4 @@
 -- The search for a renaming, from empty tables, answers whether two states are equal.
---   constraints-count     how many constraints cells hold
 --   count-apart, bound-apart     states of other sizes are not equal
 --   search-…              what the search finds
 -- Assumes nothing.
@@ -21,23 +20,12 @@ use Rattle.semantics.proofs.Multisets.{pointwise-length}
 use Rattle.semantics.proofs.Options.{true-false}
 use Rattle.semantics.proofs.Pairs.{pairTerms-sound}
 use Rattle.syntax.specs.Tables.{cellTerm, cellConstraints}
-use Rattle.engine.proofs.CellLaws.{constraints-at}
 use Rattle.comparison.specs.Renamings.{Joined, Below}
 use Rattle.comparison.specs.Placements.{placed, Placing, Tried}
 use Rattle.comparison.specs.Comparing.{endOf, Side}
+use Rattle.comparison.proofs.RowLaws.{constraints-count}
 use Rattle.comparison.proofs.PairLaws.{graph-empty}
 use Rattle.comparison.proofs.PlaceLaws.{marks-none}
-
--- how many constraints there are
-pub constraints-count : (n : ℕ) (l : List ℕ) → length l ≡ 5 * n → length (cellConstraints l) ≡ n
-unfolding cellConstraints
-constraints-count n [] e = omega arith
-constraints-count n (k ∷ []) e = absurd (omega arith)
-constraints-count n (k ∷ a ∷ []) e = absurd (omega arith)
-constraints-count n (k ∷ a ∷ b ∷ []) e = absurd (omega arith)
-constraints-count n (k ∷ a ∷ b ∷ c ∷ []) e = absurd (omega arith)
-constraints-count zero (k ∷ a ∷ b ∷ c ∷ d ∷ l) e = absurd (omega arith)
-constraints-count (suc n) (k ∷ a ∷ b ∷ c ∷ d ∷ l) e = ap suc (constraints-count n l (omega arith))
 
 -- both tests, where the second fails
 and-fails : (t u : Bool) → u ≡ false → false ≡ (t && u)

@@ -1,4 +1,5 @@
 -- What the comparison's tables stand for, and what its functions promise. Assumes nothing.
+pub mod Rows
 pub mod Renamings
 pub mod Placements
 pub mod Comparing

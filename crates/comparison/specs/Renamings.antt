@@ -11,7 +11,7 @@ use mathlib.Core.List.{List, [], _∷_}
 use mathlib.Core.Option.{Option, none, some}
 use mathlib.Core.Path.{_≡_}
 use lib.Dec.{eqb}
-use lib.ListN.{length, getD, set, take, drop}
+use lib.ListN.{length, getD, set, drop}
 use Rattle.text.specs.Lists.{has}
 use Rattle.semantics.specs.Variants.{Pair, arePartners, arePaired, pairTerm, pairTerms}
 use Rattle.syntax.specs.Tables.{cellTerm, cellTerms}
@@ -47,9 +47,9 @@ pub record Linked (x y : ℕ) (fits fresh : Bool) (forth back forth′ back′ :
 pub record Below (n : ℕ) (cells : List ℕ) : Type 0 where
   pub below : (i : ℕ) → getD cells i 0 < n
 
--- every term of a list of constraints has its place in a table of n
+-- every term of a list of constraints, five cells to each, has its place in a table of n
 pub record TermsBelow (n : ℕ) (cells : List ℕ) : Type 0 where
-  pub below : (i : ℕ) → Below n (drop 1 (take 5 (drop (5 * i) cells)))
+  pub below : (i j : ℕ) → j < 4 → getD cells (5 * i + (1 + j)) 0 < n
 
 -- two constraints of five cells, whose terms have their places in the tables
 pub record Rows (a b forth back : List ℕ) : Type 0 where
