@@ -6,3 +6,4 @@ pub mod SearchLaws
 pub mod ColourLaws
 pub mod RoundLaws
 pub mod AgreeLaws
+pub mod KeyLaws

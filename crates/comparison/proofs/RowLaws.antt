@@ -64,8 +64,14 @@ unfolding rowOf
 row-same l i h =
     let e : 5 * i + 0 ≡ 5 * i = omega arith in
     rw (constraints-at l i h) at (row-at 0 (drop (5 * i) l) nothing (omega (arith, length-drop (5 * i) l)))
-    ∙ rw (getD-drop (5 * i) l 0 0, getD-drop (5 * i) l 1 0, getD-drop (5 * i) l 2 0, getD-drop (5 * i) l 3 0,
-    getD-drop (5 * i) l 4 0, e)
+    ∙ rw (
+      getD-drop (5 * i) l 0 0,
+      getD-drop (5 * i) l 1 0,
+      getD-drop (5 * i) l 2 0,
+      getD-drop (5 * i) l 3 0,
+      getD-drop (5 * i) l 4 0,
+      e,
+    )
 
 -- an element of an image
 getD-map : {A B : Type 0} (f : A → B) (l : List A) (i : ℕ) (d : B) (z : A) → i < length l → getD (map f l) i d ≡ f (getD l i z)
@@ -80,14 +86,17 @@ module _ (n : ℕ) (l : List ℕ) (s : length l ≡ 5 * n) where
   count : length (cellConstraints l) ≡ n
   count = constraints-count n l s
 
+  -- an element of an image of the constraints
+  pub image-at : (g : Constraint → ℕ) (i : ℕ) → i < n → getD (map g (cellConstraints l)) i 0 ≡ g (rowOf l i)
+  image-at g i h = getD-map g (cellConstraints l) i 0 nothing (rw count h) ∙ ap g (row-at i l nothing (room i h))
+
   -- a list that is the image of the constraints, by its elements
   pub rows-image :
       (g : Constraint → ℕ) (keys : List ℕ) → length keys ≡ n → ((i : ℕ) → i < n → getD keys i 0 ≡ g (rowOf l i))
       → keys ≡ map g (cellConstraints l)
   rows-image g keys e f =
       ext-getD 0 keys (map g (cellConstraints l)) (e ∙ (sym count ∙ sym (length-map (cellConstraints l) g)))
-      (λ i h. f i (rw e at h)
-      ∙ sym (getD-map g (cellConstraints l) i 0 nothing (rw count (rw e at h)) ∙ ap g (row-at i l nothing (room i (rw e at h)))))
+      (λ i h. f i (rw e at h) ∙ sym (image-at g i (rw e at h)))
 
   module _ (l′ : List ℕ) (s′ : length l′ ≡ 5 * n) where
     -- constraints that are the image of others, row by row
@@ -98,9 +107,9 @@ module _ (n : ℕ) (l : List ℕ) (s : length l ≡ 5 * n) where
         ext-getD nothing (cellConstraints l′) (map f (cellConstraints l))
         (constraints-count n l′ s′ ∙ (sym count ∙ sym (length-map (cellConstraints l) f)))
         (λ i h.
-            let k : i < n = rw (constraints-count n l′ s′) at h in
-            row-at i l′ nothing (omega arith)
-            ∙ (e i k ∙ sym (getD-map f (cellConstraints l) i nothing nothing (rw count k) ∙ ap f (row-at i l nothing (room i k)))))
+        let k : i < n = rw (constraints-count n l′ s′) at h in
+        row-at i l′ nothing (omega arith)
+        ∙ (e i k ∙ sym (getD-map f (cellConstraints l) i nothing nothing (rw count k) ∙ ap f (row-at i l nothing (room i k)))))
 
 -- two lists, element by element
 pointwise-at :
@@ -119,8 +128,8 @@ pub rows-pointwise :
 rows-pointwise {R} n l l′ s s′ f =
     pointwise-at nothing nothing (cellConstraints l) (cellConstraints l′) (constraints-count n l s ∙ sym (constraints-count n l′ s′))
     (λ i h.
-        let k : i < n = rw (constraints-count n l s) at h in
-        rw (row-at i l nothing (omega arith), row-at i l′ nothing (omega arith)) (f i k))
+    let k : i < n = rw (constraints-count n l s) at h in
+    rw (row-at i l nothing (omega arith), row-at i l′ nothing (omega arith)) (f i k))
 
 -- the terms of a row have their places
 pub terms-row : (n : ℕ) (l : List ℕ) (i : ℕ) → TermsBelow n l → Below n (drop 1 (take 5 (drop (5 * i) l)))

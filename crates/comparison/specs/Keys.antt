@@ -4,7 +4,7 @@
 --   keyOf            a constraint's key
 --   summed           the sum of keys, in any order
 --   classOf, relabel constraints with their classes for symbols
---   Keyed, Small     what the functions promise
+--   Keyed, Relabelled    what the functions promise
 -- Assumes nothing.
 use Prim.Native.Nat.{ℕ, _+_, _*_, _%_, _^_, _<_}
 use mathlib.Core.Bool.{Bool, cond}
@@ -13,6 +13,8 @@ use mathlib.Core.Path.{_≡_}
 use lib.Dec.{eqb}
 use Rattle.text.specs.Lists.{placeFrom}
 use Rattle.semantics.specs.Terms.{Term, Constraint}
+use Rattle.syntax.specs.Tables.{cellConstraints}
+use Rattle.comparison.specs.Renamings.{TermsBelow}
 use Rattle.comparison.specs.Colours.{Colours, signature, refined, rounds, digest, base}
 
 -- colours after three rounds; what the goal variables became stands out before, each by its place
@@ -47,3 +49,10 @@ relabel keys key c = record { symbol = classOf keys (key c); terms = c .terms }
 -- the keys of constraints, by the colours that a table stands for
 pub record Keyed (deep : Bool) (cs : List Constraint) (colours keys : List ℕ) : Type 0 where
   pub same : (κ : Term → ℕ) → Colours colours κ → keys ≡ map (keyOf deep κ cs) cs
+
+-- constraints relabelled by their own keys, whatever made these
+pub record Relabelled (own keys cells cells′ : List ℕ) : Type 0 where
+  pub same :
+      (key : Constraint → ℕ) → own ≡ map key (cellConstraints cells)
+      → cellConstraints cells′ ≡ map (relabel keys key) (cellConstraints cells)
+  pub below : (m : ℕ) → TermsBelow m cells → TermsBelow m cells′
