@@ -7,3 +7,4 @@ pub mod ColourLaws
 pub mod RoundLaws
 pub mod AgreeLaws
 pub mod KeyLaws
+pub mod ClassLaws

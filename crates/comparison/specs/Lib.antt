@@ -5,3 +5,4 @@ pub mod Placements
 pub mod Comparing
 pub mod Colours
 pub mod Keys
+pub mod Classes

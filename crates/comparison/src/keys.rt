@@ -18,9 +18,6 @@ ghost use Rattle.comparison.specs.Renamings.{Below, TermsBelow};
 ghost use Rattle.comparison.specs.Colours.{Colours, Empty, Ready, Summed};
 ghost use Rattle.comparison.specs.Keys.{plainOf, deepOf, keyOf, summed, classOf, Keyed, Relabelled};
 
-// Room for the colours of all cells: constants, 28 goal variables, and four more for each of 512 constraints.
-const ROOM: usize = 2332;
-
 // The colours of a state's terms: what the goal variables became stands out before three rounds.
 pub fn colour(cells: &[u16], n: usize, bound: &[u16], colours: &mut [u32], received: &mut [u32])
     requires { ⌜ Ready (now cells) n (now colours) (now received) × Below (length (now colours)) (now bound)

@@ -1,4 +1,5 @@
 // The comparison of two final states: whether one is the other under a renaming of its variables, one to one.
+pub mod classes;
 pub mod colours;
 pub mod keys;
 pub mod pairing;
