@@ -8,3 +8,5 @@ pub mod RoundLaws
 pub mod AgreeLaws
 pub mod KeyLaws
 pub mod ClassLaws
+pub mod NumberLaws
+pub mod OrderLaws

@@ -6,3 +6,5 @@ pub mod Comparing
 pub mod Colours
 pub mod Keys
 pub mod Classes
+pub mod Numbering
+pub mod Order

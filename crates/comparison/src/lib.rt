@@ -2,6 +2,8 @@
 pub mod classes;
 pub mod colours;
 pub mod keys;
+pub mod numbering;
+pub mod order;
 pub mod pairing;
 pub mod placing;
 
