@@ -99,7 +99,7 @@ module _ (l : List Numbered) (k : ℕ) where
   first-end h = ap overlapsAmong (drop-of-length-le l {i = k} h)
 
 -- an entry of a table
-tabled-element : {A : Type 0} (f : ℕ → A) (n k : ℕ) → k < n → getElem? (tabled f n) k ≡ some (f k)
+pub tabled-element : {A : Type 0} (f : ℕ → A) (n k : ℕ) → k < n → getElem? (tabled f n) k ≡ some (f k)
 tabled-element f zero k h = absurd (omega arith)
 tabled-element {A} f (suc n) k h = go (tabled-element f n k) (le-or-lt n k)
   where

@@ -25,7 +25,7 @@ use Rattle.critical.specs.Cells.{RuleRow, headsOf}
 use Rattle.critical.proofs.TermLaws.{replaced-none}
 
 -- a table of zeros binds nothing
-zeros : (n x : ℕ) → _≡_ {A = ℕ} (getD (replicate n 0) x 0) 0
+pub zeros : (n x : ℕ) → _≡_ {A = ℕ} (getD (replicate n 0) x 0) 0
 zeros zero x = refl
 zeros (suc n) zero = refl
 zeros (suc n) (suc x) = zeros n x

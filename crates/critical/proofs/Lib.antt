@@ -12,4 +12,6 @@ pub mod GoalLaws
 pub mod WalkLaws
 pub mod NodeLaws
 pub mod OverlapLaws
+pub mod StepLaws
+pub mod TableLaws
 pub mod JudgeLaws

@@ -1,6 +1,7 @@
 -- Where the second rule's heads stand in the goal.
 --   Looking, looking-…           the search for a head's partner
 --   Standing, standing-…         the positions of the first heads
+--   Alone, alone-…               whether no head has a partner
 -- Assumes nothing.
 use Prim.Native.Nat.{ℕ, zero, suc, _+_, _-_, _≤_, _<_}
 use native.Mathlib.Omega.{arith}
@@ -12,7 +13,8 @@ use lib.Dec.{eqb}
 use lib.ListN.{length, take, drop, getD, set, length-set, drop-of-length-le}
 use lib.Seq.{drop-cons, getD-take, length-take-le, take-suc-set}
 use borrow.Author.Tests.{eq-eqb, ne-eqb}
-use Rattle.text.specs.Lists.{has, placeFrom}
+use Rattle.text.specs.Lists.{every, has, placeFrom}
+use Rattle.text.proofs.Laws.{every-fails, every-step, every-end}
 use Rattle.semantics.specs.Overlaps.{secondPositions}
 use Rattle.semantics.proofs.Configurations.{Or, inl, inr}
 use Rattle.semantics.proofs.Options.{decide, true-false}
@@ -143,3 +145,42 @@ module _ (m n : ℕ) (ds positions : List ℕ) (free g : ℕ) (w : Standing m n 
             go : Or (has (suc g) ds ≡ true) (has (suc g) ds ≡ false) → has (suc g) ds ≡ false
             go (inl t) = absurd (omega (arith, place-below (suc g) ds t, w .partners, place))
             go (inr t) = t
+
+-- none of the first h heads has a partner
+pub record Alone (partners : List ℕ) (m h : ℕ) : Type 0 where
+  pub within : h ≤ m
+  pub room : m ≤ 4
+  pub size : length partners ≡ 4
+  pub same : every (eqb 0) (take m partners) ≡ every (eqb 0) (drop h (take m partners))
+
+pub alone-start : (partners : List ℕ) (m : ℕ) → m ≤ 4 → length partners ≡ 4 → Alone partners m 0
+alone-start partners m l e = record { within = omega arith; room = l; size = e; same = refl }
+
+module _ (partners : List ℕ) (m h : ℕ) (w : Alone partners m h) where
+  count : length (take m partners) ≡ m
+  count = length-take-le m partners (omega (arith, w .room, w .size))
+
+  -- none has
+  pub alone-end : m ≤ h → true ≡ every (eqb 0) (take m partners)
+  alone-end l = sym (w .same ∙ every-end (eqb 0) (take m partners) h (omega (arith, count)))
+
+  module _ (l : h < m) where
+    -- this one has
+    pub alone-not : (getD partners h 0 ≡ 0 → ⊥) → false ≡ every (eqb 0) (take m partners)
+    alone-not n =
+        sym (w .same
+        ∙ every-fails (eqb 0) (take m partners) h (omega (arith, count))
+        (ap (eqb 0) (getD-take m partners h 0 l) ∙ ne-eqb 0 (getD partners h 0) (λ e. n (sym e))))
+
+    -- it has none
+    pub alone-next : getD partners h 0 ≡ 0 → Alone partners m (h + 1)
+    alone-next e =
+        rw (add-one h) (record {
+          within = l;
+          room = w .room;
+          size = w .size;
+          same =
+              w .same
+              ∙ every-step (eqb 0) (take m partners) h (omega (arith, count))
+              (ap (eqb 0) (getD-take m partners h 0 l) ∙ eq-eqb 0 (getD partners h 0) (sym e));
+        })

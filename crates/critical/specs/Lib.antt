@@ -3,3 +3,4 @@ pub mod Joins
 pub mod Cells
 pub mod Overlapped
 pub mod Rests
+pub mod Walks

@@ -3,3 +3,4 @@ pub mod finishing;
 pub mod joining;
 pub mod laying;
 pub mod overlapping;
+pub mod walking;
