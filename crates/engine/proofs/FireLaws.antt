@@ -133,7 +133,7 @@ constraints-append k (a ∷ b ∷ c ∷ d ∷ e ∷ s) t h =
     rw (constraints-append (k - 1) s t (omega arith))
 
 -- behind a copied row nothing changes
-drop-moved :
+pub drop-moved :
     (at : ℕ) (s l : List ℕ) (n : ℕ) → at + 5 ≤ n → at ≤ length l → 5 ≤ length s → drop n (paste l at s 5) ≡ drop n l
 drop-moved at s l n h k t =
     let e : at + 5 + (n - (at + 5)) ≡ n = omega arith in
@@ -141,7 +141,7 @@ drop-moved at s l n h k t =
     ∙ drop-drop (n - (at + 5)) (at + 5) l)
 
 -- a row as constraints
-row-constraints : (l : List ℕ) → 5 ≤ length l → cellConstraints (take 5 l) ≡ rowConstraint (take 5 l) ∷ []
+pub row-constraints : (l : List ℕ) → 5 ≤ length l → cellConstraints (take 5 l) ≡ rowConstraint (take 5 l) ∷ []
 unfolding cellConstraints rowConstraint
 row-constraints [] h = absurd (omega arith)
 row-constraints (a ∷ []) h = absurd (omega arith)

@@ -41,7 +41,7 @@ use Rattle.tables.proofs.MapLaws.{Acts, anything, all-low, all-terms, all-equat
 use Rattle.tables.proofs.MapLaws.{acts-constraints, acts-equations, acts-bound, acts-used}
 
 -- a substitution that is put in first
-solve-through :
+pub solve-through :
     (es : List Equation) (σ τ : Term → Term)
     → solve es (λ t. τ (σ t)) ≡ Option·map (λ ρ t. ρ (σ t)) (solve (map (mapSides σ) es) τ)
 unfolding solve mapSides

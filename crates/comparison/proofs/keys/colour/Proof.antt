@@ -1,0 +1,59 @@
+-- `colour` meets its contract: the start, what stands out, and three rounds.
+-- Assumes nothing.
+use mathlib.Core.Path.{_∙_, sym}
+use Rattle.comparison.proofs.KeyLaws.{colour-done, ready-with}
+use borrow.Author.Needs.{needs}
+use Rattle.comparison.proofs.keys.colour.Statement.{statement}
+use Rattle.comparison.proofs.keys.colour.Tie as tie
+use Rattle.comparison.proofs.keys.colour.Reads as reads
+use Rattle.comparison.proofs.keys.colour.Lts as lts
+use Rattle.comparison.proofs.colours.light.Reads as light-reads
+use Rattle.comparison.proofs.colours.refine_times.Reads as refine-times-reads
+use Rattle.comparison.proofs.colours.start.Reads as start-reads
+
+start-requires : tie.Need-start-requires
+start-requires c κs = search needs
+
+light-requires : tie.Need-light-requires
+light-requires c κs =
+    let start′ = (c .before .before .before .before .start) in
+    let pre′ = (c .before .before .before .before .before .before .before .before .before .before .pre) in
+    (rw (start′ .kept .0) (pre′ .1), pre′ .0 .same-size ∙ sym (start′ .kept .0), pre′ .0 .empty)
+
+refine-times-requires : tie.Need-refine-times-requires
+refine-times-requires c κs =
+    let pre′ = (c .before .before .before .before .before .before .before .before .before .before .before .before .before .before .before .before .before .pre) in
+    let light′ = (c .before .before .before .before .before .before .light) in
+    let start′ = (c .before .before .before .before .before .before .before .before .before .before .before .start) in
+    ready-with _ _ _ _ _ _ (pre′ .0) (light′ .kept .1 .1 .0 ∙ start′ .kept .0) (light′ .kept .1 .1 .1 .0) (light′ .ensures .1)
+
+same-length : tie.Need-same-length
+same-length c =
+    let refine-times′ = (c .before .before .before .before .refine-times) in
+    let light′ = (c .before .before .before .before .before .before .before .before .before .before .before .light) in
+    let start′ = (c .before .before .before .before .before .before .before .before .before .before .before .before .before .before .before .before .start) in
+    refine-times′ .kept .1 .1 .1 .0 ∙ (light′ .kept .1 .1 .0 ∙ start′ .kept .0)
+
+same-length-2 : tie.Need-same-length-2
+same-length-2 c =
+    let refine-times′ = (c .before .before .before .before .refine-times) in
+    let light′ = (c .before .before .before .before .before .before .before .before .before .before .before .light) in
+    refine-times′ .kept .1 .1 .1 .1 .0 ∙ light′ .kept .1 .1 .1 .0
+
+returns : tie.Need-returns
+returns c =
+    let start′ = (c .before .before .before .before .before .before .before .before .before .before .before .before .before .before .before .before .start) in
+    let light′ = (c .before .before .before .before .before .before .before .before .before .before .before .light) in
+    let refine-times′ = (c .before .before .before .before .refine-times) in
+    (colour-done _ _ _ _ _ (start′ .ensures) (light′ .ensures .0) (refine-times′ .ensures .0), refine-times′ .ensures .1)
+
+pub colour-spec : {M : Type 1} → statement M
+colour-spec =
+    tie.close
+    (tie.spec
+    start-requires
+    light-requires
+    refine-times-requires
+    same-length
+    same-length-2
+    returns)

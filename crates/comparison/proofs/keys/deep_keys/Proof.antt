@@ -1,0 +1,132 @@
+-- `deep_keys` meets its contract: the keys below i are made.
+-- Assumes nothing.
+use Prim.Native.Nat.{_-_}
+use borrow.Author.Needs.{needs}
+use native.Mathlib.Omega.{arith}
+use mathlib.Core.Bool.{true}
+use mathlib.Core.Path.{_≡_, _∙_, refl}
+use lib.ListN.{length}
+use Rattle.comparison.specs.Colours.{Ready}
+use Rattle.comparison.proofs.KeyLaws.{Keying, keys-start, keys-next, keys-done, key-deep, ready-with}
+use Rattle.comparison.proofs.keys.deep_keys.Statement.{statement}
+use Rattle.comparison.proofs.keys.deep_keys.Tie as tie
+use Rattle.comparison.proofs.keys.deep_keys.Reads as reads
+use Rattle.comparison.proofs.keys.deep_keys.Lts as lts
+use Rattle.comparison.proofs.keys.code.Reads as code-reads
+use Rattle.comparison.proofs.keys.deep.Reads as deep-reads
+
+abbrev Inv-loop : tie.InvT-loop
+Inv-loop cells n colours scratch₀ received₀ keys₀ i₀ scratch received keys i = Keying true cells n colours keys₀ keys i × Ready cells n colours received × (length scratch ≡ length scratch₀) × (length received ≡ length received₀)
+
+abbrev μ-loop : tie.MeasureT-loop
+μ-loop cells n colours scratch₀ received₀ keys₀ i₀ scratch received keys i = n - i
+
+loop-holds : tie.Need-loop-holds Inv-loop μ-loop
+loop-holds c =
+    let pre′ = (c .before .before .before .before .before .pre) in
+    (keys-start _ _ _ _ _, pre′ .0, refl, refl)
+
+deep-requires : tie.Need-deep-requires Inv-loop μ-loop
+deep-requires c κs =
+    let loop′ = (c .before .before .before .loop) in
+    let loop-test′ = (c .before .before .loop-test) in
+    let pre′ = (c .before .before .before .before .before .before .before .before .before .pre) in
+    (loop′ .inv .1, loop-test′ .taken, loop′ .inv .2 ∙ pre′ .1)
+
+mul-code : tie.Need-mul-code Inv-loop μ-loop
+mul-code c =
+    let pre′ = (c .before .before .before .before .before .before .before .before .before .before .before .before .before .before .pre) in
+    let loop-test′ = (c .before .before .before .before .before .before .before .loop-test) in
+    omega (arith, pre′ .0 .size, loop-test′ .taken)
+
+mul-code-2 : tie.Need-mul-code-2 Inv-loop μ-loop
+mul-code-2 c =
+    let pre′ = (c .before .before .before .before .before .before .before .before .before .before .before .before .before .before .pre) in
+    let loop-test′ = (c .before .before .before .before .before .before .before .loop-test) in
+    omega (arith, pre′ .0 .size, loop-test′ .taken)
+
+shared-slice-read-code : tie.Need-shared-slice-read-code Inv-loop μ-loop
+shared-slice-read-code c =
+    let pre′ = (c .before .before .before .before .before .before .before .before .before .before .before .before .before .before .before .pre) in
+    let loop-test′ = (c .before .before .before .before .before .before .before .before .loop-test) in
+    omega (arith, pre′ .0 .size, loop-test′ .taken)
+
+code-requires : tie.Need-code-requires Inv-loop μ-loop
+code-requires c κs = search needs
+
+mul-keys : tie.Need-mul-keys Inv-loop μ-loop
+mul-keys c =
+    let loop′ = (c .before .before .before .before .before .before .before .before .before .before .loop) in
+    let pre′ = (c .before .before .before .before .before .before .before .before .before .before .before .before .before .before .before .before .pre) in
+    omega (arith, loop′ .inv .0 .size, pre′ .2)
+
+slice-write-keys : tie.Need-slice-write-keys Inv-loop μ-loop
+slice-write-keys c =
+    let loop′ = (c .before .before .before .before .before .before .before .before .before .before .loop) in
+    let pre′ = (c .before .before .before .before .before .before .before .before .before .before .before .before .before .before .before .before .pre) in
+    omega (arith, loop′ .inv .0 .size, pre′ .2)
+
+add-i : tie.Need-add-i Inv-loop μ-loop
+add-i c = omega arith
+
+loop-less : tie.Need-loop-less Inv-loop μ-loop
+loop-less c = omega arith
+
+loop-again : tie.Need-loop-again Inv-loop μ-loop
+loop-again c =
+    let pre′ = (c .before .before .before .before .before .before .before .before .before .before .before .before .before .before .before .before .pre) in
+    let loop′ = (c .before .before .before .before .before .before .before .before .before .before .loop) in
+    let loop-test′ = (c .before .before .before .before .before .before .before .before .before .loop-test) in
+    let args′ = (c .before .before .before .before .before .before .before .before .before .before .before .before .before .before .before .before .args) in
+    let deep′ = (c .before .before .before .before .before .before .deep) in
+    let code′ = (c .code) in (
+      keys-next _ _ _ _ _ _ _ (pre′ .0 .size) (pre′ .2) (loop′ .inv .0) (loop-test′ .taken) _
+          (key-deep (args′ .cells .now) (loop′ .i) _ _ _ (deep′ .ensures .0) (code′ .ensures)),
+      ready-with _ _ _ _ _ _ (loop′ .inv .1) refl (deep′ .kept .1 .1 .1 .1 .1 .0) (deep′ .ensures .1),
+      deep′ .kept .1 .1 .1 .1 .0 ∙ loop′ .inv .2,
+      deep′ .kept .1 .1 .1 .1 .1 .0 ∙ loop′ .inv .3,
+    )
+
+same-length : tie.Need-same-length Inv-loop μ-loop
+same-length c =
+    let loop′ = (c .before .loop) in
+    loop′ .inv .2
+
+same-length-2 : tie.Need-same-length-2 Inv-loop μ-loop
+same-length-2 c =
+    let loop′ = (c .before .loop) in
+    loop′ .inv .3
+
+same-length-3 : tie.Need-same-length-3 Inv-loop μ-loop
+same-length-3 c =
+    let loop′ = (c .before .loop) in
+    loop′ .inv .0 .size
+
+returns : tie.Need-returns Inv-loop μ-loop
+returns c =
+    let pre′ = (c .before .before .before .before .before .before .before .pre) in
+    let loop′ = (c .before .loop) in
+    let loop-test′ = (c .loop-test) in
+    keys-done _ _ _ _ _ _ _ (pre′ .0 .size) (pre′ .2) (loop′ .inv .0) (loop-test′ .left)
+
+pub deep-keys-spec : {M : Type 1} → statement M
+deep-keys-spec =
+    tie.close
+    (tie.spec
+    Inv-loop
+    μ-loop
+    loop-holds
+    deep-requires
+    mul-code
+    mul-code-2
+    shared-slice-read-code
+    code-requires
+    mul-keys
+    slice-write-keys
+    add-i
+    loop-less
+    loop-again
+    same-length
+    same-length-2
+    same-length-3
+    returns)

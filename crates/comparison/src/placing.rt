@@ -1,0 +1,64 @@
+// Placing a constraint of the first state and trying its partners in the second call one another, until all are placed or no
+// partner is left.
+use crate::pairing::pair_rows;
+use crate::pairing::unpair;
+ghost use Prim.Native.Nat.{_<_, _≤_};
+ghost use lib.ListN.{length};
+ghost use Rattle.comparison.specs.Placements.{Placing, Tried, attempted, placed};
+
+// Whether the first of the constraints that are left can be the one at position j, the others being placed behind it.
+pub fn attempt(
+    a: &[u16],
+    b: &[u16],
+    j: usize,
+    used: &mut [bool],
+    forth: &mut [u16],
+    back: &mut [u16],
+) -> bool
+    requires { ⌜ Placing (now a) (now b) (now used) (now forth) (now back) × (j < length (now used)) × (5 ≤ length (now a)) ⌝ }
+    ensures { λ r. ⌜ Tried r (attempted (now (a .entry)) (now (b .entry)) j) (now (used .entry)) (now (forth .entry))
+        (now (back .entry)) (now (used .exit)) (now (forth .exit)) (now (back .exit)) ⌝ }
+{
+    if used[j] {
+        return false;
+    }
+    let p = 5 * j;
+    let e = p + 5;
+    if a[0] != b[p] {
+        return false;
+    }
+    let row = &a[..5];
+    let other = &b[p..e];
+    let links = pair_rows(row, other, forth, back);
+    let fresh = links.fresh;
+    if !links.fits {
+        unpair(row, other, fresh, forth, back);
+        return false;
+    }
+    used[j] = true;
+    if place(&a[5..], b, used, forth, back) {
+        return true;
+    }
+    used[j] = false;
+    unpair(row, other, fresh, forth, back);
+    false
+}
+
+// Whether the constraints that are left can all be placed: the first with a partner that is not used yet, then the others.
+pub fn place(a: &[u16], b: &[u16], used: &mut [bool], forth: &mut [u16], back: &mut [u16]) -> bool
+    requires { ⌜ Placing (now a) (now b) (now used) (now forth) (now back) ⌝ }
+    ensures { λ r. ⌜ Tried r (placed (now (a .entry)) (now (b .entry))) (now (used .entry)) (now (forth .entry))
+        (now (back .entry)) (now (used .exit)) (now (forth .exit)) (now (back .exit)) ⌝ }
+{
+    if a.len() < 5 {
+        return true;
+    }
+    let mut j = 0;
+    while j < used.len() {
+        if attempt(a, b, j, used, forth, back) {
+            return true;
+        }
+        j += 1;
+    }
+    false
+}

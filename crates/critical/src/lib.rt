@@ -1,0 +1,6 @@
+// Critical pairs: from two rules and a pairing of their heads to an overlap, and the walk over all of them.
+pub mod finishing;
+pub mod joining;
+pub mod laying;
+pub mod overlapping;
+pub mod walking;

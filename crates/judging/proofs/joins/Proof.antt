@@ -1,0 +1,54 @@
+-- `joins` meets its contract: cells for what the goal variables become are lent.
+-- Assumes nothing.
+use mathlib.Core.Path.{sym}
+use Rattle.judging.proofs.JoinLaws.{lent-length}
+use borrow.Author.Needs.{needs}
+use Rattle.judging.proofs.joins.Statement.{statement}
+use Rattle.judging.proofs.joins.Tie as tie
+use Rattle.judging.proofs.joins.Reads as reads
+use Rattle.judging.proofs.joins.Lts as lts
+use Rattle.judging.proofs.judge.Reads as judge-reads
+
+array-borrow-prefix-bound-one : tie.Need-array-borrow-prefix-bound-one
+array-borrow-prefix-bound-one c = search needs
+
+slice-aggregate-judge : tie.Need-slice-aggregate-judge
+slice-aggregate-judge c = sym (lent-length _ ((c .before .before .before .before .before .pre) .0 .variables))
+
+array-borrow-prefix-bound-two : tie.Need-array-borrow-prefix-bound-two
+array-borrow-prefix-bound-two c = search needs
+
+slice-aggregate-judge-2 : tie.Need-slice-aggregate-judge-2
+slice-aggregate-judge-2 c = sym (lent-length _ ((c .before .before .before .before .before .before .before .pre) .0 .variables))
+
+judge-requires : tie.Need-judge-requires
+judge-requires c κs =
+    (
+      (c .before .before .before .before .before .before .before .before .pre) .0,
+      lent-length _ ((c .before .before .before .before .before .before .before .before .pre) .0 .variables),
+      lent-length _ ((c .before .before .before .before .before .before .before .before .pre) .0 .variables),
+      (c .before .before .before .before .before .before .before .before .pre) .1,
+      (c .before .before .before .before .before .before .before .before .pre) .2,
+    )
+
+same-length : tie.Need-same-length
+same-length c = search needs
+
+same-length-2 : tie.Need-same-length-2
+same-length-2 c = search needs
+
+returns : tie.Need-returns
+returns c = search needs
+
+pub joins-spec : {M : Type 1} → statement M
+joins-spec =
+    tie.close
+    (tie.spec
+    array-borrow-prefix-bound-one
+    slice-aggregate-judge
+    array-borrow-prefix-bound-two
+    slice-aggregate-judge-2
+    judge-requires
+    same-length
+    same-length-2
+    returns)

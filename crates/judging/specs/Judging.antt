@@ -1,0 +1,83 @@
+-- Judging an overlap: its two sides are run to their ends, and these are compared.
+--   Stands                    the overlap that numbers of rules, positions and a goal's cells stand for
+--   Overlapping               what judging asks
+--   endIn, Comparable, EndOf  an end in cells
+--   Joins                     what judging promises
+-- Assumes nothing.
+use Prim.Native.Nat.{ℕ, _+_, _*_, _≤_, _<_}
+use mathlib.Core.Bool.{Bool, true}
+use mathlib.Core.List.{List, map}
+use mathlib.Core.Path.{_≡_}
+use lib.ListN.{length, take}
+use Rattle.text.specs.Lists.{every}
+use Rattle.semantics.specs.Terms.{Program, isBelow, isGoalOf, isWellFormed}
+use Rattle.semantics.specs.Strategy.{Final}
+use Rattle.semantics.specs.Overlaps.{Overlap, secondPositions}
+use Rattle.semantics.specs.Verdict.{isJoinable}
+use Rattle.tables.specs.Layout.{constraintSize}
+use Rattle.tables.specs.Cells.{cellTerm, cellConstraints, stateOf}
+use Rattle.tables.specs.Numbers.{isWithin}
+use Rattle.tables.specs.Rows.{ruleOf, rulesOf, rowOf}
+use Rattle.engine.specs.Runs.{Runnable}
+use Rattle.engine.specs.Stated.{statedAt}
+use Rattle.sides.specs.Sides.{cellGoal}
+
+-- an overlap of rules i and j of a program whose rules are the n of a table: its goal has v variables, and the positions are the
+-- second rule's
+pub record Stands (p : Program) (names rules : List ℕ) (n i j : ℕ) (positions : List ℕ) (v : ℕ) (goal : List ℕ) (o : Overlap)
+    : Type 0 where
+  pub whole : p .rules ≡ rulesOf names rules n
+  pub well-formed : isWellFormed p ≡ true
+  pub same-goal : o .goal ≡ cellGoal v goal
+  pub first : o .first .rule ≡ ruleOf names rules i
+  pub second : o .second .rule ≡ ruleOf names rules j
+  pub places :
+      statedAt (rowOf rules j) positions
+      ≡ secondPositions 1 (length (o .first .rule .heads)) (length (o .second .rule .heads)) (o .partners)
+
+-- what judging asks: two rules of a table, four positions, a goal of m constraints and at most 28 variables over the symbols of a
+-- program with these rules, and that the strategy comes to an end from it
+pub record Overlapping (rules : List ℕ) (n i j : ℕ) (positions : List ℕ) (m v : ℕ) (goal : List ℕ) : Type 0 where
+  pub program : Program
+  pub names : List ℕ
+  pub whole : program .rules ≡ rulesOf names rules n
+  pub well-formed : isWellFormed program ≡ true
+  pub few-symbols : length (program .symbols) ≤ 256
+  pub is-goal : isGoalOf program (cellGoal v goal) ≡ true
+  pub runs : Runnable rules n (cellConstraints goal)
+  pub first : i < n
+  pub second : j < n
+  pub positions-size : length positions ≡ 4
+  pub goal-size : length goal ≡ constraintSize * m
+  pub variables : v ≤ 28
+
+-- an end and its firings, in cells
+unfoldable pub endIn : Bool → ℕ → ℕ → ℕ → List ℕ → List ℕ → Final
+endIn alive count next firings bound cells =
+    record { state = stateOf alive next bound (take (constraintSize * count) cells); firings = firings }
+
+-- how many variables an end has at most: the goal's, and 26 for each of 512 firings
+abbrev pub mostVariables : ℕ
+mostVariables = 13340
+
+-- a live end of n constraints that can be compared
+pub record Comparable (cells : List ℕ) (n : ℕ) (bound : List ℕ) : Type 0 where
+  pub size : length cells ≡ constraintSize * n
+  pub few : n ≤ 512
+  pub bound-few : length bound ≤ 28
+  pub within : every (isWithin mostVariables) (cellConstraints cells) ≡ true
+  pub bound-within : every (isBelow mostVariables) (map cellTerm bound) ≡ true
+
+-- one of the two ends of an overlap, in cells
+pub record EndOf (end : Program → Overlap → Final) (rules : List ℕ) (n i j : ℕ) (positions : List ℕ) (v : ℕ) (goal : List ℕ)
+    (alive : Bool) (count next firings : ℕ) (bound cells : List ℕ) : Type 0 where
+  pub same :
+      (p : Program) (names : List ℕ) (o : Overlap) → Stands p names rules n i j positions v goal o
+      → endIn alive count next firings bound cells ≡ end p o
+  pub live : alive ≡ true → Comparable (take (constraintSize * count) cells) count bound
+  pub counted : firings ≤ 512
+
+-- whether the overlap joins
+pub record Joins (rules : List ℕ) (n i j : ℕ) (positions : List ℕ) (v : ℕ) (goal : List ℕ) (joins : Bool) : Type 0 where
+  pub same :
+      (p : Program) (names : List ℕ) (o : Overlap) → Stands p names rules n i j positions v goal o → joins ≡ isJoinable p o

@@ -1,0 +1,3 @@
+-- What judging an overlap asks and promises. Assumes nothing.
+pub mod Tidying
+pub mod Judging
