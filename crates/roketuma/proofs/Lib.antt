@@ -2,3 +2,4 @@
 pub mod ReplyLaws
 pub mod ReadyLaws
 pub mod ReadingLaws
+pub mod PrintLaws

@@ -7,9 +7,11 @@
 --   Printed                   what the functions that print promise: every byte of the output afterwards
 -- Assumes nothing.
 use Prim.Native.Nat.{ℕ, _+_, _*_}
-use mathlib.Core.List.{List, _++_}
+use mathlib.Core.List.{List, [], _∷_, _++_}
 use mathlib.Core.Path.{_≡_}
 use lib.ListN.{length, take, drop}
+use Rattle.text.specs.Bytes.{ascii}
+use Rattle.listing.specs.Listing.{decimal}
 use Rattle.replies.specs.Replies.{Text, programText, goalText, Reply, refusal, listing, outputAfter}
 use Rattle.roketuma.specs.declared.TextName.{TextName}
 use Rattle.roketuma.specs.declared.TextName.the-variants.{S, G}
@@ -66,6 +68,10 @@ replyNumber (listing bytes) = length bytes
 pub record Returned (reply : Reply) (before after : List ℕ) (r : ℕ) : Type 0 where
   pub answer : r ≡ replyNumber reply
   pub output : after ≡ outputAfter reply before
+
+-- the line of a refusal, from the bytes that name its text
+unfoldable pub refusalBytes : ℕ → List ℕ → ℕ → List ℕ
+refusalBytes number named line = (ascii "REFUSED," ++ decimal number) ++ (named ++ (decimal line ++ (10 ∷ [])))
 
 -- bytes that are printed into the front of an output, with their count: every byte behind them is as before
 pub record Printed (bytes before after : List ℕ) (count : ℕ) : Type 0 where

@@ -1,7 +1,13 @@
 // The two replies, from bytes to bytes: the public functions, thin over the readers, the engine and the listing.
 // Their promises are the definitions of specs/Replies.antt, through specs/Answers.antt.
+mod exported;
+mod printing;
 mod running;
 
+pub use printing::put_refusal;
+pub use printing::put_reply;
+pub use printing::put_run;
+pub use running::run;
 
 // The letter of a text: S for a program's, G for a goal's.
 pub enum TextName {

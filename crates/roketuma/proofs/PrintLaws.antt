@@ -1,0 +1,197 @@
+-- What is printed, as bytes in the front of an output.
+--   decimal-tenth                       a number has at most two digits more than its tenth
+--   word-counted, number-counted, rest-within, rest-counted, line-printed      the line of a refusal, written part by part
+--   refusal-program, refusal-goal       it is what is printed of the refusal
+--   reply-refused, reply-listed         what is printed of a reply, by its answer
+--   listing-printed, refusal-printed    the same of a run's reply
+--   printed-within, printed-front       what is printed lies inside the output
+--   front-length, parts-printed         the parts of an input
+-- Assumes nothing.
+use mathlib.Core.Path.{_≡_, refl, sym, ap, ap₂, subst, _∙_}
+use mathlib.Core.Bool.{Bool, true, false}
+use mathlib.Core.List.{List, [], _∷_, _++_, append-assoc}
+use Prim.Native.Nat.{ℕ, _+_, _/_, _%_, _≤_, _<_}
+use native.Mathlib.Omega.{arith}
+use lib.Dec.{ltb}
+use lib.ListN.{length, take, drop, length-append, length-drop}
+use lib.Seq.{take-at, drop-at, drop-drop, length-take-le}
+use borrow.Author.Tests.{ltb-true, ltb-false}
+use Rattle.text.specs.Bytes.{ascii}
+use Rattle.text.specs.Lines.{Parts, parted}
+use Rattle.text.specs.Places.{partsAt}
+use Rattle.listing.specs.Listing.{decimal, fieldsBehind, lineOf}
+use Rattle.listing.specs.Writing.{laid, Countable, Writes}
+use Rattle.listing.proofs.Decimals.{decimal-low, decimal-high, decimal-few}
+use Rattle.listing.proofs.WriteLaws.{wrote-then}
+use Rattle.replies.specs.Replies.{programText, goalText, Reply, refusal, listing, runReply, outputAfter}
+use Rattle.replies.specs.Replies.{textLetter, printed, ample, sheetrun}
+use Rattle.roketuma.specs.Answers.{textMeant, replyMeant, answerOf, Replied, refusalBytes, Printed}
+use Rattle.roketuma.specs.declared.TextName.{TextName}
+use Rattle.roketuma.specs.declared.TextName.the-variants.{S, G}
+use Rattle.roketuma.specs.declared.Refusal.{Refusal}
+use Rattle.roketuma.specs.declared.RunReply.{RunReply}
+use Rattle.roketuma.specs.declared.RunReply.the-variants.{Refused, Listed}
+
+-- a number has at most two digits more than its tenth
+pub decimal-tenth : (n : ℕ) → length (decimal n) ≤ n / 10 + 2
+decimal-tenth n = go (ltb n 10) refl
+  where
+    go : (t : Bool) → ltb n 10 ≡ t → length (decimal n) ≤ n / 10 + 2
+    go true e = rw (decimal-low n (ltb-true n 10 e)) (omega arith)
+    go false e =
+        rw (decimal-high n (ltb-false n 10 e))
+        (omega (arith, length-append (decimal (n / 10)) ((48 + n % 10) ∷ []), decimal-few (n / 10)))
+
+-- the number behind the word, and the rest behind both, fit every output that is lent
+abbrev word : List ℕ
+word = 82 ∷ 69 ∷ 70 ∷ 85 ∷ 83 ∷ 69 ∷ 68 ∷ 44 ∷ []
+
+abbrev rest : List ℕ → ℕ → List ℕ
+rest named line = named ++ (decimal line ++ (10 ∷ []))
+
+module _ (number line : ℕ) (named o : List ℕ)
+    (lent : (length o ≡ 32768) × (length named ≤ 3) × (number < 65536) × (line < 65536))
+  where
+    few : length word + length (decimal number) + length (rest named line) ≤ 20000
+    few =
+        omega (
+          arith,
+          lent .1,
+          lent .2,
+          lent .3,
+          decimal-tenth number,
+          decimal-tenth line,
+          length-append named (decimal line ++ (10 ∷ [])),
+          length-append (decimal line) (10 ∷ []),
+        )
+
+    pub word-counted : Countable 0 word
+    word-counted = record { few = omega arith }
+
+    pub number-counted : {p : List ℕ} {e : ℕ} → Writes word 0 o p e → Countable e (decimal number)
+    number-counted w = record { few = omega (arith, w .counted, few) }
+
+    -- the two first pieces
+    both : {p q : List ℕ} {e n : ℕ} → length p ≡ length o → Writes word 0 o p e → Writes (decimal number) e p q n
+        → Writes (word ++ decimal number) 0 o q n
+    both k w v = wrote-then w v k
+
+    pub rest-within : {p q : List ℕ} {e n : ℕ} → length p ≡ length o → length q ≡ length p → Writes word 0 o p e
+        → Writes (decimal number) e p q n → n ≤ length q
+    rest-within k l w v = omega (arith, w .counted, v .counted, few, lent .0)
+
+    pub rest-counted : Countable 0 (rest named line)
+    rest-counted = record { few = omega (arith, few) }
+
+    -- the whole line, q′ being the output behind the number when the rest is written there
+    pub line-printed : {p q q′ : List ℕ} {e n m : ℕ} → length p ≡ length o → length q ≡ length p → Writes word 0 o p e
+        → Writes (decimal number) e p q n → Writes (rest named line) 0 (drop n q) q′ m
+        → Printed (refusalBytes number named line) o (take n q ++ q′) (n + m)
+    unfolding refusalBytes ascii laid
+    line-printed {p} {q} {q′} {e} {n} {m} k l w v u =
+        let done = both k w v in
+        let size : n ≡ length (word ++ decimal number) = omega (arith, done .counted) in
+        let front : q ≡ laid 0 (word ++ decimal number) o =
+        done .placed (omega (arith, size, lent .0, few, length-append word (decimal number))) in
+        let behind : q′ ≡ laid 0 (rest named line) (drop n q) =
+        u .placed (omega (arith, length-drop n q, lent .0, few, w .counted, v .counted)) in
+        let zero : 0 + length (word ++ decimal number) ≡ length (word ++ decimal number) = omega arith in
+        let zero′ : 0 + length (rest named line) ≡ length (rest named line) = omega arith in
+        let old = drop (length (word ++ decimal number)) o in
+        let first : take n q ≡ word ++ decimal number =
+        ap (take n) (front ∙ rw zero) ∙ take-at (word ++ decimal number) old n (sym size) in
+        let left : drop n q ≡ old = ap (drop n) (front ∙ rw zero) ∙ drop-at (word ++ decimal number) old n (sym size) in
+        let last : q′ ≡ rest named line ++ drop (length (rest named line)) old =
+        behind ∙ rw (zero′, left) in
+        let all : length ((word ++ decimal number) ++ rest named line)
+        ≡ length (word ++ decimal number) + length (rest named line) =
+        length-append (word ++ decimal number) (rest named line) in
+        record {
+          output =
+              ap₂ (λ (x y : List ℕ). x ++ y) first last
+              ∙ sym (append-assoc (word ++ decimal number) (rest named line) (drop (length (rest named line)) old))
+              ∙ ap (λ (y : List ℕ). ((word ++ decimal number) ++ rest named line) ++ y)
+              (drop-drop (length (rest named line)) (length (word ++ decimal number)) o ∙ rw (sym all));
+          counted = omega (arith, size, u .counted, all);
+        }
+
+-- what is printed lies inside the output
+pub printed-within : {s o a : List ℕ} {n : ℕ} → Printed s o a n → n ≤ length a
+printed-within {s} {o} w = omega (arith, w .counted, ap length (w .output), length-append s (drop (length s) o))
+
+-- its front has its length
+pub printed-front : {s o a : List ℕ} (n : ℕ) → Printed s o a n → n ≡ length (take n a)
+printed-front {a = a} n w = sym (length-take-le n a (printed-within w))
+
+-- a refusal's line is what is printed of it
+program-line : (number line : ℕ) → refusalBytes number (44 ∷ 83 ∷ 44 ∷ []) line ≡ printed (refusal number programText line)
+unfolding refusalBytes ascii printed lineOf fieldsBehind textLetter
+program-line number line = append-assoc word (decimal number) (rest (44 ∷ 83 ∷ 44 ∷ []) line)
+
+goal-line : (number line : ℕ) → refusalBytes number (44 ∷ 71 ∷ 44 ∷ []) line ≡ printed (refusal number goalText line)
+unfolding refusalBytes ascii printed lineOf fieldsBehind textLetter
+goal-line number line = append-assoc word (decimal number) (rest (44 ∷ 71 ∷ 44 ∷ []) line)
+
+pub refusal-program : (number line : ℕ) {r : ℕ} {o a : List ℕ} {text : TextName} → text ≡ S
+    → Printed (refusalBytes number (44 ∷ 83 ∷ 44 ∷ []) line) o a r
+    → Printed (printed (refusal number (textMeant text) line)) o a r
+unfolding textMeant
+refusal-program number line {r} {o} {a} e w =
+    rw e (subst (λ (s : List ℕ). Printed s o a r) (program-line number line) w)
+
+pub refusal-goal : (number line : ℕ) {r : ℕ} {o a : List ℕ} {text : TextName} → text ≡ G
+    → Printed (refusalBytes number (44 ∷ 71 ∷ 44 ∷ []) line) o a r
+    → Printed (printed (refusal number (textMeant text) line)) o a r
+unfolding textMeant
+refusal-goal number line {r} {o} {a} e w =
+    rw e (subst (λ (s : List ℕ). Printed s o a r) (goal-line number line) w)
+
+-- a refusal's line is printed into an output that it left as it was, and a listing is printed where it stands
+module _ {o a : List ℕ} where
+  pub reply-refused : (x : Refusal) {d : List ℕ} {n : ℕ} (reply : Reply) → Replied reply o a (Refused x)
+      → Printed (printed (refusal (x .number) (textMeant (x .text)) (x .line))) a d n → Printed (printed reply) o d n
+  unfolding replyMeant outputAfter
+  reply-refused x {d} {n} reply p w =
+      let same : a ≡ o = p .output ∙ ap (λ (q : Reply). outputAfter q o) (sym (p .meant)) in
+      subst (λ (q : Reply). Printed (printed q) o d n) (p .meant)
+      (subst (λ (l : List ℕ). Printed (printed (refusal (x .number) (textMeant (x .text)) (x .line))) l d n) same w)
+
+  pub reply-listed : (n : ℕ) (reply : Reply) → Replied reply o a (Listed n) → Printed (printed reply) o a n
+  unfolding answerOf outputAfter printed
+  reply-listed n (refusal number text line) p =
+      absurd (let e = p .answer in let z : _≡_ {A = ℕ} 0 1 = cc in omega arith)
+  reply-listed n (listing bytes) p =
+      let e : _≡_ {A = RunReply} (Listed n) (Listed (length bytes)) = p .answer in
+      let size : n ≡ length bytes = cc in
+      record { output = p .output; counted = size }
+
+-- the reply of a run into such an output
+module _ (program goal : List ℕ) {o a : List ℕ} {r : RunReply} (replied : Replied (runReply program goal (length o)) o a r)
+    (lent : length o ≡ 32768)
+  where
+    in-ample : Replied (runReply program goal ample) o a r
+    unfolding ample
+    in-ample = subst (λ (n : ℕ). Replied (runReply program goal n) o a r) lent replied
+
+    -- a refusal, d being the output when its line is put there
+    pub refusal-printed : (x : Refusal) (d : List ℕ) (n : ℕ) → r ≡ Refused x
+        → Printed (printed (refusal (x .number) (textMeant (x .text)) (x .line))) a d n
+        → Printed (printed (runReply program goal ample)) o d n
+    refusal-printed x d n e w = reply-refused x (runReply program goal ample) (rw e at in-ample) w
+
+    -- a listing
+    pub listing-printed : (n : ℕ) → r ≡ Listed n → Printed (printed (runReply program goal ample)) o a n
+    listing-printed n e = reply-listed n (runReply program goal ample) (rw e at in-ample)
+
+-- the length of a front
+pub front-length : (n : ℕ) (l : List ℕ) → n ≤ length l → n ≡ length (take n l)
+front-length n l h = sym (length-take-le n l h)
+
+-- the parts of an input, as they are lent
+pub parts-printed : (input : List ℕ) (end start : ℕ) {o a : List ℕ} {n : ℕ}
+    → (parted input ≡ partsAt input end start) × (end ≤ length input) × (start ≤ length input)
+    → Printed (printed (runReply (take end input) (drop start input) ample)) o a n → Printed (sheetrun input) o a n
+unfolding sheetrun partsAt
+parts-printed input end start {o} {a} {n} split w =
+    subst (λ (s : List ℕ). Printed s o a n)
+    (ap (λ (p : Parts). printed (runReply (p .program) (p .goal) ample)) (sym (split .0))) w

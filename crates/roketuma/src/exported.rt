@@ -1,0 +1,43 @@
+// The same for programs in other languages: an answer as one number.
+use crate::RunReply;
+use crate::TextName;
+use crate::running::run;
+ghost use mathlib.Core.Path.{_≡_};
+ghost use lib.ListN.{length};
+ghost use Rattle.replies.specs.Replies.{runReply};
+ghost use Rattle.roketuma.specs.Answers.{nameByte, answerNumber, Returned};
+
+// The byte of a text's letter.
+fn name_byte(text: TextName) -> u64
+    ensures { λ r. ⌜ r ≡ nameByte text ⌝ }
+{
+    match text {
+        TextName::S => 83,
+        TextName::G => 71,
+    }
+}
+
+// An answer as one number.
+fn answer_number(reply: RunReply) -> u64
+    ensures { λ r. ⌜ r ≡ answerNumber reply ⌝ }
+{
+    match reply {
+        RunReply::Refused(refusal) => {
+            let text = refusal.text;
+            let number = refusal.number as u64;
+            let line = refusal.line as u64;
+            4294967296 * number + 65536 * name_byte(text) + line
+        }
+        RunReply::Listed(n) => n as u64,
+    }
+}
+
+// The run for C: the length of its listing, or 2^32 times a refusal's number, 2^16 times the byte S or G of its text, and its
+// line.
+#[no_mangle]
+pub extern "C" fn roketuma_run<'a>(program: &'a [u8], goal: &'a [u8], output: &mut [u8]) -> u64
+    ensures { λ r. ⌜ Returned (runReply (now (program .entry)) (now (goal .entry)) (length (now (output .entry))))
+        (now (output .entry)) (now (output .exit)) r ⌝ }
+{
+    answer_number(run(program, goal, output))
+}
