@@ -33,7 +33,8 @@ use Rattle.syntax.specs.Programs.{readForm, readFields, readLine, readLines, ch
 use Rattle.syntax.specs.Programs.{maxText, maxSymbols, maxRules, maxHeads, maxBody, maxEquations, maxConstants}
 use Rattle.syntax.specs.Goals.{GoalDraft, GoalReading, maxGoal, maxWeight, lettersAfter, readConstraintOfGoal, isGoalForm}
 use Rattle.syntax.specs.Goals.{readGoalFields, readGoalLine, readGoalLines, readGoal}
-use Rattle.syntax.proofs.WellFormed.{and-parts, or-neither, not-false}
+use Rattle.semantics.proofs.Bools.{and-true}
+use Rattle.syntax.proofs.WellFormed.{or-neither, not-false}
 
 -- at most 8 bytes
 abbrev pub Short : List ℕ → Type 0
@@ -43,8 +44,8 @@ Short f = length f ≤ 8
 name-short : (f : List ℕ) → isName f ≡ true → Short f
 unfolding isName between
 name-short f h =
-    let range = and-parts (leb 1 (length f) && leb (length f) 8) _ h .0 in
-    leb-true (length f) 8 (and-parts (leb 1 (length f)) (leb (length f) 8) range .1)
+    let range = and-true (leb 1 (length f) && leb (length f) 8) _ h .0 in
+    leb-true (length f) 8 (and-true (leb 1 (length f)) (leb (length f) 8) range .1)
 
 variable-short : (f : List ℕ) → isVariable f ≡ true → Short f
 unfolding isVariable
@@ -97,7 +98,7 @@ letters-termed : (fs names : List (List ℕ)) → every isTerm fs ≡ true → A
 unfolding lettersAfter
 letters-termed [] names terms all = all
 letters-termed (f ∷ fs) names terms all =
-    let (term, more) = and-parts (isTerm f) (every isTerm fs) terms in
+    let (term, more) = and-true (isTerm f) (every isTerm fs) terms in
     letters-termed fs (cond (isName f) names (withName f names)) more (go (isName f) term)
   where
     go : (b : Bool) → isTerm f ≡ true → All Termed (cond b names (withName f names))
@@ -141,7 +142,7 @@ Reads P (accepted a) = P a
 
 turned : (number line : ℕ) → (leb 1 number && leb number 10) ≡ true → line ≤ 16384 → Turned number line
 turned number line h low =
-    let (least, most) = and-parts (leb 1 number) (leb number 10) h in
+    let (least, most) = and-true (leb 1 number) (leb number 10) h in
     record { least = leb-true 1 number least; most = leb-true number 10 most; within = low }
 
 reads-refuseIf :
