@@ -1,5 +1,5 @@
--- What a goal's text that reads says of the goal: it is over the program's symbols, within document 01's limits, and its constants
--- go on from the program's.
+-- What a goal's text that reads says of the goal: it is over the program's symbols, within document 01's
+-- limits, and its constants go on from the program's.
 --   present, letters-few       there are no more letters than 26
 --   ReadGoal, goal-small       a goal as read (the main law)
 -- Assumes nothing.

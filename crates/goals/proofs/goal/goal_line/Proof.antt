@@ -15,7 +15,11 @@ read-constraint-requires : tie.Need-read-constraint-requires
 read-constraint-requires c κs =
     let at-shared-slice-known = c .before .before .before .before .before .before .before .before .before in
     let start = at-shared-slice-known .before in
-    (start .pre .0, start .pre .2 .few-constants, start .pre .1 .few-symbols)
+    let lent = start .pre .0 in (
+      record { near = lent .near; low = omega arith; names-size = lent .names-size; places-size = lent .places-size },
+      start .pre .2 .few-constants,
+      start .pre .1 .few-symbols,
+    )
 
 returns-2 : tie.Need-returns-2
 returns-2 c =

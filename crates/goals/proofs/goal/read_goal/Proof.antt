@@ -71,7 +71,7 @@ returns-2 c =
     let at-goal-lines = at-names .before in
     let at-if1 = at-goal-lines .before .before .before .before .before in
     goal-heavy _ _ _ _ _ _ _ _ _ (omega (arith, at-if1 .if1 .left)) _ (at-goal-lines .goal-lines .ensures) _
-    (at-counts .counts .given .1) _ (at-weight-of .weight-of .ensures) (c .if2 .taken)
+    (at-counts .counts .given .1) _ (at-weight-of .weight-of .ensures) (omega (arith, c .if2 .taken))
 
 returns-3 : tie.Need-returns-3
 returns-3 c =

@@ -34,7 +34,7 @@ returns-3 c =
       arith,
       at-slice-known .slice-known .given i,
     )) (at-find-key .find-key .ensures .0)
-    (at-if2 .if2 .left) (c .if3 .taken)
+    (at-if2 .if2 .left) (omega (arith, c .if3 .taken))
 
 returns-4 : tie.Need-returns-4
 returns-4 c =
