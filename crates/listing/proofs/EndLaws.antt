@@ -1,7 +1,8 @@
 -- The listing of a final state: its pieces, what renumbering leaves of it, and the reply.
 --   live-…           the first line, the A lines and the S lines of a state whose variables are numbered
 --   failed-is        the listing of a failed state
---   renumbered-is    numbering the variables by first appearance leaves the listing as it was
+--   numbered-…       an end whose variables are numbered, live or failed
+--   renumbered-is, end-numbered     numbering the variables by first appearance leaves the listing as it was
 --   listed-short, listed-written     the reply, and the output afterwards
 -- Assumes nothing.
 use mathlib.Core.Path.{_≡_, refl, sym, ap, ap₂, _∙_, subst}
@@ -21,7 +22,7 @@ use Rattle.tables.specs.Numbers.{orderOf, Renumbered}
 use Rattle.listing.specs.Listing.{Naming, decimal, fieldsBehind, lineOf, termShown, constraintShown, constraintLines}
 use Rattle.listing.specs.Listing.{numberedAs, unbound, variableName, boundLines, stateListing, endListing}
 use Rattle.listing.specs.Writing.{laid, Countable, Writes, listedIn, outputAfter, ListedAs}
-use Rattle.listing.specs.Ends.{liveBytes, endBytes}
+use Rattle.listing.specs.Ends.{liveBytes, numberedEnd, endBytes, EndNumbered}
 use Rattle.listing.specs.declared.End.{End}
 use Rattle.listing.specs.declared.Listed.{Listed}
 use Rattle.listing.specs.declared.Listed.the-variants.{TooShort, Written}
@@ -115,6 +116,38 @@ renumbered-is program goal places letters bound cells bound′ cells′ e count 
     (ap₂ (λ (b s : List ℕ). lineOf (ascii "END") (decimal (e .firings) ∷ []) ++ (b ++ s))
     (same-bounds naming order (variableName letters) 0 (map cellTerm bound))
     (same-rows naming order (ascii "S") (cellConstraints cells)))
+
+-- an end whose variables are numbered: a live one, and a failed one
+module _ (naming : Naming) (letters bound cells : List ℕ) (e : End) where
+  pub numbered-live : e .alive ≡ true
+      → liveBytes naming letters bound cells (e .firings) ≡ numberedEnd naming letters bound cells e
+  unfolding numberedEnd
+  numbered-live h = rw h
+
+  pub numbered-failed : e .alive ≡ false → failedBytes (e .firings) ≡ numberedEnd naming letters bound cells e
+  unfolding numberedEnd
+  numbered-failed h = rw h (failed-is (e .firings))
+
+-- nothing has to be numbered in a failed one
+pub end-failed : {alive : Bool} {bound cells : List ℕ} {count : ℕ} → alive ≡ false → EndNumbered alive bound cells bound cells count
+end-failed {alive} {bound} {cells} {count} e =
+    record { live = λ h. absurd (let w : _≡_ {A = ℕ} 0 1 = cc in omega arith) }
+
+-- an end whose variables were numbered is listed as it was before
+pub end-numbered : (program goal places letters bound cells bound′ cells′ : List ℕ) (e : End) (count : ℕ)
+    → EndNumbered (e .alive) bound cells bound′ cells′ count
+    → numberedEnd (nameIn program goal places) letters bound′ cells′ e ≡ endBytes program goal places letters bound cells e
+end-numbered program goal places letters bound cells bound′ cells′ e count n = go (e .alive) refl
+  where
+    go : (t : Bool) → e .alive ≡ t
+        → numberedEnd (nameIn program goal places) letters bound′ cells′ e
+        ≡ endBytes program goal places letters bound cells e
+    go true h =
+        sym (numbered-live (nameIn program goal places) letters bound′ cells′ e h)
+        ∙ renumbered-is program goal places letters bound cells bound′ cells′ e count h (n .live h)
+    go false h =
+        sym (numbered-failed (nameIn program goal places) letters bound′ cells′ e h)
+        ∙ (failed-is (e .firings) ∙ failed-end program goal places letters bound cells e h)
 
 -- the reply where the listing does not fit, and where it does
 module _ {bytes none none′ o : List ℕ} {size : ℕ} (counted : Writes bytes 0 none none′ size) where

@@ -5,11 +5,11 @@ use Rattle.listing.specs.Listing.{decimalFrom, decimal, fieldsBehind, li
 use Rattle.listing.specs.Listing.{constraintLines, numberedAs, unbound, variableName, boundLines, stateListing}
 use Rattle.listing.specs.Listing.{endListing, pairLines, verdictListing}
 use Rattle.listing.specs.Writing.{laid, listedIn, outputAfter}
-use Rattle.listing.specs.Ends.{cellShown, boundLine, liveBytes, endBytes}
+use Rattle.listing.specs.Ends.{cellShown, boundLine, liveBytes, numberedEnd, endBytes}
 
 -- a name to say on an `unfolding` line
 unfoldable pub opened : ℕ
 unfolding decimalFrom decimal fieldsBehind lineOf namingOf termShown constraintShown constraintLines numberedAs unbound
     variableName boundLines stateListing endListing pairLines verdictListing laid listedIn outputAfter cellShown boundLine liveBytes
-    endBytes
+    numberedEnd endBytes
 opened = 0

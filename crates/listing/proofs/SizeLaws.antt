@@ -1,7 +1,7 @@
 -- How many bytes a listing has at most: few enough for the machine to count, whatever its tables hold.
 --   decimal-short      the digits of a number
---   failed-count       the listing of a failed state can be counted
---   live-count         and so can that of a state of at most 65,000 cells
+--   rows-few           the lines of constraints
+--   end-few, end-writable     the listing of an end, which can be counted where it fails or has at most 65,000 cells
 -- Assumes nothing.
 use mathlib.Core.Path.{_≡_, refl, sym, ap, _∙_}
 use mathlib.Core.Bool.{Bool, true, false, cond}
@@ -18,9 +18,10 @@ use Rattle.tables.proofs.CellLaws.{cell-low, cell-high, le-or-lt}
 use Rattle.listing.specs.Listing.{Naming, decimal, fieldsBehind, lineOf, termShown, constraintShown, constraintLines}
 use Rattle.listing.specs.Listing.{numberedAs, variableName, boundLines}
 use Rattle.listing.specs.Writing.{Countable}
-use Rattle.listing.specs.Ends.{liveBytes}
+use Rattle.listing.specs.Ends.{liveBytes, numberedEnd, Writable}
+use Rattle.listing.specs.declared.End.{End}
 use Rattle.listing.proofs.Decimals.{decimal-low, decimal-high, decimal-few}
-use Rattle.listing.proofs.EndLaws.{failedBytes}
+use Rattle.listing.proofs.EndLaws.{numbered-live, numbered-failed}
 
 -- a number has at most two digits more than a tenth of it
 pub decimal-short : (n : ℕ) → length (decimal n) ≤ 2 + n / 10
@@ -32,21 +33,17 @@ decimal-short n = go (ltb n 10) refl
         rw (decimal-high n (ltb-false n 10 e))
         (omega (arith, length-append (decimal (n / 10)) ((48 + n % 10) ∷ []), decimal-few (n / 10)))
 
--- the listing of a failed state can be counted
-pub failed-count : (f : ℕ) → f < 18446744073709551616 → Countable 0 (failedBytes f)
-failed-count f h = record { few = omega (arith, decimal-short f, length-append (decimal f) (10 ∷ [])) }
-
 -- cells that the machine holds in 16 bits
 abbrev pub Cells : List ℕ → Type 0
 Cells cells = (i : ℕ) → i < length cells → getD cells i 0 < 65536
 
-module _ (naming : Naming) (short : (n : ℕ) → length (naming n) ≤ 8) where
+module _ (naming : Naming) (short : (n : ℕ) → length (naming n) ≤ 8) (line letter : ℕ) where
   abbrev shown : ℕ → List ℕ
-  shown = numberedAs (ascii "U")
+  shown = numberedAs (letter ∷ [])
 
   -- a term
   term-few : (x : ℕ) → x < 65536 → length (termShown naming shown (cellTerm x)) ≤ 70000
-  unfolding termShown numberedAs ascii
+  unfolding termShown numberedAs
   term-few x h =
       ⊎-elim (λ high. rw (cell-high x high) (omega (arith, decimal-few (suc (x - 256)))))
       (λ low. rw (cell-low x low) (omega (arith, short x))) (le-or-lt 256 x)
@@ -97,10 +94,10 @@ module _ (naming : Naming) (short : (n : ℕ) → length (naming n) ≤ 8) where
             term-few x (h 0 (omega arith)),
           )
 
-  -- the S lines
-  rows-few : (cells : List ℕ) → Cells cells
-      → length (constraintLines (ascii "S") naming shown (cellConstraints cells)) ≤ 400000 * length cells
-  unfolding constraintLines constraintShown lineOf fieldsBehind cellConstraints ascii
+  -- the lines of constraints
+  pub rows-few : (cells : List ℕ) → Cells cells
+      → length (constraintLines (line ∷ []) naming shown (cellConstraints cells)) ≤ 400000 * length cells
+  unfolding constraintLines constraintShown lineOf fieldsBehind cellConstraints
   rows-few [] h = omega arith
   rows-few (k ∷ []) h = omega arith
   rows-few (k ∷ a ∷ []) h = omega arith
@@ -109,7 +106,7 @@ module _ (naming : Naming) (short : (n : ℕ) → length (naming n) ≤ 8) where
   rows-few (k ∷ a ∷ b ∷ c ∷ d ∷ cells) h =
       let terms : List ℕ = a ∷ b ∷ c ∷ d ∷ [] in
       let fields = fieldsBehind (map (termShown naming shown) (cellTerms terms)) in
-      let more = constraintLines (ascii "S") naming shown (cellConstraints cells) in
+      let more = constraintLines (line ∷ []) naming shown (cellConstraints cells) in
       omega (
         arith,
         length-append (naming k ++ fields) more,
@@ -126,22 +123,36 @@ module _ (naming : Naming) (short : (n : ℕ) → length (naming n) ≤ 8) where
       four (suc (suc (suc zero))) l = h 4 (omega arith)
       four (suc (suc (suc (suc i)))) l = absurd (omega arith)
 
-  -- the listing of a state can be counted
-  pub live-count : (letters bound cells : List ℕ) (f : ℕ) → Cells bound → Cells cells → length bound + length cells ≤ 65000
-      → f < 18446744073709551616 → Countable 0 (liveBytes naming letters bound cells f)
+-- the listing of an end
+module _ (naming : Naming) (short : (n : ℕ) → length (naming n) ≤ 8) (letters bound cells : List ℕ) where
+  live-few : (f : ℕ) → Cells bound → Cells cells → length bound + length cells ≤ 65000 → f < 18446744073709551616
+      → length (liveBytes naming letters bound cells f) ≤ 1900000000000000000
   unfolding liveBytes lineOf fieldsBehind ascii
-  live-count letters bound cells f b c h k =
-      let bounds = boundLines naming shown (variableName letters) 0 (map cellTerm bound) in
-      let rows = constraintLines (ascii "S") naming shown (cellConstraints cells) in
-      record {
-        few =
-            omega (
-              arith,
-              length-append (decimal f ++ (10 ∷ [])) (bounds ++ rows),
-              length-append (decimal f) (10 ∷ []),
-              length-append bounds rows,
-              decimal-short f,
-              bounds-few letters bound 0 b (omega arith),
-              rows-few cells c,
-            );
-      }
+  live-few f b c h k =
+      let bounds = boundLines naming (numberedAs (85 ∷ [])) (variableName letters) 0 (map cellTerm bound) in
+      let rows = constraintLines (83 ∷ []) naming (numberedAs (85 ∷ [])) (cellConstraints cells) in
+      omega (
+        arith,
+        length-append (decimal f ++ (10 ∷ [])) (bounds ++ rows),
+        length-append (decimal f) (10 ∷ []),
+        length-append bounds rows,
+        decimal-short f,
+        bounds-few naming short 83 85 letters bound 0 b (omega arith),
+        rows-few naming short 83 85 cells c,
+      )
+
+  pub end-few : (e : End) → Cells bound → Cells cells → (e .alive ≡ true → length bound + length cells ≤ 65000)
+      → e .firings < 18446744073709551616 → length (numberedEnd naming letters bound cells e) ≤ 1900000000000000000
+  end-few e b c h k = go (e .alive) refl
+    where
+      go : (t : Bool) → e .alive ≡ t → length (numberedEnd naming letters bound cells e) ≤ 1900000000000000000
+      go true l = rw (sym (numbered-live naming letters bound cells e l)) (live-few (e .firings) b c (h l) k)
+      go false l =
+          rw (sym (numbered-failed naming letters bound cells e l))
+          (omega (arith, decimal-short (e .firings), length-append (decimal (e .firings)) (10 ∷ [])))
+
+  -- so that it can be counted
+  pub end-writable : (e : End) → Cells bound → Cells cells → (e .alive ≡ true → length bound + length cells ≤ 65000)
+      → e .firings < 18446744073709551616 → Writable naming letters bound cells e
+  end-writable e b c h k =
+      record { counted = record { few = omega (arith, end-few e b c h k) }; few = λ l. omega (arith, h l) }

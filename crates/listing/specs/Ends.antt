@@ -2,19 +2,22 @@
 --   cellShown        a cell as a field
 --   boundLine        a goal variable's line
 --   liveBytes        the first line, the A and the S lines of a state whose variables are numbered
+--   numberedEnd      the listing of an end whose variables are numbered
 --   endBytes         the listing of a final state
---   Listable         what listing a final state asks
+--   Listable, EndNumbered, Writable     what listing a final state, numbering its variables and writing it ask and promise
 -- Assumes nothing.
-use Prim.Native.Nat.{ℕ, _≤_}
-use mathlib.Core.Bool.{Bool, true}
+use Prim.Native.Nat.{ℕ, _≤_, _<_}
+use mathlib.Core.Bool.{Bool, true, cond}
 use mathlib.Core.List.{List, [], _∷_, _++_, map}
 use mathlib.Core.Path.{_≡_}
+use lib.ListN.{length}
 use Rattle.text.specs.Bytes.{ascii}
 use Rattle.tables.specs.Cells.{cellTerm, cellConstraints, stateOf}
 use Rattle.tables.specs.Names.{nameIn}
-use Rattle.tables.specs.Numbers.{Renumberable}
+use Rattle.tables.specs.Numbers.{Renumberable, Renumbered}
 use Rattle.listing.specs.Listing.{Naming, decimal, lineOf, termShown, constraintLines, numberedAs, variableName, boundLines}
 use Rattle.listing.specs.Listing.{endListing}
+use Rattle.listing.specs.Writing.{Countable}
 use Rattle.listing.specs.declared.End.{End}
 
 -- a cell as a field, its variable by a letter and its number
@@ -32,6 +35,11 @@ liveBytes naming letters bound cells firings =
     ++ (boundLines naming (numberedAs (ascii "U")) (variableName letters) 0 (map cellTerm bound)
     ++ constraintLines (ascii "S") naming (numberedAs (ascii "U")) (cellConstraints cells))
 
+-- the listing of an end whose variables, if it lives, are numbered by first appearance
+unfoldable pub numberedEnd : Naming → List ℕ → List ℕ → List ℕ → End → List ℕ
+numberedEnd naming letters bound cells e =
+    cond (e .alive) (liveBytes naming letters bound cells (e .firings)) (lineOf (ascii "FAILED") (decimal (e .firings) ∷ []))
+
 -- the listing of a final state: its names are parts of the two texts
 unfoldable pub endBytes : List ℕ → List ℕ → List ℕ → List ℕ → List ℕ → List ℕ → End → List ℕ
 endBytes program goal places letters bound cells e =
@@ -42,3 +50,12 @@ endBytes program goal places letters bound cells e =
 pub record Listable (alive : Bool) (next : ℕ) (bound cells : List ℕ) : Type 0 where
   pub few : next ≤ 13340
   pub live : alive ≡ true → Renumberable next bound cells
+
+-- what numbering its variables promises: where it lives, each is its place in the order of first appearance
+pub record EndNumbered (alive : Bool) (bound cells bound′ cells′ : List ℕ) (count : ℕ) : Type 0 where
+  pub live : alive ≡ true → Renumbered bound cells bound′ cells′ count
+
+-- what writing an end asks: that it can be counted
+pub record Writable (naming : Naming) (letters bound cells : List ℕ) (e : End) : Type 0 where
+  pub counted : Countable 0 (numberedEnd naming letters bound cells e)
+  pub few : e .alive ≡ true → length bound < 65536

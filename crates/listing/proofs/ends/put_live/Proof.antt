@@ -1,9 +1,9 @@
--- `listing::put_live` meets its contract: the first line, the A lines and the S lines. Assumes nothing.
+-- `listing::ends::put_live` meets its contract: the first line, the A lines and the S lines. Assumes nothing.
 use borrow.Author.Needs.{needs}
 use native.Mathlib.Omega.{arith}
 use Rattle.listing.proofs.EndLaws.{live-head, live-bounds, live-rows, live-wrote}
-use Rattle.listing.proofs.put_live.Statement.{statement}
-use Rattle.listing.proofs.put_live.Tie as tie
+use Rattle.listing.proofs.ends.put_live.Statement.{statement}
+use Rattle.listing.proofs.ends.put_live.Tie as tie
 
 slice-aggregate-put-head : tie.Need-slice-aggregate-put-head
 slice-aggregate-put-head c = search needs
