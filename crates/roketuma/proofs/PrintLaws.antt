@@ -7,14 +7,14 @@
 --   printed-within, printed-front       what is printed lies inside the output
 --   front-length, parts-printed         the parts of an input
 -- Assumes nothing.
-use mathlib.Core.Path.{_≡_, refl, sym, ap, ap₂, subst, _∙_}
+use mathlib.Core.Path.{_≡_, refl, sym, ap, subst, _∙_}
 use mathlib.Core.Bool.{Bool, true, false}
 use mathlib.Core.List.{List, [], _∷_, _++_, append-assoc}
-use Prim.Native.Nat.{ℕ, _+_, _/_, _%_, _≤_, _<_}
+use Prim.Native.Nat.{ℕ, _+_, _-_, _/_, _%_, _≤_, _<_}
 use native.Mathlib.Omega.{arith}
 use lib.Dec.{ltb}
 use lib.ListN.{length, take, drop, length-append, length-drop}
-use lib.Seq.{take-at, drop-at, drop-drop, length-take-le}
+use lib.Seq.{take-all, length-take-le}
 use borrow.Author.Tests.{ltb-true, ltb-false}
 use Rattle.text.specs.Bytes.{ascii}
 use Rattle.text.specs.Lines.{Parts, parted}
@@ -22,7 +22,7 @@ use Rattle.text.specs.Places.{partsAt}
 use Rattle.listing.specs.Listing.{decimal, fieldsBehind, lineOf}
 use Rattle.listing.specs.Writing.{laid, Countable, Writes}
 use Rattle.listing.proofs.Decimals.{decimal-low, decimal-high, decimal-few}
-use Rattle.listing.proofs.WriteLaws.{wrote-then}
+use Rattle.listing.proofs.WriteLaws.{partFrom, partBack, wrote-then, wrote-behind}
 use Rattle.replies.specs.Replies.{programText, goalText, Reply, refusal, listing, runReply, outputAfter}
 use Rattle.replies.specs.Replies.{textLetter, printed, ample, sheetrun}
 use Rattle.roketuma.specs.Answers.{textMeant, replyMeant, answerOf, Replied, refusalBytes, Printed}
@@ -80,39 +80,39 @@ module _ (number line : ℕ) (named o : List ℕ)
         → Writes (decimal number) e p q n → n ≤ length q
     rest-within k l w v = omega (arith, w .counted, v .counted, few, lent .0)
 
+    pub line-few : length (refusalBytes number named line) ≤ 20000
+    unfolding refusalBytes ascii
+    line-few =
+        omega (
+          arith,
+          few,
+          length-append (word ++ decimal number) (rest named line),
+          length-append word (decimal number),
+        )
+
     pub rest-counted : Countable 0 (rest named line)
     rest-counted = record { few = omega (arith, few) }
 
-    -- the whole line, q′ being the output behind the number when the rest is written there
-    pub line-printed : {p q q′ : List ℕ} {e n m : ℕ} → length p ≡ length o → length q ≡ length p → Writes word 0 o p e
-        → Writes (decimal number) e p q n → Writes (rest named line) 0 (drop n q) q′ m
-        → Printed (refusalBytes number named line) o (take n q ++ q′) (n + m)
+    -- the whole line, the rest being written at the front of the part behind the number
+    pub line-printed : {p q part : List ℕ} {e n m : ℕ} → length p ≡ length o → length q ≡ length p → Writes word 0 o p e
+        → Writes (decimal number) e p q n → Writes (rest named line) 0 (partFrom n q) part m
+        → Printed (refusalBytes number named line) o (partBack n q part) (n + m)
     unfolding refusalBytes ascii laid
-    line-printed {p} {q} {q′} {e} {n} {m} k l w v u =
-        let done = both k w v in
-        let size : n ≡ length (word ++ decimal number) = omega (arith, done .counted) in
-        let front : q ≡ laid 0 (word ++ decimal number) o =
-        done .placed (omega (arith, size, lent .0, few, length-append word (decimal number))) in
-        let behind : q′ ≡ laid 0 (rest named line) (drop n q) =
-        u .placed (omega (arith, length-drop n q, lent .0, few, w .counted, v .counted)) in
-        let zero : 0 + length (word ++ decimal number) ≡ length (word ++ decimal number) = omega arith in
-        let zero′ : 0 + length (rest named line) ≡ length (rest named line) = omega arith in
-        let old = drop (length (word ++ decimal number)) o in
-        let first : take n q ≡ word ++ decimal number =
-        ap (take n) (front ∙ rw zero) ∙ take-at (word ++ decimal number) old n (sym size) in
-        let left : drop n q ≡ old = ap (drop n) (front ∙ rw zero) ∙ drop-at (word ++ decimal number) old n (sym size) in
-        let last : q′ ≡ rest named line ++ drop (length (rest named line)) old =
-        behind ∙ rw (zero′, left) in
-        let all : length ((word ++ decimal number) ++ rest named line)
-        ≡ length (word ++ decimal number) + length (rest named line) =
-        length-append (word ++ decimal number) (rest named line) in
+    line-printed {p} {q} {part} {e} {n} {m} k l w v u =
+        let within : n ≤ length q = rest-within k l w v in
+        let all : Writes ((word ++ decimal number) ++ rest named line) 0 o (partBack n q part) (n + m) =
+        wrote-then (both k w v) (wrote-behind n (omega (arith, within)) u) (l ∙ k) in
+        let zero : 0 + length ((word ++ decimal number) ++ rest named line)
+        ≡ length ((word ++ decimal number) ++ rest named line) = omega arith in
         record {
-          output =
-              ap₂ (λ (x y : List ℕ). x ++ y) first last
-              ∙ sym (append-assoc (word ++ decimal number) (rest named line) (drop (length (rest named line)) old))
-              ∙ ap (λ (y : List ℕ). ((word ++ decimal number) ++ rest named line) ++ y)
-              (drop-drop (length (rest named line)) (length (word ++ decimal number)) o ∙ rw (sym all));
-          counted = omega (arith, size, u .counted, all);
+          output = all .placed (omega (
+            arith,
+            few,
+            lent .0,
+            length-append (word ++ decimal number) (rest named line),
+            length-append word (decimal number),
+          )) ∙ rw zero;
+          counted = omega (arith, all .counted);
         }
 
 -- what is printed lies inside the output
@@ -190,8 +190,10 @@ front-length n l h = sym (length-take-le n l h)
 -- the parts of an input, as they are lent
 pub parts-printed : (input : List ℕ) (end start : ℕ) {o a : List ℕ} {n : ℕ}
     → (parted input ≡ partsAt input end start) × (end ≤ length input) × (start ≤ length input)
-    → Printed (printed (runReply (take end input) (drop start input) ample)) o a n → Printed (sheetrun input) o a n
+    → Printed (printed (runReply (take end input) (partFrom start input) ample)) o a n → Printed (sheetrun input) o a n
 unfolding sheetrun partsAt
 parts-printed input end start {o} {a} {n} split w =
     subst (λ (s : List ℕ). Printed s o a n)
-    (ap (λ (p : Parts). printed (runReply (p .program) (p .goal) ample)) (sym (split .0))) w
+    (ap (λ (g : List ℕ). printed (runReply (take end input) g ample))
+    (take-all (length input - start) (drop start input) (omega (arith, length-drop start input)))
+    ∙ ap (λ (p : Parts). printed (runReply (p .program) (p .goal) ample)) (sym (split .0))) w

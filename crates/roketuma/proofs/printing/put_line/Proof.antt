@@ -1,51 +1,60 @@
+-- `roketuma::printing::put_line` meets its contract: the word, the number behind it, the rest behind that. Assumes nothing.
+use native.Mathlib.Omega.{arith}
 use borrow.Author.Needs.{needs}
+use Rattle.roketuma.proofs.PrintLaws.{number-counted, rest-within, rest-counted, line-printed, line-few}
 use Rattle.roketuma.proofs.printing.put_line.Statement.{statement}
 use Rattle.roketuma.proofs.printing.put_line.Tie as tie
-use Rattle.roketuma.proofs.printing.put_line.Reads as reads
-use Rattle.roketuma.proofs.printing.put_line.Lts as lts
-use Rattle.listing.proofs.lines.put_head.Reads as put-head-reads
-use Rattle.listing.proofs.writing.copy.Reads as copy-reads
-use Rattle.listing.proofs.writing.put_decimal.Reads as put-decimal-reads
 
--- src/printing.rt:24:29
 slice-aggregate-copy : tie.Need-slice-aggregate-copy
 slice-aggregate-copy c = search needs
 
--- src/printing.rt:24:9
 copy-requires : tie.Need-copy-requires
 copy-requires c κs = search needs
 
--- src/printing.rt:25:9
 put-decimal-requires : tie.Need-put-decimal-requires
-put-decimal-requires c κs = ?
+put-decimal-requires c κs =
+    let at-copy = c .before .before .before in
+    let start = at-copy .before .before .before .before .before in
+    number-counted (start .args .number) (start .args .line) (start .args .named .now) (start .args .out .now) (start .pre)
+    (at-copy .copy .ensures)
 
--- src/printing.rt:26:20
 sub-put-head : tie.Need-sub-put-head
-sub-put-head c = ?
+sub-put-head c =
+    let at-number = c .before .before in
+    let at-copy = at-number .before .before .before .before in
+    let start = at-copy .before .before .before .before .before in
+    rest-within (start .args .number) (start .args .line) (start .args .named .now) (start .args .out .now) (start .pre)
+    (at-copy .copy .kept .0) (at-number .put-decimal .kept .0) (at-copy .copy .ensures) (at-number .put-decimal .ensures)
 
--- src/printing.rt:26:20
 part-put-head-start : tie.Need-part-put-head-start
-part-put-head-start c = ?
+part-put-head-start c = omega (arith, sub-put-head c)
 
--- src/printing.rt:26:20
 part-put-head-end : tie.Need-part-put-head-end
 part-put-head-end c = search needs
 
--- src/printing.rt:26:11
 put-head-requires : tie.Need-put-head-requires
-put-head-requires c κs = ?
+put-head-requires c κs =
+    let start = c .before .before .before .before .before .before .before .before .before .before .before .before in
+    rest-counted (start .args .number) (start .args .line) (start .args .named .now) (start .args .out .now) (start .pre)
 
--- src/printing.rt:26:5
+returns : tie.Need-returns
+returns c =
+    let at-head = c .before .before in
+    let at-number = at-head .before .before .before .before in
+    let at-copy = at-number .before .before .before .before in
+    let start = at-copy .before .before .before .before .before in
+    line-printed (start .args .number) (start .args .line) (start .args .named .now) (start .args .out .now) (start .pre)
+    (at-copy .copy .kept .0) (at-number .put-decimal .kept .0) (at-copy .copy .ensures) (at-number .put-decimal .ensures)
+    (at-head .put-head .ensures)
+
 add-result : tie.Need-add-result
-add-result c = ?
+add-result c =
+    let start = c .before .before .before .before .before .before .before .before .before .before .before .before .before .before .before in
+    omega (arith, returns c .counted, line-few (start .args .number) (start .args .line) (start .args .named .now)
+    (start .args .out .now) (start .pre))
 
--- src/printing.rt:20:1
 same-length : tie.Need-same-length
 same-length c = search needs
-
--- src/printing.rt:20:1
-returns : tie.Need-returns
-returns c = ?
 
 pub put-line-spec : {M : Type 1} → statement M
 put-line-spec =
