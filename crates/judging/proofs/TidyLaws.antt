@@ -83,8 +83,8 @@ module _ (i : ℕ) (cells₀ cells : List ℕ) (j : ℕ) (room : 5 * i + 5 ≤ l
         same = w .same;
         ended = record { zero = λ k l. w .made k (omega arith) };
         others = λ k l e. record {
-              zero = λ c m z. w .others k (2 + c) l (omega arith) ∙ e .zero c m (sym (w .others k (1 + c) l (omega arith)) ∙ z);
-            };
+          zero = λ c m z. w .others k (2 + c) l (omega arith) ∙ e .zero c m (sym (w .others k (1 + c) l (omega arith)) ∙ z);
+        };
       }
 
   module _ (h : j < 3) (q x : ℕ) (e : q ≡ 5 * i + 1 + j) (s : x ≡ cond (eqb (getD cells q 0) 0) 0 (getD cells (q + 1) 0)) where
@@ -208,8 +208,12 @@ module _ (n m : ℕ) (cells : List ℕ) (s : length cells ≡ 5 * n) (ended : (i
 
     terms-size : length terms ≡ 4
     terms-size =
-        omega (arith, length-drop 1 (take 5 (drop (5 * i) cells)), length-take-le 5 (drop (5 * i) cells)
-        (omega (arith, length-drop (5 * i) cells)))
+        omega (
+          arith,
+          length-drop 1 (take 5 (drop (5 * i) cells)),
+          length-take-le 5 (drop (5 * i) cells)
+              (omega (arith, length-drop (5 * i) cells)),
+        )
 
     terms-chain : Chain terms
     terms-chain j l z =

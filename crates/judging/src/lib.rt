@@ -55,34 +55,19 @@ pub fn both_ends(
     let n = peak.rules;
     let m = peak.count;
     let positions = peak.positions;
-    let first = side(
-        rules,
-        n,
-        peak.first,
-        [0, 1, 2, 3],
-        goal,
-        m,
-        bound_one,
-        one,
-    );
-    let second = side(
-        rules,
-        n,
-        peak.second,
-        positions,
-        goal,
-        m,
-        bound_two,
-        two,
-    );
-    Ends {
-        first,
-        second,
-    }
+    let first = side(rules, n, peak.first, [0, 1, 2, 3], goal, m, bound_one, one);
+    let second = side(rules, n, peak.second, positions, goal, m, bound_two, two);
+    Ends { first, second }
 }
 
 // Whether two states that live are equal, both of n constraints. Cells that say nothing become 0.
-pub fn compare(n: usize, bound_one: &[u16], one: &mut [u16], bound_two: &[u16], two: &mut [u16]) -> bool
+pub fn compare(
+    n: usize,
+    bound_one: &[u16],
+    one: &mut [u16],
+    bound_two: &[u16],
+    two: &mut [u16],
+) -> bool
     requires { ⌜ Comparable (now one) n (now «bound_one») × Comparable (now two) n (now «bound_two») ⌝ }
     ensures { λ r. ⌜ r ≡ sameState (endOf (now («bound_one» .entry)) (now (one .entry)))
         (endOf (now («bound_two» .entry)) (now (two .entry))) ⌝ }

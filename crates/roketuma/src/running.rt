@@ -89,7 +89,16 @@ fn list_final<'a>(
             next: wide(end.next),
             firings,
         };
-        return list(program, goal, places, letters, bound, &mut cells[..e], lives, output);
+        return list(
+            program,
+            goal,
+            places,
+            letters,
+            bound,
+            &mut cells[..e],
+            lives,
+            output,
+        );
     }
     let failed = End {
         alive: false,
@@ -117,7 +126,16 @@ fn run_read<'a>(
     let v = letters.len();
     let mut bound = [0; 26];
     let end = derive(rules, &mut bound[..v], cells, sizes);
-    list_final(program, goal, places, letters, &mut bound[..v], cells, end, output)
+    list_final(
+        program,
+        goal,
+        places,
+        letters,
+        &mut bound[..v],
+        cells,
+        end,
+        output,
+    )
 }
 
 // The run of a goal's text over a program as read.
@@ -138,7 +156,15 @@ fn run_goal<'a>(
     let mut letters = [0; 26];
     let mut cells = [0; 2590];
     let e = SYMBOL_SIZE * counts.symbols;
-    match read_goal(goal, &symbols[..e], names, places, counts.constants, &mut cells, &mut letters) {
+    match read_goal(
+        goal,
+        &symbols[..e],
+        names,
+        places,
+        counts.constants,
+        &mut cells,
+        &mut letters,
+    ) {
         GoalRead::Refused(number, line) => RunReply::Refused(Refusal {
             number,
             text: TextName::G,
@@ -150,7 +176,16 @@ fn run_goal<'a>(
                 rules: counts.rules,
                 constraints: found.constraints,
             };
-            run_read(program, goal, places, rules, &letters[..v], &mut cells, sizes, output)
+            run_read(
+                program,
+                goal,
+                places,
+                rules,
+                &letters[..v],
+                &mut cells,
+                sizes,
+                output,
+            )
         }
     }
 }

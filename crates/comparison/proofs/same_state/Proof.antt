@@ -1,3 +1,4 @@
+-- `comparison::same_state` meets its contract: the counts, what the goal variables became, and the search. Assumes nothing.
 use Rattle.comparison.proofs.SearchLaws.{search-answer, unused-length}
 use native.Mathlib.Omega.{arith}
 use mathlib.Core.Path.{sym, refl}

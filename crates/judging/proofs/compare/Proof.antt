@@ -16,11 +16,10 @@ tidy-requires-2 : tie.Need-tidy-requires-2
 tidy-requires-2 c κs = (c .before .before .before .before .before .before .before .before .before .pre) .1 .size
 
 same-state-requires : tie.Need-same-state-requires
-same-state-requires c κs =
-    (
-      compare-side _ _ _ _ ((c .before .before .before .before .before .before .before .before .before .before .before .before .before .before .pre) .0) ((c .before .before .before .before .before .before .before .before .tidy) .ensures) ((c .before .before .before .before .before .before .before .before .tidy) .kept .0),
-      compare-side _ _ _ _ ((c .before .before .before .before .before .before .before .before .before .before .before .before .before .before .pre) .1) ((c .before .before .before .before .tidy2) .ensures) ((c .before .before .before .before .tidy2) .kept .0),
-    )
+same-state-requires c κs = (
+  compare-side _ _ _ _ ((c .before .before .before .before .before .before .before .before .before .before .before .before .before .before .pre) .0) ((c .before .before .before .before .before .before .before .before .tidy) .ensures) ((c .before .before .before .before .before .before .before .before .tidy) .kept .0),
+  compare-side _ _ _ _ ((c .before .before .before .before .before .before .before .before .before .before .before .before .before .before .pre) .1) ((c .before .before .before .before .tidy2) .ensures) ((c .before .before .before .before .tidy2) .kept .0),
+)
 
 same-length : tie.Need-same-length
 same-length c = search needs
@@ -29,7 +28,7 @@ same-length-2 : tie.Need-same-length-2
 same-length-2 c = search needs
 
 returns : tie.Need-returns
-returns c = 
+returns c =
     compare-answer _ _ _ _ _ _ _ _ ((c .before .before .before .before .before .before .before .before .before .before .before .before .before .before .before .pre) .0) ((c .before .before .before .before .before .before .before .before .before .before .before .before .before .before .before .pre) .1) ((c .before .before .before .before .before .before .before .before .before .tidy) .ensures) ((c .before .before .before .before .before .tidy2) .ensures) ((c .same-state) .ensures)
 
 pub compare-spec : {M : Type 1} → statement M

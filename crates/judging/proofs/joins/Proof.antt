@@ -22,14 +22,13 @@ slice-aggregate-judge-2 : tie.Need-slice-aggregate-judge-2
 slice-aggregate-judge-2 c = sym (lent-length _ ((c .before .before .before .before .before .before .before .pre) .0 .variables))
 
 judge-requires : tie.Need-judge-requires
-judge-requires c κs =
-    (
-      (c .before .before .before .before .before .before .before .before .pre) .0,
-      lent-length _ ((c .before .before .before .before .before .before .before .before .pre) .0 .variables),
-      lent-length _ ((c .before .before .before .before .before .before .before .before .pre) .0 .variables),
-      (c .before .before .before .before .before .before .before .before .pre) .1,
-      (c .before .before .before .before .before .before .before .before .pre) .2,
-    )
+judge-requires c κs = (
+  (c .before .before .before .before .before .before .before .before .pre) .0,
+  lent-length _ ((c .before .before .before .before .before .before .before .before .pre) .0 .variables),
+  lent-length _ ((c .before .before .before .before .before .before .before .before .pre) .0 .variables),
+  (c .before .before .before .before .before .before .before .before .pre) .1,
+  (c .before .before .before .before .before .before .before .before .pre) .2,
+)
 
 same-length : tie.Need-same-length
 same-length c = search needs

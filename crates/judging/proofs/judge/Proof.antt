@@ -78,11 +78,10 @@ slice-aggregate-compare-2 : tie.Need-slice-aggregate-compare-2
 slice-aggregate-compare-2 c = sym ((live-by ((c .before .before .before .before .before .before .before .before .before .before .before .before .before .before .before .before .before .before .before .before .both-ends) .ensures .1) (not-false _ ((c .before .before .before .before .before .before .if2) .left)) _ ((c .before .before .before .before .if3) .left)) .size)
 
 compare-requires : tie.Need-compare-requires
-compare-requires c κs =
-    (
-      (c .before .before .before .before .before .before .before .before .before .before .before .before .before .before .before .before .before .before .before .before .both-ends) .ensures .0 .live (not-false _ ((c .before .before .before .before .before .before .before .before .if1) .left)),
-      live-by ((c .before .before .before .before .before .before .before .before .before .before .before .before .before .before .before .before .before .before .before .before .both-ends) .ensures .1) (not-false _ ((c .before .before .before .before .before .before .if2) .left)) _ ((c .before .before .before .before .if3) .left),
-    )
+compare-requires c κs = (
+  (c .before .before .before .before .before .before .before .before .before .before .before .before .before .before .before .before .before .before .before .before .both-ends) .ensures .0 .live (not-false _ ((c .before .before .before .before .before .before .before .before .if1) .left)),
+  live-by ((c .before .before .before .before .before .before .before .before .before .before .before .before .before .before .before .before .before .before .before .before .both-ends) .ensures .1) (not-false _ ((c .before .before .before .before .before .before .if2) .left)) _ ((c .before .before .before .before .if3) .left),
+)
 
 same-length-13 : tie.Need-same-length-13
 same-length-13 c = search needs

@@ -1,3 +1,5 @@
+-- `comparison::classes::classify_by` meets its contract: keys are made for both states; other sums tell them apart, else each symbol
+-- becomes its class. Assumes nothing.
 use native.Mathlib.Omega.{arith}
 use Rattle.comparison.proofs.ClassLaws.{classified-apart, classified-same}
 use borrow.Author.Needs.{needs}

@@ -1,3 +1,4 @@
+-- `comparison::colours::give_all` meets its contract: the constraints before i have given. Assumes nothing.
 use Prim.Native.Nat.{_-_}
 use native.Mathlib.Omega.{arith}
 use lib.ListN.{length}

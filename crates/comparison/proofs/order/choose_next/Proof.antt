@@ -1,3 +1,4 @@
+-- `comparison::order::choose_next` meets its contract: the constraint chosen lies among those that are left. Assumes nothing.
 use native.Mathlib.Omega.{arith}
 use Prim.Native.Nat.{_-_, _≤_}
 use Rattle.comparison.proofs.order.choose_next.Statement.{statement}

@@ -1,3 +1,4 @@
+-- `comparison::order::swap_rows` meets its contract: the cells before i are exchanged. Assumes nothing.
 use lib.ListN.{length, getD, length-set}
 use Prim.Native.Nat.{_+_, _*_, _-_}
 use Prim.Native.Nat.{_-_}

@@ -1,3 +1,4 @@
+-- `comparison::pairing::pair_bound` meets its contract: what the goal variables before i became is paired. Assumes nothing.
 use borrow.Author.Tests.{not-true, not-false}
 use lib.ListN.{length}
 use Prim.Native.Nat.{_-_}

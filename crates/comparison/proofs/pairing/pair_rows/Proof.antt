@@ -1,3 +1,4 @@
+-- `comparison::pairing::pair_rows` meets its contract: the columns before i are paired. Assumes nothing.
 use borrow.Author.Tests.{not-true, not-false}
 use Rattle.comparison.proofs.PairLaws.{Columns, columns-start, columns-end, columns-short, columns-left, columns-right}
 use Prim.Native.Nat.{_-_}

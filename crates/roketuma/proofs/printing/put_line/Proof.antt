@@ -50,8 +50,12 @@ returns c =
 add-result : tie.Need-add-result
 add-result c =
     let start = c .before .before .before .before .before .before .before .before .before .before .before .before .before .before .before in
-    omega (arith, returns c .counted, line-few (start .args .number) (start .args .line) (start .args .named .now)
-    (start .args .out .now) (start .pre))
+    omega (
+      arith,
+      returns c .counted,
+      line-few (start .args .number) (start .args .line) (start .args .named .now)
+          (start .args .out .now) (start .pre),
+    )
 
 same-length : tie.Need-same-length
 same-length c = search needs
