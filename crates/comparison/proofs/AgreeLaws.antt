@@ -4,14 +4,14 @@
 --   refined-agree       a round keeps that
 --   key-agree           the keys of constraints that a renaming makes equal are the same
 -- Assumes nothing.
-use Prim.Native.Nat.{ℕ, zero, suc, _+_, _*_, _%_, _^_}
+use Prim.Native.Nat.{ℕ, zero, suc, _+_, _%_, _^_}
 use native.Mathlib.Nat.{mod-add-mod}
 use native.Mathlib.Omega.{arith}
 use mathlib.Core.Bool.{Bool, true, false, cond}
 use mathlib.Core.List.{List, [], _∷_, map}
 use mathlib.Core.Path.{_≡_, refl, sym, ap, _∙_}
 use lib.Dec.{eqb}
-use Rattle.semantics.specs.Terms.{Term, con, var, Constraint, sameTerm}
+use Rattle.semantics.specs.Terms.{Term, con, Constraint, sameTerm}
 use Rattle.semantics.specs.Variants.{OneToOne, TermVariant, sameCon, partners, Pointwise, empty, each, ConstraintVariant}
 use Rattle.semantics.specs.Variants.{Inserted, here, there, SameMultiset, done, put}
 use Rattle.semantics.proofs.Multisets.{multiset-map, multiset-mono}

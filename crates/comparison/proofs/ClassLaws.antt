@@ -4,7 +4,7 @@
 --   classes-apart            sums of keys that differ
 --   classes-same             classes in the place of symbols
 -- Assumes nothing.
-use Prim.Native.Nat.{ℕ, zero, suc, _+_, _-_, _*_, _≤_, _<_}
+use Prim.Native.Nat.{ℕ, zero, suc, _≤_, _<_}
 use native.Mathlib.Omega.{arith}
 use mathlib.Core.Bool.{Bool, true, false, cond}
 use mathlib.Core.List.{List, [], _∷_, map}
@@ -13,8 +13,8 @@ use lib.Dec.{eqb}
 use lib.ListN.{length, getD, take, replicate, length-replicate}
 use lib.Seq.{length-take-le}
 use Rattle.text.specs.Lists.{placeFrom}
-use Rattle.semantics.specs.Terms.{Term, Constraint, State, live}
-use Rattle.semantics.specs.Variants.{OneToOne, ConstraintVariant, Pointwise, TermVariant, SameMultiset, done, put, Inserted}
+use Rattle.semantics.specs.Terms.{Constraint, State, live}
+use Rattle.semantics.specs.Variants.{OneToOne, ConstraintVariant, Pointwise, TermVariant, SameMultiset, done, put}
 use Rattle.semantics.specs.Variants.{Variant, sameState}
 use Rattle.semantics.proofs.Configurations.{Or, inl, inr, Member, first, later}
 use Rattle.semantics.proofs.Multisets.{multiset-map, multiset-unmap, multiset-mono}
@@ -23,8 +23,8 @@ use Rattle.semantics.proofs.Options.{decide, true-false, eqb-equal, equal-eqb}
 use Rattle.semantics.proofs.Comparison.{sameState-sound, sameState-complete}
 use Rattle.tables.specs.Cells.{cellTerm, cellTerms, cellConstraints}
 use Rattle.comparison.specs.Comparing.{endOf}
-use Rattle.comparison.specs.Renamings.{Below, TermsBelow}
-use Rattle.comparison.specs.Colours.{Empty, Ready}
+use Rattle.comparison.specs.Renamings.{Below}
+use Rattle.comparison.specs.Colours.{Ready}
 use Rattle.comparison.specs.Keys.{plainOf, coded, keyOf, summed, classOf, relabel, Relabelled}
 use Rattle.comparison.specs.Classes.{Colourable, Classified}
 use Rattle.comparison.proofs.RowLaws.{symbols-small}
@@ -61,7 +61,8 @@ place-one :
     (i : ℕ) (ks : List ℕ) (k j : ℕ) → Member k ks → placeFrom (eqb k) i ks ≡ placeFrom (eqb j) i ks → k ≡ j
 place-one i [] k j m e = elim m [ ]
 place-one i (x ∷ ks) k j m e =
-    go (eqb k x) refl (eqb j x) refl (member-cons m) e (place-one (suc i) ks k j) (place-least (eqb k) (suc i) ks) (place-least (eqb j) (suc i) ks)
+    go (eqb k x) refl (eqb j x) refl (member-cons m) e (place-one (suc i) ks k j) (place-least (eqb k) (suc i) ks)
+    (place-least (eqb j) (suc i) ks)
   where
     go :
         (a : Bool) → eqb k x ≡ a → (b : Bool) → eqb j x ≡ b → Or (k ≡ x) (Member k ks)
@@ -187,20 +188,20 @@ zeros-take (suc m) (suc n) (suc x) = zeros-take m n x
 
 module _ (cells bound : List ℕ) (size n : ℕ) (c : Colourable cells bound size n) where
   -- tables of zeros are ready
-  pub make-ready : Ready cells n (take size (replicate 2332 0)) (take size (replicate 2332 0))
+  pub make-ready : Ready cells n (take size (replicate 2844 0)) (take size (replicate 2844 0))
   make-ready =
       record {
         size = c .count;
-        below = rw (zeros-length size 2332 (c .room)) (c .terms);
+        below = rw (zeros-length size 2844 (c .room)) (c .terms);
         same-size = refl;
-        empty = record { none = zeros-take size 2332 };
+        empty = record { none = zeros-take size 2844 };
       }
 
-  pub make-bound : Below (length {A = ℕ} (take size (replicate 2332 0))) bound
-  make-bound = rw (zeros-length size 2332 (c .room)) (c .bound-below)
+  pub make-bound : Below (length {A = ℕ} (take size (replicate 2844 0))) bound
+  make-bound = rw (zeros-length size 2844 (c .room)) (c .bound-below)
 
-  pub make-few : length {A = ℕ} (take size (replicate 2332 0)) ≤ 65536
-  make-few = rw (zeros-length size 2332 (c .room)) (omega (arith, c .room))
+  pub make-few : length {A = ℕ} (take size (replicate 2844 0)) ≤ 65536
+  make-few = rw (zeros-length size 2844 (c .room)) (omega (arith, c .room))
 
   -- as many keys as constraints
   pub make-keys : n ≤ 512 → Colourable cells bound size (length {A = ℕ} (take n (replicate 512 0)))

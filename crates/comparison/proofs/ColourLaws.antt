@@ -4,26 +4,26 @@
 --   give-…            constraints
 --   absorb-…          one round ends
 -- Assumes nothing.
-use Prim.Native.Nat.{ℕ, zero, suc, _+_, _-_, _*_, _/_, _≤_, _<_}
+use Prim.Native.Nat.{ℕ, suc, _+_, _-_, _*_, _/_, _≤_, _<_}
 use native.Mathlib.Nat.{mul-le-mul}
 use native.Mathlib.Omega.{arith}
 use native.Mathlib.Numerals.{add-one}
-use mathlib.Core.Bool.{Bool, true, false, cond}
+use mathlib.Core.Bool.{true, false}
 use mathlib.Core.List.{List, [], _∷_}
 use mathlib.Core.Logic.{_⊎_, inl, inr, ⊎-elim}
-use mathlib.Core.Path.{_≡_, refl, sym, ap, _∙_}
+use mathlib.Core.Path.{_≡_, refl, ap, _∙_}
 use lib.Dec.{eqb}
 use lib.ListN.{length, getD, set, take, drop, length-set, length-drop, drop-of-length-le}
 use lib.ListN.{List·getD-eq-default}
-use lib.Seq.{getD-set-same, getD-set-other, drop-cons, getD-drop, take-all, length-take-le}
-use borrow.Author.Tests.{eq-eqb, ne-eqb, eqb-true, eqb-false}
-use Rattle.semantics.specs.Terms.{Term, Constraint, sameTerm}
+use lib.Seq.{getD-set-same, getD-set-other, take-all, length-take-le}
+use borrow.Author.Tests.{eqb-true, eqb-false}
+use Rattle.semantics.specs.Terms.{Term}
 use Rattle.tables.specs.Cells.{cellTerm, cellTerms, cellConstraints}
 use Rattle.tables.specs.Cells.{rowConstraint}
 use Rattle.tables.proofs.CellLaws.{either, le-or-lt, same-cell, terms-none, terms-more, constraints-at}
 use Rattle.comparison.specs.Renamings.{Below, TermsBelow}
 use Rattle.comparison.specs.Colours.{mixed, plus, added, signed, signature, gains, gathered, withTerms, Colours, Signed}
-use Rattle.comparison.specs.Colours.{Spread, Given, Absorbed, Empty}
+use Rattle.comparison.specs.Colours.{Spread, Given, Absorbed}
 use Rattle.comparison.proofs.RowLaws.{terms-row}
 
 -- the square of 32 bits fits 64

@@ -5,24 +5,24 @@
 --   sum-…, class-…      their sum, and the class of a key
 --   relabel-…           classes in the place of symbols
 -- Assumes nothing.
-use Prim.Native.Nat.{ℕ, zero, suc, _+_, _-_, _*_, _%_, _^_, _≤_, _<_}
+use Prim.Native.Nat.{ℕ, suc, _+_, _*_, _%_, _^_, _≤_, _<_}
 use native.Mathlib.Omega.{arith}
 use native.Mathlib.Numerals.{add-one}
-use mathlib.Core.Bool.{Bool, true, false, cond}
+use mathlib.Core.Bool.{Bool, true, false}
 use mathlib.Core.List.{List, [], _∷_, map}
-use mathlib.Core.Logic.{_⊎_, inl, inr, ⊎-elim}
+use mathlib.Core.Logic.{_⊎_, inl, inr}
 use mathlib.Core.Path.{_≡_, refl, sym, ap, _∙_, subst}
 use lib.Dec.{eqb}
-use lib.ListN.{length, getD, set, take, drop, length-set, length-drop, length-map, drop-of-length-le}
+use lib.ListN.{length, getD, set, drop, length-set, drop-of-length-le}
 use lib.Seq.{getD-set-same, getD-set-other, drop-cons}
 use borrow.Author.Tests.{eq-eqb, ne-eqb, eqb-true, eqb-false}
 use Rattle.text.specs.Lists.{placeFrom}
 use Rattle.semantics.specs.Terms.{Term, Constraint}
-use Rattle.tables.specs.Cells.{cellTerm, cellTerms, cellConstraints}
+use Rattle.tables.specs.Cells.{cellTerms, cellConstraints}
 use Rattle.tables.proofs.CellLaws.{either}
 use Rattle.comparison.specs.Rows.{rowOf}
 use Rattle.comparison.specs.Renamings.{Below, TermsBelow}
-use Rattle.comparison.specs.Colours.{signed, signature, refined, rounds, digest, base, withTerms}
+use Rattle.comparison.specs.Colours.{signature, refined, rounds, digest, base, withTerms}
 use Rattle.comparison.specs.Colours.{Colours, Signed, Empty, Ready, Recoloured, Summed}
 use Rattle.comparison.specs.Keys.{plainOf, deepOf, coded, keyOf, summed, classOf, relabel, Keyed, Relabelled}
 use Rattle.comparison.proofs.RowLaws.{row-same, rows-image, rows-map, image-at}

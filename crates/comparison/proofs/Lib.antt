@@ -3,6 +3,7 @@ pub mod RowLaws
 pub mod PairLaws
 pub mod PlaceLaws
 pub mod SearchLaws
+pub mod SettleLaws
 pub mod ColourLaws
 pub mod RoundLaws
 pub mod AgreeLaws
@@ -10,3 +11,4 @@ pub mod KeyLaws
 pub mod ClassLaws
 pub mod NumberLaws
 pub mod OrderLaws
+pub mod DecideLaws

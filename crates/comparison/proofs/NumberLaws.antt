@@ -6,15 +6,14 @@
 use Prim.Native.Nat.{ℕ, zero, suc, _+_, _-_, _≤_, _<_}
 use native.Mathlib.Omega.{arith}
 use native.Mathlib.Numerals.{add-one}
-use mathlib.Core.Bool.{Bool, true, false}
-use mathlib.Core.List.{List, [], _∷_}
+use mathlib.Core.Bool.{true, false}
+use mathlib.Core.List.{List}
 use mathlib.Core.Logic.{_⊎_, inl, inr, ⊎-elim}
-use mathlib.Core.Path.{_≡_, refl, sym, ap, _∙_, subst, subst₂}
+use mathlib.Core.Path.{_≡_, refl, sym, _∙_}
 use lib.Dec.{eqb}
-use lib.ListN.{length, getD, set, replicate, length-set, length-replicate, List·getD-eq-default}
+use lib.ListN.{length, getD, set, replicate, length-set, List·getD-eq-default}
 use lib.Seq.{getD-set-same, getD-set-other}
 use borrow.Author.Tests.{eqb-true, eqb-false}
-use Rattle.semantics.specs.Terms.{con, var}
 use Rattle.semantics.specs.Variants.{TermVariant, sameCon, partners}
 use Rattle.tables.specs.Cells.{cellTerm}
 use Rattle.tables.proofs.CellLaws.{either, le-or-lt, cell-low, cell-high}
@@ -22,7 +21,8 @@ use Rattle.comparison.specs.Renamings.{Below}
 use Rattle.comparison.specs.Numbering.{Renames, Numbering, Numbered, CellsNumbered, Renumbered}
 
 -- a variable with its number, as terms
-renamed : (numbers : List ℕ) (x y : ℕ) → 256 ≤ x → 256 ≤ y → getD numbers x 0 ≡ y → TermVariant (Renames numbers) (cellTerm x) (cellTerm y)
+renamed : (numbers : List ℕ) (x y : ℕ) → 256 ≤ x → 256 ≤ y → getD numbers x 0 ≡ y → TermVariant (Renames numbers)
+    (cellTerm x) (cellTerm y)
 renamed numbers x y hx hy e =
     let i : x - 256 + 256 ≡ x = omega arith in
     let j : y - 256 + 256 ≡ y = omega arith in
@@ -32,7 +32,8 @@ renamed numbers x y hx hy e =
 -- what a table that keeps its numbers makes equal
 pub kept-same :
     (numbers numbers′ : List ℕ) → ((z : ℕ) → (getD numbers z 0 ≡ 0 → ⊥) → getD numbers′ z 0 ≡ getD numbers z 0)
-    → (x y : ℕ) → TermVariant (Renames numbers) (cellTerm x) (cellTerm y) → TermVariant (Renames numbers′) (cellTerm x) (cellTerm y)
+    → (x y : ℕ) → TermVariant (Renames numbers) (cellTerm x) (cellTerm y) → TermVariant (Renames numbers′) (cellTerm x)
+    (cellTerm y)
 kept-same numbers numbers′ k x y v = go v
   where
     go : {s t : _} → TermVariant (Renames numbers) s t → TermVariant (Renames numbers′) s t
@@ -162,7 +163,8 @@ module _ (cells out₀ out numbers₀ : List ℕ) (first : ℕ) (numbers : List 
         kept = w .kept;
         same = λ k l. w .same k (omega arith);
         constant = λ k l. ⊎-elim (λ q. behind k q) (λ q. w .constant k (omega arith) l) (le-or-lt (length cells) k);
-        below = λ k. ⊎-elim (λ q. rw (out-behind k q) (omega (arith, w .numbering .low))) (λ q. w .below k (omega arith)) (le-or-lt (length cells) k);
+        below = λ k. ⊎-elim (λ q. rw (out-behind k q) (omega (arith, w .numbering .low))) (λ q. w .below k (omega arith))
+            (le-or-lt (length cells) k);
         least = w .least;
         most = omega (arith, w .most, w .within);
       }

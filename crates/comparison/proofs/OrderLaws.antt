@@ -4,20 +4,20 @@
 --   swapped-multiset   they are the same constraints then
 --   reordered-…        one change after the other
 -- Assumes nothing.
-use Prim.Native.Nat.{ℕ, zero, suc, _+_, _-_, _*_, _≤_, _<_}
+use Prim.Native.Nat.{ℕ, zero, suc, _+_, _*_, _≤_, _<_}
 use native.Mathlib.Omega.{arith}
 use native.Mathlib.Numerals.{add-one}
-use mathlib.Core.Bool.{Bool, true, false, cond}
+use mathlib.Core.Bool.{true, false}
 use mathlib.Core.List.{List, [], _∷_}
-use mathlib.Core.Logic.{_⊎_, inl, inr, ⊎-elim}
+use mathlib.Core.Logic.{_⊎_, inl, inr}
 use mathlib.Core.Path.{_≡_, refl, sym, ap, _∙_, subst}
 use lib.Dec.{eqb}
 use lib.ListN.{length, getD, set, length-set}
 use lib.Seq.{getD-set-same, getD-set-other, ext-getD}
-use borrow.Author.Tests.{eq-eqb, ne-eqb, eqb-true, eqb-false}
+use borrow.Author.Tests.{eqb-true, eqb-false}
 use Rattle.semantics.specs.Terms.{Constraint}
-use Rattle.semantics.specs.Variants.{SameMultiset, done, put, Inserted, here, there}
-use Rattle.semantics.proofs.Multisets.{multiset-refl, multiset-trans, multiset-mono, multiset-right, multiset-of-path}
+use Rattle.semantics.specs.Variants.{SameMultiset, put, Inserted, here, there}
+use Rattle.semantics.proofs.Multisets.{multiset-refl, multiset-right}
 use Rattle.tables.specs.Cells.{cellConstraints}
 use Rattle.tables.proofs.CellLaws.{either}
 use Rattle.comparison.specs.Rows.{rowOf}
@@ -152,7 +152,8 @@ pub swapped-multiset :
     {A : Type 0} (l : List A) (i j : ℕ) (z : A) → i < length l → j < length l
     → SameMultiset _≡_ (set (set l i (getD l j z)) j (getD l i z)) l
 swapped-multiset {A} l i j z hi hj =
-    cancel (multiset-right (subst (λ a. SameMultiset _≡_ (a ∷ set (set l i (getD l j z)) j (getD l i z)) (getD l i z ∷ set l i (getD l j z)))
+    cancel (multiset-right (subst (λ a. SameMultiset _≡_ (a ∷ set (set l i (getD l j z)) j (getD l i z))
+    (getD l i z ∷ set l i (getD l j z)))
     (there-still (either (eqb j i)))
     (set-exchange (set l i (getD l j z)) j (getD l i z) z (rw (length-set l i (getD l j z)) hj)))
     (set-exchange l i (getD l j z) z hi))
@@ -166,7 +167,8 @@ swapped-multiset {A} l i j z hi hj =
 nothing : Constraint
 nothing = record { symbol = 0; terms = [] }
 
-module _ (n : ℕ) (cells cells′ : List ℕ) (s : length cells ≡ 5 * n) (s′ : length cells′ ≡ 5 * n) (i j : ℕ) (hi : i < n) (hj : j < n)
+module _ (n : ℕ) (cells cells′ : List ℕ) (s : length cells ≡ 5 * n) (s′ : length cells′ ≡ 5 * n) (i j : ℕ) (hi : i < n)
+    (hj : j < n)
     (w : Swapped i j cells cells′) where
   abbrev cs : List Constraint
   cs = cellConstraints cells

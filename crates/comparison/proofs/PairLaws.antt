@@ -12,13 +12,11 @@ use mathlib.Core.Bool.{Bool, true, false, cond, not, _&&_, _||_}
 use mathlib.Core.List.{List, [], _∷_, map}
 use mathlib.Core.Logic.{_⊎_, inl, inr, ⊎-elim}
 use mathlib.Core.Option.{Option, none, some}
-use mathlib.Core.Path.{_≡_, refl, sym, ap, _∙_, subst}
+use mathlib.Core.Path.{_≡_, refl, sym, ap, _∙_}
 use lib.Dec.{eqb}
 use lib.ListN.{length, getD, set, take, drop, replicate, length-set, length-drop, drop-of-length-le}
 use lib.Seq.{getD-set-same, getD-set-other, set-set, set-getD, drop-cons, getD-drop, take-all}
 use borrow.Author.Tests.{eq-eqb, ne-eqb, eqb-true, eqb-false}
-use Rattle.text.specs.Lists.{bind}
-use Rattle.semantics.specs.Terms.{Term, con, var}
 use Rattle.semantics.specs.Variants.{Pair, arePartners, arePaired, pairTerm, pairTerms}
 use Rattle.semantics.proofs.Options.{true-false}
 use Rattle.tables.specs.Cells.{cellTerm, cellTerms}

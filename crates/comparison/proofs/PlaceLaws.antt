@@ -9,10 +9,9 @@ use native.Mathlib.Numerals.{add-one}
 use mathlib.Core.Bool.{Bool, true, false, cond, _||_}
 use mathlib.Core.List.{List, [], _∷_, _++_}
 use mathlib.Core.Logic.{_⊎_, inl, inr}
-use mathlib.Core.Option.{Option, none, some}
 use mathlib.Core.Path.{_≡_, refl, sym, ap, _∙_}
 use lib.Dec.{eqb}
-use lib.ListN.{length, getD, set, take, drop, replicate, length-set, length-drop, length-take, drop-of-length-le}
+use lib.ListN.{length, getD, set, take, drop, replicate, length-set, length-drop, drop-of-length-le}
 use lib.Seq.{getD-set-same, getD-set-other, set-set, set-getD, getD-drop, getD-take, length-take-le, take-all}
 use borrow.Author.Tests.{eq-eqb, ne-eqb, eqb-true, eqb-false}
 use Rattle.text.specs.Lists.{onward, has}
@@ -21,7 +20,7 @@ use Rattle.semantics.specs.Variants.{Pair, pairConstraint, pairTerms, tryPartne
 use Rattle.semantics.proofs.Options.{true-false}
 use Rattle.tables.specs.Cells.{cellConstraints, cellTerms}
 use Rattle.tables.specs.Cells.{rowConstraint}
-use Rattle.tables.proofs.CellLaws.{either, le-or-lt, constraints-at}
+use Rattle.tables.proofs.CellLaws.{either, constraints-at}
 use Rattle.comparison.specs.Renamings.{Graph, Marks, Rows, RowsLinked, cleared}
 use Rattle.comparison.specs.Placements.{attempted, placed, Placing, Tried}
 use Rattle.comparison.proofs.RowLaws.{terms-row, terms-drop}
@@ -50,7 +49,8 @@ has-behind j (u ∷ us) k = rw (has-behind j us k) (or-assoc (eqb j u) (has j us
     or-assoc false b c = refl
 
 -- one more mark
-pub marks-more : (used : List Bool) (us : List ℕ) (j : ℕ) → j < length used → Marks used us → Marks (set used j true) (us ++ (j ∷ []))
+pub marks-more : (used : List Bool) (us : List ℕ) (j : ℕ) → j < length used → Marks used us → Marks (set used j true) (us ++
+    (j ∷ []))
 marks-more used us j l m = record { marked = λ k. rw (has-behind k us j) (go k (either (eqb k j))) }
   where
     right : (t : Bool) → true ≡ (t || true)
@@ -79,6 +79,10 @@ behind a = take (length a - 5) (drop 5 a)
 
 behind-drop : (a : List ℕ) → behind a ≡ drop 5 a
 behind-drop a = take-all (length a - 5) (drop 5 a) (omega (arith, length-drop 5 a))
+
+-- it is shorter by a constraint
+pub behind-length : (a : List ℕ) → 5 ≤ length a → length (behind a) + 5 ≡ length a
+behind-length a h = rw (behind-drop a) (omega (arith, length-drop 5 a))
 
 module _ (a b : List ℕ) (j : ℕ) (used : List Bool) (f g : List ℕ) (s : Placing a b used f g) (l : j < length used)
     (h : 5 ≤ length a) where
@@ -140,7 +144,7 @@ module _ (a b : List ℕ) (j : ℕ) (used : List Bool) (f g : List ℕ) (s : Pla
 
     module _ (e : getD a 0 0 ≡ getD b (5 * j) 0) (fits : Bool) (fresh : List Bool) (f′ g′ : List ℕ)
         (w : RowsLinked (take 5 a) (lent b j) fits fresh f g f′ g′) where
-      at-terms : (us : List ℕ) (ps : List Pair) → Marks used us
+      pub at-terms : (us : List ℕ) (ps : List Pair) → Marks used us
           → attempted a b j us ps
           ≡ onward (pairTerms (cellTerms (drop 1 (take 5 a))) (cellTerms (drop 1 (lent b j))) ps) false
           (place (cellConstraints (drop 5 a)) (cellConstraints b) (us ++ (j ∷ [])))

@@ -4,22 +4,21 @@
 --   digest-…        one number for all constraints
 --   copy-…          a table, copied
 -- Assumes nothing.
-use Prim.Native.Nat.{ℕ, zero, suc, _+_, _-_, _*_, _≤_, _<_}
+use Prim.Native.Nat.{ℕ, suc, _+_, _-_, _*_, _≤_, _<_}
 use native.Mathlib.Omega.{arith}
 use native.Mathlib.Numerals.{add-one}
-use mathlib.Core.Bool.{Bool, true, false}
-use mathlib.Core.List.{List, [], _∷_, map}
-use mathlib.Core.Logic.{_⊎_, inl, inr, ⊎-elim}
+use mathlib.Core.Bool.{true, false}
+use mathlib.Core.List.{List, map}
+use mathlib.Core.Logic.{_⊎_, inl, inr}
 use mathlib.Core.Path.{_≡_, refl, sym, ap, _∙_, subst}
 use lib.Dec.{eqb}
-use lib.ListN.{length, getD, set, take, drop, length-set, length-drop, drop-of-length-le}
+use lib.ListN.{length, getD, set, take, drop, length-set, drop-of-length-le}
 use lib.Seq.{getD-set-same, getD-set-other, ext-getD}
 use borrow.Author.Tests.{eqb-true, eqb-false}
 use Rattle.semantics.specs.Terms.{Term, Constraint}
 use Rattle.tables.specs.Cells.{cellTerm, cellTerms, cellConstraints}
 use Rattle.tables.specs.Cells.{rowConstraint}
 use Rattle.tables.proofs.CellLaws.{either, cell-low, cell-high, constraints-at}
-use Rattle.comparison.specs.Renamings.{TermsBelow}
 use Rattle.comparison.specs.Colours.{mixed, plus, added, signed, signature, refined, rounds, digest, base, withTerms}
 use Rattle.comparison.specs.Colours.{Colours, Signed, Given, Absorbed, Empty, Ready, Recoloured, Summed}
 use Rattle.comparison.proofs.ColourLaws.{lent, lentTerms, lent-constraint}
@@ -129,7 +128,8 @@ module _ (colours₀ colours : List ℕ) (x : ℕ) (w : Starting colours₀ colo
 -- the signature of a row, of its symbol and its terms
 pub row-signed :
     (cells : List ℕ) (i : ℕ) (κ : Term → ℕ)
-    → signed κ (getD (lent cells i) 0 0) (cellTerms (lentTerms cells i)) ≡ signature κ (rowConstraint (take 5 (drop (5 * i) cells)))
+    → signed κ (getD (lent cells i) 0 0) (cellTerms (lentTerms cells i)) ≡ signature κ (rowConstraint (take 5 (drop
+    (5 * i) cells)))
 unfolding signature withTerms
 row-signed cells i κ = ap (signature κ) (lent-constraint cells i)
 

@@ -5,17 +5,17 @@
 --   rows-pointwise     two lists of constraints, row by row
 --   terms-row          the terms of a row have their places
 -- Assumes nothing.
-use Prim.Native.Nat.{ℕ, zero, suc, _+_, _-_, _*_, _≤_, _<_}
+use Prim.Native.Nat.{ℕ, zero, suc, _+_, _*_, _≤_, _<_}
 use native.Mathlib.Omega.{arith}
 use mathlib.Core.List.{List, [], _∷_, map}
-use mathlib.Core.Logic.{_⊎_, inl, inr, ⊎-elim}
+use mathlib.Core.Logic.{_⊎_, inl, inr}
 use mathlib.Core.Path.{_≡_, refl, sym, ap, _∙_}
-use lib.ListN.{length, getD, take, drop, length-map, length-take, length-drop, List·getD-map, List·getD-eq-default}
-use lib.Seq.{getD-take, getD-drop, ext-getD, drop-cons, length-take-le}
+use lib.ListN.{length, getD, take, drop, length-map, length-take, length-drop, List·getD-eq-default}
+use lib.Seq.{getD-take, getD-drop, ext-getD}
 use Rattle.semantics.specs.Terms.{Constraint}
 use Rattle.semantics.specs.Variants.{Pointwise, empty, each}
 use Rattle.semantics.proofs.Configurations.{Member, first, later}
-use Rattle.tables.specs.Cells.{cellTerms, cellConstraints}
+use Rattle.tables.specs.Cells.{cellConstraints}
 use Rattle.tables.specs.Cells.{rowConstraint}
 use Rattle.tables.proofs.CellLaws.{le-or-lt, constraints-at}
 use Rattle.comparison.specs.Rows.{rowOf}
@@ -112,7 +112,7 @@ module _ (n : ℕ) (l : List ℕ) (s : length l ≡ 5 * n) where
         ∙ (e i k ∙ sym (getD-map f (cellConstraints l) i nothing nothing (rw count k) ∙ ap f (row-at i l nothing (room i k)))))
 
 -- two lists, element by element
-pointwise-at :
+pub pointwise-at :
     {A B : Type 0} {R : A → B → Type 0} (y : A) (z : B) (l : List A) (m : List B) → length l ≡ length m
     → ((i : ℕ) → i < length l → R (getD l i y) (getD m i z)) → Pointwise R l m
 pointwise-at y z [] [] e f = empty
@@ -126,7 +126,8 @@ pub rows-pointwise :
     {R : Constraint → Constraint → Type 0} (n : ℕ) (l l′ : List ℕ) → length l ≡ 5 * n → length l′ ≡ 5 * n
     → ((i : ℕ) → i < n → R (rowOf l i) (rowOf l′ i)) → Pointwise R (cellConstraints l) (cellConstraints l′)
 rows-pointwise {R} n l l′ s s′ f =
-    pointwise-at nothing nothing (cellConstraints l) (cellConstraints l′) (constraints-count n l s ∙ sym (constraints-count n l′ s′))
+    pointwise-at nothing nothing (cellConstraints l) (cellConstraints l′) (constraints-count n l s ∙ sym
+    (constraints-count n l′ s′))
     (λ i h.
     let k : i < n = rw (constraints-count n l s) at h in
     rw (row-at i l nothing (omega arith), row-at i l′ nothing (omega arith)) (f i k))

@@ -2,27 +2,25 @@
 --   count-apart, bound-apart     states of other sizes are not equal
 --   search-…              what the search finds
 -- Assumes nothing.
-use Prim.Native.Nat.{ℕ, zero, suc, _+_, _*_, _≤_}
+use Prim.Native.Nat.{ℕ, _*_, _≤_}
 use native.Mathlib.Omega.{arith}
 use mathlib.Core.Bool.{Bool, true, false, _&&_}
-use mathlib.Core.List.{List, [], _∷_, map}
-use mathlib.Core.Option.{none, some}
-use mathlib.Core.Path.{_≡_, refl, sym, ap, _∙_}
+use mathlib.Core.List.{List, [], map}
+use mathlib.Core.Option.{none}
+use mathlib.Core.Path.{_≡_, refl, sym, _∙_}
 use lib.Dec.{eqb}
-use lib.ListN.{length, take, drop, replicate, length-map, length-drop, length-replicate}
+use lib.ListN.{length, take, replicate, length-map, length-replicate}
 use lib.Seq.{length-take-le}
 use borrow.Author.Tests.{eq-eqb, ne-eqb}
 use Rattle.text.specs.Lists.{onward}
-use Rattle.semantics.specs.Terms.{Constraint}
-use Rattle.semantics.specs.Variants.{Pair, pairTerms, place, sameState}
+use Rattle.semantics.specs.Variants.{pairTerms, place, sameState}
 use Rattle.semantics.proofs.Bools.{none-unless}
 use Rattle.semantics.proofs.Multisets.{pointwise-length}
-use Rattle.semantics.proofs.Options.{true-false}
 use Rattle.semantics.proofs.Pairs.{pairTerms-sound}
 use Rattle.tables.specs.Cells.{cellTerm, cellConstraints}
-use Rattle.comparison.specs.Renamings.{Joined, Below}
+use Rattle.comparison.specs.Renamings.{Joined, TermsBelow}
 use Rattle.comparison.specs.Placements.{placed, Placing, Tried}
-use Rattle.comparison.specs.Comparing.{endOf, Side}
+use Rattle.comparison.specs.Comparing.{endOf}
 use Rattle.comparison.proofs.RowLaws.{constraints-count}
 use Rattle.comparison.proofs.PairLaws.{graph-empty}
 use Rattle.comparison.proofs.PlaceLaws.{marks-none}
@@ -36,12 +34,12 @@ and-fails false u e = refl
 pub unused-length : (m : ℕ) → m ≤ 512 → length (take m (replicate 512 false)) ≡ m
 unused-length m h = length-take-le m (replicate 512 false) (omega (arith, length-replicate 512 false))
 
-module _ (a : List ℕ) (n : ℕ) (f : List ℕ) (b : List ℕ) (m : ℕ) (g : List ℕ) (s : Side a n f) (t : Side b m g) where
+module _ (a : List ℕ) (n : ℕ) (f : List ℕ) (b : List ℕ) (m : ℕ) (g : List ℕ) (s : length a ≡ 5 * n) (t : length b ≡ 5 * m) where
   -- states with other numbers of constraints are not equal
   pub count-apart : (n ≡ m → ⊥) → false ≡ sameState (endOf f a) (endOf g b)
   unfolding sameState
   count-apart d =
-      rw (constraints-count n a (s .size), constraints-count m b (t .size), ne-eqb n m d)
+      rw (constraints-count n a s, constraints-count m b t, ne-eqb n m d)
 
   -- the answer where what the goal variables became cannot be made equal
   no-bound : pairTerms (map cellTerm f) (map cellTerm g) [] ≡ none → false ≡ sameState (endOf f a) (endOf g b)
@@ -67,13 +65,13 @@ module _ (a : List ℕ) (n : ℕ) (f : List ℕ) (b : List ℕ) (m : ℕ) (g : L
     module _ (y : r ≡ true) (e : n ≡ m) where
       -- what placing asks
       pub search-places :
-          length f′ ≡ length {A = ℕ} (replicate h 0) → length g′ ≡ length {A = ℕ} (replicate h 0) → h ≡ 13596
-          → Placing a b (take m (replicate 512 false)) f′ g′
-      search-places lf lg l =
+          length f′ ≡ length {A = ℕ} (replicate h 0) → length g′ ≡ length {A = ℕ} (replicate h 0) → m ≤ 512
+          → TermsBelow h a → TermsBelow h b → Placing a b (take m (replicate 512 false)) f′ g′
+      search-places lf lg l ba bb =
           record {
-            partners = rw (unused-length m (t .few)) (t .size);
-            left = rw (lf ∙ (length-replicate h 0 ∙ l)) (s .cells-below);
-            right = rw (lg ∙ (length-replicate h 0 ∙ l)) (t .cells-below);
+            partners = rw (unused-length m l) t;
+            left = rw (lf ∙ length-replicate h 0) ba;
+            right = rw (lg ∙ length-replicate h 0) bb;
           }
 
       -- the constraints are placed or not
@@ -83,5 +81,5 @@ module _ (a : List ℕ) (n : ℕ) (f : List ℕ) (b : List ℕ) (m : ℕ) (g : L
       unfolding sameState placed
       search-answer q used′ f″ g″ w =
           let (qs, z, i) = j .joined [] (graph-empty h h) y in
-          rw (constraints-count n a (s .size), constraints-count m b (t .size), eq-eqb n m e, z)
+          rw (constraints-count n a s, constraints-count m b t, eq-eqb n m e, z)
           (w .same [] qs (marks-none m 512) i)

@@ -14,7 +14,7 @@ use Rattle.comparison.specs.Comparing.{endOf}
 -- n constraints whose terms lie below a size for which there is room
 pub record Colourable (cells bound : List ℕ) (size n : ℕ) : Type 0 where
   pub count : length cells ≡ 5 * n
-  pub room : size ≤ 2332
+  pub room : size ≤ 2844
   pub terms : TermsBelow size cells
   pub bound-below : Below size bound
 

@@ -1,24 +1,47 @@
 -- Two final states in cells, and what their comparison asks.
 --   endOf       cells as a final state
 --   Side        one of the two states: its sizes, and room for its variables
+--   Alike       what comparing cells promises
+--   Comparable  two states of the same size, and room for their cells
 -- Assumes nothing.
 use Prim.Native.Nat.{ℕ, _*_, _≤_}
+use mathlib.Core.Bool.{Bool, true}
 use mathlib.Core.List.{List, map}
 use mathlib.Core.Path.{_≡_}
 use lib.ListN.{length}
+use Rattle.text.specs.Lists.{every}
 use Rattle.semantics.specs.Terms.{State, live}
 use Rattle.tables.specs.Cells.{cellTerm, cellConstraints}
-use Rattle.comparison.specs.Renamings.{Below, TermsBelow}
+use Rattle.tables.specs.Cells.{isLow}
+use Rattle.comparison.specs.Renamings.{Below}
 
 -- what the goal variables became and the constraints, as a final state. Which variable would come next is no part of what is
 -- compared
 abbrev pub endOf : List ℕ → List ℕ → State
 endOf bound cells = live 0 (map cellTerm bound) (cellConstraints cells)
 
--- a state of n constraints, at most 512: goal variables are at most 28, and each firing makes at most 26 new ones
+-- a state of n constraints, at most 512, whose symbols lie below the variables. Goal variables are at most 28, and each
+-- firing makes
+-- at most 26 new ones
 pub record Side (cells : List ℕ) (n : ℕ) (bound : List ℕ) : Type 0 where
   pub size : length cells ≡ 5 * n
   pub few : n ≤ 512
+  pub low : every isLow (cellConstraints cells) ≡ true
+  pub below : Below 13596 cells
   pub bound-few : length bound ≤ 28
-  pub cells-below : TermsBelow 13596 cells
   pub bound-below : Below 13596 bound
+
+-- two lists that are found to be the same are
+pub record Alike (r : Bool) (a b : List ℕ) : Type 0 where
+  pub same : r ≡ true → a ≡ b
+
+-- two states with as many constraints and goal variables, and room for the cells of each
+pub record Comparable (a f cells-a left b g cells-b right : List ℕ) : Type 0 where
+  pub count : ℕ
+  pub first : Side a count f
+  pub second : Side b count g
+  pub bounds : length f ≡ length g
+  pub room-a : length cells-a ≡ length a
+  pub room-left : length left ≡ length f
+  pub room-b : length cells-b ≡ length b
+  pub room-right : length right ≡ length g

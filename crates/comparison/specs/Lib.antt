@@ -3,6 +3,7 @@ pub mod Rows
 pub mod Renamings
 pub mod Placements
 pub mod Comparing
+pub mod Settlements
 pub mod Colours
 pub mod Keys
 pub mod Classes

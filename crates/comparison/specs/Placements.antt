@@ -31,7 +31,8 @@ pub record Placing (a b : List ℕ) (used : List Bool) (forth back : List ℕ) :
   pub left : TermsBelow (length forth) a
   pub right : TermsBelow (length back) b
 
--- the answer is the definition's for the positions and the renaming that marks and tables stand for, and false leaves them as they
+-- the answer is the definition's for the positions and the renaming that marks and tables stand for, and false leaves them
+-- as they
 -- were
 pub record Tried (r : Bool) (answer : List ℕ → List Pair → Bool)
     (used : List Bool) (forth back : List ℕ) (used′ : List Bool) (forth′ back′ : List ℕ) : Type 0 where

@@ -10,5 +10,6 @@ unfoldable pub rowOf : List ℕ → ℕ → Constraint
 rowOf cells i =
     record {
       symbol = getD cells (5 * i) 0;
-      terms = cellTerms (getD cells (5 * i + 1) 0 ∷ getD cells (5 * i + 2) 0 ∷ getD cells (5 * i + 3) 0 ∷ getD cells (5 * i + 4) 0 ∷ []);
+      terms = cellTerms (getD cells (5 * i + 1) 0 ∷ getD cells (5 * i + 2) 0 ∷ getD cells (5 * i + 3) 0 ∷ getD cells
+          (5 * i + 4) 0 ∷ []);
     }

@@ -14,8 +14,8 @@ ghost use Rattle.comparison.specs.Colours.{Ready};
 ghost use Rattle.comparison.specs.Keys.{plainOf, keyOf};
 ghost use Rattle.comparison.specs.Classes.{Colourable, Classified};
 
-// Room for the colours of all cells: constants, 28 goal variables, and four more for each of 512 constraints.
-const ROOM: usize = 2332;
+// Room for the colours of all cells: constants, 28 goal variables, and as many more as 512 constraints have cells.
+const ROOM: usize = 2844;
 
 // The keys of all constraints, in lent tables.
 pub fn fill_keys(

@@ -111,7 +111,8 @@ pub fn absorb(colours: &mut [u32], received: &mut [u32])
 // One round: all terms receive from all constraints, and their colours are made finer by it.
 pub fn refine(cells: &[u16], n: usize, colours: &mut [u32], received: &mut [u32])
     requires { ⌜ Ready (now cells) n (now colours) (now received) ⌝ }
-    ensures { λ _. ⌜ Recoloured (λ κ. refined κ (cellConstraints (now (cells .entry)))) (now (colours .entry)) (now (colours .exit))
+    ensures { λ _. ⌜ Recoloured (λ κ. refined κ (cellConstraints (now (cells .entry)))) (now (colours .entry)) (now
+        (colours .exit))
         × Empty (now (received .exit)) ⌝ }
 {
     give_all(cells, n, colours, received);
@@ -120,7 +121,8 @@ pub fn refine(cells: &[u16], n: usize, colours: &mut [u32], received: &mut [u32]
 
 // Makes the terms of one constraint stand out, each by its column.
 pub fn light(symbol: u16, terms: &[u16], colours: &mut [u32], received: &mut [u32])
-    requires { ⌜ Below (length (now colours)) (now terms) × (length (now received) ≡ length (now colours)) × Empty (now received) ⌝ }
+    requires { ⌜ Below (length (now colours)) (now terms) × (length (now received) ≡ length (now colours)) × Empty
+        (now received) ⌝ }
     ensures { λ _. ⌜ Recoloured (λ κ. refined κ (withTerms symbol (now (terms .entry)) ∷ [])) (now (colours .entry))
         (now (colours .exit)) × Empty (now (received .exit)) ⌝ }
 {

@@ -1,4 +1,7 @@
 // The comparison of two final states: whether one is the other under a renaming of its variables, one to one.
+// Placing a constraint and trying its partners call one another (`placing`). What that would take for ever over is decided
+// before:
+// states in the same order, and states that differ in what a renaming cannot change.
 pub mod classes;
 pub mod colours;
 pub mod keys;
@@ -6,15 +9,70 @@ pub mod numbering;
 pub mod order;
 pub mod pairing;
 pub mod placing;
+pub mod search;
+pub mod settling;
 
-use crate::pairing::pair_bound;
-use crate::placing::place;
+use crate::numbering::number_state;
+use crate::search::decide;
+use crate::search::same_cells;
+use tables::wide;
 ghost use mathlib.Core.Path.{_≡_};
+ghost use Prim.Native.Nat.{_*_, max};
+ghost use lib.ListN.{length};
 ghost use Rattle.semantics.specs.Variants.{sameState};
-ghost use Rattle.comparison.specs.Comparing.{endOf, Side};
+ghost use Rattle.tables.specs.Cells.{cellConstraints};
+ghost use Rattle.comparison.specs.Comparing.{endOf, Side, Comparable};
 
-// Cells lie below this: constants, 28 goal variables, and 26 more for each of 512 firings.
-const ROOM: usize = 13596;
+// The larger of two numbers.
+pub fn larger(x: u16, y: u16) -> usize
+    ensures { λ r. ⌜ r ≡ max x y ⌝ }
+{
+    if x < y { wide(y) } else { wide(x) }
+}
+
+// How many constraints cells hold.
+pub fn count(cells: &[u16]) -> usize
+    requires { ⌜ length (now cells) ≡ 5 * length (cellConstraints (now cells)) ⌝ }
+    ensures { λ r. ⌜ length (now (cells .entry)) ≡ 5 * r ⌝ }
+{
+    let mut n = 0;
+    let mut p = 0;
+    while p < cells.len() {
+        n += 1;
+        p += 5;
+    }
+    n
+}
+
+// Whether two states are equal, in room for their cells that is lent: the variables are numbered anew by first appearance,
+// so that
+// states in the same order become the same cells.
+pub fn compare(
+    a: &[u16],
+    bound_a: &[u16],
+    b: &[u16],
+    bound_b: &[u16],
+    cells_a: &mut [u16],
+    left: &mut [u16],
+    cells_b: &mut [u16],
+    right: &mut [u16],
+) -> bool
+    requires { ⌜ Comparable (now a) (now «bound_a») (now «cells_a») (now left) (now b) (now «bound_b») (now «cells_b»)
+        (now right) ⌝ }
+    ensures { λ r. ⌜ r ≡ sameState (endOf (now («bound_a» .entry)) (now (a .entry)))
+        (endOf (now («bound_b» .entry)) (now (b .entry))) ⌝ }
+{
+    let x = number_state(a, bound_a, cells_a, left);
+    let y = number_state(b, bound_b, cells_b, right);
+    if same_cells(left, right) {
+        if same_cells(cells_a, cells_b) {
+            return true;
+        }
+    }
+    let n = count(a);
+    let size = larger(x, y);
+    decide(cells_a, left, cells_b, right, n, size)
+}
 
 // Whether two final states are equal: a of n constraints, b of m, and what the goal variables became in each.
 pub fn same_state(
@@ -26,7 +84,8 @@ pub fn same_state(
     bound_b: &[u16],
 ) -> bool
     requires { ⌜ Side (now a) n (now «bound_a») × Side (now b) m (now «bound_b») ⌝ }
-    ensures { λ r. ⌜ r ≡ sameState (endOf (now («bound_a» .entry)) (now (a .entry))) (endOf (now («bound_b» .entry)) (now (b .entry))) ⌝ }
+    ensures { λ r. ⌜ r ≡ sameState (endOf (now («bound_a» .entry)) (now (a .entry)))
+        (endOf (now («bound_b» .entry)) (now (b .entry))) ⌝ }
 {
     if n != m {
         return false;
@@ -34,11 +93,20 @@ pub fn same_state(
     if bound_a.len() != bound_b.len() {
         return false;
     }
-    let mut used = [false; 512];
-    let mut forth = [0u16; ROOM];
-    let mut back = [0u16; ROOM];
-    if !pair_bound(bound_a, bound_b, &mut forth, &mut back) {
-        return false;
-    }
-    place(a, b, &mut used[..m], &mut forth, &mut back)
+    let e = 5 * n;
+    let k = bound_a.len();
+    let mut cells_a = [0u16; 2560];
+    let mut cells_b = [0u16; 2560];
+    let mut left = [0u16; 28];
+    let mut right = [0u16; 28];
+    compare(
+        a,
+        bound_a,
+        b,
+        bound_b,
+        &mut cells_a[..e],
+        &mut left[..k],
+        &mut cells_b[..e],
+        &mut right[..k],
+    )
 }

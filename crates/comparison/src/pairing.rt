@@ -1,5 +1,6 @@
 // Two terms, two constraints, or what the goal variables of two states became, made equal by a renaming.
-// The renaming is kept in two lent tables: `forth` has the partner of a cell of the first state, `back` that of the second; 0 is none.
+// The renaming is kept in two lent tables: `forth` has the partner of a cell of the first state, `back` that of the second;
+// 0 is none.
 use tables::wide;
 ghost use mathlib.Core.List.{map};
 ghost use mathlib.Core.Path.{_≡_};

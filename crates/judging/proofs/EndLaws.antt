@@ -1,12 +1,15 @@
--- The ends of an overlap's two sides, in cells.
---   first-asks, second-asks      what the sides ask
---   first-ends, second-ends      what they promise
+-- The two sides of an overlap, in cells: their own firings, and their ends.
+--   lent-kept                          cells remain lent
+--   first-begins, second-begins        what their own firings ask
+--   both-begun                         and promise
+--   first-follows, second-follows      what following asks
+--   first-ends, second-ends            and promises
 -- Assumes nothing.
 use Prim.Native.Nat.{ℕ, _+_, _*_, _≤_, _<_}
 use native.Mathlib.Omega.{arith}
 use mathlib.Core.Bool.{Bool, true}
 use mathlib.Core.List.{List, [], _∷_, map}
-use mathlib.Core.Path.{_≡_, refl}
+use mathlib.Core.Path.{_≡_, refl, _∙_}
 use lib.ListN.{length, take, length-map}
 use lib.Seq.{length-take-le}
 use borrow.Author.Tests.{lt-ltb, ltb-true}
@@ -21,9 +24,10 @@ use Rattle.semantics.proofs.Options.{below-isBelow}
 use Rattle.semantics.proofs.Vocabulary.{TermOver, ConstraintOver, RuleOver, Spoken}
 use Rattle.tables.specs.Cells.{cellTerm, cellConstraints, isLow}
 use Rattle.tables.specs.Numbers.{isWithin}
-use Rattle.sides.specs.Sides.{Sidable, Sided}
+use Rattle.sides.specs.Sides.{Sidable, Beginnable, Begun, Followable, Followed, Sided}
+use Rattle.sides.proofs.SideLaws.{side-few, side-follows}
 use Rattle.sides.proofs.EndLaws.{first-side, second-side, side-lives}
-use Rattle.judging.specs.Judging.{Stands, Overlapping, endIn, Comparable, EndOf}
+use Rattle.judging.specs.Judging.{Stands, Overlapping, Lent, BothBegun, endIn, LiveEnd, EndOf}
 
 -- any constant will do
 abbrev Any : ℕ → Type 0
@@ -73,10 +77,24 @@ within-all symbols n few (also {a = c} d ds) (also b bs) =
     also {a = c} (rw (declared-low symbols c few d) (all-every (isBelow n) (all-mono (below-isBelow n) b)))
     (within-all symbols n few ds bs)
 
+-- cells of the same sizes remain lent
+pub lent-kept :
+    (rules : List ℕ) (n i j : ℕ) (positions : List ℕ) (m v : ℕ) (goal bound₁ cells₁ bound₂ cells₂ b₁ c₁ b₂ c₂ : List ℕ)
+    → Lent rules n i j positions m v goal bound₁ cells₁ bound₂ cells₂ → length b₁ ≡ length bound₁ → length c₁ ≡ length cells₁
+    → length b₂ ≡ length bound₂ → length c₂ ≡ length cells₂ → Lent rules n i j positions m v goal b₁ c₁ b₂ c₂
+lent-kept rules n i j positions m v goal bound₁ cells₁ bound₂ cells₂ b₁ c₁ b₂ c₂ l p q r s =
+    record {
+      overlapping = l .overlapping;
+      first-bound = p ∙ l .first-bound;
+      first-room = omega (arith, l .first-room, q);
+      second-bound = r ∙ l .second-bound;
+      second-room = omega (arith, l .second-room, s);
+    }
+
 module _ (rules : List ℕ) (n i j : ℕ) (positions : List ℕ) (m v : ℕ) (goal : List ℕ)
     (o : Overlapping rules n i j positions m v goal) where
   -- what the sides ask
-  pub first-asks :
+  first-asks :
       (w : ℕ) (one : List ℕ) → w ≡ v → 2590 ≤ length one → Sidable rules n i (0 ∷ 1 ∷ 2 ∷ 3 ∷ []) goal m w one
   first-asks w one e s =
       record {
@@ -88,7 +106,7 @@ module _ (rules : List ℕ) (n i j : ℕ) (positions : List ℕ) (m v : ℕ) (go
         space = s;
       }
 
-  pub second-asks : (w : ℕ) (two : List ℕ) → w ≡ v → 2590 ≤ length two → Sidable rules n j positions goal m w two
+  second-asks : (w : ℕ) (two : List ℕ) → w ≡ v → 2590 ≤ length two → Sidable rules n j positions goal m w two
   second-asks w two e s =
       record {
         rule = o .second;
@@ -99,6 +117,40 @@ module _ (rules : List ℕ) (n i j : ℕ) (positions : List ℕ) (m v : ℕ) (go
         space = s;
       }
 
+  -- no more constraints than the weight
+  pub goal-few : (one : List ℕ) → 2590 ≤ length one → m ≤ 512
+  goal-few one room = side-few rules n i (0 ∷ 1 ∷ 2 ∷ 3 ∷ []) goal m v one (first-asks v one refl room)
+
+  -- what their own firings ask
+  pub first-begins :
+      (w : ℕ) (one : List ℕ) → w ≡ v → 2590 ≤ length one → Beginnable rules i (0 ∷ 1 ∷ 2 ∷ 3 ∷ []) goal m w one
+  first-begins w one e room = record { count = n; side = first-asks w one e room }
+
+  pub second-begins : (w : ℕ) (two : List ℕ) → w ≡ v → 2590 ≤ length two → Beginnable rules j positions goal m w two
+  second-begins w two e room = record { count = n; side = second-asks w two e room }
+
+  -- and promise
+  pub both-begun :
+      (w u : ℕ) (fired₁ alive₁ : Bool) (count₁ : ℕ) (bound₁ cells₁ : List ℕ) (fired₂ alive₂ : Bool) (count₂ : ℕ)
+      (bound₂ cells₂ : List ℕ) → w ≡ v → u ≡ v → Begun rules i (0 ∷ 1 ∷ 2 ∷ 3 ∷ []) goal m w bound₁ cells₁ fired₁ alive₁ count₁
+      → Begun rules j positions goal m u bound₂ cells₂ fired₂ alive₂ count₂
+      → BothBegun rules i j positions m v goal fired₁ alive₁ count₁ bound₁ cells₁ fired₂ alive₂ count₂ bound₂ cells₂
+  both-begun w u fired₁ alive₁ count₁ bound₁ cells₁ fired₂ alive₂ count₂ bound₂ cells₂ d e s t =
+      record { first = rw d at s; second = rw e at t }
+
+  -- what following asks
+  module _ (w : ℕ) (bound cells : List ℕ) (fired alive : Bool) (count : ℕ) (e : w ≡ v) (room : 2590 ≤ length cells) where
+    pub first-follows :
+        Begun rules i (0 ∷ 1 ∷ 2 ∷ 3 ∷ []) goal m v bound cells fired alive count → Followable rules n m w cells fired alive count
+    first-follows =
+        side-follows rules n i (0 ∷ 1 ∷ 2 ∷ 3 ∷ []) goal m v cells (first-asks v cells refl room) w bound cells fired alive count
+        e refl
+
+    pub second-follows :
+        Begun rules j positions goal m v bound cells fired alive count → Followable rules n m w cells fired alive count
+    second-follows =
+        side-follows rules n j positions goal m v cells (second-asks v cells refl room) w bound cells fired alive count e refl
+
   module _ (k : ℕ) (ps b c : List ℕ) (alive : Bool) (count next firings : ℕ) (l : k < n) (room : 2590 ≤ length c)
       (t : Sided rules n k ps goal v b c alive count next firings) where
     -- no more firings than the weight
@@ -106,10 +158,11 @@ module _ (rules : List ℕ) (n i j : ℕ) (positions : List ℕ) (m v : ℕ) (go
     fired-few = omega (arith, t .bounded (o .runs .weigh) (o .runs .lowers), o .runs .light)
 
     -- an end that lives can be compared
-    live-end : alive ≡ true → Comparable (take (5 * count) c) count b
+    live-end : alive ≡ true → LiveEnd (take (5 * count) c) count b
     unfolding alphabet
     live-end y =
-        let s : Spoken (o .program .symbols) Any v (v + 26 * firings) next (map cellTerm b) (cellConstraints (take (5 * count) c)) =
+        let s : Spoken (o .program .symbols) Any v (v + 26 * firings) next (map cellTerm b)
+        (cellConstraints (take (5 * count) c)) =
         side-lives (o .program) (o .names) rules n (o .whole) (o .well-formed) k ps goal v b c alive count next firings t Any
         (o .is-goal) (rules-any (o .program .rules)) (constraints-any (cellConstraints goal)) l y in
         let few : next ≤ 13340 = omega (arith, s .numbered, fired-few, o .variables) in
@@ -123,32 +176,36 @@ module _ (rules : List ℕ) (n i j : ℕ) (positions : List ℕ) (m v : ℕ) (go
           bound-within = all-every (isBelow 13340) (all-mono (λ u h. below-isBelow 13340 u (below u h)) (s .scoped .bound));
         }
 
-  -- what they promise
-  module _ (w : ℕ) (b c : List ℕ) (alive : Bool) (count next firings : ℕ) (e : w ≡ v) (room : 2590 ≤ length c) where
+  -- and promises
+  module _ (w : ℕ) (bound cells : List ℕ) (fired lives : Bool) (held : ℕ) (b c : List ℕ) (alive : Bool) (count next firings : ℕ)
+      (e : w ≡ v) (room : 2590 ≤ length c)
+      (t : Followed rules n m w bound cells fired lives held b c alive count next firings) where
     pub first-ends :
-        Sided rules n i (0 ∷ 1 ∷ 2 ∷ 3 ∷ []) goal w b c alive count next firings
+        Begun rules i (0 ∷ 1 ∷ 2 ∷ 3 ∷ []) goal m v bound cells fired lives held
         → EndOf firstEnd rules n i j positions v goal alive count next firings b c
     unfolding endIn
-    first-ends t₀ =
-        let t : Sided rules n i (0 ∷ 1 ∷ 2 ∷ 3 ∷ []) goal v b c alive count next firings = rw e at t₀ in
+    first-ends begun =
+        let s : Sided rules n i (0 ∷ 1 ∷ 2 ∷ 3 ∷ []) goal v b c alive count next firings =
+        rw e at (t .ended i (0 ∷ 1 ∷ 2 ∷ 3 ∷ []) goal (o .first) (rw e begun)) in
         record {
-          same = λ p names x s.
-              first-side p names rules n (s .whole) (s .well-formed) i (0 ∷ 1 ∷ 2 ∷ 3 ∷ []) goal v b c alive count next firings t x
-              (s .same-goal) (s .first) (o .runs .table .rows i (o .first)) refl;
-          live = live-end i (0 ∷ 1 ∷ 2 ∷ 3 ∷ []) b c alive count next firings (o .first) room t;
-          counted = fired-few i (0 ∷ 1 ∷ 2 ∷ 3 ∷ []) b c alive count next firings (o .first) room t;
+          same = λ p names x h.
+              first-side p names rules n (h .whole) (h .well-formed) i (0 ∷ 1 ∷ 2 ∷ 3 ∷ []) goal v b c alive count next firings
+              s x (h .same-goal) (h .first) (o .runs .table .rows i (o .first)) refl;
+          live = live-end i (0 ∷ 1 ∷ 2 ∷ 3 ∷ []) b c alive count next firings (o .first) room s;
+          counted = fired-few i (0 ∷ 1 ∷ 2 ∷ 3 ∷ []) b c alive count next firings (o .first) room s;
         }
 
     pub second-ends :
-        Sided rules n j positions goal w b c alive count next firings
+        Begun rules j positions goal m v bound cells fired lives held
         → EndOf secondEnd rules n i j positions v goal alive count next firings b c
     unfolding endIn
-    second-ends t₀ =
-        let t : Sided rules n j positions goal v b c alive count next firings = rw e at t₀ in
+    second-ends begun =
+        let s : Sided rules n j positions goal v b c alive count next firings =
+        rw e at (t .ended j positions goal (o .second) (rw e begun)) in
         record {
-          same = λ p names x s.
-              second-side p names rules n (s .whole) (s .well-formed) j positions goal v b c alive count next firings t x
-              (s .same-goal) (s .second) (s .places);
-          live = live-end j positions b c alive count next firings (o .second) room t;
-          counted = fired-few j positions b c alive count next firings (o .second) room t;
+          same = λ p names x h.
+              second-side p names rules n (h .whole) (h .well-formed) j positions goal v b c alive count next firings s x
+              (h .same-goal) (h .second) (h .places);
+          live = live-end j positions b c alive count next firings (o .second) room s;
+          counted = fired-few j positions b c alive count next firings (o .second) room s;
         }

@@ -1,5 +1,6 @@
 -- Whether the two ends of an overlap are equal: one law for each way that the code goes.
---   compare-side, compare-answer     two ends that live, tidied and compared
+--   states-same                      a state is equal to itself
+--   ends-alike, ends-side, ends-answer   two ends that live, tidied and compared
 --   live-room, lent-length           cells that are lent
 --   joins-…                          the answer
 -- Assumes nothing.
@@ -12,18 +13,24 @@ use lib.ListN.{length, getD, take, replicate, length-take, length-replicate}
 use lib.Seq.{length-take-le}
 use borrow.Author.Tests.{ne-eqb}
 use Rattle.text.specs.Lists.{every}
-use Rattle.semantics.specs.Terms.{Program, isBelow}
+use Rattle.semantics.specs.Terms.{Program, State, isBelow}
 use Rattle.semantics.specs.Strategy.{Final}
 use Rattle.semantics.specs.Overlaps.{Overlap, firstEnd, secondEnd}
 use Rattle.semantics.specs.Variants.{sameState}
 use Rattle.semantics.specs.Verdict.{isJoinable}
-use Rattle.tables.specs.Cells.{cellTerm, cellConstraints, stateOf}
+use Rattle.semantics.proofs.Bools.{and-true}
+use Rattle.semantics.proofs.Comparison.{sameState-complete}
+use Rattle.semantics.proofs.Letters.{every-all}
+use Rattle.semantics.proofs.Listings.{all-every}
+use Rattle.semantics.proofs.Multisets.{all-mono}
+use Rattle.semantics.proofs.VariantLaws.{variant-refl}
+use Rattle.tables.specs.Cells.{cellTerm, cellConstraints, isLow, stateOf}
 use Rattle.tables.specs.Numbers.{isWithin}
 use Rattle.tables.proofs.CellLaws.{every-first, every-rest}
-use Rattle.comparison.specs.Comparing.{endOf, Side}
+use Rattle.comparison.specs.Comparing.{endOf, Side, Alike}
 use Rattle.comparison.proofs.RowLaws.{constraints-count}
 use Rattle.judging.specs.Tidying.{Tidied}
-use Rattle.judging.specs.Judging.{Stands, endIn, Comparable, EndOf, Joins}
+use Rattle.judging.specs.Judging.{Stands, endIn, LiveEnd, EndOf, Joins}
 use Rattle.judging.proofs.TidyLaws.{cell-below, tidied-below}
 
 -- cells lie as their terms do
@@ -33,34 +40,48 @@ bound-below m (x ∷ l) h zero = cell-below m x (every-first (isBelow m) (cellTe
 bound-below m (x ∷ l) h (suc i) = bound-below m l (every-rest (isBelow m) (cellTerm x) (map cellTerm l) h) i
 
 -- a tidied end is what the comparison asks
-pub compare-side :
-    (cells : List ℕ) (n : ℕ) (bound cells′ : List ℕ) → Comparable cells n bound → Tidied n cells cells′
+pub ends-side :
+    (cells : List ℕ) (n : ℕ) (bound cells′ : List ℕ) → LiveEnd cells n bound → Tidied n cells cells′
     → length cells′ ≡ length cells → Side cells′ n bound
-compare-side cells n bound cells′ c t e =
+unfolding isWithin
+ends-side cells n bound cells′ c t e =
     record {
       size = e ∙ c .size;
       few = c .few;
       bound-few = c .bound-few;
-      cells-below = tidied-below n 13340 cells′ (e ∙ c .size) (t .ended) (rw (t .same) (c .within));
+      low = all-every isLow (all-mono (λ d h. and-true (isLow d) (every (isBelow 13340) (d .terms)) h .0)
+          (every-all (isWithin 13340) (cellConstraints cells′) (rw (t .same) (c .within))));
+      below = record { below = tidied-below n 13340 cells′ (e ∙ c .size) (t .ended) (rw (t .same) (c .within)) };
       bound-below = record { below = bound-below 13340 bound (c .bound-within) };
     }
 
+-- a state is equal to itself
+pub states-same : (s t : State) → s ≡ t → true ≡ sameState s t
+states-same s t e = rw e (sym (sameState-complete t t (variant-refl t)))
+
+-- ends in the same cells are equal
+pub ends-alike :
+    (n : ℕ) (f a g b : List ℕ) (r q : Bool) → LiveEnd a n f → LiveEnd b n g → Alike r f g → r ≡ true → Alike q a b → q ≡ true
+    → true ≡ sameState (endOf f a) (endOf g b)
+ends-alike n f a g b r q c d s x t y =
+    states-same (endOf f a) (endOf g b) (λ i. endOf (s .same x i) (t .same y i))
+
 -- the answer is that of the ends as they were
-pub compare-answer :
-    (n : ℕ) (f a a′ g b b′ : List ℕ) (r : Bool) → Comparable a n f → Comparable b n g → Tidied n a a′ → Tidied n b b′
+pub ends-answer :
+    (n : ℕ) (f a a′ g b b′ : List ℕ) (r : Bool) → LiveEnd a n f → LiveEnd b n g → Tidied n a a′ → Tidied n b b′
     → r ≡ sameState (endOf f a′) (endOf g b′) → r ≡ sameState (endOf f a) (endOf g b)
-compare-answer n f a a′ g b b′ r c d s t e = rw (s .same, t .same) at e
+ends-answer n f a a′ g b b′ r c d s t e = rw (s .same, t .same) at e
 
 -- an end that lives, by another's count
 pub live-by :
     {end : Program → Overlap → Final} {rules : List ℕ} {n i j : ℕ} {positions : List ℕ} {v : ℕ} {goal : List ℕ} {alive : Bool}
     {count next firings : ℕ} {bound cells : List ℕ}
     → EndOf end rules n i j positions v goal alive count next firings bound cells → alive ≡ true → (k : ℕ) → count ≡ k
-    → Comparable (take (5 * k) cells) k bound
+    → LiveEnd (take (5 * k) cells) k bound
 live-by e y k s = rw (← s) (e .live y)
 
 -- it is within its cells
-pub live-room : (k : ℕ) (bound cells : List ℕ) → Comparable (take (5 * k) cells) k bound → 5 * k ≤ length cells
+pub live-room : (k : ℕ) (bound cells : List ℕ) → LiveEnd (take (5 * k) cells) k bound → 5 * k ≤ length cells
 live-room k bound cells c = omega (arith, c .size, length-take (5 * k) cells)
 
 -- so many cells are lent for what the goal variables become
@@ -74,7 +95,8 @@ module _ {rules : List ℕ} {n i j : ℕ} {positions : List ℕ} {v : ℕ} {goal
   -- the answer, from that of the states in cells
   from-states :
       (r : Bool)
-      → r ≡ sameState (stateOf alive₁ next₁ bound₁ (take (5 * count₁) cells₁)) (stateOf alive₂ next₂ bound₂ (take (5 * count₂) cells₂))
+      → r ≡ sameState (stateOf alive₁ next₁ bound₁ (take (5 * count₁) cells₁))
+      (stateOf alive₂ next₂ bound₂ (take (5 * count₂) cells₂))
       → Joins rules n i j positions v goal r
   unfolding isJoinable endIn
   from-states r e =

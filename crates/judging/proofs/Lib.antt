@@ -2,3 +2,5 @@
 pub mod TidyLaws
 pub mod EndLaws
 pub mod JoinLaws
+pub mod StepLaws
+pub mod AskLaws

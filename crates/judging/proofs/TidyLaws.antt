@@ -2,7 +2,7 @@
 --   behind-…            a cell behind another
 --   ending-…            one constraint, column by column
 --   tidying-…           one constraint after the other
---   tidied-below        then every term's cell lies as its term does
+--   tidied-below        then every cell lies as its symbol or its term does
 -- Assumes nothing.
 use Prim.Native.Nat.{ℕ, zero, suc, _+_, _-_, _*_, _≤_, _<_}
 use native.Mathlib.Omega.{arith}
@@ -22,7 +22,6 @@ use Rattle.semantics.proofs.Weights.{every-at}
 use Rattle.tables.specs.Cells.{cellTerm, cellTerms, rowConstraint, cellConstraints, isLow}
 use Rattle.tables.specs.Numbers.{isWithin}
 use Rattle.tables.proofs.CellLaws.{either, le-or-lt, cell-high, every-first, every-rest, element-row}
-use Rattle.comparison.specs.Renamings.{TermsBelow}
 use Rattle.judging.specs.Tidying.{Ended, RowEnded, Tidied}
 
 -- what the code stores behind cell q
@@ -62,7 +61,8 @@ constraints-stored (s ∷ a ∷ b ∷ c ∷ d ∷ l) zero (suc (suc zero)) h k =
 constraints-stored (s ∷ a ∷ b ∷ c ∷ d ∷ l) zero (suc (suc (suc j))) h k = absurd (omega arith)
 constraints-stored (s ∷ a ∷ b ∷ c ∷ d ∷ l) (suc i) j h k =
     let e : 5 * suc i + (1 + j) ≡ suc (suc (suc (suc (suc (5 * i + (1 + j)))))) = omega arith in
-    rw e (ap (λ cs. record { symbol = s; terms = cellTerms (a ∷ b ∷ c ∷ d ∷ []) } ∷ cs) (constraints-stored l i j h (omega arith)))
+    rw e (ap (λ cs. record { symbol = s; terms = cellTerms (a ∷ b ∷ c ∷ d ∷ []) } ∷ cs)
+    (constraints-stored l i j h (omega arith)))
 
 -- the columns before j of constraint i are done
 pub record Ending (i : ℕ) (cells₀ cells : List ℕ) (j : ℕ) : Type 0 where
@@ -110,7 +110,8 @@ module _ (i : ℕ) (cells₀ cells : List ℕ) (j : ℕ) (room : 5 * i + 5 ≤ l
     zeroed k l z (inr m) =
         let a : 5 * i + (1 + k) ≡ 5 * i + (1 + j) = omega arith in
         let b : 5 * i + (2 + k) ≡ suc (5 * i + (1 + j)) = omega arith in
-        let y : getD cells (5 * i + (1 + j)) 0 ≡ 0 = ap (λ n. getD cells n 0) (sym a) ∙ (sym (kept (5 * i + (1 + k)) (λ o. omega arith)) ∙ z) in
+        let y : getD cells (5 * i + (1 + j)) 0 ≡ 0 =
+        ap (λ n. getD cells n 0) (sym a) ∙ (sym (kept (5 * i + (1 + k)) (λ o. omega arith)) ∙ z) in
         rw b (getD-set-same cells (suc (5 * i + (1 + j)))
         (cond (eqb (getD cells (5 * i + (1 + j)) 0) 0) 0 (getD cells (suc (5 * i + (1 + j))) 0)) 0 there
         ∙ ap (λ n. cond (eqb n 0) 0 (getD cells (suc (5 * i + (1 + j))) 0)) y)
@@ -194,26 +195,35 @@ chain-below m (x ∷ l) c h j =
     go more zero (inr e) = cell-below m x (every-first (isBelow m) (cellTerm x) (cellTerms l) (rw e at h))
     go more (suc j) (inr e) = more (every-rest (isBelow m) (cellTerm x) (cellTerms l) (rw e at h)) j
 
+-- a place is that of a constraint and a column
+column-of : (i : ℕ) → (k : ℕ) × (c : ℕ) × (c < 5) × (5 * k + c ≡ i)
+column-of zero = (0, 0, omega arith, omega arith)
+column-of (suc i) = let (k, c, h, e) = column-of i in next k c h e (le-or-lt 4 c)
+  where
+    next :
+        (k c : ℕ) → c < 5 → 5 * k + c ≡ i → (4 ≤ c) ⊎ (c < 4) → (k : ℕ) × (c : ℕ) × (c < 5) × (5 * k + c ≡ suc i)
+    next k c h e (inl l) = (suc k, 0, omega arith, omega arith)
+    next k c h e (inr l) = (k, suc c, omega arith, omega arith)
+
 module _ (n m : ℕ) (cells : List ℕ) (s : length cells ≡ 5 * n) (ended : (i : ℕ) → i < n → Ended cells i)
     (h : every (isWithin m) (cellConstraints cells) ≡ true) where
   module _ (i : ℕ) (k : i < n) where
-    -- the terms of constraint i
+    -- the cells and the terms of constraint i
+    abbrev row : List ℕ
+    row = take 5 (drop (5 * i) cells)
+
     abbrev terms : List ℕ
-    terms = drop 1 (take 5 (drop (5 * i) cells))
+    terms = drop 1 row
+
+    cell-at : (c : ℕ) → c < 5 → getD row c 0 ≡ getD cells (5 * i + c) 0
+    cell-at c l = getD-take 5 (drop (5 * i) cells) c 0 l ∙ getD-drop (5 * i) cells c 0
 
     term-at : (j : ℕ) → j < 4 → getD terms j 0 ≡ getD cells (5 * i + (1 + j)) 0
-    term-at j l =
-        getD-drop 1 (take 5 (drop (5 * i) cells)) j 0
-        ∙ (getD-take 5 (drop (5 * i) cells) (1 + j) 0 (omega arith) ∙ getD-drop (5 * i) cells (1 + j) 0)
+    term-at j l = getD-drop 1 row j 0 ∙ cell-at (1 + j) (omega arith)
 
     terms-size : length terms ≡ 4
     terms-size =
-        omega (
-          arith,
-          length-drop 1 (take 5 (drop (5 * i) cells)),
-          length-take-le 5 (drop (5 * i) cells)
-              (omega (arith, length-drop (5 * i) cells)),
-        )
+        omega (arith, length-drop 1 row, length-take-le 5 (drop (5 * i) cells) (omega (arith, length-drop (5 * i) cells)))
 
     terms-chain : Chain terms
     terms-chain j l z =
@@ -222,20 +232,28 @@ module _ (n m : ℕ) (cells : List ℕ) (s : length cells ≡ 5 * n) (ended : (i
         term-at (suc j) (omega arith)
         ∙ (ap (λ p. getD cells p 0) e ∙ ended i k .zero j a (sym (term-at j (omega arith)) ∙ z))
 
-    terms-below : (j : ℕ) → getD terms j 0 < 256 + m
+    both-within : (isLow (rowConstraint row) ≡ true) × (every (isBelow m) (cellTerms terms) ≡ true)
     unfolding isWithin rowConstraint
-    terms-below =
-        let row = every-at (isWithin m) (cellConstraints cells) i (rowConstraint (take 5 (drop (5 * i) cells))) h
-        (element-row cells i (omega arith)) in
-        chain-below m terms terms-chain
-        (and-true (isLow (rowConstraint (take 5 (drop (5 * i) cells)))) (every (isBelow m) (cellTerms terms)) row .1)
+    both-within =
+        and-true (isLow (rowConstraint row)) (every (isBelow m) (cellTerms terms))
+        (every-at (isWithin m) (cellConstraints cells) i (rowConstraint row) h (element-row cells i (omega arith)))
 
-  -- then every term's cell lies as its term does
-  pub tidied-below : TermsBelow (256 + m) cells
-  tidied-below = record { below = λ i j l. go i j l (le-or-lt n i) }
+    -- every cell of it lies as its symbol or its term does
+    row-below : (c : ℕ) → c < 5 → getD cells (5 * i + c) 0 < 256 + m
+    unfolding isLow rowConstraint
+    row-below zero l =
+        let low : getD row 0 0 < 256 = ltb-true (getD row 0 0) 256 (both-within .0) in
+        rw (← cell-at 0 (omega arith)) (omega arith)
+    row-below (suc j) l =
+        let e : 5 * i + suc j ≡ 5 * i + (1 + j) = omega arith in
+        rw (e, ← term-at j (omega arith)) (chain-below m terms terms-chain (both-within .1) j)
+
+  -- then every cell lies as its symbol or its term does
+  pub tidied-below : (i : ℕ) → getD cells i 0 < 256 + m
+  tidied-below p = let (i, c, l, e) = column-of p in rw (← e) (go i c l (le-or-lt n i))
     where
-      go : (i j : ℕ) → j < 4 → (n ≤ i) ⊎ (i < n) → getD cells (5 * i + (1 + j)) 0 < 256 + m
-      go i j l (inl k) =
-          let z : getD cells (5 * i + (1 + j)) 0 ≡ 0 = List·getD-eq-default cells 0 (omega arith) in
+      go : (i c : ℕ) → c < 5 → (n ≤ i) ⊎ (i < n) → getD cells (5 * i + c) 0 < 256 + m
+      go i c l (inl k) =
+          let z : getD cells (5 * i + c) 0 ≡ 0 = List·getD-eq-default cells 0 (omega arith) in
           omega arith
-      go i j l (inr k) = rw (← term-at i k j l) (terms-below i k j)
+      go i c l (inr k) = row-below i k c l

@@ -1,12 +1,15 @@
 -- Judging an overlap: its two sides are run to their ends, and these are compared.
 --   Stands                    the overlap that numbers of rules, positions and a goal's cells stand for
 --   Overlapping               what judging asks
---   endIn, Comparable, EndOf  an end in cells
+--   Lent                      the same, with cells for both ends
+--   BothBegun                 both sides after their own firings
+--   Stepped, SameStep         whether they are in the same state then
+--   endIn, LiveEnd, EndOf     an end in cells
 --   Joins                     what judging promises
 -- Assumes nothing.
 use Prim.Native.Nat.{ℕ, _+_, _*_, _≤_, _<_}
 use mathlib.Core.Bool.{Bool, true}
-use mathlib.Core.List.{List, map}
+use mathlib.Core.List.{List, [], _∷_, map}
 use mathlib.Core.Path.{_≡_}
 use lib.ListN.{length, take}
 use Rattle.text.specs.Lists.{every}
@@ -20,7 +23,7 @@ use Rattle.tables.specs.Numbers.{isWithin}
 use Rattle.tables.specs.Rows.{ruleOf, rulesOf, rowOf}
 use Rattle.engine.specs.Runs.{Runnable}
 use Rattle.engine.specs.Stated.{statedAt}
-use Rattle.sides.specs.Sides.{cellGoal}
+use Rattle.sides.specs.Sides.{cellGoal, Begun}
 
 -- an overlap of rules i and j of a program whose rules are the n of a table: its goal has v variables, and the positions are the
 -- second rule's
@@ -51,6 +54,40 @@ pub record Overlapping (rules : List ℕ) (n i j : ℕ) (positions : List ℕ) (
   pub goal-size : length goal ≡ constraintSize * m
   pub variables : v ≤ 28
 
+-- the same, with cells for what the goal variables become and for the constraints of each side
+pub record Lent (rules : List ℕ) (n i j : ℕ) (positions : List ℕ) (m v : ℕ) (goal bound₁ cells₁ bound₂ cells₂ : List ℕ) : Type 0
+  where
+    pub overlapping : Overlapping rules n i j positions m v goal
+    pub first-bound : length bound₁ ≡ v
+    pub first-room : 2590 ≤ length cells₁
+    pub second-bound : length bound₂ ≡ v
+    pub second-room : 2590 ≤ length cells₂
+
+-- both sides after their own firings
+pub record BothBegun (rules : List ℕ) (i j : ℕ) (positions : List ℕ) (m v : ℕ) (goal : List ℕ)
+    (fired₁ alive₁ : Bool) (count₁ : ℕ) (bound₁ cells₁ : List ℕ) (fired₂ alive₂ : Bool) (count₂ : ℕ) (bound₂ cells₂ : List ℕ)
+    : Type 0 where
+  pub first : Begun rules i (0 ∷ 1 ∷ 2 ∷ 3 ∷ []) goal m v bound₁ cells₁ fired₁ alive₁ count₁
+  pub second : Begun rules j positions goal m v bound₂ cells₂ fired₂ alive₂ count₂
+
+-- two states of cells, with as many goal variables
+pub record Stepped (count₁ : ℕ) (bound₁ cells₁ : List ℕ) (count₂ : ℕ) (bound₂ cells₂ : List ℕ) : Type 0 where
+  pub bounds : length bound₁ ≡ length bound₂
+  pub first : constraintSize * count₁ ≤ length cells₁
+  pub second : constraintSize * count₂ ≤ length cells₂
+  pub few : count₁ ≤ 518
+
+-- both sides fired, and what is found to be the same state is
+pub record SameStep (r fired₁ alive₁ : Bool) (count₁ : ℕ) (bound₁ cells₁ : List ℕ) (fired₂ alive₂ : Bool) (count₂ : ℕ)
+    (bound₂ cells₂ : List ℕ) : Type 0 where
+  pub first : r ≡ true → fired₁ ≡ true
+  pub second : r ≡ true → fired₂ ≡ true
+  pub same :
+      r ≡ true
+      → (next : ℕ)
+      → stateOf alive₁ next bound₁ (take (constraintSize * count₁) cells₁)
+      ≡ stateOf alive₂ next bound₂ (take (constraintSize * count₂) cells₂)
+
 -- an end and its firings, in cells
 unfoldable pub endIn : Bool → ℕ → ℕ → ℕ → List ℕ → List ℕ → Final
 endIn alive count next firings bound cells =
@@ -60,8 +97,8 @@ endIn alive count next firings bound cells =
 abbrev pub mostVariables : ℕ
 mostVariables = 13340
 
--- a live end of n constraints that can be compared
-pub record Comparable (cells : List ℕ) (n : ℕ) (bound : List ℕ) : Type 0 where
+-- an end that lives, of n constraints
+pub record LiveEnd (cells : List ℕ) (n : ℕ) (bound : List ℕ) : Type 0 where
   pub size : length cells ≡ constraintSize * n
   pub few : n ≤ 512
   pub bound-few : length bound ≤ 28
@@ -74,7 +111,7 @@ pub record EndOf (end : Program → Overlap → Final) (rules : List ℕ) (n i j
   pub same :
       (p : Program) (names : List ℕ) (o : Overlap) → Stands p names rules n i j positions v goal o
       → endIn alive count next firings bound cells ≡ end p o
-  pub live : alive ≡ true → Comparable (take (constraintSize * count) cells) count bound
+  pub live : alive ≡ true → LiveEnd (take (constraintSize * count) cells) count bound
   pub counted : firings ≤ 512
 
 -- whether the overlap joins

@@ -129,7 +129,8 @@ module _ (naming : Naming) (letters bound cells : List ℕ) (e : End) where
   numbered-failed h = rw h (failed-is (e .firings))
 
 -- nothing has to be numbered in a failed one
-pub end-failed : {alive : Bool} {bound cells : List ℕ} {count : ℕ} → alive ≡ false → EndNumbered alive bound cells bound cells count
+pub end-failed : {alive : Bool} {bound cells : List ℕ} {count : ℕ} → alive ≡ false
+    → EndNumbered alive bound cells bound cells count
 end-failed {alive} {bound} {cells} {count} e =
     record { live = λ h. absurd (let w : _≡_ {A = ℕ} 0 1 = cc in omega arith) }
 

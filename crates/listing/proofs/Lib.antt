@@ -6,3 +6,4 @@ pub mod LineLaws
 pub mod EndLaws
 pub mod SizeLaws
 pub mod NamingLaws
+pub mod CheckLaws

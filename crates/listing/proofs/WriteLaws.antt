@@ -123,6 +123,14 @@ size-behind from o part h =
       length-take from o,
     )
 
+-- lines behind a place, and lines behind those
+pub wrote-both : {a b o part part′ : List ℕ} {at k l : ℕ} (from start : ℕ) → from ≡ min at (length o)
+    → Writes a 0 (partFrom from o) part k → length part ≡ length (partFrom from o)
+    → start ≡ min (at + k) (length (partBack from o part)) → Writes b 0 (partFrom start (partBack from o part)) part′ l
+    → Writes (a ++ b) at o (partBack start (partBack from o part) part′) (at + k + l)
+wrote-both {a} {b} {o} {part} {part′} {at} {k} {l} from start e w h f v =
+    wrote-then (wrote-behind from e w) (wrote-behind start f v) (size-behind from o part h)
+
 -- the pieces of bytes that can be counted
 pub count-front : {bytes : List ℕ} {end : ℕ} → Countable end bytes → Countable 0 bytes
 count-front {bytes} {end} c = record { few = omega (arith, c .few) }

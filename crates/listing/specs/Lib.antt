@@ -2,3 +2,4 @@
 pub mod Listing
 pub mod Writing
 pub mod Ends
+pub mod Checks

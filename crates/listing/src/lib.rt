@@ -1,5 +1,6 @@
 // The bytes of the listings: counted first, then written into the lent output, by the same functions.
 // Each function equals the definition that its contract names, through the decodings of `tables`.
+pub mod checks;
 pub mod ends;
 pub mod lines;
 pub mod writing;

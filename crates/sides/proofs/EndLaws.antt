@@ -2,18 +2,22 @@
 --   goal-light                    a weight for each constraint
 --   read-side                     what a side asks, from what the reading of a program promises
 --   first-side, second-side       the ends of an overlap's two sides (the main laws)
+--   sides-meet                    sides in the same state after their own firings have the same end
 --   side-lives                    an end that lives is over the vocabulary of its goal and its rules
 -- Assumes nothing.
 use Prim.Native.Nat.{ℕ, zero, suc, _+_, _*_, _≤_, _<_}
 use native.Mathlib.Omega.{arith}
 use mathlib.Core.Bool.{Bool, true}
 use mathlib.Core.List.{List, [], _∷_, map}
+use mathlib.Core.Option.{some}
 use mathlib.Core.Path.{_≡_, refl, ap, sym, subst, _∙_}
 use lib.ListN.{length, getD, take, drop, length-drop}
 use lib.Seq.{length-take-le}
-use Rattle.text.specs.Lists.{upTo}
-use Rattle.semantics.specs.Terms.{Constraint, Symbol, Program, noSymbol, symbolAt, weight, isWellFormed, isGoalOf, alphabet}
-use Rattle.semantics.specs.Strategy.{Final}
+use Rattle.text.specs.Lists.{onward, upTo}
+use Rattle.semantics.specs.Terms.{Constraint, Symbol, Rule, Program, Goal, noSymbol, symbolAt, weight}
+use Rattle.semantics.specs.Terms.{isWellFormed, isGoalOf, alphabet}
+use Rattle.semantics.specs.Firing.{fireAt}
+use Rattle.semantics.specs.Strategy.{Final, goalState, normalise}
 use Rattle.semantics.specs.Overlaps.{Overlap, secondPositions, sideEnd, firstEnd, secondEnd}
 use Rattle.semantics.proofs.Configurations.{All, none, also}
 use Rattle.semantics.proofs.Vocabulary.{ConstraintOver, RuleOver, Spoken, SpokenState, side-spoken}
@@ -24,7 +28,7 @@ use Rattle.engine.specs.Places.{Row}
 use Rattle.engine.specs.Stated.{statedAt}
 use Rattle.engine.proofs.RunLaws.{length-constraints}
 use Rattle.engine.proofs.GoalLaws.{AsRead, programOf, rule-stands, goal-runnable}
-use Rattle.sides.specs.Sides.{cellGoal, Sidable, Sided}
+use Rattle.sides.specs.Sides.{cellGoal, Sidable, Begun, Sided}
 
 -- a symbol's weight, where all symbols weigh at most 31
 symbol-light :
@@ -75,6 +79,37 @@ first-stated name row r =
     few (suc (suc (suc zero))) l = refl
     few (suc (suc (suc (suc zero)))) l = refl
     few (suc (suc (suc (suc (suc k))))) l = absurd (omega arith)
+
+-- a side's end goes by the state after its own firing
+side-by :
+    (p : Program) (g : Goal) (r : Rule) (ps : List ℕ) (q : Rule) (qs : List ℕ)
+    → fireAt r ps (goalState g) ≡ fireAt q qs (goalState g) → sideEnd p g r ps ≡ sideEnd p g q qs
+unfolding sideEnd
+side-by p g r ps q qs e =
+    ap (λ x. onward x (record { state = goalState g; firings = 0 })
+    (λ s. normalise (weight (p .symbols) (g .constraints)) (p .rules) s 1)) e
+
+-- sides in the same state after their own firings have the same end
+pub sides-meet :
+    (p : Program) (names rules : List ℕ) (i j : ℕ) (positions goal : List ℕ) (m v : ℕ) (bound cells : List ℕ) (alive : Bool)
+    (count : ℕ) (bound′ cells′ : List ℕ) (alive′ : Bool) (count′ : ℕ) (o : Overlap) → o .goal ≡ cellGoal v goal
+    → o .first .rule ≡ ruleOf names rules i → o .second .rule ≡ ruleOf names rules j → Row (rowOf rules i)
+    → statedAt (rowOf rules j) positions
+    ≡ secondPositions 1 (length (o .first .rule .heads)) (length (o .second .rule .heads)) (o .partners)
+    → Begun rules i (0 ∷ 1 ∷ 2 ∷ 3 ∷ []) goal m v bound cells true alive count
+    → Begun rules j positions goal m v bound′ cells′ true alive′ count′
+    → stateOf alive (v + 26) bound (take (5 * count) cells) ≡ stateOf alive′ (v + 26) bound′ (take (5 * count′) cells′)
+    → firstEnd p o ≡ secondEnd p o
+unfolding firstEnd secondEnd ruleOf
+sides-meet p names rules i j positions goal m v bound cells alive count bound′ cells′ alive′ count′ o g r q row e s t same =
+    (λ k. sideEnd p (g k) (r k) (upTo (length (r k .heads))))
+    ∙ ap (sideEnd p (cellGoal v goal) (ruleOf names rules i))
+    (sym (first-stated (nameOf names (firstRule + i)) (rowOf rules i) row))
+    ∙ side-by p (cellGoal v goal) (ruleOf names rules i) (statedAt (rowOf rules i) (0 ∷ 1 ∷ 2 ∷ 3 ∷ [])) (ruleOf names rules j)
+    (statedAt (rowOf rules j) positions) (s .moves refl names ∙ ap some same ∙ sym (t .moves refl names))
+    ∙ ap (sideEnd p (cellGoal v goal) (ruleOf names rules j)) e
+    ∙ λ k. sideEnd p (sym g k) (sym q k)
+    (secondPositions 1 (length (o .first .rule .heads)) (length (o .second .rule .heads)) (o .partners))
 
 module _ (p : Program) (names rules : List ℕ) (n : ℕ) (whole : p .rules ≡ rulesOf names rules n) (w : isWellFormed p ≡ true)
     (i : ℕ) (positions goal : List ℕ) (v : ℕ) (bound′ cells′ : List ℕ) (alive : Bool) (count number firings : ℕ)

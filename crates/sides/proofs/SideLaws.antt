@@ -1,4 +1,6 @@
 -- A side on cells is a side on states: one law for each way that the code goes.
+--   side-begins                           the goal has entered, and the rule has fired or does not fit
+--   side-follows, side-ended              what follows can be asked for, and its end is the side's
 --   side-rests, side-fails, side-ends     the rule does not fit, the state fails, the strategy follows
 -- Assumes nothing.
 use Prim.Native.Nat.{ℕ, _+_, _*_, _≤_, _<_}
@@ -22,14 +24,14 @@ use Rattle.engine.proofs.ChooseLaws.{lentRow, row-cells}
 use Rattle.engine.proofs.RunLaws.{count-weight, normalise-rests, failed-rests}
 use Rattle.engine.proofs.StepLaws.{no-way}
 use Rattle.engine.proofs.GoalLaws.{well-formed-lowers}
-use Rattle.sides.specs.Sides.{cellGoal, Sidable, Sided}
+use Rattle.sides.specs.Sides.{cellGoal, Sidable, Begun, Followable, Followed, Sided}
 
 module _ (rules : List ℕ) (n i : ℕ) (positions goal : List ℕ) (m v : ℕ) (cells : List ℕ)
     (s : Sidable rules n i positions goal m v cells) where
   -- no more constraints than the weight
-  few : m ≤ 512
+  pub side-few : m ≤ 512
   unfolding storeOf
-  few =
+  side-few =
       let all : take (5 * m) goal ≡ goal = take-all (5 * m) goal (omega (arith, s .goal-size)) in
       let k : m ≤ weightBy (s .runs .weigh) (cellConstraints goal) =
       rw all at (count-weight (s .runs .weigh) goal m (s .runs .positive) (omega (arith, s .goal-size))) in
@@ -37,7 +39,7 @@ module _ (rules : List ℕ) (n i : ℕ) (positions goal : List ℕ) (m v : ℕ) 
 
   -- the goal's cells find room
   pub side-room : length goal ≤ length cells
-  side-room = omega (arith, few, s .goal-size, s .space)
+  side-room = omega (arith, side-few, s .goal-size, s .space)
 
   module _ (cells₁ : List ℕ) (c : take (length goal) cells₁ ≡ goal) (size : length cells₁ ≡ length cells) where
     -- the goal has entered
@@ -52,7 +54,7 @@ module _ (rules : List ℕ) (n i : ℕ) (positions goal : List ℕ) (m v : ℕ) 
           given = rw (row-cells i) (s .runs .table .rows i (s .rule));
           positions-size = s .positions-size;
           room = omega (arith, s .variables);
-          space = omega (arith, few, size, s .space);
+          space = omega (arith, side-few, size, s .space);
           low = rw store (s .runs .low);
         }
 
@@ -69,82 +71,122 @@ module _ (rules : List ℕ) (n i : ℕ) (positions goal : List ℕ) (m v : ℕ) 
       unfolding fireRow ruleOf goalState cellGoal
       own names = rw (b, store)
 
-      -- the rule does not fit there
-      pub side-rests : fired ≡ false → Sided rules n i positions goal v bound₂ cells₂ true m v 0
-      unfolding sideEnd stateOf goalState cellGoal storeOf
-      side-rests z =
-          rw (f .rests z .0, f .rests z .1) (record {
-            same = λ p names e w.
-                rw (own names ∙ f .rests z .2 (nameOf names (firstRule + i)))
-                (λ j. record { state = live v (b j) (store j); firings = 0 });
-            bounded = λ w lw. omega arith;
-            few = λ y. few;
-          })
+      -- the rule has fired, or does not fit
+      pub side-begins : Begun rules i positions goal m v bound₂ cells₂ fired alive count
+      side-begins =
+          record {
+            rests = λ z.
+                rw (f .rests z .0, f .rests z .1)
+                (b, store, λ names. own names ∙ f .rests z .2 (nameOf names (firstRule + i)));
+            moves = λ z names. own names ∙ f .moves z (nameOf names (firstRule + i));
+            lighter = λ z w h. rw (← store) (f .lighter z w h);
+            low = f .low;
+            few = f .few;
+          }
 
-      module _ (z : fired ≡ true) where
-        -- the side, from the state after its own firing
-        follows :
-            (p : Program) (names : List ℕ)
-            → sideEnd p (cellGoal v goal) (ruleOf names rules i) (statedAt (rowOf rules i) positions)
-            ≡ normalise (weight (p .symbols) (cellConstraints goal)) (p .rules)
-            (stateOf alive (v + 26) bound₂ (take (5 * count) cells₂)) 1
-        unfolding sideEnd cellGoal
-        follows p names = rw (own names ∙ f .moves z (nameOf names (firstRule + i)))
-
-        -- it lowers every weighing that the rules lower
-        lighter :
-            (w : ℕ → ℕ) → Lowers w rules n
-            → cond alive (weightBy w (storeOf cells₂ count)) 0 < weightBy w (cellConstraints goal)
-        lighter w lw = rw (← store) (f .lighter z w (lw .falls i (s .rule)))
-
-        -- the state has failed
-        pub side-fails : alive ≡ false → Sided rules n i positions goal v bound₂ cells₂ false count (v + 26) 1
-        unfolding stateOf
-        side-fails y =
+  -- what follows can be asked for
+  pub side-follows :
+      (u : ℕ) (bound₂ cells₂ : List ℕ) (fired alive : Bool) (count : ℕ) → u ≡ v → length cells₂ ≡ length cells
+      → Begun rules i positions goal m v bound₂ cells₂ fired alive count → Followable rules n m u cells₂ fired alive count
+  side-follows u bound₂ cells₂ fired alive count same e f =
+      rw same (record {
+        starts = λ z y.
+            let lighter : weightBy (s .runs .weigh) (storeOf cells₂ count) < weightBy (s .runs .weigh) (cellConstraints goal) =
+            rw y at (f .lighter z (s .runs .weigh) (s .runs .lowers .falls i (s .rule))) in
             record {
-              same = λ p names e w.
-                  sym (rw y at (follows p names)
-                  ∙ normalise-rests (weight (p .symbols) (cellConstraints goal)) (p .rules) failed 1 (failed-rests (p .rules)));
-              bounded = λ w lw. omega (arith, lighter w lw);
-              few = λ x. no-way x;
-            }
+              runs = record {
+                table = s .runs .table;
+                low = f .low z y;
+                weigh = s .runs .weigh;
+                positive = s .runs .positive;
+                lowers = s .runs .lowers;
+                light = omega (arith, lighter, s .runs .light);
+              };
+              space = omega (arith, e, s .space);
+              there = omega (arith, f .few, side-few);
+              room = omega (arith, s .variables);
+            };
+        few = side-few;
+        variables = s .variables;
+      })
 
-        module _ (y : alive ≡ true) where
-          lighter-now :
-              (w : ℕ → ℕ) → Lowers w rules n → weightBy w (storeOf cells₂ count) < weightBy w (cellConstraints goal)
-          lighter-now w lw = rw y at (lighter w lw)
+  -- and its end is the side's
+  pub side-ended :
+      (u : ℕ) (bound₂ cells₂ : List ℕ) (fired alive : Bool) (count : ℕ) (bound′ cells′ : List ℕ) (lives : Bool)
+      (k number firings : ℕ) → u ≡ v
+      → Begun rules i positions goal m v bound₂ cells₂ fired alive count
+      → Followed rules n m u bound₂ cells₂ fired alive count bound′ cells′ lives k number firings
+      → Sided rules n i positions goal v bound′ cells′ lives k number firings
+  side-ended u bound₂ cells₂ fired alive count bound′ cells′ lives k number firings same begun t =
+      rw same at (t .ended i positions goal (s .rule) (rw same begun))
 
-          -- what the strategy asks
-          pub side-starts : length cells₂ ≡ length cells₁ → Startable rules n cells₂ count (v + 26)
-          side-starts e =
-              record {
-                runs = record {
-                  table = s .runs .table;
-                  low = f .low z y;
-                  weigh = s .runs .weigh;
-                  positive = s .runs .positive;
-                  lowers = s .runs .lowers;
-                  light = omega (arith, lighter-now (s .runs .weigh) (s .runs .lowers), s .runs .light);
-                };
-                space = omega (arith, e, size, s .space);
-                there = omega (arith, f .few, few);
-                room = omega (arith, s .variables);
-              }
+module _ (rules : List ℕ) (n m v : ℕ) (bound cells : List ℕ) (fired alive : Bool) (count : ℕ)
+    (s : Followable rules n m v cells fired alive count) where
+  -- the rule did not fit
+  pub side-rests : fired ≡ false → Followed rules n m v bound cells fired alive count bound cells true m v 0
+  unfolding sideEnd stateOf goalState cellGoal storeOf
+  side-rests z =
+      record {
+        ended = λ i positions goal l f. record {
+          same = λ p names e w.
+              rw (f .rests z .2 names) (λ j. record { state = live v (f .rests z .0 j) (f .rests z .1 j); firings = 0 });
+          bounded = λ w lw. omega arith;
+          few = λ y. s .few;
+        };
+      }
 
-          -- it has come to its end
-          pub side-ends :
-              (bound′ cells′ : List ℕ) (lives : Bool) (k number firings : ℕ)
-              → Continued rules n bound₂ cells₂ count (v + 26) 1 bound′ cells′ lives k number firings
-              → Sided rules n i positions goal v bound′ cells′ lives k number firings
-          unfolding stateOf weight weightBy storeOf
-          side-ends bound′ cells′ lives k number firings t =
+  module _ (z : fired ≡ true) where
+    module _ (i : ℕ) (positions goal : List ℕ) (l : i < n)
+        (f : Begun rules i positions goal m v bound cells fired alive count) where
+      -- the side, from the state after its own firing
+      follows :
+          (p : Program) (names : List ℕ)
+          → sideEnd p (cellGoal v goal) (ruleOf names rules i) (statedAt (rowOf rules i) positions)
+          ≡ normalise (weight (p .symbols) (cellConstraints goal)) (p .rules)
+          (stateOf alive (v + 26) bound (take (5 * count) cells)) 1
+      unfolding sideEnd cellGoal
+      follows p names = rw (f .moves z names)
+
+      -- it lowers every weighing that the rules lower
+      lighter :
+          (w : ℕ → ℕ) → Lowers w rules n → cond alive (weightBy w (storeOf cells count)) 0 < weightBy w (cellConstraints goal)
+      lighter w lw = f .lighter z w (lw .falls i l)
+
+    -- the state has failed
+    pub side-fails : alive ≡ false → Followed rules n m v bound cells fired alive count bound cells false count (v + 26) 1
+    unfolding stateOf
+    side-fails y =
+        record {
+          ended = λ i positions goal l f. record {
+            same = λ p names e w.
+                sym (rw y at (follows i positions goal l f p names)
+                ∙ normalise-rests (weight (p .symbols) (cellConstraints goal)) (p .rules) failed 1 (failed-rests (p .rules)));
+            bounded = λ w lw. omega (arith, lighter i positions goal l f w lw);
+            few = λ x. no-way x;
+          };
+        }
+
+    -- it has come to its end
+    pub side-ends :
+        alive ≡ true → (bound′ cells′ : List ℕ) (lives : Bool) (k number firings : ℕ)
+        → Continued rules n bound cells count (v + 26) 1 bound′ cells′ lives k number firings
+        → Followed rules n m v bound cells fired alive count bound′ cells′ lives k number firings
+    unfolding stateOf weight weightBy storeOf
+    side-ends y bound′ cells′ lives k number firings t =
+        record {
+          ended = λ i positions goal l f.
+              let lighter-now : (w : ℕ → ℕ) → Lowers w rules n
+              → weightBy w (storeOf cells count) < weightBy w (cellConstraints goal) =
+              λ w lw. rw y at (lighter i positions goal l f w lw) in
               record {
                 same = λ p names e w.
                     let lw = well-formed-lowers p names rules n e w in
                     t .same names (weight (p .symbols) (cellConstraints goal))
                     (omega (arith, t .bounded _ lw, lighter-now _ lw))
-                    ∙ sym (rw y at (follows p names) ∙ ap (λ rs. normalise (weight (p .symbols) (cellConstraints goal)) rs
-                    (live (v + 26) (map cellTerm bound₂) (storeOf cells₂ count)) 1) e);
+                    ∙ sym (rw y at (follows i positions goal l f p names)
+                    ∙ ap (λ rs. normalise (weight (p .symbols) (cellConstraints goal)) rs
+                    (live (v + 26) (map cellTerm bound) (storeOf cells count)) 1) e);
                 bounded = λ w lw. omega (arith, t .bounded w lw, lighter-now w lw);
                 few = t .few;
-              }
+              };
+        }

@@ -1,19 +1,25 @@
 -- A side of an overlap: its goal enters, a rule fires at its positions, and the strategy follows to the end.
---   cellGoal     a goal from its cells
---   Sidable      what a side asks
---   Sided        what it promises: the end that `sideEnd` defines
+--   cellGoal                  a goal from its cells
+--   Sidable                   what a side asks
+--   Beginnable, Begun         its own firing
+--   Followable, Followed      from there to its end
+--   Sided                     what it promises: the end that `sideEnd` defines
 -- Assumes nothing.
-use Prim.Native.Nat.{ℕ, _*_, _≤_, _<_}
-use mathlib.Core.Bool.{Bool, true}
-use mathlib.Core.List.{List}
+use Prim.Native.Nat.{ℕ, _+_, _*_, _≤_, _<_}
+use mathlib.Core.Bool.{Bool, true, false, cond}
+use mathlib.Core.List.{List, [], map}
+use mathlib.Core.Option.{none, some}
 use mathlib.Core.Path.{_≡_}
 use lib.ListN.{length, take}
-use Rattle.semantics.specs.Terms.{Program, Goal, isWellFormed}
+use Rattle.text.specs.Lists.{every, tabled}
+use Rattle.semantics.specs.Terms.{var, Program, Goal, isWellFormed}
+use Rattle.semantics.specs.Firing.{fireAt}
+use Rattle.semantics.specs.Strategy.{goalState}
 use Rattle.semantics.specs.Overlaps.{sideEnd}
 use Rattle.tables.specs.Layout.{constraintSize}
-use Rattle.tables.specs.Cells.{cellConstraints, stateOf}
-use Rattle.tables.specs.Rows.{ruleOf, rulesOf, rowOf}
-use Rattle.engine.specs.Runs.{weightBy, Lowers, Runnable}
+use Rattle.tables.specs.Cells.{cellTerm, cellConstraints, isLow, stateOf}
+use Rattle.tables.specs.Rows.{ruleOfRow, ruleOf, rulesOf, rowOf}
+use Rattle.engine.specs.Runs.{weightBy, Lowers, storeOf, Runnable, Startable}
 use Rattle.engine.specs.Stated.{statedAt}
 
 -- a goal of v variables, from the cells of its constraints
@@ -30,6 +36,38 @@ pub record Sidable (rules : List ℕ) (n i : ℕ) (positions goal : List ℕ) (m
   pub variables : v ≤ 50000
   pub space : 2590 ≤ length cells
 
+-- what a side's own firing asks: the table has some number of rules
+pub record Beginnable (rules : List ℕ) (i : ℕ) (positions goal : List ℕ) (m v : ℕ) (cells : List ℕ) : Type 0 where
+  pub count : ℕ
+  pub side : Sidable rules count i positions goal m v cells
+
+-- the state after it, whatever the rule's name is, or the goal's where the rule does not fit there
+pub record Begun (rules : List ℕ) (i : ℕ) (positions goal : List ℕ) (m v : ℕ) (bound cells : List ℕ)
+    (fired alive : Bool) (count : ℕ) : Type 0 where
+  pub rests :
+      fired ≡ false
+      → (map cellTerm bound ≡ tabled var v) × (storeOf cells m ≡ cellConstraints goal)
+      × ((names : List ℕ)
+      → fireAt (ruleOf names rules i) (statedAt (rowOf rules i) positions) (goalState (cellGoal v goal)) ≡ none)
+  pub moves :
+      fired ≡ true
+      → (names : List ℕ)
+      → fireAt (ruleOf names rules i) (statedAt (rowOf rules i) positions) (goalState (cellGoal v goal))
+      ≡ some (stateOf alive (v + 26) bound (take (constraintSize * count) cells))
+  pub lighter :
+      fired ≡ true
+      → (w : ℕ → ℕ)
+      → weightBy w (ruleOfRow [] (rowOf rules i) .body) < weightBy w (ruleOfRow [] (rowOf rules i) .heads)
+      → cond alive (weightBy w (storeOf cells count)) 0 < weightBy w (cellConstraints goal)
+  pub low : fired ≡ true → alive ≡ true → every isLow (storeOf cells count) ≡ true
+  pub few : count ≤ m + 6
+
+-- what following asks: where the state lives, the strategy comes to an end from it
+pub record Followable (rules : List ℕ) (n m v : ℕ) (cells : List ℕ) (fired alive : Bool) (count : ℕ) : Type 0 where
+  pub starts : fired ≡ true → alive ≡ true → Startable rules n cells count (v + 26)
+  pub few : m ≤ 512
+  pub variables : v ≤ 50000
+
 -- the end of a side and its firings, in every well-formed program with these rules
 pub record Sided (rules : List ℕ) (n i : ℕ) (positions goal : List ℕ) (v : ℕ) (bound′ cells′ : List ℕ)
     (alive : Bool) (count number firings : ℕ) : Type 0 where
@@ -39,3 +77,10 @@ pub record Sided (rules : List ℕ) (n i : ℕ) (positions goal : List ℕ) (v :
       ≡ sideEnd p (cellGoal v goal) (ruleOf names rules i) (statedAt (rowOf rules i) positions)
   pub bounded : (w : ℕ → ℕ) → Lowers w rules n → firings ≤ weightBy w (cellConstraints goal)
   pub few : alive ≡ true → count ≤ 512
+
+-- the end of every side that began so
+pub record Followed (rules : List ℕ) (n m v : ℕ) (bound cells : List ℕ) (fired alive : Bool) (count : ℕ) (bound′ cells′ : List ℕ)
+    (lives : Bool) (k number firings : ℕ) : Type 0 where
+  pub ended :
+      (i : ℕ) (positions goal : List ℕ) → i < n → Begun rules i positions goal m v bound cells fired alive count
+      → Sided rules n i positions goal v bound′ cells′ lives k number firings

@@ -1,35 +1,52 @@
 // The sides of an overlap: from its goal and one of its rules, at that rule's positions, to the end.
 use engine::derivation::Final;
+use engine::derivation::Step;
 use engine::derivation::normalise_from;
 use engine::entering::copy_goal;
 use engine::entering::start_bound;
 use engine::stated::fire_at;
 use tables::layout::ROW_SIZE;
 ghost use lib.ListN.{length};
-ghost use Rattle.sides.specs.Sides.{Sidable, Sided};
+ghost use Rattle.sides.specs.Sides.{Sidable, Beginnable, Begun, Followable, Followed, Sided};
 
-// The end of a side: the goal of m constraints enters, with as many variables as `bound` has cells; the rule of a number fires at
-// its positions; and the strategy follows. Where the rule does not fit there, the goal is the end.
-pub fn side(
+// A side's own firing: the goal of m constraints enters, with as many variables as `bound` has cells, and the rule of a number
+// fires at its positions, if it fits there.
+pub fn begin(
     rules: &[u16],
-    n: usize,
     rule: usize,
     positions: [usize; 4],
     goal: &[u16],
     m: usize,
     bound: &mut [u16],
     cells: &mut [u16],
-) -> Final
-    requires { ⌜ Sidable (now rules) n rule positions (now goal) m (length (now bound)) (now cells) ⌝ }
-    ensures { λ r. ⌜ Sided (now (rules .entry)) n rule positions (now (goal .entry)) (length (now (bound .entry)))
-        (now (bound .exit)) (now (cells .exit)) (r .alive) (r .count) (r .next) (r .firings) ⌝ }
+) -> Step
+    requires { ⌜ Beginnable (now rules) rule positions (now goal) m (length (now bound)) (now cells) ⌝ }
+    ensures { λ r. ⌜ Begun (now (rules .entry)) rule positions (now (goal .entry)) m (length (now (bound .entry)))
+        (now (bound .exit)) (now (cells .exit)) (r .fired) (r .alive) (r .count) ⌝ }
 {
     let next = bound.len() as u16;
     copy_goal(goal, cells);
     start_bound(bound);
     let a = ROW_SIZE * rule;
     let b = a + ROW_SIZE;
-    let step = fire_at(&rules[a..b], positions, next, bound, cells, m);
+    fire_at(&rules[a..b], positions, next, bound, cells, m)
+}
+
+// The end of a side that began so: the strategy follows. Where the rule did not fit, the goal is the end.
+pub fn follow(
+    rules: &[u16],
+    n: usize,
+    m: usize,
+    bound: &mut [u16],
+    cells: &mut [u16],
+    step: Step,
+) -> Final
+    requires { ⌜ Followable (now rules) n m (length (now bound)) (now cells) (step .fired) (step .alive) (step .count) ⌝ }
+    ensures { λ r. ⌜ Followed (now (rules .entry)) n m (length (now (bound .entry))) (now (bound .entry)) (now (cells .entry))
+        (step .fired) (step .alive) (step .count) (now (bound .exit)) (now (cells .exit))
+        (r .alive) (r .count) (r .next) (r .firings) ⌝ }
+{
+    let next = bound.len() as u16;
     if !step.fired {
         return Final {
             alive: true,
@@ -48,4 +65,23 @@ pub fn side(
         };
     }
     normalise_from(rules, n, bound, cells, step.count, number, 1)
+}
+
+// The end of a side: its own firing, then the strategy.
+pub fn side(
+    rules: &[u16],
+    n: usize,
+    rule: usize,
+    positions: [usize; 4],
+    goal: &[u16],
+    m: usize,
+    bound: &mut [u16],
+    cells: &mut [u16],
+) -> Final
+    requires { ⌜ Sidable (now rules) n rule positions (now goal) m (length (now bound)) (now cells) ⌝ }
+    ensures { λ r. ⌜ Sided (now (rules .entry)) n rule positions (now (goal .entry)) (length (now (bound .entry)))
+        (now (bound .exit)) (now (cells .exit)) (r .alive) (r .count) (r .next) (r .firings) ⌝ }
+{
+    let step = begin(rules, rule, positions, goal, m, bound, cells);
+    follow(rules, n, m, bound, cells, step)
 }

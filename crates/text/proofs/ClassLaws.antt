@@ -3,7 +3,7 @@
 --   plain-not, plain-inner                     a letter or digit is no comma, no line feed and not of class other
 -- Assumes nothing.
 use mathlib.Core.Path.{_≡_, refl, sym, ap, _∙_}
-use mathlib.Core.Bool.{Bool, true, false, cond, not, _&&_, _||_}
+use mathlib.Core.Bool.{Bool, true, false, cond, not}
 use Prim.Native.Nat.{ℕ, _≤_, _<_}
 use native.Mathlib.Omega.{arith}
 use borrow.Author.Tests.{leb-true, le-leb, lt-leb, eqb-true, ne-eqb}
@@ -12,10 +12,7 @@ use Rattle.text.specs.Bytes.{Class, small, capital, digit, comma, lineFe
 use Rattle.text.specs.Bytes.{isClass, isNameClass}
 use Rattle.text.specs.Lines.{isOther}
 use Rattle.text.specs.Splits.{isPlain}
-
-pub and-true : (a b : Bool) → (a && b) ≡ true → (a ≡ true) × (b ≡ true)
-and-true true b h = (refl, h)
-and-true false b h = absurd (let z : _≡_ {A = ℕ} 0 1 = cc in omega arith)
+use Rattle.text.proofs.Bools.{never, and-true, and-false}
 
 pub between-true : (a z b : ℕ) → between a z b ≡ true → (a ≤ b) × (b ≤ z)
 unfolding between
@@ -85,11 +82,7 @@ module _ (b : ℕ) where
       go other h = absurd (omega (arith, leb-true 5 2 h))
 
   pub plain-not : (x : ℕ) → isPlain x ≡ false → isPlain b ≡ true → b ≡ x → ⊥
-  plain-not x p h e = let z : true ≡ false = sym h ∙ ap isPlain e ∙ p in let y : _≡_ {A = ℕ} 0 1 = cc in omega arith
-
-and-false : (t : Bool) → (t && false) ≡ false
-and-false true = refl
-and-false false = refl
+  plain-not x p h e = never (sym h ∙ ap isPlain e ∙ p)
 
 pub between-above : (a z b : ℕ) → z < b → between a z b ≡ false
 unfolding between
@@ -181,7 +174,7 @@ inner-comma b e = rw e
 
 pub inner-not-feed : (b : ℕ) → isInner b ≡ true → b ≡ 10 → ⊥
 unfolding isInner classOf classNumber between
-inner-not-feed b h e = let z : true ≡ false = sym h ∙ ap isInner e ∙ feed in let y : _≡_ {A = ℕ} 0 1 = cc in omega arith
+inner-not-feed b h e = never (sym h ∙ ap isInner e ∙ feed)
   where
     feed : isInner 10 ≡ false
     feed = refl

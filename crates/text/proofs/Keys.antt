@@ -1,30 +1,29 @@
 -- Laws of keys: a field's form is read off its key.
 --   name-key, variable-key, term-key     a field is a name, a variable, a term: its key is above 27, from 2 to 27, above 1
---   spell-key, key-equal                 a name is spelled by its key; terms with equal keys are equal
---   same-key                             a name compared by its key
---   number-key, value-key                a number in a range below 100, and its value, by its key
---   letter-key                           a variable's letter by its key
+--   spell-key                            a name is spelled by its key; spell-some: a key that is not 0 spells something
+--   name-equal, term-equal               names, and terms, with equal keys are equal; same-key: a term compared by its key
+--   letter-key, variable-range           a variable's letter by its key, and between which bytes it lies
+--   key-below                            a key fits 8 bytes
+-- Not here: numbers by their keys (Numbers).
 -- Assumes nothing.
-use mathlib.Core.Path.{_≡_, refl, sym, ap, ap₂, _∙_}
-use mathlib.Core.Bool.{Bool, true, false, cond, not, _&&_, _||_}
+use mathlib.Core.Path.{_≡_, refl, sym, ap, _∙_}
+use mathlib.Core.Bool.{Bool, true, false, cond, _&&_, _||_}
 use mathlib.Core.List.{List, [], _∷_, _++_, append-nil}
 use Prim.Native.Nat.{ℕ, zero, suc, _+_, _-_, _*_, _/_, _%_, _^_, _≤_, _<_}
-use native.Mathlib.Nat.{not-suc-le-zero, pow-suc, pow-le-pow-right, mod-eq-of-lt}
+use native.Mathlib.Nat.{not-suc-le-zero, pow-suc, pow-le-pow-right}
 use native.Mathlib.Omega.{arith}
-use borrow.Author.Tests.{le-leb, lt-leb, lt-ltb, le-ltb, leb-false, ne-eqb, eq-eqb, eqb-true}
+use borrow.Author.Tests.{le-leb, lt-leb, lt-ltb, le-ltb, ne-eqb, eq-eqb, eqb-true}
 use lib.Dec.{leb, ltb, eqb}
-use lib.ListN.{length, getD, take, drop, length-append, length-take}
+use lib.ListN.{length, getD, take, length-take}
 use lib.Seq.{take-suc, take-all, append-snoc}
-use Rattle.text.specs.Bytes.{Class, small, capital, digit, comma, lineFeed, other, between, classOf, classNumber}
-use Rattle.text.specs.Bytes.{isClass, isNameClass}
+use Rattle.text.specs.Bytes.{between, classOf, isNameClass}
 use Rattle.text.specs.Lists.{every, sameBytes}
-use Rattle.text.specs.Fields.{isName, isVariable, isTerm, isNumber, isNumberIn, valueOf, valueFrom}
-use Rattle.text.specs.Keys.{packedFrom, packed, spellFrom, spell, keyOf, numberOf}
-use Rattle.text.specs.Splits.{isPlain}
-use Rattle.text.proofs.ClassLaws.{and-true, between-true, plain-range, name-plain, name-range, is-capital}
-use Rattle.text.proofs.ClassLaws.{is-digit, between-is, between-above, between-below}
-use Rattle.text.proofs.Forms.{number-two, number-long}
-use Rattle.text.proofs.Laws.{every-append, every-implied}
+use Rattle.text.specs.Fields.{isName, isVariable, isTerm}
+use Rattle.text.specs.Keys.{packedFrom, packed, spellFrom, spell, keyOf}
+use Rattle.text.specs.Splits.{isPlain, sevenBytes}
+use Rattle.text.proofs.Bools.{never, and-true, and-false}
+use Rattle.text.proofs.Laws.{every-append, every-implied, same-self, same-equal}
+use Rattle.text.proofs.ClassLaws.{between-true, plain-range, name-plain, name-range, is-capital}
 
 abbrev pub nameByte : ℕ → Bool
 nameByte b = isNameClass (classOf b)
@@ -49,16 +48,12 @@ packed-under v m (b ∷ f) h e =
     let rest : packedFrom (v * 256 + b) f < m * 256 * 256 ^ length f = packed-under (v * 256 + b) (m * 256) f next (both .1) in
     rw (pow-suc 256 (length f)) (omega (arith, rest))
 
-pub packed-below : (f : List ℕ) → every isPlain f ≡ true → length f ≤ 7 → packed f < 72057594037927936
+pub packed-below : (f : List ℕ) → every isPlain f ≡ true → length f ≤ 7 → packed f < sevenBytes
 unfolding packed
 packed-below f e h =
     omega (arith, packed-under 0 1 f (omega arith) e, pow-le-pow-right {n = 256} (omega arith) {i = length f} {j = 7} h)
 
 -- the key by the shape of a field
-and-false : (t : Bool) → (t && false) ≡ false
-and-false true = refl
-and-false false = refl
-
 pub name-is : (f : List ℕ) → 1 ≤ length f → length f ≤ 8 → every nameByte f ≡ true → isName f ≡ true
 unfolding isName between
 name-is f h k e = rw (le-leb 1 (length f) h, le-leb (length f) 8 k, e)
@@ -97,7 +92,7 @@ module _ (f : List ℕ) (h : isName f ≡ true) where
   unfolding isName
   name-bytes = and-true (between 1 8 (length f)) (every nameByte f) h .1
 
-packed-grows : (v : ℕ) (f : List ℕ) → v ≤ packedFrom v f
+pub packed-grows : (v : ℕ) (f : List ℕ) → v ≤ packedFrom v f
 unfolding packedFrom
 packed-grows v [] = omega arith
 packed-grows v (b ∷ f) = omega (arith, packed-grows (v * 256 + b) f)
@@ -148,7 +143,7 @@ pub form-cases {ℓ} : (Φ : Type ℓ) (f : List ℕ) → (isName f ≡ true →
 form-cases Φ f name variable none = go (isName f) (isVariable f) refl refl
   where
     go : (s t : Bool) → isName f ≡ s → isVariable f ≡ t → Φ
-    go true true h k = absurd (let z : true ≡ false = sym h ∙ variable-not-name f k in let y : _≡_ {A = ℕ} 0 1 = cc in omega arith)
+    go true true h k = absurd (never (sym h ∙ variable-not-name f k))
     go true false h k = name h k (name-least f h)
     go false true h k =
         variable h k (omega (arith, letter-key f k, variable-range f k .1)) (omega (arith, letter-key f k, variable-range f k .2))
@@ -195,8 +190,10 @@ spell-packed (suc n) [] behind h e = refl
 spell-packed (suc n) (b ∷ s) behind h e =
     let g : List ℕ = take (length s) (b ∷ s) in
     let c : ℕ = getD (b ∷ s) (length s) 0 in
-    let is : b ∷ s ≡ g ++ (c ∷ []) = sym (take-all (suc (length s)) (b ∷ s) (omega arith)) ∙ take-suc (b ∷ s) (length s) 0 (omega arith) in
-    let both = and-true (every nameByte g) (every nameByte (c ∷ [])) (sym (every-append nameByte g (c ∷ [])) ∙ sym (ap (every nameByte) is) ∙ e) in
+    let is : b ∷ s ≡ g ++ (c ∷ []) =
+    sym (take-all (suc (length s)) (b ∷ s) (omega arith)) ∙ take-suc (b ∷ s) (length s) 0 (omega arith) in
+    let both = and-true (every nameByte g) (every nameByte (c ∷ []))
+    (sym (every-append nameByte g (c ∷ [])) ∙ sym (ap (every nameByte) is) ∙ e) in
     let range = name-range c (and-true (nameByte c) true (both .1) .0) in
     let short : length g ≤ n = omega (arith, length-take (length s) (b ∷ s)) in
     ap (λ (l : List ℕ). spellFrom (suc n) (packed l) behind) is
@@ -230,29 +227,15 @@ term-equal f g h e = go (isName f) refl h
     go false k l = variable-equal f g l e
 
 -- a name compared with a field by their keys
-same-self : (f : List ℕ) → sameBytes f f ≡ true
-same-self [] = refl
-same-self (b ∷ f) = rw (eq-eqb b b refl) (same-self f)
-
-same-equal : (f g : List ℕ) → sameBytes f g ≡ true → f ≡ g
-same-equal [] [] h = refl
-same-equal [] (c ∷ g) h = absurd (let z : _≡_ {A = ℕ} 0 1 = cc in omega arith)
-same-equal (b ∷ f) [] h = absurd (let z : _≡_ {A = ℕ} 0 1 = cc in omega arith)
-same-equal (b ∷ f) (c ∷ g) h =
-    let both = and-true (eqb b c) (sameBytes f g) h in
-    ap₂ (λ (x : ℕ) (l : List ℕ). x ∷ l) (eqb-true b c (both .0)) (same-equal f g (both .1))
-
 pub same-key : (f g : List ℕ) → isTerm f ≡ true → sameBytes f g ≡ eqb (keyOf f) (keyOf g)
 same-key f g h = go (sameBytes f g) (eqb (keyOf f) (keyOf g)) refl refl
   where
     go : (s t : Bool) → sameBytes f g ≡ s → eqb (keyOf f) (keyOf g) ≡ t → s ≡ t
     go true true p q = refl
     go true false p q =
-        absurd (let z : true ≡ false = sym (eq-eqb (keyOf f) (keyOf g) (ap keyOf (same-equal f g p))) ∙ q in
-        let y : _≡_ {A = ℕ} 0 1 = cc in omega arith)
+        absurd (never (sym (eq-eqb (keyOf f) (keyOf g) (ap keyOf (same-equal f g p))) ∙ q))
     go false true p q =
-        absurd (let z : true ≡ false = sym (same-self f) ∙ ap (sameBytes f) (term-equal f g h (eqb-true (keyOf f) (keyOf g) q)) ∙ p in
-        let y : _≡_ {A = ℕ} 0 1 = cc in omega arith)
+        absurd (never (sym (same-self f) ∙ ap (sameBytes f) (term-equal f g h (eqb-true (keyOf f) (keyOf g) q)) ∙ p))
     go false false p q = refl
 
 -- a key fits 8 bytes
@@ -285,208 +268,3 @@ pub spell-some : (k : ℕ) → 0 < k → 0 < length (spell k)
 unfolding spell spellFrom
 spell-some k h =
     rw (ne-eqb k 0 (λ e. omega arith)) (omega (arith, spell-grows 7 (k / 256) ((k % 256) ∷ [])))
-
--- the number that a key stands for: of one digit, of two, or none
-pub number-one-digit : (k : ℕ) → 48 ≤ k → k ≤ 57 → numberOf k ≡ k - 48
-unfolding numberOf
-number-one-digit k h l = rw (between-is 48 57 k h l)
-
-pub number-two-digits : (k : ℕ) → between 48 57 k ≡ false → between 49 57 (k / 256) ≡ true → between 48 57 (k % 256) ≡ true
-    → numberOf k ≡ (k / 256 - 48) * 10 + (k % 256 - 48)
-unfolding numberOf
-number-two-digits k h l m = rw (h, l, m)
-
-pub number-no-digits : (k : ℕ) → between 48 57 k ≡ false → (between 49 57 (k / 256) && between 48 57 (k % 256)) ≡ false → numberOf k ≡ 100
-unfolding numberOf
-number-no-digits k h l = rw (h, l)
-
-number-low : (k : ℕ) → k < 48 → numberOf k ≡ 100
-number-low k h =
-    number-no-digits k (between-below 48 57 k h) (rw (between-below 49 57 (k / 256) (omega arith)))
-
-number-high : (k : ℕ) → 14848 ≤ k → numberOf k ≡ 100
-number-high k h =
-    number-no-digits k (between-above 48 57 k (omega arith)) (rw (between-above 49 57 (k / 256) (omega arith)))
-
--- what a field's key says of it as a number: its value, or that it has none below 100
-data NumberBy (f : List ℕ) : Type 0 where
-  valued : isNumber f ≡ true → numberOf (keyOf f) ≡ valueOf f → NumberBy f
-  unvalued : (isNumber f ≡ true → 100 ≤ valueOf f) → numberOf (keyOf f) ≡ 100 → NumberBy f
-
-no-number : (f : List ℕ) → isNumber f ≡ false → numberOf (keyOf f) ≡ 100 → NumberBy f
-no-number f h e = unvalued (λ k. absurd (let z : true ≡ false = sym k ∙ h in let y : _≡_ {A = ℕ} 0 1 = cc in omega arith)) e
-
--- a field that is no name is no number, and its key is low
-digit-name : (b : ℕ) → isClass digit b ≡ true → nameByte b ≡ true
-unfolding isClass classNumber isNameClass
-digit-name b h = go (classOf b) h
-  where
-    go : (k : Class) → eqb (classNumber k) (classNumber digit) ≡ true → isNameClass k ≡ true
-    go small h = refl
-    go capital h = h
-    go digit h = refl
-    go comma h = h
-    go lineFeed h = h
-    go other h = h
-
-low-key : (f : List ℕ) → isName f ≡ false → keyOf f ≤ 27
-low-key f h = form-cases (keyOf f ≤ 27) f
-    (λ k l m. absurd (let z : true ≡ false = sym k ∙ h in let y : _≡_ {A = ℕ} 0 1 = cc in omega arith)) (λ k l m n. n) (λ k l m. omega arith)
-
-number-name : (f : List ℕ) → length f ≤ 8 → isNumber f ≡ true → isName f ≡ true
-unfolding isNumber
-number-name [] h e = absurd (let z : _≡_ {A = ℕ} 0 1 = cc in omega arith)
-number-name (b ∷ []) h e = name-is (b ∷ []) (omega arith) h (rw (digit-name b e))
-number-name (b ∷ c ∷ s) h e =
-    let digits : every (isClass digit) (b ∷ c ∷ s) ≡ true = and-true (not (eqb b 48)) (every (isClass digit) (b ∷ c ∷ s)) e .1 in
-    name-is (b ∷ c ∷ s) (omega arith) h (every-implied (isClass digit) nameByte digit-name (b ∷ c ∷ s) digits)
-
-number-none : (f : List ℕ) → length f ≤ 8 → isName f ≡ false → NumberBy f
-number-none f h e = no-number f (go (isNumber f) refl) (number-low (keyOf f) (omega (arith, low-key f e)))
-  where
-    go : (t : Bool) → isNumber f ≡ t → isNumber f ≡ false
-    go true k = absurd (let z : true ≡ false = sym (number-name f h k) ∙ e in let y : _≡_ {A = ℕ} 0 1 = cc in omega arith)
-    go false k = k
-
-between-over : (a z b : ℕ) → between a z b ≡ false → a ≤ b → z < b
-unfolding between
-between-over a z b e h = leb-false b z (sym (ap (λ (t : Bool). t && leb b z) (le-leb a b h)) ∙ e)
-
-by-one : (b : ℕ) → isName (b ∷ []) ≡ true → NumberBy (b ∷ [])
-unfolding isNumber valueOf valueFrom packed packedFrom
-by-one b n = go (isClass digit b) refl
-  where
-    key : keyOf (b ∷ []) ≡ b
-    key = key-of-name (b ∷ []) n ∙ omega arith
-
-    range : (48 ≤ b) × (b ≤ 122)
-    range = name-range b (and-true (nameByte b) true (name-bytes (b ∷ []) n) .0)
-
-    go : (t : Bool) → isClass digit b ≡ t → NumberBy (b ∷ [])
-    go true e =
-        let most = between-true 48 57 b (sym (is-digit b) ∙ e) in
-        valued e (ap numberOf key ∙ number-one-digit b (most .0) (most .1) ∙ omega arith)
-    go false e =
-        let none : between 48 57 b ≡ false = sym (is-digit b) ∙ e in
-        no-number (b ∷ []) e (ap numberOf key
-        ∙ number-no-digits b none (rw (between-below 49 57 (b / 256) (omega (arith, range .1)))))
-
-by-two : (b c : ℕ) → isName (b ∷ c ∷ []) ≡ true → NumberBy (b ∷ c ∷ [])
-unfolding valueOf valueFrom packed packedFrom
-by-two b c n = go (between 49 57 b) (between 48 57 c) refl refl
-  where
-    f : List ℕ
-    f = b ∷ c ∷ []
-
-    bytes : (nameByte b ≡ true) × (every nameByte (c ∷ []) ≡ true)
-    bytes = and-true (nameByte b) (every nameByte (c ∷ [])) (name-bytes (b ∷ c ∷ []) n)
-
-    first : (48 ≤ b) × (b ≤ 122)
-    first = name-range b (bytes .0)
-
-    second : (48 ≤ c) × (c ≤ 122)
-    second = name-range c (and-true (nameByte c) true (bytes .1) .0)
-
-    key : keyOf (b ∷ c ∷ []) ≡ b * 256 + c
-    key = key-of-name (b ∷ c ∷ []) n ∙ omega arith
-
-    front : keyOf (b ∷ c ∷ []) / 256 ≡ b
-    front = omega (arith, key, second .1)
-
-    last : keyOf (b ∷ c ∷ []) % 256 ≡ c
-    last = omega (arith, key, second .1)
-
-    more : between 48 57 (keyOf (b ∷ c ∷ [])) ≡ false
-    more = between-above 48 57 (keyOf (b ∷ c ∷ [])) (omega (arith, key, first .0))
-
-    go : (s t : Bool) → between 49 57 b ≡ s → between 48 57 c ≡ t → NumberBy (b ∷ c ∷ [])
-    go true true h k =
-        valued (number-two (b ∷ c ∷ []) refl ∙ rw (h, k))
-        (number-two-digits (keyOf (b ∷ c ∷ [])) more (rw front h) (rw last k) ∙ rw (front, last) (omega arith))
-    go true false h k =
-        no-number (b ∷ c ∷ []) (number-two (b ∷ c ∷ []) refl ∙ rw (h, k))
-        (number-no-digits (keyOf (b ∷ c ∷ [])) more (rw (front, last, h, k)))
-    go false t h k =
-        no-number (b ∷ c ∷ []) (number-two (b ∷ c ∷ []) refl ∙ rw h)
-        (number-no-digits (keyOf (b ∷ c ∷ [])) more (rw (front, h)))
-
-by-more : (b c d : ℕ) (s : List ℕ) → NumberBy (b ∷ c ∷ d ∷ s)
-unfolding packed packedFrom
-by-more b c d s = unvalued (number-long (b ∷ c ∷ d ∷ s) (omega arith)) (go (isName (b ∷ c ∷ d ∷ s)) refl)
-  where
-    go : (t : Bool) → isName (b ∷ c ∷ d ∷ s) ≡ t → numberOf (keyOf (b ∷ c ∷ d ∷ s)) ≡ 100
-    go true n =
-        let first = name-range b (and-true (nameByte b) (every nameByte (c ∷ d ∷ s)) (name-bytes (b ∷ c ∷ d ∷ s) n) .0) in
-        number-high (keyOf (b ∷ c ∷ d ∷ s))
-        (omega (arith, key-of-name (b ∷ c ∷ d ∷ s) n, first .0, packed-grows (((0 * 256 + b) * 256 + c) * 256 + d) s))
-    go false n = number-low (keyOf (b ∷ c ∷ d ∷ s)) (omega (arith, low-key (b ∷ c ∷ d ∷ s) n))
-
-number-by : (f : List ℕ) → NumberBy f
-unfolding isNumber
-number-by [] = number-none [] (omega arith) name-empty
-  where
-    name-empty : isName [] ≡ false
-    name-empty = name-short
-number-by (b ∷ []) = go (isName (b ∷ [])) refl
-  where
-    go : (t : Bool) → isName (b ∷ []) ≡ t → NumberBy (b ∷ [])
-    go true n = by-one b n
-    go false n = number-none (b ∷ []) (omega arith) n
-number-by (b ∷ c ∷ []) = go (isName (b ∷ c ∷ [])) refl
-  where
-    go : (t : Bool) → isName (b ∷ c ∷ []) ≡ t → NumberBy (b ∷ c ∷ [])
-    go true n = by-two b c n
-    go false n = number-none (b ∷ c ∷ []) (omega arith) n
-number-by (b ∷ c ∷ d ∷ s) = by-more b c d s
-
--- a number in a range below 100, and its value, by its key
-module _ (lo hi : ℕ) (f : List ℕ) (h : hi < 100) where
-  pub number-key : isNumberIn lo hi f ≡ between lo hi (numberOf (keyOf f))
-  unfolding isNumberIn
-  number-key = go (number-by f)
-    where
-      go : NumberBy f → (isNumber f && between lo hi (valueOf f)) ≡ between lo hi (numberOf (keyOf f))
-      go (valued e k) = rw (e, k)
-      go (unvalued e k) = none (isNumber f) refl ∙ sym (ap (between lo hi) k ∙ between-above lo hi 100 h)
-        where
-          none : (t : Bool) → isNumber f ≡ t → (isNumber f && between lo hi (valueOf f)) ≡ false
-          none true q = rw q (between-above lo hi (valueOf f) (omega (arith, e q)))
-          none false q = rw q
-
-  pub value-key : isNumberIn lo hi f ≡ true → valueOf f ≡ numberOf (keyOf f)
-  unfolding isNumberIn
-  value-key q = go (number-by f)
-    where
-      go : NumberBy f → valueOf f ≡ numberOf (keyOf f)
-      go (valued e k) = sym k
-      go (unvalued e k) =
-          absurd (let z : true ≡ false = sym q ∙ number-key ∙ ap (between lo hi) k ∙ between-above lo hi 100 h in
-          let y : _≡_ {A = ℕ} 0 1 = cc in omega arith)
-
--- the number of a key, as the code tests it
-module _ (k : ℕ) where
-  pub tested-low : k < 48 → 100 ≡ numberOf k
-  tested-low h = sym (number-low k h)
-
-  pub tested-one : 48 ≤ k → k ≤ 57 → k - 48 ≡ numberOf k
-  tested-one h l = sym (number-one-digit k h l)
-
-  pub tested-none : 57 < k → (between 49 57 (k / 256) && between 48 57 (k % 256)) ≡ false → 100 ≡ numberOf k
-  tested-none h e = sym (number-no-digits k (between-above 48 57 k h) e)
-
-  pub tested-front-low : 57 < k → k / 256 < 49 → 100 ≡ numberOf k
-  tested-front-low h l = tested-none h (rw (between-below 49 57 (k / 256) l))
-
-  pub tested-front-high : 57 < k → 57 < k / 256 → 100 ≡ numberOf k
-  tested-front-high h l = tested-none h (rw (between-above 49 57 (k / 256) l))
-
-  pub tested-last-low : 57 < k → k % 256 < 48 → 100 ≡ numberOf k
-  tested-last-low h l = tested-none h (rw (between-below 48 57 (k % 256) l) (and-false (between 49 57 (k / 256))))
-
-  pub tested-last-high : 57 < k → 57 < k % 256 → 100 ≡ numberOf k
-  tested-last-high h l = tested-none h (rw (between-above 48 57 (k % 256) l) (and-false (between 49 57 (k / 256))))
-
-  pub tested-two : 57 < k → 49 ≤ k / 256 → k / 256 ≤ 57 → 48 ≤ k % 256 → k % 256 ≤ 57
-      → (k / 256 - 48) * 10 + (k % 256 - 48) ≡ numberOf k
-  tested-two h a b c d =
-      sym (number-two-digits k (between-above 48 57 k h) (between-is 49 57 (k / 256) a b) (between-is 48 57 (k % 256) c d))

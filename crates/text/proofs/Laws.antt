@@ -1,62 +1,35 @@
--- Laws of places in texts and lines, as the code's cursors meet them.
---   before-here, before-step, before-end    the count of the bytes before the first of a value, one place on
---   every-fails, every-step, every-end      a test of all bytes from a place on; every-append: of two lists
---   same-fails, same-step, same-end         two parts compared from a place on; same-lengths: of different lengths
---   tabled-length, tabled-at                the length of a table, an entry of it
---   variable-one, variable-none             a variable by its length
+-- Laws of lists, as the definitions and the code of this crate use them.
+--   drop-take                          a part by its ends, and by its start and length
+--   every-append, every-implied        a test of all elements: of two lists, and one that follows from another
+--   same-..                            two parts compared: from a place on, of different lengths, equal
+--   tabled-length, tabled-at           the length of a table, an entry of it
 -- Assumes nothing.
-use mathlib.Core.Path.{_≡_, refl, sym, ap, _∙_}
-use mathlib.Core.Bool.{Bool, true, false, cond, not, _&&_}
+use mathlib.Core.Path.{_≡_, refl, sym, ap, ap₂, _∙_}
+use mathlib.Core.Bool.{Bool, true, false, _&&_}
 use mathlib.Core.List.{List, [], _∷_, _++_}
-use Prim.Native.Nat.{ℕ, zero, suc, _+_, _-_, _≤_, _<_}
-use native.Mathlib.Nat.{le-of-suc-le-suc, not-suc-le-zero}
-use native.Mathlib.Omega.{arith}
-use borrow.Author.Tests.{eq-eqb, ne-eqb}
-use lib.Dec.{leb, ltb, eqb}
+use Prim.Native.Nat.{ℕ, zero, suc, _-_, _≤_, _<_}
+use native.Mathlib.Nat.{le-of-suc-le-suc, not-suc-le-zero, suc-sub-suc, sub-zero}
 use native.Mathlib.Decide.{decLt}
-use lib.ListN.{length, take, drop, getD, length-drop, length-append, List·getD-append, drop-of-length-le}
-use lib.Seq.{drop-cons, getD-append-seam, getD-at}
-use Rattle.text.specs.Bytes.{between, Class, small, capital, digit, comma, lineFeed, other, classNumber, isNameClass}
+use native.Mathlib.Omega.{arith}
+use borrow.Author.Tests.{eq-eqb, ne-eqb, eqb-true}
+use lib.Dec.{eqb}
+use lib.ListN.{length, take, drop, getD, length-append, List·getD-append, drop-of-length-le}
+use lib.Seq.{drop-cons, getD-at}
 use Rattle.text.specs.Lists.{every, sameBytes, tabled}
-use Rattle.text.specs.Fields.{isVariable}
-use Rattle.text.specs.Places.{before}
-use Rattle.text.proofs.ClassLaws.{and-true, is-capital}
+use Rattle.text.proofs.Bools.{and-true, and-false, and-assoc}
 
-module _ (x : ℕ) where
-  pub before-here : (s : List ℕ) (i : ℕ) → i < length s → getD s i 0 ≡ x → before x (drop i s) ≡ 0
-  unfolding before
-  before-here s i h e = rw (drop-cons s i 0 h, eq-eqb (getD s i 0) x e)
+-- a part by its ends, and by its start and length
+pub drop-take : (a e : ℕ) (s : List ℕ) → a ≤ e → drop a (take e s) ≡ take (e - a) (drop a s)
+drop-take zero e s h = rw (sub-zero e)
+drop-take (suc a) zero s h = absurd (not-suc-le-zero h)
+drop-take (suc a) (suc e) [] h = rw (suc-sub-suc e a) (nil (e - a))
+  where
+    nil : (n : ℕ) → _≡_ {A = List ℕ} [] (take n [])
+    nil zero = refl
+    nil (suc n) = refl
+drop-take (suc a) (suc e) (x ∷ s) h = rw (suc-sub-suc e a) (drop-take a e s (le-of-suc-le-suc h))
 
-  pub before-step : (s : List ℕ) (i : ℕ) → i < length s → (getD s i 0 ≡ x → ⊥)
-      → before x (drop i s) ≡ suc (before x (drop (suc i) s))
-  unfolding before
-  before-step s i h e = rw (drop-cons s i 0 h, ne-eqb (getD s i 0) x e)
-
-  pub before-end : (s : List ℕ) (i : ℕ) → length s ≤ i → before x (drop i s) ≡ 0
-  unfolding before
-  before-end [] zero h = refl
-  before-end [] (suc i) h = refl
-  before-end (b ∷ s) zero h = absurd (not-suc-le-zero h)
-  before-end (b ∷ s) (suc i) h = before-end s i (le-of-suc-le-suc h)
-
-module _ (test : ℕ → Bool) where
-  pub every-fails : (s : List ℕ) (i : ℕ) → i < length s → test (getD s i 0) ≡ false → every test (drop i s) ≡ false
-  every-fails s i h e = rw (drop-cons s i 0 h, e)
-
-  pub every-step : (s : List ℕ) (i : ℕ) → i < length s → test (getD s i 0) ≡ true
-      → every test (drop i s) ≡ every test (drop (suc i) s)
-  every-step s i h e = rw (drop-cons s i 0 h, e)
-
-  pub every-end : (s : List ℕ) (i : ℕ) → length s ≤ i → every test (drop i s) ≡ true
-  every-end [] zero h = refl
-  every-end [] (suc i) h = refl
-  every-end (b ∷ s) zero h = absurd (not-suc-le-zero h)
-  every-end (b ∷ s) (suc i) h = every-end s i (le-of-suc-le-suc h)
-
-and-assoc : (a b c : Bool) → ((a && b) && c) ≡ (a && (b && c))
-and-assoc true b c = refl
-and-assoc false b c = refl
-
+-- a test of all elements
 pub every-append {ℓ} : {A : Type ℓ} (test : A → Bool) (p q : List A) → every test (p ++ q) ≡ (every test p && every test q)
 every-append test [] q = refl
 every-append test (x ∷ p) q =
@@ -69,10 +42,7 @@ every-implied p q f (b ∷ s) h =
     let both = and-true (p b) (every p s) h in
     rw (f b (both .0), every-implied p q f s (both .1))
 
-and-false : (t : Bool) → (t && false) ≡ false
-and-false true = refl
-and-false false = refl
-
+-- two parts compared
 pub same-lengths : (a b : List ℕ) → (length a ≡ length b → ⊥) → sameBytes a b ≡ false
 same-lengths [] [] h = absurd (h refl)
 same-lengths [] (y ∷ b) h = refl
@@ -90,6 +60,25 @@ same-step a b i h k e = rw (drop-cons a i 0 h, drop-cons b i 0 k, eq-eqb (getD a
 pub same-end : (a b : List ℕ) (i : ℕ) → length a ≤ i → length b ≤ i → sameBytes (drop i a) (drop i b) ≡ true
 same-end a b i h k = rw (drop-of-length-le a h, drop-of-length-le b k)
 
+pub same-length : (a b : List ℕ) → sameBytes a b ≡ true → length a ≡ length b
+same-length [] [] e = refl
+same-length [] (y ∷ b) e = absurd (let z : _≡_ {A = ℕ} 0 1 = cc in omega arith)
+same-length (x ∷ a) [] e = absurd (let z : _≡_ {A = ℕ} 0 1 = cc in omega arith)
+same-length (x ∷ a) (y ∷ b) e = ap suc (same-length a b (and-true (eqb x y) (sameBytes a b) e .1))
+
+pub same-self : (f : List ℕ) → sameBytes f f ≡ true
+same-self [] = refl
+same-self (b ∷ f) = rw (eq-eqb b b refl) (same-self f)
+
+pub same-equal : (f g : List ℕ) → sameBytes f g ≡ true → f ≡ g
+same-equal [] [] h = refl
+same-equal [] (c ∷ g) h = absurd (let z : _≡_ {A = ℕ} 0 1 = cc in omega arith)
+same-equal (b ∷ f) [] h = absurd (let z : _≡_ {A = ℕ} 0 1 = cc in omega arith)
+same-equal (b ∷ f) (c ∷ g) h =
+    let both = and-true (eqb b c) (sameBytes f g) h in
+    ap₂ (λ (x : ℕ) (l : List ℕ). x ∷ l) (eqb-true b c (both .0)) (same-equal f g (both .1))
+
+-- a table by its entries
 module _ {ℓ} {A : Type ℓ} (f : ℕ → A) where
   pub tabled-length : (n : ℕ) → length (tabled f n) ≡ n
   tabled-length zero = refl
@@ -103,35 +92,3 @@ module _ {ℓ} {A : Type ℓ} (f : ℕ → A) where
         let e : i ≡ n = omega arith in
         rw e (getD-at (tabled f n) (f n) [] d n (tabled-length n))
   ]
-
--- a field of one capital letter, and no other, is a variable
-pub variable-one : (f : List ℕ) → length f ≡ 1 → isVariable f ≡ between 65 90 (getD f 0 0)
-unfolding isVariable
-variable-one [] h = absurd (let z : _≡_ {A = ℕ} 0 1 = h in omega arith)
-variable-one (b ∷ []) h = is-capital b
-variable-one (b ∷ c ∷ s) h = absurd (omega arith)
-
-pub variable-none : (f : List ℕ) → (length f ≡ 1 → ⊥) → isVariable f ≡ false
-unfolding isVariable
-variable-none [] h = refl
-variable-none (b ∷ []) h = absurd (h refl)
-variable-none (b ∷ c ∷ s) h = refl
-
--- the classes of a name's bytes, by their numbers
-pub name-class-zero : (k : Class) → classNumber k ≡ 0 → isNameClass k ≡ true
-unfolding classNumber isNameClass
-name-class-zero small h = refl
-name-class-zero capital h = absurd (omega arith)
-name-class-zero digit h = refl
-name-class-zero comma h = absurd (omega arith)
-name-class-zero lineFeed h = absurd (omega arith)
-name-class-zero other h = absurd (omega arith)
-
-pub name-class-more : (k : Class) (n : ℕ) → n ≡ classNumber k → (n ≡ 0 → ⊥) → eqb n 2 ≡ isNameClass k
-unfolding classNumber isNameClass
-name-class-more small n e h = absurd (h e)
-name-class-more capital n e h = rw e
-name-class-more digit n e h = rw e
-name-class-more comma n e h = rw e
-name-class-more lineFeed n e h = rw e
-name-class-more other n e h = rw e

@@ -1,11 +1,13 @@
--- Laws of this crate's definitions. Assumes nothing.
+-- Laws of this crate's definitions, in reading order. Assumes nothing.
 pub mod Opened
+pub mod Bools
 pub mod Laws
-pub mod Cursors
-pub mod Forms
 pub mod ClassLaws
+pub mod LineLaws
 pub mod Keys
+pub mod Numbers
 pub mod Words
 pub mod Passing
 pub mod Splitting
 pub mod SplitLaws
+pub mod PartingLaws

@@ -3,22 +3,23 @@
 --   key-..                        the key by what is known
 -- Assumes nothing.
 use mathlib.Core.Path.{_≡_, refl, sym, ap, ap₂, _∙_}
-use mathlib.Core.Bool.{Bool, true, false, cond, not, _&&_, _||_}
+use mathlib.Core.Bool.{Bool, true, false, not, _&&_, _||_}
 use mathlib.Core.List.{List, [], _∷_, _++_}
-use Prim.Native.Nat.{ℕ, zero, suc, _+_, _-_, _*_, _%_, _^_, _≤_, _<_}
-use native.Mathlib.Nat.{not-suc-le-zero, pow-suc, pow-le-pow-right, mod-eq-of-lt, sub-self}
+use Prim.Native.Nat.{ℕ, suc, _+_, _-_, _*_, _%_, _≤_, _<_}
+use native.Mathlib.Nat.{mod-eq-of-lt, sub-self}
 use native.Mathlib.Numerals.{add-one}
 use native.Mathlib.Omega.{arith}
-use borrow.Author.Tests.{le-leb, lt-leb, ne-eqb}
-use lib.Dec.{leb, eqb}
-use lib.ListN.{length, getD, take, drop, length-append, length-drop}
+use borrow.Author.Tests.{le-leb}
+use lib.Dec.{eqb}
+use lib.ListN.{length, getD, drop, length-append, length-drop}
 use lib.Seq.{take-suc, getD-drop}
-use Rattle.text.specs.Bytes.{between, classOf, classNumber, isNameClass}
+use Rattle.text.specs.Bytes.{between, classOf, classNumber}
 use Rattle.text.specs.Lists.{every}
 use Rattle.text.specs.Fields.{isName, isVariable}
 use Rattle.text.specs.Keys.{packedFrom, packed, keyOf}
-use Rattle.text.specs.Splits.{isPlain, Passed, part}
-use Rattle.text.proofs.ClassLaws.{and-true, between-true, capital-range, plain-capital, is-capital}
+use Rattle.text.specs.Splits.{isPlain, sevenBytes, Passed, part}
+use Rattle.text.proofs.ClassLaws.{between-true, capital-range, plain-capital, is-capital}
+use Rattle.text.proofs.Bools.{never, and-true, flipped}
 use Rattle.text.proofs.Laws.{every-append}
 use Rattle.text.proofs.Keys.{nameByte, packed-snoc, packed-below, name-is, name-long, name-none, key-of-name}
 use Rattle.text.proofs.Keys.{key-of-variable, key-of-more}
@@ -29,16 +30,18 @@ unfolding packed packedFrom
 passed-none = record { plain = refl; sized = refl; valued = λ h. refl; shaped = refl }
 
 pub passed-on : {f : List ℕ} {v n : ℕ} {c : Bool} (b : ℕ) → Passed f v n c → isPlain b ≡ true
-    → Passed (f ++ (b ∷ [])) ((v % 72057594037927936) * 256 + b) (suc n) (c || eqb (classNumber (classOf b)) 1)
+    → Passed (f ++ (b ∷ [])) ((v % sevenBytes) * 256 + b) (suc n) (c || eqb (classNumber (classOf b)) 1)
 passed-on {f} {v} {n} {c} b p h = record {
   plain = every-append isPlain f (b ∷ []) ∙ rw (p .plain, h);
   sized = omega (arith, p .sized, length-append f (b ∷ []));
   valued = λ k.
       let short : length f ≤ 7 = omega (arith, length-append f (b ∷ [])) in
       let same : v ≡ packed f = p .valued (omega arith) in
-      let fits : v % 72057594037927936 ≡ v = mod-eq-of-lt (omega (arith, same, packed-below f (p .plain) short)) in
+      let fits : v % sevenBytes ≡ v = mod-eq-of-lt (omega (arith, same, packed-below f (p .plain) short)) in
       rw fits (rw same (sym (packed-snoc f b)));
-  shaped = ap₂ _||_ (p .shaped) (plain-capital b h) ∙ go (every nameByte f) (nameByte b) ∙ ap not (sym (every-append nameByte f (b ∷ [])));
+  shaped =
+      ap₂ _||_ (p .shaped) (plain-capital b h) ∙ go (every nameByte f) (nameByte b)
+      ∙ ap not (sym (every-append nameByte f (b ∷ [])));
 }
   where
     go : (s t : Bool) → (not s || not t) ≡ not (s && (t && true))
@@ -59,7 +62,7 @@ passed-start s at = rw (sub-self at) passed-none
 
 pub passed-step : (s : List ℕ) (at i limit v class v′ : ℕ) (c c′ : Bool) → Passed (part s at i) v (i - at) c → at ≤ i
     → i < limit → limit ≤ length s
-    → class ≡ classNumber (classOf (getD s i 0)) → class ≤ 2 → v′ ≡ (v % 72057594037927936) * 256 + getD s i 0
+    → class ≡ classNumber (classOf (getD s i 0)) → class ≤ 2 → v′ ≡ (v % sevenBytes) * 256 + getD s i 0
     → c′ ≡ (c || eqb class 1) → Passed (part s at (i + 1)) v′ (i + 1 - at) c′
 unfolding isPlain
 passed-step s at i limit v class v′ c c′ p h q r e l f g =
@@ -68,12 +71,6 @@ passed-step s at i limit v class v′ c c′ p h q r e l f g =
     rw (add-one i, part-suc s at i h (omega arith), more, f, g, e) (passed-on (getD s i 0) p plain)
 
 -- the key by what is known of a field
-flipped : (t u : Bool) → t ≡ not u → u ≡ not t
-flipped true true h = h
-flipped true false h = refl
-flipped false true h = refl
-flipped false false h = h
-
 pub key-letter : (f : List ℕ) (v n : ℕ) (t : Bool) → Passed f v n t → t ≡ true → n ≡ 1 → v % 64 + 1 ≡ keyOf f
 unfolding packed packedFrom isVariable
 key-letter [] v n t p c e = absurd (omega (arith, p .sized))
@@ -95,7 +92,7 @@ key-letter (b ∷ []) v n t p c e =
 key-letter (b ∷ c ∷ s) v n t p h e = absurd (omega (arith, p .sized))
 
 pub key-capital : (f : List ℕ) (v n : ℕ) (t : Bool) → Passed f v n t → t ≡ true → (n ≡ 1 → ⊥) → 1 ≡ keyOf f
-key-capital [] v n t p c e = absurd (let z : true ≡ false = sym c ∙ p .shaped in let y : _≡_ {A = ℕ} 0 1 = cc in omega arith)
+key-capital [] v n t p c e = absurd (never (sym c ∙ p .shaped))
 key-capital (b ∷ []) v n t p c e = absurd (e (p .sized))
 key-capital (b ∷ c ∷ s) v n t p h e =
     sym (key-of-more b c s (name-none (b ∷ c ∷ s) (flipped true (every nameByte (b ∷ c ∷ s)) (sym h ∙ p .shaped))))

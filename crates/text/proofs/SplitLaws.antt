@@ -3,22 +3,22 @@
 --   line-fine                             a line that the split finds no fault with meets no number 2
 --   key-at, keys-some                     the key of one field; there is at least one
 -- Assumes nothing.
-use mathlib.Core.Path.{_≡_, refl, sym, ap, ap₂, _∙_}
-use mathlib.Core.Bool.{Bool, true, false}
+use mathlib.Core.Path.{_≡_, sym, ap, _∙_}
+use mathlib.Core.Bool.{false}
 use mathlib.Core.List.{List, [], _∷_, map}
 use Prim.Native.Nat.{ℕ, suc, _+_, _≤_, _<_}
 use native.Mathlib.Numerals.{add-one}
 use native.Mathlib.Omega.{arith}
-use lib.ListN.{length, take, drop, getD, length-drop, drop-of-length-le, List·getD-map}
+use lib.ListN.{length, drop, getD, length-drop, drop-of-length-le, List·getD-map}
 use lib.Seq.{drop-drop, getD-take}
 use Rattle.text.specs.Bytes.{between}
-use Rattle.text.specs.Lines.{Line, lines, lineIsFaulty}
+use Rattle.text.specs.Lines.{lines, lineIsFaulty}
 use Rattle.text.specs.Fields.{fields, isName, isVariable}
 use Rattle.text.specs.Keys.{keyOf}
 use Rattle.text.specs.Places.{before}
 use Rattle.text.specs.Splits.{firstLine, lineFrom, lineEnd, Holds, SplitAt}
 use Rattle.text.specs.declared.fields.Fields.{Fields}
-use Rattle.text.proofs.Cursors.{lines-from, fields-some}
+use Rattle.text.proofs.LineLaws.{lines-from, fields-some}
 
 module _ (s : List ℕ) (at : ℕ) where
   pub lines-at : at < length s → lines (drop at s) ≡ lineFrom s at ∷ lines (drop (suc (lineEnd s at)) s)

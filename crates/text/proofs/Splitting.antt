@@ -4,33 +4,34 @@
 --   faulty-..                         number 2, by where the split stops
 --   Walk, walk-..                     the fields so far, one field on, the line's end, a fault
 -- Assumes nothing.
-use mathlib.Core.Path.{_≡_, refl, sym, ap, ap₂, _∙_}
-use mathlib.Core.Bool.{Bool, true, false, cond, not, _&&_, _||_}
-use mathlib.Core.List.{List, [], _∷_, _++_, map, append-nil, append-assoc}
+use mathlib.Core.Path.{_≡_, refl, sym, ap, _∙_}
+use mathlib.Core.Bool.{Bool, true, false, not, _||_}
+use mathlib.Core.List.{List, [], _∷_, _++_, map, append-nil}
 use Prim.Native.Nat.{ℕ, zero, suc, _+_, _-_, _≤_, _<_, min}
-use native.Mathlib.Nat.{not-suc-le-zero, sub-self, add-zero}
+use native.Mathlib.Nat.{not-suc-le-zero, sub-self}
 use native.Mathlib.Decide.{decLt, ℕ-discrete}
 use native.Mathlib.Numerals.{add-one}
 use native.Mathlib.Omega.{arith}
 use borrow.Author.Tests.{eq-eqb, ne-eqb, eqb-false, lt-ltb, le-ltb}
-use lib.Dec.{leb, ltb, eqb}
+use lib.Dec.{ltb, eqb}
 use lib.ListN.{length, take, drop, getD, set, length-append, length-take, length-drop, length-set, List·getD-map}
-use lib.ListN.{replicate, take-append-drop, drop-of-length-le, length-map}
-use lib.Seq.{split-at, getD-drop, getD-take, drop-drop, take-add, take-append-add, take-append-seam, ext-getD, getD-set-same, getD-set-other, set-out}
+use lib.ListN.{replicate, take-append-drop, length-map}
+use lib.Seq.{split-at, getD-drop, getD-take, drop-drop, take-add, take-append-add, take-append-seam, ext-getD}
+use lib.Seq.{getD-set-same, getD-set-other}
 use Rattle.text.specs.Bytes.{between, classOf, classNumber}
 use Rattle.text.specs.Lists.{every}
 use Rattle.text.specs.Lines.{Line, lineIsFaulty, isOther}
 use Rattle.text.specs.Fields.{inFirstField, fields, isName, isVariable}
 use Rattle.text.specs.Keys.{keyOf, wordLength, word}
 use Rattle.text.specs.Places.{before}
-use Rattle.text.specs.Splits.{firstLine, lineFrom, lineEnd, isPlain, part, Stopped, Holds, Stands, SplitAt}
+use Rattle.text.specs.Splits.{firstLine, lineFrom, lineEnd, isPlain, part, Stopped, SplitAt}
 use Rattle.text.specs.declared.fields.Field.{Field}
-use Rattle.text.specs.declared.fields.Fields.{Fields}
-use Rattle.text.proofs.ClassLaws.{and-true, isInner, plain-inner, inner-comma, inner-not-feed, inner-not-other, plain-not}
+use Rattle.text.proofs.ClassLaws.{isInner, plain-inner, inner-comma, inner-not-feed, inner-not-other, plain-not}
 use Rattle.text.proofs.ClassLaws.{class-comma, class-feed, class-other}
+use Rattle.text.proofs.Bools.{never, and-true, or-true}
 use Rattle.text.proofs.Passing.{part-suc}
 use Rattle.text.proofs.Laws.{every-append, every-implied}
-use Rattle.text.proofs.Cursors.{before-is, before-not, fields-is, fields-not}
+use Rattle.text.proofs.LineLaws.{before-is, before-not, fields-is, fields-not}
 
 -- bytes in front of a text, no line feed among them
 pub before-append : (p r : List ℕ) → every isInner p ≡ true → before 10 (p ++ r) ≡ length p + before 10 r
@@ -98,7 +99,8 @@ unfolding wordLength
 word-length [] b r h e = rw e
 word-length (c ∷ f) b r h e =
     let both = and-true (isPlain c) (every isPlain f) h in
-    rw (ne-eqb c 44 (plain-no-comma c (both .0)), ne-eqb c 10 (plain-no-feed c (both .0))) (ap suc (word-length f b r (both .1) e))
+    rw (ne-eqb c 44 (plain-no-comma c (both .0)), ne-eqb c 10 (plain-no-feed c (both .0)))
+    (ap suc (word-length f b r (both .1) e))
 
 -- a text from one place on, cut at another
 pub cut-at : (s : List ℕ) (start e : ℕ) → start ≤ e → e < length s
@@ -127,15 +129,15 @@ part-length s at e h = omega (arith, length-take (e - at) (drop at s), length-dr
 abbrev fine : ℕ → Bool
 fine b = not (isOther b)
 
-or-true : (a b c : Bool) → (a || b || c || true) ≡ true
-or-true true b c = refl
-or-true false true c = refl
-or-true false false true = refl
-or-true false false false = refl
+any-true : (a b c : Bool) → (a || b || c || true) ≡ true
+any-true true b c = refl
+any-true false true c = refl
+any-true false false true = refl
+any-true false false false = refl
 
 faulty-byte : (l : Line) → every fine (l .bytes) ≡ false → lineIsFaulty l ≡ true
 unfolding lineIsFaulty
-faulty-byte l e = rw e (or-true (eqb (length (l .bytes)) 0) (ltb 80 (length (l .bytes))) (not (l .ended)))
+faulty-byte l e = rw e (any-true (eqb (length (l .bytes)) 0) (ltb 80 (length (l .bytes))) (not (l .ended)))
 
 inner-fine : (b : ℕ) → isInner b ≡ true → fine b ≡ true
 inner-fine b h = rw (inner-not-other b h)
@@ -233,10 +235,6 @@ eqb-shift e at h = elim (ℕ-discrete e at) [
   | no k ↦ ne-eqb e at k ∙ sym (ne-eqb (e - at) 0 (λ m. k (omega arith)))
 ]
 
-or-yes : (t : Bool) → (t || true) ≡ true
-or-yes true = refl
-or-yes false = refl
-
 other-not-feed : (b : ℕ) → 4 < classNumber (classOf b) → b ≡ 10 → ⊥
 unfolding classOf classNumber between
 other-not-feed b h e = let z : 4 < classNumber (classOf 10) = rw e at h in omega arith
@@ -280,8 +278,9 @@ walk-start s at limit h e = record {
 }
 
 -- the field that was found: the text from its start on, its bytes as a field of the line, and the word there
-module _ (s : List ℕ) (at limit : ℕ) (keys starts : List ℕ) (count start : ℕ) (r : Field) (w : Walk s at limit keys starts count start)
-    (q : Stopped s start limit r) (small : length s ≤ 16384) (bound : limit ≡ min (length s) (at + 81)) where
+module _ (s : List ℕ) (at limit : ℕ) (keys starts : List ℕ) (count start : ℕ) (r : Field)
+    (w : Walk s at limit keys starts count start) (q : Stopped s start limit r) (small : length s ≤ 16384)
+    (bound : limit ≡ min (length s) (at + 81)) where
   abbrev f : List ℕ
   f = part s start (r .end)
 
@@ -300,11 +299,13 @@ module _ (s : List ℕ) (at limit : ℕ) (keys starts : List ℕ) (count start :
       ∙ every-append isInner (part s at start) f ∙ rw (w .passed, inner f (q .plain))
 
   -- the next field of the line, once it is known to end there
-  module _ (stop : r .end < limit) (rest : List (List ℕ)) (found : fieldsAt s start ≡ f ∷ rest) (ended : (eqb b 44 || eqb b 10) ≡ true) where
+  module _ (stop : r .end < limit) (rest : List (List ℕ)) (found : fieldsAt s start ≡ f ∷ rest)
+      (ended : (eqb b 44 || eqb b 10) ≡ true) where
     next-field : getD (fieldsAt s at) count [] ≡ f
     next-field =
         let place : count + 0 ≡ count = omega arith in
-        let here : getD (drop count (fieldsAt s at)) 0 [] ≡ getD (fieldsAt s at) (count + 0) [] = getD-drop count (fieldsAt s at) 0 [] in
+        let here : getD (drop count (fieldsAt s at)) 0 [] ≡ getD (fieldsAt s at) (count + 0) [] =
+        getD-drop count (fieldsAt s at) 0 [] in
         sym (here ∙ rw place) ∙ ap (λ (l : List (List ℕ)). getD l 0 []) (w .left ∙ found)
 
     next-key : (i : ℕ) → i < suc count → i < 8 → getD (set keys count (r .key)) i 0 ≡ keyOf (getD (fieldsAt s at) i [])
@@ -373,7 +374,7 @@ module _ (s : List ℕ) (at limit : ℕ) (keys starts : List ℕ) (count start :
       let cut : drop start s ≡ f ++ (b ∷ more) = cut-at s start (r .end) (q .begun) (omega arith) in
       let found : fieldsAt s start ≡ f ∷ [] =
       ap (λ (t : List ℕ). fields (bytes t)) cut ∙ line-fields-last f b more (q .plain) feed in
-      let ended : (eqb b 44 || eqb b 10) ≡ true = rw (eq-eqb b 10 feed) (or-yes (eqb b 44)) in
+      let ended : (eqb b 44 || eqb b 10) ≡ true = rw (eq-eqb b 10 feed) (or-true (eqb b 44)) in
       let begun : at ≤ r .end = omega (arith, q .begun, w .begun) in
       let whole : drop at s ≡ p ++ (b ∷ more) = cut-at s at (r .end) begun (omega arith) in
       let sized : length p ≡ r .end - at = part-length s at (r .end) (omega arith) in
@@ -388,7 +389,12 @@ module _ (s : List ℕ) (at limit : ℕ) (keys starts : List ℕ) (count start :
         ends = λ h. omega (arith, ap (before 10) whole, before-is-here p passed-all b more feed);
         begun = λ h. omega (arith, eqb-false (r .end) at h);
         inside = λ h. omega arith;
-        holds = λ h. record { counted = counted; keyed = held (fieldsAt s at) (set keys count (r .key)) (omega (arith, length-set keys count (r .key), w .room)) (λ i k m. keyed i (omega arith) m) };
+        holds = λ h. record {
+          counted = counted;
+          keyed =
+              held (fieldsAt s at) (set keys count (r .key)) (omega (arith, length-set keys count (r .key), w .room))
+              (λ i k m. keyed i (omega arith) m);
+        };
         stands = λ h. record { stands = λ i k m. stood i (omega arith) k };
         few = omega (arith, w .few, q .begun);
         near = next-near stop [] found ended;
@@ -399,7 +405,8 @@ module _ (s : List ℕ) (at limit : ℕ) (keys starts : List ℕ) (count start :
   walk-feed ks ss k l e = rw (add-one count, k, l) (all-of e)
 
   -- a byte of class other, or the end of the bytes to look at: a fault
-  pub walk-fault : 4 < r .stop → SplitAt s at (record { faulty = true; end = r .end; count = count; keys = keys; starts = starts })
+  pub walk-fault : 4 < r .stop
+      → SplitAt s at (record { faulty = true; end = r .end; count = count; keys = keys; starts = starts })
   unfolding lineFrom
   walk-fault e = record {
     faulty = sym (elim (decLt (r .end) limit) [
@@ -417,11 +424,11 @@ module _ (s : List ℕ) (at limit : ℕ) (keys starts : List ℕ) (count start :
             | no m ↦ faulty-long p passed-all (drop (r .end) s) (omega (arith, q .within))
           ]
     ]);
-    ends = λ h. absurd (let y : _≡_ {A = ℕ} 0 1 = cc in omega arith);
-    begun = λ h. absurd (let y : _≡_ {A = ℕ} 0 1 = cc in omega arith);
-    inside = λ h. absurd (let y : _≡_ {A = ℕ} 0 1 = cc in omega arith);
-    holds = λ h. absurd (let y : _≡_ {A = ℕ} 0 1 = cc in omega arith);
-    stands = λ h. absurd (let y : _≡_ {A = ℕ} 0 1 = cc in omega arith);
+    ends = λ h. absurd (never h);
+    begun = λ h. absurd (never h);
+    inside = λ h. absurd (never h);
+    holds = λ h. absurd (never h);
+    stands = λ h. absurd (never h);
     few = omega (arith, w .few, w .within);
     near = w .near;
   }

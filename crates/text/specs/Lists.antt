@@ -5,6 +5,9 @@
 --   placeFrom, placeOf      the place of the first element that passes a test, of a name
 --   gather, answers         the lists of all elements, the answers of those that have one
 --   tabled, upTo            the list of f 0, f 1, … and of the numbers below n
+-- Why not the kit's: its bind, orElse, Option·elim, flatMap and filterMap have the equations of bind, orElse, onward, gather and
+-- answers, but are shut until a line opens them, so that no definition over them would compute by itself; its `all` cannot be
+-- opened at all, and its `range′` is on another ℕ.
 -- Assumes nothing.
 use Prim.Native.Nat.{ℕ, zero, suc, _+_}
 use mathlib.Core.Bool.{Bool, true, false, cond, _&&_, _||_}

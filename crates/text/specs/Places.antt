@@ -1,17 +1,16 @@
 -- Where things stand in a text: what the code's cursors mean.
 --   before             how many bytes stand before the first of a value
 --   classTable         the constant table of 256 classes
---   fieldsFrom         the fields of a line from a place on
+--   partsAt            an input parted at two places
 -- Assumes nothing.
 use Prim.Native.Nat.{ℕ, suc}
-use mathlib.Core.Bool.{Bool, true, false, cond}
+use mathlib.Core.Bool.{cond}
 use mathlib.Core.List.{List, [], _∷_, _++_}
-use lib.Dec.{leb, ltb, eqb}
-use lib.ListN.{length, take, drop}
+use lib.Dec.{eqb}
+use lib.ListN.{take, drop}
 use Rattle.text.specs.Bytes.{classOf, classNumber}
 use Rattle.text.specs.Lists.{tabled}
-use Rattle.text.specs.Lines.{Line, Parts}
-use Rattle.text.specs.Fields.{fields}
+use Rattle.text.specs.Lines.{Parts}
 
 -- how many bytes stand before the first x; all of them where there is none
 unfoldable pub before : ℕ → List ℕ → ℕ
@@ -21,14 +20,6 @@ before x (b ∷ s) = cond (eqb b x) 0 (suc (before x s))
 -- the classes of the 256 byte values, by their numbers
 unfoldable pub classTable : List ℕ
 classTable = tabled (λ b. classNumber (classOf b)) 256
-
--- the line of a text from one place up to another, which is its line feed or the text's end
-unfoldable pub lineAt : List ℕ → ℕ → ℕ → Line
-lineAt s start end = record { bytes = drop start (take end s); ended = ltb end (length s) }
-
--- the fields of a line from a place on: where a field starts there, or behind the line's end, where none is left
-unfoldable pub fieldsFrom : List ℕ → ℕ → List (List ℕ)
-fieldsFrom line start = cond (leb start (length line)) (fields (drop start line)) []
 
 -- a program's text with bytes put in front of it
 unfoldable pub behind : List ℕ → Parts → Parts

@@ -7,7 +7,7 @@
 use Prim.Native.Nat.{ℕ, _+_, _-_, _≤_, _<_}
 use mathlib.Core.Path.{_≡_}
 use mathlib.Core.Bool.{Bool, true, false, not}
-use mathlib.Core.List.{List, [], _∷_, map}
+use mathlib.Core.List.{List, [], map}
 use lib.Dec.{leb, ltb}
 use lib.ListN.{length, take, drop, getD}
 use Rattle.text.specs.Bytes.{classOf, classNumber, isNameClass}
@@ -51,11 +51,16 @@ pub record SplitAt (s : List ℕ) (at : ℕ) (r : Fields) : Type 0 where
   pub few : r .count ≤ 81
   pub near : (i : ℕ) → getD (r .starts) i 0 < 16384
 
--- a byte that stands in a field: a letter or a digit
+-- a byte that stands in a field: a letter or a digit, which are the first three classes
 unfoldable pub isPlain : ℕ → Bool
 isPlain b = leb (classNumber (classOf b)) 2
 
--- what is known of a field when its bytes f have passed: their value to base 256 if they are 8 at most, how many, and whether there is a capital
+-- where values of more than seven bytes begin: 256 to the seventh
+abbrev pub sevenBytes : ℕ
+sevenBytes = 72057594037927936
+
+-- what is known of a field when its bytes f have passed: their value to base 256 if they are 8 at most, how many they are, and
+-- whether there is a capital among them
 pub record Passed (f : List ℕ) (value size : ℕ) (capital : Bool) : Type 0 where
   pub plain : every isPlain f ≡ true
   pub sized : size ≡ length f
@@ -66,7 +71,8 @@ pub record Passed (f : List ℕ) (value size : ℕ) (capital : Bool) : Type 0 wh
 abbrev pub part : List ℕ → ℕ → ℕ → List ℕ
 part s at end = take (end - at) (drop at s)
 
--- the field of the text s that starts at a place: its bytes are plain up to its end, which is a byte of another class or the limit
+-- the field of the text s that starts at a place: its bytes are plain up to its end, which is a byte of another class or the
+-- limit, and its key and the class of that byte are known
 pub record Stopped (s : List ℕ) (at limit : ℕ) (r : Field) : Type 0 where
   pub begun : at ≤ r .end
   pub within : r .end ≤ limit

@@ -1,4 +1,8 @@
 // A line split into its fields in one pass, the only one that asks the class table.
+use crate::table::CAPITAL;
+use crate::table::DIGIT;
+use crate::table::LINE_FEED;
+use crate::table::OTHER;
 use crate::table::class_of;
 ghost use mathlib.Core.Path.{_≡_};
 ghost use mathlib.Core.Bool.{_||_};
@@ -6,9 +10,10 @@ ghost use mathlib.Core.List.{List};
 ghost use Prim.Native.Nat.{ℕ, _+_, _*_, _%_, _≤_, _<_, min};
 ghost use lib.Dec.{eqb};
 ghost use lib.ListN.{length, drop, set};
+ghost use Rattle.text.specs.Bytes.{between};
 ghost use Rattle.text.specs.Keys.{keyOf, numberOf, wordLength, word};
 ghost use Rattle.text.specs.Places.{classTable};
-ghost use Rattle.text.specs.Splits.{Passed, Stopped, SplitAt};
+ghost use Rattle.text.specs.Splits.{sevenBytes, Passed, Stopped, SplitAt};
 
 // A line's fields: how many there are, and of the first 8 the keys and where they start. Where the line is faulty, only that.
 pub struct Fields {
@@ -19,25 +24,28 @@ pub struct Fields {
     pub starts: [usize; 8],
 }
 
-// One field: its key, where it ends, and the class of the byte there; 5 where the bytes to look at are at their end.
+// One field: its key, where it ends, and the class of the byte there; other where the bytes to look at are at their end.
 struct Field {
     end: usize,
     key: u64,
     stop: u8,
 }
 
+// Where values of more than seven bytes begin: 256 to the seventh.
+const SEVEN_BYTES: u64 = 72057594037927936;
+
 // A byte behind the last seven of a value to base 256.
 fn with_byte(value: u64, b: u8) -> u64
-    ensures { λ r. ⌜ r ≡ (value % 72057594037927936) * 256 + b ⌝ }
+    ensures { λ r. ⌜ r ≡ (value % sevenBytes) * 256 + b ⌝ }
 {
-    (value % 72057594037927936) * 256 + b as u64
+    (value % SEVEN_BYTES) * 256 + b as u64
 }
 
 // Whether there was a capital, or there is one now.
 fn with_class(capital: bool, class: u8) -> bool
     ensures { λ r. ⌜ r ≡ (capital || eqb class 1) ⌝ }
 {
-    if capital { true } else { class == 1 }
+    if capital { true } else { class == CAPITAL }
 }
 
 // The key of a field by what was seen of its bytes. The letters from A on are 65 and on, and their keys are 2 and on.
@@ -67,7 +75,7 @@ fn next_field(classes: &[u8], s: &[u8], at: usize, limit: usize) -> Field
     while i < limit {
         let b = s[i];
         let class = class_of(classes, b);
-        if 2 < class {
+        if DIGIT < class {
             return Field {
                 end: i,
                 key: key(value, i - at, capital),
@@ -81,7 +89,7 @@ fn next_field(classes: &[u8], s: &[u8], at: usize, limit: usize) -> Field
     Field {
         end: i,
         key: 0,
-        stop: 5,
+        stop: OTHER,
     }
 }
 
@@ -121,7 +129,7 @@ pub fn split(classes: &[u8], s: &[u8], at: usize) -> Fields
     loop {
         let found = next_field(classes, s, start, limit);
         let end = found.end;
-        if 4 < found.stop {
+        if LINE_FEED < found.stop {
             return Fields {
                 faulty: true,
                 end,
@@ -132,7 +140,7 @@ pub fn split(classes: &[u8], s: &[u8], at: usize) -> Fields
         }
         note(&mut keys, &mut starts, count, found.key, start);
         count += 1;
-        if found.stop == 4 {
+        if found.stop == LINE_FEED {
             return Fields {
                 faulty: end == at,
                 end,
@@ -145,31 +153,32 @@ pub fn split(classes: &[u8], s: &[u8], at: usize) -> Fields
     }
 }
 
-// The value of a key that is a number of one or two digits; 100 for any other.
+// Whether a byte is a digit from `least` on.
+fn is_digit(b: u64, least: u64) -> bool
+    ensures { λ r. ⌜ r ≡ between least 57 b ⌝ }
+{
+    if b < least {
+        return false;
+    }
+    b <= 57
+}
+
+// The value of a key that is a number of one or two digits without a leading zero; 100 for any other.
 pub fn number_of(key: u64) -> u16
     ensures { λ r. ⌜ r ≡ numberOf key ⌝ }
 {
-    if key < 48 {
-        return 100;
-    }
-    if key <= 57 {
+    if is_digit(key, 48) {
         return (key - 48) as u16;
     }
     let tens = key / 256;
     let ones = key % 256;
-    if tens < 49 {
+    if is_digit(tens, 49) {
+        if is_digit(ones, 48) {
+            return ((tens - 48) * 10 + (ones - 48)) as u16;
+        }
         return 100;
     }
-    if 57 < tens {
-        return 100;
-    }
-    if ones < 48 {
-        return 100;
-    }
-    if 57 < ones {
-        return 100;
-    }
-    ((tens - 48) * 10 + (ones - 48)) as u16
+    100
 }
 
 // Where the word ends that starts at `at`: the place of the first comma or line feed, or the length.

@@ -3,7 +3,16 @@ ghost use mathlib.Core.Path.{_≡_};
 ghost use Rattle.text.specs.Bytes.{classOf, classNumber};
 ghost use Rattle.text.specs.Places.{classTable};
 
-// The class of each byte value by its number: small letter 0, capital 1, digit 2, comma 3, line feed 4, other 5.
+// The numbers of the classes that the code names; a small letter's is 0, a comma's 3.
+pub const CAPITAL: u8 = 1;
+
+pub const DIGIT: u8 = 2;
+
+pub const LINE_FEED: u8 = 4;
+
+pub const OTHER: u8 = 5;
+
+// The class of each byte value by its number.
 const CLASSES: [u8; 256] = [
     5,
     5,

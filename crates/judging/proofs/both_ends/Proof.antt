@@ -1,19 +1,24 @@
--- `both_ends` meets its contract: each side is run to its end.
+-- `both_ends` meets its contract: each side fires, and goes on to its end.
 -- Assumes nothing.
-use native.Mathlib.Omega.{arith}
-use Rattle.judging.proofs.EndLaws.{first-asks, second-asks, first-ends, second-ends}
+use Rattle.judging.proofs.EndLaws.{lent-kept}
 use borrow.Author.Needs.{needs}
 use Rattle.judging.proofs.both_ends.Statement.{statement}
 use Rattle.judging.proofs.both_ends.Tie as tie
-use Rattle.judging.proofs.both_ends.Reads as reads
-use Rattle.judging.proofs.both_ends.Lts as lts
-use Rattle.sides.proofs.side.Reads as side-reads
 
-side-requires : tie.Need-side-requires
-side-requires c κs = first-asks _ _ _ _ _ _ _ _ ((c .before .before .before .before .before .before .before .before .before .pre) .0) _ _ ((c .before .before .before .before .before .before .before .before .before .pre) .1) ((c .before .before .before .before .before .before .before .before .before .pre) .3)
+begin-both-requires : tie.Need-begin-both-requires
+begin-both-requires c κs =
+    let start = c .before .before .before .before .before .before .before .before .before .before in
+    start .pre
 
-side-requires-2 : tie.Need-side-requires-2
-side-requires-2 c κs = second-asks _ _ _ _ _ _ _ _ ((c .before .before .before .before .before .before .before .before .before .before .before .before .before .before .before .before .pre) .0) _ _ ((c .before .before .before .before .before .before .before .before .before .before .before .before .before .before .before .before .pre) .2) ((c .before .before .before .before .before .before .before .before .before .before .before .before .before .before .before .before .pre) .4)
+follow-both-requires : tie.Need-follow-both-requires
+follow-both-requires c κs =
+    let began = c .before .before .before .before .before .before .before .before .before .before .before .before in
+    let start = began .before .before .before .before .before .before .before .before .before .before .before in (
+      lent-kept _ _ _ _ _ _ _ _ _ _ _ _ _ _ _ _ (start .pre) (began .begin-both .kept .1 .1 .1 .0)
+          (began .begin-both .kept .1 .1 .1 .1 .0) (began .begin-both .kept .1 .1 .1 .1 .1 .0)
+          (began .begin-both .kept .1 .1 .1 .1 .1 .1 .0),
+      began .begin-both .ensures,
+    )
 
 same-length : tie.Need-same-length
 same-length c = search needs
@@ -28,17 +33,16 @@ same-length-4 : tie.Need-same-length-4
 same-length-4 c = search needs
 
 returns : tie.Need-returns
-returns c = (
-  first-ends _ _ _ _ _ _ _ _ ((c .before .before .before .before .before .before .before .before .before .before .before .before .before .before .before .before .before .before .before .before .before .pre) .0) _ _ _ _ _ _ _ ((c .before .before .before .before .before .before .before .before .before .before .before .before .before .before .before .before .before .before .before .before .before .pre) .1) (omega (arith, (c .before .before .before .before .before .before .before .before .before .before .before .before .before .before .before .before .before .before .before .before .before .pre) .3, (c .before .before .before .before .before .before .before .before .before .before .before .side) .kept)) ((c .before .before .before .before .before .before .before .before .before .before .before .side) .ensures),
-  second-ends _ _ _ _ _ _ _ _ ((c .before .before .before .before .before .before .before .before .before .before .before .before .before .before .before .before .before .before .before .before .before .pre) .0) _ _ _ _ _ _ _ ((c .before .before .before .before .before .before .before .before .before .before .before .before .before .before .before .before .before .before .before .before .before .pre) .2) (omega (arith, (c .before .before .before .before .before .before .before .before .before .before .before .before .before .before .before .before .before .before .before .before .before .pre) .4, (c .before .before .before .before .side2) .kept)) ((c .before .before .before .before .side2) .ensures),
-)
+returns c =
+    let ended = c .before .before .before .before .before .before .before .before in
+    ended .follow-both .ensures
 
 pub both-ends-spec : {M : Type 1} → statement M
 both-ends-spec =
     tie.close
     (tie.spec
-    side-requires
-    side-requires-2
+    begin-both-requires
+    follow-both-requires
     same-length
     same-length-2
     same-length-3

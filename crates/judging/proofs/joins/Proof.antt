@@ -5,30 +5,33 @@ use Rattle.judging.proofs.JoinLaws.{lent-length}
 use borrow.Author.Needs.{needs}
 use Rattle.judging.proofs.joins.Statement.{statement}
 use Rattle.judging.proofs.joins.Tie as tie
-use Rattle.judging.proofs.joins.Reads as reads
-use Rattle.judging.proofs.joins.Lts as lts
-use Rattle.judging.proofs.judge.Reads as judge-reads
 
 array-borrow-prefix-bound-one : tie.Need-array-borrow-prefix-bound-one
 array-borrow-prefix-bound-one c = search needs
 
 slice-aggregate-judge : tie.Need-slice-aggregate-judge
-slice-aggregate-judge c = sym (lent-length _ ((c .before .before .before .before .before .pre) .0 .variables))
+slice-aggregate-judge c =
+    let start = c .before .before .before .before .before in
+    sym (lent-length _ (start .pre .0 .variables))
 
 array-borrow-prefix-bound-two : tie.Need-array-borrow-prefix-bound-two
 array-borrow-prefix-bound-two c = search needs
 
 slice-aggregate-judge-2 : tie.Need-slice-aggregate-judge-2
-slice-aggregate-judge-2 c = sym (lent-length _ ((c .before .before .before .before .before .before .before .pre) .0 .variables))
+slice-aggregate-judge-2 c =
+    let start = c .before .before .before .before .before .before .before in
+    sym (lent-length _ (start .pre .0 .variables))
 
 judge-requires : tie.Need-judge-requires
-judge-requires c κs = (
-  (c .before .before .before .before .before .before .before .before .pre) .0,
-  lent-length _ ((c .before .before .before .before .before .before .before .before .pre) .0 .variables),
-  lent-length _ ((c .before .before .before .before .before .before .before .before .pre) .0 .variables),
-  (c .before .before .before .before .before .before .before .before .pre) .1,
-  (c .before .before .before .before .before .before .before .before .pre) .2,
-)
+judge-requires c κs =
+    let start = c .before .before .before .before .before .before .before .before in
+    record {
+      overlapping = start .pre .0;
+      first-bound = lent-length _ (start .pre .0 .variables);
+      first-room = start .pre .1;
+      second-bound = lent-length _ (start .pre .0 .variables);
+      second-room = start .pre .2;
+    }
 
 same-length : tie.Need-same-length
 same-length c = search needs

@@ -1,5 +1,3 @@
--- `comparison::classes::classify_by` meets its contract: keys are made for both states; other sums tell them apart, else each symbol
--- becomes its class. Assumes nothing.
 use native.Mathlib.Omega.{arith}
 use Rattle.comparison.proofs.ClassLaws.{classified-apart, classified-same}
 use borrow.Author.Needs.{needs}
@@ -37,11 +35,15 @@ same-length-4 c = search needs
 
 returns : tie.Need-returns
 returns c =
-    let make-keys′ = (c .before .before .before .before .before .before .before .before .before .before .before .before .make-keys) in
-    let make-keys2′ = (c .before .before .before .before .before .before .before .make-keys2) in
-    let sum′ = (c .before .before .before .sum) in
-    let sum2′ = (c .before .sum2) in
-    let if1′ = (c .if1) in
+    let if1′ = c .if1 in
+    let p1 = c .before in
+    let sum2′ = p1 .sum2 in
+    let p2 = p1 .before .before in
+    let sum′ = p2 .sum in
+    let p3 = p2 .before .before .before .before in
+    let make-keys2′ = p3 .make-keys2 in
+    let p4 = p3 .before .before .before .before .before in
+    let make-keys′ = p4 .make-keys in
     classified-apart _ _ _ _ _ _ _ (make-keys′ .ensures) (make-keys2′ .ensures) _ _ (sum′ .ensures) (sum2′ .ensures) (if1′ .taken)
 
 relabel-requires : tie.Need-relabel-requires
@@ -64,12 +66,19 @@ same-length-8 c = search needs
 
 returns-2 : tie.Need-returns-2
 returns-2 c =
-    let make-keys′ = (c .before .before .before .before .before .before .before .before .before .before .before .before .before .before .before .before .before .before .before .before .before .before .before .make-keys) in
-    let make-keys2′ = (c .before .before .before .before .before .before .before .before .before .before .before .before .before .before .before .before .before .before .make-keys2) in
-    let slice-known′ = (c .before .before .before .before .before .before .before .before .before .before .before .before .before .before .before .before .before .before .before .before .before .before .before .before .before .before .before .before .before .before .before .slice-known) in
-    let slice-known2′ = (c .before .before .before .before .before .before .before .before .before .before .before .before .before .before .before .before .before .before .before .before .before .before .before .before .before .before .before .before .before .slice-known2) in
-    let relabel′ = (c .before .before .before .before .before .before .before .before .relabel) in
-    let relabel2′ = (c .before .before .relabel2) in
+    let p1 = c .before .before in
+    let relabel2′ = p1 .relabel2 in
+    let p2 = p1 .before .before .before .before .before .before in
+    let relabel′ = p2 .relabel in
+    let p3 = p2 .before .before .before .before .before .before .before .before .before in
+    let p4 = p3 .before in
+    let make-keys2′ = p4 .make-keys2 in
+    let p5 = p4 .before .before .before .before .before in
+    let make-keys′ = p5 .make-keys in
+    let p6 = p5 .before .before .before .before .before .before in
+    let slice-known2′ = p6 .slice-known2 in
+    let p7 = p6 .before .before in
+    let slice-known′ = p7 .slice-known in
     classified-same _ _ _ _ _ _ _ (make-keys′ .ensures) (make-keys2′ .ensures) (λ i. omega (arith, slice-known′ .given i))
     (λ i. omega (arith, slice-known2′ .given i)) _ _ (relabel′ .ensures) (relabel2′ .ensures)
 

@@ -16,7 +16,9 @@ colour-requires c κs = search needs
 
 deep-keys-requires : tie.Need-deep-keys-requires
 deep-keys-requires c κs =
-    let pre′ = (c .before .before .before .before .before .before .before .before .before .before .before .before .before .before .before .before .before .before .pre) in
+    let p1 = c .before .before .before .before .before .before .before .before .before in
+    let p2 = p1 .before .before .before .before .before .before .before .before .before in
+    let pre′ = p2 .pre in
     let colour′ = (c .before .before .before .before .before .before .before .before .before .colour) in (
       ready-with _ _ _ _ _ _ (pre′ .0) (colour′ .kept .1 .1 .1 .0) (colour′ .kept .1 .1 .1 .1 .0) (colour′ .ensures .1),
       pre′ .3 ∙ sym (colour′ .kept .1 .1 .1 .0),
@@ -37,15 +39,20 @@ same-length-4 c = search needs
 
 returns : tie.Need-returns
 returns c =
-    let if1′ = (c .before .before .before .before .before .before .before .before .before .before .before .if1) in
-    let deep-keys′ = (c .before .before .before .before .before .before .deep-keys) in
-    let colour′ = (c .before .before .before .before .before .before .before .before .before .before .before .before .before .before .before .before .colour) in
+    let p1 = c .before .before .before .before .before .before in
+    let deep-keys′ = p1 .deep-keys in
+    let p2 = p1 .before .before .before .before .before in
+    let if1′ = p2 .if1 in
+    let p3 = p2 .before .before .before .before .before in
+    let colour′ = p3 .colour in
     rw (if1′ .taken) (deep-keys′ .ensures .same _ (colour′ .ensures .0))
 
 plain-keys-requires : tie.Need-plain-keys-requires
 plain-keys-requires c κs =
-    let pre′ = (c .before .before .before .before .before .before .before .before .before .before .before .before .before .before .before .before .pre) in
-    let colour′ = (c .before .before .before .before .before .before .before .colour) in
+    let p1 = c .before .before .before .before .before .before .before in
+    let colour′ = p1 .colour in
+    let p2 = p1 .before .before .before .before .before .before .before .before .before in
+    let pre′ = p2 .pre in
     (pre′ .0 .size, rw (colour′ .kept .1 .1 .1 .0) (pre′ .0 .below), refl)
 
 same-length-5 : tie.Need-same-length-5

@@ -15,7 +15,7 @@ array-borrow-prefix-colours c = search needs
 slice-aggregate-fill-keys : tie.Need-slice-aggregate-fill-keys
 slice-aggregate-fill-keys c =
     let pre′ = (c .before .before .before .before .pre) in
-    sym (zeros-length _ 2332 (pre′ .room))
+    sym (zeros-length _ 2844 (pre′ .room))
 
 array-borrow-prefix-scratch : tie.Need-array-borrow-prefix-scratch
 array-borrow-prefix-scratch c = search needs
@@ -23,7 +23,7 @@ array-borrow-prefix-scratch c = search needs
 slice-aggregate-fill-keys-2 : tie.Need-slice-aggregate-fill-keys-2
 slice-aggregate-fill-keys-2 c =
     let pre′ = (c .before .before .before .before .before .pre) in
-    sym (zeros-length _ 2332 (pre′ .room))
+    sym (zeros-length _ 2844 (pre′ .room))
 
 array-borrow-prefix-received : tie.Need-array-borrow-prefix-received
 array-borrow-prefix-received c = search needs
@@ -31,7 +31,7 @@ array-borrow-prefix-received c = search needs
 slice-aggregate-fill-keys-3 : tie.Need-slice-aggregate-fill-keys-3
 slice-aggregate-fill-keys-3 c =
     let pre′ = (c .before .before .before .before .before .before .pre) in
-    sym (zeros-length _ 2332 (pre′ .room))
+    sym (zeros-length _ 2844 (pre′ .room))
 
 fill-keys-requires : tie.Need-fill-keys-requires
 fill-keys-requires c κs =

@@ -3,7 +3,7 @@
 use Prim.Native.Nat.{_-_}
 use borrow.Author.Needs.{needs}
 use native.Mathlib.Omega.{arith}
-use lib.ListN.{length, length-set}
+use lib.ListN.{length}
 use Rattle.comparison.proofs.ColourLaws.{Absorbing, absorb-start, absorb-next, absorb-done}
 use Rattle.comparison.proofs.colours.absorb.Statement.{statement}
 use Rattle.comparison.proofs.colours.absorb.Tie as tie

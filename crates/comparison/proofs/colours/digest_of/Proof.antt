@@ -105,7 +105,8 @@ loop-again c =
     let mix′ = (c .before .mix) in
     let wrapping-add-u32′ = (c .wrapping-add-u32) in
     let widened′ = (c .before .before .before .before .widened) in
-    digest-next _ _ _ _ _ (pre′ .0) (loop′ .inv) (loop-test′ .taken) _ (sign′ .result) (mix′ .result) (wrapping-add-u32′ .result) (widened′ .ensures) (sign′ .ensures) (mix′ .ensures) (wrapping-add-u32′ .ensures)
+    digest-next _ _ _ _ _ (pre′ .0) (loop′ .inv) (loop-test′ .taken) _ (sign′ .result) (mix′ .result)
+    (wrapping-add-u32′ .result) (widened′ .ensures) (sign′ .ensures) (mix′ .ensures) (wrapping-add-u32′ .ensures)
 
 returns : tie.Need-returns Inv-loop μ-loop
 returns c =

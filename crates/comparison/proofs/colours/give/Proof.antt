@@ -1,7 +1,6 @@
 -- `give` meets its contract: its signature goes to its terms.
 -- Assumes nothing.
 use Rattle.comparison.proofs.ColourLaws.{give-one}
-use mathlib.Core.Path.{subst, sym}
 use borrow.Author.Needs.{needs}
 use Rattle.comparison.proofs.colours.give.Statement.{statement}
 use Rattle.comparison.proofs.colours.give.Tie as tie

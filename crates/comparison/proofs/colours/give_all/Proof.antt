@@ -1,7 +1,5 @@
--- `comparison::colours::give_all` meets its contract: the constraints before i have given. Assumes nothing.
 use Prim.Native.Nat.{_-_}
 use native.Mathlib.Omega.{arith}
-use lib.ListN.{length}
 use mathlib.Core.Path.{_∙_}
 use Rattle.comparison.proofs.ColourLaws.{Giving, give-start, give-next, give-done, lent-below, lent-length}
 use Rattle.comparison.proofs.colours.give_all.Statement.{statement}

@@ -23,9 +23,12 @@ same-length-2 c = search needs
 
 returns : tie.Need-returns
 returns c =
-    let pre′ = (c .before .before .before .before .before .before .before .before .before .before .before .before .before .before .before .pre) in
-    let give′ = (c .before .before .before .before .before .before .before .before .before .give) in
-    let absorb′ = (c .before .before .before .before .absorb) in
+    let p1 = c .before .before .before .before in
+    let absorb′ = p1 .absorb in
+    let p2 = p1 .before .before .before .before .before in
+    let give′ = p2 .give in
+    let p3 = p2 .before .before .before .before .before .before in
+    let pre′ = p3 .pre in
     (round-one _ _ _ _ _ _ (pre′ .1) (pre′ .2) (give′ .ensures) (absorb′ .kept .0) (absorb′ .ensures), absorb′ .ensures .none)
 
 pub light-spec : {M : Type 1} → statement M

@@ -23,10 +23,16 @@ same-length-2 c = search needs
 
 returns : tie.Need-returns
 returns c =
-    let pre′ = (c .before .before .before .before .before .before .before .before .before .before .before .before .before .before .before .pre) in
-    let give-all′ = (c .before .before .before .before .before .before .before .before .before .give-all) in
-    let absorb′ = (c .before .before .before .before .absorb) in
-    (round-one _ _ _ _ _ _ (pre′ .same-size) (pre′ .empty) (give-all′ .ensures) (absorb′ .kept .0) (absorb′ .ensures), absorb′ .ensures .none)
+    let p1 = c .before .before .before .before in
+    let absorb′ = p1 .absorb in
+    let p2 = p1 .before .before .before .before .before in
+    let give-all′ = p2 .give-all in
+    let p3 = p2 .before .before .before .before .before .before in
+    let pre′ = p3 .pre in (
+      round-one _ _ _ _ _ _ (pre′ .same-size) (pre′ .empty) (give-all′ .ensures) (absorb′ .kept .0)
+          (absorb′ .ensures),
+      absorb′ .ensures .none,
+    )
 
 pub refine-spec : {M : Type 1} → statement M
 refine-spec =

@@ -10,7 +10,8 @@ use Rattle.comparison.proofs.colours.refine_times.Lts as lts
 use Rattle.comparison.proofs.colours.refine.Reads as refine-reads
 
 abbrev Inv-loop : tie.InvT-loop
-Inv-loop k cells n colours₀ received₀ i₀ colours received i = Rounding k (cellConstraints cells) colours₀ received₀ colours received i
+Inv-loop k cells n colours₀ received₀ i₀ colours received i = Rounding k
+    (cellConstraints cells) colours₀ received₀ colours received i
 
 abbrev μ-loop : tie.MeasureT-loop
 μ-loop k cells n colours₀ received₀ i₀ colours received i = i
@@ -38,7 +39,8 @@ loop-again c =
     let loop′ = (c .before .before .before .before .before .before .before .before .loop) in
     let loop-test′ = (c .before .before .before .before .before .before .before .loop-test) in
     let refine′ = (c .before .before .before .before .refine) in
-    rounds-next _ _ _ _ _ pre′ _ _ _ (loop′ .inv) (loop-test′ .taken) _ _ (refine′ .kept .1 .1 .0) (refine′ .kept .1 .1 .1 .0) (refine′ .ensures .0) (refine′ .ensures .1)
+    rounds-next _ _ _ _ _ pre′ _ _ _ (loop′ .inv) (loop-test′ .taken) _ _ (refine′ .kept .1 .1 .0)
+    (refine′ .kept .1 .1 .1 .0) (refine′ .ensures .0) (refine′ .ensures .1)
 
 same-length : tie.Need-same-length Inv-loop μ-loop
 same-length c =

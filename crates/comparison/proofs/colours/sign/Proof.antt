@@ -69,7 +69,8 @@ loop-again c =
     let pre′ = (c .before .before .before .before .before .before .before .before .before .pre) in
     let wide′ = (c .before .before .wide) in
     let mix′ = (c .mix) in
-    sign-next _ _ _ _ _ (loop′ .inv) (loop-test′ .taken) (if1′ .left) pre′ (wide′ .result) (wide′ .ensures .0) (mix′ .result) (mix′ .ensures)
+    sign-next _ _ _ _ _ (loop′ .inv) (loop-test′ .taken) (if1′ .left) pre′ (wide′ .result) (wide′ .ensures .0)
+    (mix′ .result) (mix′ .ensures)
 
 returns-2 : tie.Need-returns-2 Inv-loop μ-loop
 returns-2 c =

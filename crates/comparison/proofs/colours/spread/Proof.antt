@@ -3,7 +3,7 @@
 use Prim.Native.Nat.{_-_}
 use borrow.Author.Needs.{needs}
 use native.Mathlib.Omega.{arith}
-use lib.ListN.{length, length-set}
+use lib.ListN.{length}
 use Rattle.comparison.specs.Colours.{plus}
 use Rattle.comparison.proofs.ColourLaws.{Spreading, spread-start, spread-end, spread-room, spread-next, spread-done}
 use Rattle.comparison.proofs.colours.spread.Statement.{statement}
@@ -97,7 +97,8 @@ loop-again c =
     let wide′ = (c .before .before .before .wide) in
     let mix′ = (c .before .before .mix) in
     let wrapping-add-u32′ = (c .wrapping-add-u32) in
-    spread-next _ _ _ _ _ _ (loop′ .inv) (loop-test′ .taken) (if1′ .left) pre′ (wide′ .result) (wide′ .ensures .0) (mix′ .result) (wrapping-add-u32′ .result) (mix′ .ensures) (wrapping-add-u32′ .ensures)
+    spread-next _ _ _ _ _ _ (loop′ .inv) (loop-test′ .taken) (if1′ .left) pre′ (wide′ .result) (wide′ .ensures .0)
+    (mix′ .result) (wrapping-add-u32′ .result) (mix′ .ensures) (wrapping-add-u32′ .ensures)
 
 same-length-2 : tie.Need-same-length-2 Inv-loop μ-loop
 same-length-2 c =

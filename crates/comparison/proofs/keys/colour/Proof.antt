@@ -22,16 +22,22 @@ light-requires c κs =
 
 refine-times-requires : tie.Need-refine-times-requires
 refine-times-requires c κs =
-    let pre′ = (c .before .before .before .before .before .before .before .before .before .before .before .before .before .before .before .before .before .pre) in
-    let light′ = (c .before .before .before .before .before .before .light) in
-    let start′ = (c .before .before .before .before .before .before .before .before .before .before .before .start) in
+    let p1 = c .before .before .before .before .before .before in
+    let light′ = p1 .light in
+    let p2 = p1 .before .before .before .before .before in
+    let start′ = p2 .start in
+    let p3 = p2 .before .before .before .before .before .before in
+    let pre′ = p3 .pre in
     ready-with _ _ _ _ _ _ (pre′ .0) (light′ .kept .1 .1 .0 ∙ start′ .kept .0) (light′ .kept .1 .1 .1 .0) (light′ .ensures .1)
 
 same-length : tie.Need-same-length
 same-length c =
-    let refine-times′ = (c .before .before .before .before .refine-times) in
-    let light′ = (c .before .before .before .before .before .before .before .before .before .before .before .light) in
-    let start′ = (c .before .before .before .before .before .before .before .before .before .before .before .before .before .before .before .before .start) in
+    let p1 = c .before .before .before .before in
+    let refine-times′ = p1 .refine-times in
+    let p2 = p1 .before .before .before .before .before .before .before in
+    let light′ = p2 .light in
+    let p3 = p2 .before .before .before .before .before in
+    let start′ = p3 .start in
     refine-times′ .kept .1 .1 .1 .0 ∙ (light′ .kept .1 .1 .0 ∙ start′ .kept .0)
 
 same-length-2 : tie.Need-same-length-2
@@ -42,9 +48,12 @@ same-length-2 c =
 
 returns : tie.Need-returns
 returns c =
-    let start′ = (c .before .before .before .before .before .before .before .before .before .before .before .before .before .before .before .before .start) in
-    let light′ = (c .before .before .before .before .before .before .before .before .before .before .before .light) in
-    let refine-times′ = (c .before .before .before .before .refine-times) in
+    let p1 = c .before .before .before .before in
+    let refine-times′ = p1 .refine-times in
+    let p2 = p1 .before .before .before .before .before .before .before in
+    let light′ = p2 .light in
+    let p3 = p2 .before .before .before .before .before in
+    let start′ = p3 .start in
     (colour-done _ _ _ _ _ (start′ .ensures) (light′ .ensures .0) (refine-times′ .ensures .0), refine-times′ .ensures .1)
 
 pub colour-spec : {M : Type 1} → statement M

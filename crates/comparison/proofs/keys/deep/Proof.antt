@@ -67,48 +67,77 @@ part-light-end c =
 
 light-requires : tie.Need-light-requires
 light-requires c κs =
-    let args′ = (c .before .before .before .before .before .before .before .before .before .before .before .before .before .args) in
-    let pre′ = (c .before .before .before .before .before .before .before .before .before .before .before .before .before .pre) in
-    let copy′ = (c .before .before .before .before .before .before .before .copy) in
-    (lent-in _ (args′ .i) _ _ (pre′ .0 .below) (copy′ .kept .1 .0 ∙ pre′ .2), pre′ .0 .same-size ∙ sym (copy′ .kept .1 .0 ∙ pre′ .2), pre′ .0 .empty)
+    let p1 = c .before .before .before .before .before .before .before in
+    let copy′ = p1 .copy in
+    let p2 = p1 .before .before .before .before .before .before in
+    let args′ = p2 .args in
+    let pre′ = p2 .pre in (
+      lent-in _ (args′ .i) _ _ (pre′ .0 .below) (copy′ .kept .1 .0 ∙ pre′ .2),
+      pre′ .0 .same-size ∙ sym (copy′ .kept .1 .0 ∙
+          pre′ .2),
+      pre′ .0 .empty,
+    )
 
 refine-times-requires : tie.Need-refine-times-requires
 refine-times-requires c κs =
-    let pre′ = (c .before .before .before .before .before .before .before .before .before .before .before .before .before .before .before .before .before .before .before .before .pre) in
-    let light′ = (c .before .before .before .before .before .before .light) in
-    let copy′ = (c .before .before .before .before .before .before .before .before .before .before .before .before .before .before .copy) in
-    ready-with _ _ _ _ _ _ (pre′ .0) (light′ .kept .1 .1 .0 ∙ (copy′ .kept .1 .0 ∙ pre′ .2)) (light′ .kept .1 .1 .1 .0) (light′ .ensures .1)
+    let p1 = c .before .before .before .before .before .before in
+    let light′ = p1 .light in
+    let p2 = p1 .before .before .before .before .before .before .before .before in
+    let copy′ = p2 .copy in
+    let p3 = p2 .before .before .before .before .before .before in
+    let pre′ = p3 .pre in
+    ready-with _ _ _ _ _ _ (pre′ .0) (light′ .kept .1 .1 .0 ∙ (copy′ .kept .1 .0 ∙ pre′ .2)) (light′ .kept .1 .1 .1 .0)
+    (light′ .ensures .1)
 
 digest-of-requires : tie.Need-digest-of-requires
 digest-of-requires c κs =
-    let pre′ = (c .before .before .before .before .before .before .before .before .before .before .before .before .before .before .before .before .before .before .before .before .before .before .before .before .before .before .pre) in
-    let refine-times′ = (c .before .before .before .before .before .refine-times) in
-    let light′ = (c .before .before .before .before .before .before .before .before .before .before .before .before .light) in
-    let copy′ = (c .before .before .before .before .before .before .before .before .before .before .before .before .before .before .before .before .before .before .before .before .copy) in
-    (pre′ .0 .size, rw (refine-times′ .kept .1 .1 .1 .0 ∙ (light′ .kept .1 .1 .0 ∙ (copy′ .kept .1 .0 ∙ pre′ .2))) (pre′ .0 .below))
+    let p1 = c .before .before .before .before .before in
+    let refine-times′ = p1 .refine-times in
+    let p2 = p1 .before .before .before .before .before .before .before in
+    let light′ = p2 .light in
+    let p3 = p2 .before .before .before .before .before .before .before .before in
+    let copy′ = p3 .copy in
+    let p4 = p3 .before .before .before .before .before .before in
+    let pre′ = p4 .pre in (
+      pre′ .0 .size,
+      rw (refine-times′ .kept .1 .1 .1 .0 ∙ (light′ .kept .1 .1 .0 ∙ (copy′ .kept .1 .0 ∙ pre′ .2)))
+          (pre′ .0 .below),
+    )
 
 same-length : tie.Need-same-length
 same-length c =
-    let refine-times′ = (c .before .before .before .before .before .before .refine-times) in
-    let light′ = (c .before .before .before .before .before .before .before .before .before .before .before .before .before .light) in
-    let copy′ = (c .before .before .before .before .before .before .before .before .before .before .before .before .before .before .before .before .before .before .before .before .before .copy) in
+    let p1 = c .before .before .before .before .before .before in
+    let refine-times′ = p1 .refine-times in
+    let p2 = p1 .before .before .before .before .before .before .before in
+    let light′ = p2 .light in
+    let p3 = p2 .before .before .before .before .before .before .before .before in
+    let copy′ = p3 .copy in
     refine-times′ .kept .1 .1 .1 .0 ∙ (light′ .kept .1 .1 .0 ∙ copy′ .kept .1 .0)
 
 same-length-2 : tie.Need-same-length-2
 same-length-2 c =
-    let refine-times′ = (c .before .before .before .before .before .before .refine-times) in
-    let light′ = (c .before .before .before .before .before .before .before .before .before .before .before .before .before .light) in
+    let p1 = c .before .before .before .before .before .before in
+    let refine-times′ = p1 .refine-times in
+    let p2 = p1 .before .before .before .before .before .before .before in
+    let light′ = p2 .light in
     refine-times′ .kept .1 .1 .1 .1 .0 ∙ light′ .kept .1 .1 .1 .0
 
 returns : tie.Need-returns
 returns c =
-    let args′ = (c .before .before .before .before .before .before .before .before .before .before .before .before .before .before .before .before .before .before .before .before .before .before .before .before .before .before .before .args) in
-    let pre′ = (c .before .before .before .before .before .before .before .before .before .before .before .before .before .before .before .before .before .before .before .before .before .before .before .before .before .before .before .pre) in
-    let copy′ = (c .before .before .before .before .before .before .before .before .before .before .before .before .before .before .before .before .before .before .before .before .before .copy) in
-    let light′ = (c .before .before .before .before .before .before .before .before .before .before .before .before .before .light) in
-    let refine-times′ = (c .before .before .before .before .before .before .refine-times) in
-    let digest-of′ = (c .digest-of) in
-    (deep-done (args′ .cells .now) _ (args′ .i) _ _ _ _ _ (pre′ .0 .size) (pre′ .1) (copy′ .ensures) (light′ .ensures .0) (refine-times′ .ensures .0) (digest-of′ .ensures), refine-times′ .ensures .1)
+    let digest-of′ = c .digest-of in
+    let p1 = c .before .before .before .before .before .before in
+    let refine-times′ = p1 .refine-times in
+    let p2 = p1 .before .before .before .before .before .before .before in
+    let light′ = p2 .light in
+    let p3 = p2 .before .before .before .before .before .before .before .before in
+    let copy′ = p3 .copy in
+    let p4 = p3 .before .before .before .before .before .before in
+    let args′ = p4 .args in
+    let pre′ = p4 .pre in (
+      deep-done (args′ .cells .now) _ (args′ .i) _ _ _ _ _ (pre′ .0 .size) (pre′ .1) (copy′ .ensures) (light′ .ensures .0)
+          (refine-times′ .ensures .0) (digest-of′ .ensures),
+      refine-times′ .ensures .1,
+    )
 
 pub deep-spec : {M : Type 1} → statement M
 deep-spec =

@@ -16,7 +16,8 @@ use Rattle.comparison.proofs.keys.code.Reads as code-reads
 use Rattle.comparison.proofs.keys.deep.Reads as deep-reads
 
 abbrev Inv-loop : tie.InvT-loop
-Inv-loop cells n colours scratch₀ received₀ keys₀ i₀ scratch received keys i = Keying true cells n colours keys₀ keys i × Ready cells n colours received × (length scratch ≡ length scratch₀) × (length received ≡ length received₀)
+Inv-loop cells n colours scratch₀ received₀ keys₀ i₀ scratch received keys i = Keying true cells n colours keys₀ keys i
+    × Ready cells n colours received × (length scratch ≡ length scratch₀) × (length received ≡ length received₀)
 
 abbrev μ-loop : tie.MeasureT-loop
 μ-loop cells n colours scratch₀ received₀ keys₀ i₀ scratch received keys i = n - i
@@ -35,20 +36,26 @@ deep-requires c κs =
 
 mul-code : tie.Need-mul-code Inv-loop μ-loop
 mul-code c =
-    let pre′ = (c .before .before .before .before .before .before .before .before .before .before .before .before .before .before .pre) in
-    let loop-test′ = (c .before .before .before .before .before .before .before .loop-test) in
+    let p1 = c .before .before .before .before .before .before .before in
+    let loop-test′ = p1 .loop-test in
+    let p2 = p1 .before .before .before .before .before .before .before in
+    let pre′ = p2 .pre in
     omega (arith, pre′ .0 .size, loop-test′ .taken)
 
 mul-code-2 : tie.Need-mul-code-2 Inv-loop μ-loop
 mul-code-2 c =
-    let pre′ = (c .before .before .before .before .before .before .before .before .before .before .before .before .before .before .pre) in
-    let loop-test′ = (c .before .before .before .before .before .before .before .loop-test) in
+    let p1 = c .before .before .before .before .before .before .before in
+    let loop-test′ = p1 .loop-test in
+    let p2 = p1 .before .before .before .before .before .before .before in
+    let pre′ = p2 .pre in
     omega (arith, pre′ .0 .size, loop-test′ .taken)
 
 shared-slice-read-code : tie.Need-shared-slice-read-code Inv-loop μ-loop
 shared-slice-read-code c =
-    let pre′ = (c .before .before .before .before .before .before .before .before .before .before .before .before .before .before .before .pre) in
-    let loop-test′ = (c .before .before .before .before .before .before .before .before .loop-test) in
+    let p1 = c .before .before .before .before .before .before .before .before in
+    let loop-test′ = p1 .loop-test in
+    let p2 = p1 .before .before .before .before .before .before .before in
+    let pre′ = p2 .pre in
     omega (arith, pre′ .0 .size, loop-test′ .taken)
 
 code-requires : tie.Need-code-requires Inv-loop μ-loop
@@ -56,14 +63,20 @@ code-requires c κs = search needs
 
 mul-keys : tie.Need-mul-keys Inv-loop μ-loop
 mul-keys c =
-    let loop′ = (c .before .before .before .before .before .before .before .before .before .before .loop) in
-    let pre′ = (c .before .before .before .before .before .before .before .before .before .before .before .before .before .before .before .before .pre) in
+    let p1 = c .before .before .before .before .before .before .before .before .before in
+    let p2 = p1 .before in
+    let loop′ = p2 .loop in
+    let p3 = p2 .before .before .before .before .before .before in
+    let pre′ = p3 .pre in
     omega (arith, loop′ .inv .0 .size, pre′ .2)
 
 slice-write-keys : tie.Need-slice-write-keys Inv-loop μ-loop
 slice-write-keys c =
-    let loop′ = (c .before .before .before .before .before .before .before .before .before .before .loop) in
-    let pre′ = (c .before .before .before .before .before .before .before .before .before .before .before .before .before .before .before .before .pre) in
+    let p1 = c .before .before .before .before .before .before .before .before .before in
+    let p2 = p1 .before in
+    let loop′ = p2 .loop in
+    let p3 = p2 .before .before .before .before .before .before in
+    let pre′ = p3 .pre in
     omega (arith, loop′ .inv .0 .size, pre′ .2)
 
 add-i : tie.Need-add-i Inv-loop μ-loop
@@ -74,11 +87,15 @@ loop-less c = omega arith
 
 loop-again : tie.Need-loop-again Inv-loop μ-loop
 loop-again c =
-    let pre′ = (c .before .before .before .before .before .before .before .before .before .before .before .before .before .before .before .before .pre) in
-    let loop′ = (c .before .before .before .before .before .before .before .before .before .before .loop) in
-    let loop-test′ = (c .before .before .before .before .before .before .before .before .before .loop-test) in
-    let args′ = (c .before .before .before .before .before .before .before .before .before .before .before .before .before .before .before .before .args) in
-    let deep′ = (c .before .before .before .before .before .before .deep) in
+    let p1 = c .before .before .before .before .before .before in
+    let deep′ = p1 .deep in
+    let p2 = p1 .before .before .before in
+    let loop-test′ = p2 .loop-test in
+    let p3 = p2 .before in
+    let loop′ = p3 .loop in
+    let p4 = p3 .before .before .before .before .before .before in
+    let pre′ = p4 .pre in
+    let args′ = p4 .args in
     let code′ = (c .code) in (
       keys-next _ _ _ _ _ _ _ (pre′ .0 .size) (pre′ .2) (loop′ .inv .0) (loop-test′ .taken) _
           (key-deep (args′ .cells .now) (loop′ .i) _ _ _ (deep′ .ensures .0) (code′ .ensures)),

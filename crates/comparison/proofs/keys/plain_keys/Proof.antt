@@ -121,7 +121,8 @@ loop-again c =
     let sign′ = (c .before .before .sign) in
     let code′ = (c .code) in
     keys-next _ _ _ _ _ _ _ (pre′ .0) (pre′ .2) (loop′ .inv) (loop-test′ .taken) _
-    (key-plain (args′ .cells .now) _ (loop′ .i) _ _ _ _ (pre′ .0) (loop-test′ .taken) (widened′ .ensures) (sign′ .ensures) (code′ .ensures))
+    (key-plain (args′ .cells .now) _ (loop′ .i) _ _ _ _ (pre′ .0) (loop-test′ .taken) (widened′ .ensures) (sign′ .ensures)
+    (code′ .ensures))
 
 same-length : tie.Need-same-length Inv-loop μ-loop
 same-length c =

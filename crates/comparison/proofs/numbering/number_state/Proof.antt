@@ -1,9 +1,10 @@
--- `number_state` meets its contract: from a table in which no variable has a number, the goal variables' cells, then the constraints.
+-- `number_state` meets its contract: from a table in which no variable has a number, the goal variables' cells, then the
+-- constraints.
 -- Assumes nothing.
 use native.Mathlib.Omega.{arith}
 use Prim.Native.Nat.{ℕ}
 use lib.ListN.{length-replicate}
-use mathlib.Core.Path.{sym, _∙_}
+use mathlib.Core.Path.{_∙_}
 use Rattle.comparison.proofs.NumberLaws.{numbering-none, state-numbered}
 use borrow.Author.Needs.{needs}
 use Rattle.comparison.proofs.numbering.number_state.Statement.{statement}

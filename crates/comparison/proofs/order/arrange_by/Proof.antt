@@ -42,8 +42,10 @@ see-requires c κs =
     let loop-test′ = (c .before .before .before .before .before .before .before .before .before .loop-test) in
     let choose-next′ = (c .before .before .before .before .before .before .choose-next) in
     let swap-rows′ = (c .before .before .before .before .swap-rows) in (
-      arranging-terms _ _ _ _ _ _ (loop′ .inv) (loop-test′ .taken) _ (choose-next′ .ensures .1) _ (swap-rows′ .kept .0) (swap-rows′ .ensures),
-      arranging-room _ _ _ _ _ _ (loop′ .inv) (loop-test′ .taken) _ (choose-next′ .ensures .1) _ (swap-rows′ .kept .0) (swap-rows′ .ensures),
+      arranging-terms _ _ _ _ _ _ (loop′ .inv) (loop-test′ .taken) _ (choose-next′ .ensures .1) _ (swap-rows′ .kept .0)
+          (swap-rows′ .ensures),
+      arranging-room _ _ _ _ _ _ (loop′ .inv) (loop-test′ .taken) _ (choose-next′ .ensures .1) _ (swap-rows′ .kept .0)
+          (swap-rows′ .ensures),
     )
 
 add-k : tie.Need-add-k Inv-loop μ-loop
@@ -54,12 +56,18 @@ loop-less c = omega arith
 
 loop-again : tie.Need-loop-again Inv-loop μ-loop
 loop-again c =
-    let loop′ = (c .before .before .before .before .before .before .before .before .before .before .before .before .before .loop) in
-    let loop-test′ = (c .before .before .before .before .before .before .before .before .before .before .before .before .loop-test) in
-    let choose-next′ = (c .before .before .before .before .before .before .before .before .before .choose-next) in
-    let swap-rows′ = (c .before .before .before .before .before .before .before .swap-rows) in
-    let see′ = (c .before .before .see) in
-    arranging-next _ _ _ _ _ _ (loop′ .inv) (loop-test′ .taken) _ (choose-next′ .ensures .1) _ (swap-rows′ .kept .0) (swap-rows′ .ensures) _ (see′ .kept .1 .1 .0)
+    let p1 = c .before .before in
+    let see′ = p1 .see in
+    let p2 = p1 .before .before .before .before .before in
+    let swap-rows′ = p2 .swap-rows in
+    let p3 = p2 .before .before in
+    let choose-next′ = p3 .choose-next in
+    let p4 = p3 .before .before .before in
+    let loop-test′ = p4 .loop-test in
+    let p5 = p4 .before in
+    let loop′ = p5 .loop in
+    arranging-next _ _ _ _ _ _ (loop′ .inv) (loop-test′ .taken) _ (choose-next′ .ensures .1) _ (swap-rows′ .kept .0)
+    (swap-rows′ .ensures) _ (see′ .kept .1 .1 .0)
 
 same-length : tie.Need-same-length Inv-loop μ-loop
 same-length c =

@@ -1,6 +1,5 @@
--- `comparison::order::choose_next` meets its contract: the constraint chosen lies among those that are left. Assumes nothing.
 use native.Mathlib.Omega.{arith}
-use Prim.Native.Nat.{_-_, _≤_}
+use Prim.Native.Nat.{_≤_}
 use Rattle.comparison.proofs.order.choose_next.Statement.{statement}
 use Rattle.comparison.proofs.order.choose_next.Tie as tie
 use Rattle.comparison.proofs.order.choose_next.Reads as reads

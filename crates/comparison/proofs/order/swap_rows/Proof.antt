@@ -1,8 +1,6 @@
--- `comparison::order::swap_rows` meets its contract: the cells before i are exchanged. Assumes nothing.
-use lib.ListN.{length, getD, length-set}
-use Prim.Native.Nat.{_+_, _*_, _-_}
+use lib.ListN.{length-set}
 use Prim.Native.Nat.{_-_}
-use borrow.Author.Needs.{needs}
+use Prim.Native.Nat.{_-_}
 use native.Mathlib.Omega.{arith}
 use Rattle.comparison.proofs.OrderLaws.{Swapping, swapping-start, swapping-next, swapping-done}
 use Rattle.comparison.proofs.order.swap_rows.Statement.{statement}

@@ -8,10 +8,15 @@ use Rattle.comparison.proofs.pairing.pair.Reads as reads
 use Rattle.comparison.proofs.pairing.pair.Lts as lts
 
 returns : tie.Need-returns
-returns c = search link-constant
+returns c =
+    let if1′ = (c .if1) in
+    link-constant _ _ _ _ (if1′ .taken)
 
 returns-2 : tie.Need-returns-2
-returns-2 c = search link-apart
+returns-2 c =
+    let if1′ = (c .before .if1) in
+    let if2′ = (c .if2) in
+    link-apart _ _ _ _ (if1′ .left) (if2′ .taken)
 
 wide-requires : tie.Need-wide-requires
 wide-requires c κs = search needs
@@ -26,7 +31,13 @@ slice-read-if3 : tie.Need-slice-read-if3
 slice-read-if3 c = search needs
 
 returns-3 : tie.Need-returns-3
-returns-3 c = search link-partners
+returns-3 c =
+    let wide′ = (c .before .before .before .wide) in
+    let wide2′ = (c .before .before .wide2) in
+    let if1′ = (c .before .before .before .before .before .if1) in
+    let if2′ = (c .before .before .before .before .if2) in
+    let if3′ = (c .if3) in
+    link-partners _ _ _ _ _ _ (wide′ .ensures .0) (wide2′ .ensures .0) (if1′ .left) (if2′ .left) (if3′ .taken)
 
 mul-if4 : tie.Need-mul-if4
 mul-if4 c = search needs
@@ -35,7 +46,14 @@ slice-read-if4 : tie.Need-slice-read-if4
 slice-read-if4 c = search needs
 
 returns-4 : tie.Need-returns-4
-returns-4 c = search link-left
+returns-4 c =
+    let wide′ = (c .before .before .before .before .before .wide) in
+    let wide2′ = (c .before .before .before .before .wide2) in
+    let if1′ = (c .before .before .before .before .before .before .before .if1) in
+    let if2′ = (c .before .before .before .before .before .before .if2) in
+    let if3′ = (c .before .before .if3) in
+    let if4′ = (c .if4) in
+    link-left _ _ _ _ _ _ (wide′ .ensures .0) (wide2′ .ensures .0) (if1′ .left) (if2′ .left) (if3′ .left) (if4′ .taken)
 
 mul-if5 : tie.Need-mul-if5
 mul-if5 c = search needs
@@ -44,7 +62,16 @@ slice-read-if5 : tie.Need-slice-read-if5
 slice-read-if5 c = search needs
 
 returns-5 : tie.Need-returns-5
-returns-5 c = search link-right
+returns-5 c =
+    let wide′ = (c .before .before .before .before .before .before .before .wide) in
+    let wide2′ = (c .before .before .before .before .before .before .wide2) in
+    let if1′ = (c .before .before .before .before .before .before .before .before .before .if1) in
+    let if2′ = (c .before .before .before .before .before .before .before .before .if2) in
+    let if3′ = (c .before .before .before .before .if3) in
+    let if4′ = (c .before .before .if4) in
+    let if5′ = (c .if5) in
+    link-right _ _ _ _ _ _ (wide′ .ensures .0) (wide2′ .ensures .0) (if1′ .left) (if2′ .left) (if3′ .left) (if4′ .left)
+    (if5′ .taken)
 
 mul-forth : tie.Need-mul-forth
 mul-forth c = search needs
@@ -65,7 +92,17 @@ same-length-2 : tie.Need-same-length-2
 same-length-2 c = search needs
 
 returns-6 : tie.Need-returns-6
-returns-6 c = search link-new
+returns-6 c =
+    let wide′ = (c .before .before .before .before .before .before .before .wide) in
+    let wide2′ = (c .before .before .before .before .before .before .wide2) in
+    let if1′ = (c .before .before .before .before .before .before .before .before .before .if1) in
+    let if2′ = (c .before .before .before .before .before .before .before .before .if2) in
+    let if3′ = (c .before .before .before .before .if3) in
+    let if4′ = (c .before .before .if4) in
+    let if5′ = (c .if5) in
+    let pre′ = (c .before .before .before .before .before .before .before .before .before .before .before .before .pre) in
+    link-new _ _ _ _ _ _ (wide′ .ensures .0) (wide2′ .ensures .0) (if1′ .left) (if2′ .left) (if3′ .left) (if4′ .left) (if5′ .left)
+    (pre′ .0) (pre′ .1)
 
 pub pair-spec : {M : Type 1} → statement M
 pair-spec =

@@ -1,4 +1,3 @@
--- `comparison::pairing::pair_bound` meets its contract: what the goal variables before i became is paired. Assumes nothing.
 use borrow.Author.Tests.{not-true, not-false}
 use lib.ListN.{length}
 use Prim.Native.Nat.{_-_}
@@ -46,11 +45,15 @@ same-length-2 c = search needs
 
 returns : tie.Need-returns Inv-loop μ-loop
 returns c =
-    let pre′ = (c .before .before .before .before .before .before .before .before .before .before .before .before .before .before .before .before .before .pre) in
-    let loop′ = (c .before .before .before .before .before .before .before .before .before .before .before .before .loop) in
-    let loop-test′ = (c .before .before .before .before .before .before .before .before .before .before .before .loop-test) in
-    let pair′ = (c .before .before .before .before .before .before .pair) in
-    let if1′ = (c .if1) in
+    let if1′ = c .if1 in
+    let p1 = c .before .before .before .before .before .before in
+    let pair′ = p1 .pair in
+    let p2 = p1 .before .before .before .before .before in
+    let loop-test′ = p2 .loop-test in
+    let p3 = p2 .before in
+    let loop′ = p3 .loop in
+    let p4 = p3 .before .before .before .before .before in
+    let pre′ = p4 .pre in
     bound-apart _ _ _ _ _ _ _ (pre′ .2) (loop′ .inv) (loop-test′ .taken) _ _ _ _ (pair′ .ensures) (not-true _ (if1′ .taken))
 
 add-i : tie.Need-add-i Inv-loop μ-loop
@@ -61,11 +64,15 @@ loop-less c = omega arith
 
 loop-again : tie.Need-loop-again Inv-loop μ-loop
 loop-again c =
-    let pre′ = (c .before .before .before .before .before .before .before .before .before .before .before .before .before .before .before .before .before .pre) in
-    let loop′ = (c .before .before .before .before .before .before .before .before .before .before .before .before .loop) in
-    let loop-test′ = (c .before .before .before .before .before .before .before .before .before .before .before .loop-test) in
-    let pair′ = (c .before .before .before .before .before .before .pair) in
-    let if1′ = (c .if1) in
+    let if1′ = c .if1 in
+    let p1 = c .before .before .before .before .before .before in
+    let pair′ = p1 .pair in
+    let p2 = p1 .before .before .before .before .before in
+    let loop-test′ = p2 .loop-test in
+    let p3 = p2 .before in
+    let loop′ = p3 .loop in
+    let p4 = p3 .before .before .before .before .before in
+    let pre′ = p4 .pre in
     bound-next _ _ _ _ _ _ _ (pre′ .2) (loop′ .inv) (loop-test′ .taken) _ _ _ _ (pair′ .ensures) (not-false _ (if1′ .left))
     (pair′ .kept .1 .1 .0) (pair′ .kept .1 .1 .1 .0)
 

@@ -1,4 +1,3 @@
--- `comparison::pairing::pair_rows` meets its contract: the columns before i are paired. Assumes nothing.
 use borrow.Author.Tests.{not-true, not-false}
 use Rattle.comparison.proofs.PairLaws.{Columns, columns-start, columns-end, columns-short, columns-left, columns-right}
 use Prim.Native.Nat.{_-_}
@@ -77,13 +76,19 @@ same-length-6 c = search needs
 
 returns-3 : tie.Need-returns-3 Inv-loop μ-loop
 returns-3 c =
-    let pre′ = (c .before .before .before .before .before .before .before .before .before .before .before .before .before .before .before .before .before .before .before .pre) in
-    let loop′ = (c .before .before .before .before .before .before .before .before .before .before .before .before .before .before .loop) in
-    let loop-test′ = (c .before .before .before .before .before .before .before .before .before .before .before .before .before .loop-test) in
-    let if1′ = (c .before .before .before .before .before .before .before .before .before .before .if1) in
-    let if2′ = (c .before .before .before .before .before .before .before .before .before .if2) in
-    let pair′ = (c .before .before .before .before .before .before .pair) in
-    let if3′ = (c .if3) in
+    let if3′ = c .if3 in
+    let p1 = c .before .before .before .before .before .before in
+    let pair′ = p1 .pair in
+    let p2 = p1 .before .before .before in
+    let if2′ = p2 .if2 in
+    let p3 = p2 .before in
+    let if1′ = p3 .if1 in
+    let p4 = p3 .before .before .before in
+    let loop-test′ = p4 .loop-test in
+    let p5 = p4 .before in
+    let loop′ = p5 .loop in
+    let p6 = p5 .before .before .before .before .before in
+    let pre′ = p6 .pre in
     columns-apart _ _ _ _ _ _ _ _ pre′ (loop′ .inv) (loop-test′ .taken) (if1′ .left) (if2′ .left) _ _ _ _ (pair′ .ensures)
     (not-true _ (if3′ .taken))
 
@@ -95,13 +100,19 @@ loop-less c = omega arith
 
 loop-again : tie.Need-loop-again Inv-loop μ-loop
 loop-again c =
-    let pre′ = (c .before .before .before .before .before .before .before .before .before .before .before .before .before .before .before .before .before .before .before .pre) in
-    let loop′ = (c .before .before .before .before .before .before .before .before .before .before .before .before .before .before .loop) in
-    let loop-test′ = (c .before .before .before .before .before .before .before .before .before .before .before .before .before .loop-test) in
-    let if1′ = (c .before .before .before .before .before .before .before .before .before .before .if1) in
-    let if2′ = (c .before .before .before .before .before .before .before .before .before .if2) in
-    let pair′ = (c .before .before .before .before .before .before .pair) in
-    let if3′ = (c .if3) in
+    let if3′ = c .if3 in
+    let p1 = c .before .before .before .before .before .before in
+    let pair′ = p1 .pair in
+    let p2 = p1 .before .before .before in
+    let if2′ = p2 .if2 in
+    let p3 = p2 .before in
+    let if1′ = p3 .if1 in
+    let p4 = p3 .before .before .before in
+    let loop-test′ = p4 .loop-test in
+    let p5 = p4 .before in
+    let loop′ = p5 .loop in
+    let p6 = p5 .before .before .before .before .before in
+    let pre′ = p6 .pre in
     columns-next _ _ _ _ _ _ _ _ pre′ (loop′ .inv) (loop-test′ .taken) (if1′ .left) (if2′ .left) _ _ _ _ (pair′ .ensures)
     (not-false _ (if3′ .left)) (pair′ .kept .1 .1 .0) (pair′ .kept .1 .1 .1 .0)
 

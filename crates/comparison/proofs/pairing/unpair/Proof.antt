@@ -1,4 +1,3 @@
--- `comparison::pairing::unpair` meets its contract: the columns from i on are forgotten. Assumes nothing.
 use Rattle.comparison.proofs.PairLaws.{Clearing, clearing-start, clearing-left, clearing-right, clearing-made}
 use Rattle.comparison.proofs.PairLaws.{clearing-kept, clearing-end}
 use borrow.Author.Needs.{needs}

@@ -1,9 +1,8 @@
--- `comparison::placing::attempt` and `place`, which call one another, meet their contracts. Assumes nothing.
 use borrow.Author.Needs.{needs}
 use native.Mathlib.Omega.{arith}
 use Rattle.comparison.proofs.PlaceLaws.{Seeking, try-used, try-symbol, try-rows, try-rows-in, try-apart, try-others}
 use Rattle.comparison.proofs.PlaceLaws.{try-found, try-dead, placing-none, placing-start, placing-one, placing-end}
-use Rattle.comparison.proofs.PlaceLaws.{placing-found, placing-next}
+use Rattle.comparison.proofs.PlaceLaws.{placing-found, placing-next, behind-length}
 use mathlib.Core.Path.{_∙_, sym, ap}
 use borrow.Author.Tests.{not-true, not-false}
 use lib.ListN.{length-set}
@@ -106,12 +105,17 @@ attempt-part-other-end t c = omega arith
 
 attempt-pair-rows-requires : (t : ℕ) → attempt-lts.Need-pair-rows-requires (attempt-calls t) (attempt-at t) attempt.Post
 attempt-pair-rows-requires t c κs =
-    let pre′ = (c .before .before .before .before .before .before .before .before .before .before .before .before .before .before .pre) in
+    let p1 = c .before .before .before .before .before .before .before .before .before in
+    let p2 = p1 .before .before .before .before .before in
+    let pre′ = p2 .pre in
     try-rows _ _ _ _ _ _ (pre′ .1 .0) (pre′ .1 .1) (pre′ .1 .2)
 
 attempt-unpair-requires : (t : ℕ) → attempt-lts.Need-unpair-requires (attempt-calls t) (attempt-at t) attempt.Post
 attempt-unpair-requires t c κs =
-    let pre′ = (c .before .before .before .before .before .before .before .before .before .before .before .before .before .before .before .before .before .before .before .before .before .before .before .before .pre) in
+    let p1 = c .before .before .before .before .before .before .before .before .before in
+    let p2 = p1 .before .before .before .before .before .before .before .before .before in
+    let p3 = p2 .before .before .before .before .before .before in
+    let pre′ = p3 .pre in
     let pair-rows′ = (c .before .before .before .before .before .before .before .before .before .pair-rows) in (
       try-rows-in _ _ _ _ _ _ (pre′ .1 .0) (pre′ .1 .1) (pre′ .1 .2) _ _ (pair-rows′ .kept .1 .1 .0)
           (pair-rows′ .kept .1 .1 .1 .0),
@@ -126,12 +130,18 @@ attempt-same-length-2 t c = search needs
 
 attempt-returns-3 : (t : ℕ) → attempt-lts.Need-returns-3 (attempt-calls t) (attempt-at t) attempt.Post
 attempt-returns-3 t c =
-    let pre′ = (c .before .before .before .before .before .before .before .before .before .before .before .before .before .before .before .before .before .before .before .before .before .before .before .before .before .before .before .before .before .pre) in
-    let if1′ = (c .before .before .before .before .before .before .before .before .before .before .before .before .before .before .before .before .before .before .before .before .before .before .if1) in
-    let if2′ = (c .before .before .before .before .before .before .before .before .before .before .before .before .before .before .before .before .before .before .before .if2) in
-    let pair-rows′ = (c .before .before .before .before .before .before .before .before .before .before .before .before .before .before .pair-rows) in
-    let unpair′ = (c .before .before .before .before .unpair) in
-    let if3′ = (c .before .before .before .before .before .before .before .if3) in
+    let p1 = c .before .before .before .before in
+    let unpair′ = p1 .unpair in
+    let p2 = p1 .before .before .before in
+    let if3′ = p2 .if3 in
+    let p3 = p2 .before .before .before .before .before .before .before in
+    let pair-rows′ = p3 .pair-rows in
+    let p4 = p3 .before .before .before .before .before in
+    let if2′ = p4 .if2 in
+    let p5 = p4 .before .before .before in
+    let if1′ = p5 .if1 in
+    let p6 = p5 .before .before .before .before .before .before .before in
+    let pre′ = p6 .pre in
     try-apart _ _ _ _ _ _ (pre′ .1 .0) (pre′ .1 .1) (pre′ .1 .2) (if1′ .left) (if2′ .left) _ _ _ _ (pair-rows′ .ensures)
     _ _ (unpair′ .ensures .0) (unpair′ .ensures .1) (not-true _ (if3′ .taken))
 
@@ -149,58 +159,88 @@ attempt-part-place-end t c = omega arith
 
 attempt-place-requires : (t : ℕ) → attempt-lts.Need-place-requires (attempt-calls t) (attempt-at t) attempt.Post
 attempt-place-requires t c κs =
-    let pre′ = (c .before .before .before .before .before .before .before .before .before .before .before .before .before .before .before .before .before .before .before .before .before .before .before .before .before .before .pre) in
-    let if1′ = (c .before .before .before .before .before .before .before .before .before .before .before .before .before .before .before .before .before .before .before .if1) in
-    let if2′ = (c .before .before .before .before .before .before .before .before .before .before .before .before .before .before .before .before .if2) in
-    let pair-rows′ = (c .before .before .before .before .before .before .before .before .before .before .before .pair-rows) in
+    let p1 = c .before .before .before .before .before .before .before .before .before in
+    let p2 = p1 .before .before in
+    let pair-rows′ = p2 .pair-rows in
+    let p3 = p2 .before .before .before .before .before in
+    let if2′ = p3 .if2 in
+    let p4 = p3 .before .before .before in
+    let if1′ = p4 .if1 in
+    let p5 = p4 .before .before .before .before .before .before .before in
+    let pre′ = p5 .pre in
     let if3′ = (c .before .before .before .before .if3) in (
-      omega (arith, pre′ .0),
+      omega (arith, pre′ .0, behind-length (p5 .args .a .now) (pre′ .1 .2)),
       try-others _ _ _ _ _ _ (pre′ .1 .0) (pre′ .1 .1) (pre′ .1 .2) (if1′ .left) (if2′ .left) _ _ _ _
           (pair-rows′ .ensures) (not-false _ (if3′ .left)) (pair-rows′ .kept .1 .1 .0) (pair-rows′ .kept .1 .1 .1 .0),
     )
 
 attempt-same-length-3 : (t : ℕ) → attempt-lts.Need-same-length-3 (attempt-calls t) (attempt-at t) attempt.Post
 attempt-same-length-3 t c =
-    let place′ = (c .before .before .before .before .before .before .before .place) in
-    let args′ = (c .before .before .before .before .before .before .before .before .before .before .before .before .before .before .before .before .before .before .before .before .before .before .before .before .before .before .before .before .before .before .before .before .before .before .args) in
+    let p1 = c .before .before .before .before .before .before .before in
+    let place′ = p1 .place in
+    let p2 = p1 .before .before .before .before .before .before .before .before .before in
+    let p3 = p2 .before .before .before .before .before .before .before .before .before in
+    let p4 = p3 .before .before .before .before .before .before .before .before .before in
+    let args′ = p4 .args in
     place′ .kept .1 .1 .0 ∙ length-set (args′ .used .now) (args′ .j) true
 
 attempt-same-length-4 : (t : ℕ) → attempt-lts.Need-same-length-4 (attempt-calls t) (attempt-at t) attempt.Post
 attempt-same-length-4 t c =
-    let place′ = (c .before .before .before .before .before .before .before .place) in
-    let pair-rows′ = (c .before .before .before .before .before .before .before .before .before .before .before .before .before .before .before .before .before .before .before .pair-rows) in
+    let p1 = c .before .before .before .before .before .before .before in
+    let place′ = p1 .place in
+    let p2 = p1 .before .before .before .before .before .before .before .before .before in
+    let p3 = p2 .before .before .before in
+    let pair-rows′ = p3 .pair-rows in
     place′ .kept .1 .1 .1 .0 ∙ pair-rows′ .kept .1 .1 .0
 
 attempt-same-length-5 : (t : ℕ) → attempt-lts.Need-same-length-5 (attempt-calls t) (attempt-at t) attempt.Post
 attempt-same-length-5 t c =
-    let place′ = (c .before .before .before .before .before .before .before .place) in
-    let pair-rows′ = (c .before .before .before .before .before .before .before .before .before .before .before .before .before .before .before .before .before .before .before .pair-rows) in
+    let p1 = c .before .before .before .before .before .before .before in
+    let place′ = p1 .place in
+    let p2 = p1 .before .before .before .before .before .before .before .before .before in
+    let p3 = p2 .before .before .before in
+    let pair-rows′ = p3 .pair-rows in
     place′ .kept .1 .1 .1 .1 .0 ∙ pair-rows′ .kept .1 .1 .1 .0
 
 attempt-returns-4 : (t : ℕ) → attempt-lts.Need-returns-4 (attempt-calls t) (attempt-at t) attempt.Post
 attempt-returns-4 t c =
-    let pre′ = (c .before .before .before .before .before .before .before .before .before .before .before .before .before .before .before .before .before .before .before .before .before .before .before .before .before .before .before .before .before .before .before .before .before .before .pre) in
-    let if1′ = (c .before .before .before .before .before .before .before .before .before .before .before .before .before .before .before .before .before .before .before .before .before .before .before .before .before .before .before .if1) in
-    let if2′ = (c .before .before .before .before .before .before .before .before .before .before .before .before .before .before .before .before .before .before .before .before .before .before .before .before .if2) in
-    let pair-rows′ = (c .before .before .before .before .before .before .before .before .before .before .before .before .before .before .before .before .before .before .before .pair-rows) in
-    let if3′ = (c .before .before .before .before .before .before .before .before .before .before .before .before .if3) in
-    let place′ = (c .before .before .before .before .before .before .before .place) in
-    let if4′ = (c .if4) in
+    let if4′ = c .if4 in
+    let p1 = c .before .before .before .before .before .before .before in
+    let place′ = p1 .place in
+    let p2 = p1 .before .before .before .before .before in
+    let if3′ = p2 .if3 in
+    let p3 = p2 .before .before .before .before .before .before .before in
+    let pair-rows′ = p3 .pair-rows in
+    let p4 = p3 .before .before .before .before .before in
+    let if2′ = p4 .if2 in
+    let p5 = p4 .before .before .before in
+    let if1′ = p5 .if1 in
+    let p6 = p5 .before .before .before .before .before .before .before in
+    let pre′ = p6 .pre in
     try-found _ _ _ _ _ _ (pre′ .1 .0) (pre′ .1 .1) (pre′ .1 .2) (if1′ .left) (if2′ .left) _ _ _ _ (pair-rows′ .ensures)
     (not-false _ (if3′ .left)) (pair-rows′ .kept .1 .1 .0) (pair-rows′ .kept .1 .1 .1 .0) _ _ _ _ (place′ .ensures) (if4′ .taken)
 
 attempt-slice-write-used-2 : (t : ℕ) → attempt-lts.Need-slice-write-used-2 (attempt-calls t) (attempt-at t) attempt.Post
 attempt-slice-write-used-2 t c =
-    let place′ = (c .before .before .before .before .before .before .before .place) in
-    let args′ = (c .before .before .before .before .before .before .before .before .before .before .before .before .before .before .before .before .before .before .before .before .before .before .before .before .before .before .before .before .before .before .before .before .before .before .args) in
-    let pre′ = (c .before .before .before .before .before .before .before .before .before .before .before .before .before .before .before .before .before .before .before .before .before .before .before .before .before .before .before .before .before .before .before .before .before .before .pre) in
+    let p1 = c .before .before .before .before .before .before .before in
+    let place′ = p1 .place in
+    let p2 = p1 .before .before .before .before .before .before .before .before .before in
+    let p3 = p2 .before .before .before .before .before .before .before .before .before in
+    let p4 = p3 .before .before .before .before .before .before .before .before .before in
+    let args′ = p4 .args in
+    let pre′ = p4 .pre in
     omega (arith, place′ .kept .1 .1 .0, length-set (args′ .used .now) (args′ .j) true, pre′ .1 .1)
 
 attempt-unpair-requires-2 : (t : ℕ) → attempt-lts.Need-unpair-requires-2 (attempt-calls t) (attempt-at t) attempt.Post
 attempt-unpair-requires-2 t c κs =
-    let pre′ = (c .before .before .before .before .before .before .before .before .before .before .before .before .before .before .before .before .before .before .before .before .before .before .before .before .before .before .before .before .before .before .before .before .before .before .before .before .pre) in
-    let place′ = (c .before .before .before .before .before .before .before .before .before .place) in
-    let pair-rows′ = (c .before .before .before .before .before .before .before .before .before .before .before .before .before .before .before .before .before .before .before .before .before .pair-rows) in (
+    let p1 = c .before .before .before .before .before .before .before .before .before in
+    let place′ = p1 .place in
+    let p2 = p1 .before .before .before .before .before .before .before .before .before in
+    let p3 = p2 .before .before .before .before .before .before .before .before .before in
+    let p4 = p3 .before .before .before .before .before .before .before .before .before in
+    let pre′ = p4 .pre in
+    let pair-rows′ = (c .before .before .before .before .before .before .before .before .before .before .before .before
+    .before .before .before .before .before .before .before .before .before .pair-rows) in (
       try-rows-in _ _ _ _ _ _ (pre′ .1 .0) (pre′ .1 .1) (pre′ .1 .2) _ _
           (place′ .kept .1 .1 .1 .0 ∙ pair-rows′ .kept .1 .1 .0)
           (place′ .kept .1 .1 .1 .1 .0 ∙ pair-rows′ .kept .1 .1 .1 .0),
@@ -209,34 +249,57 @@ attempt-unpair-requires-2 t c κs =
 
 attempt-same-length-6 : (t : ℕ) → attempt-lts.Need-same-length-6 (attempt-calls t) (attempt-at t) attempt.Post
 attempt-same-length-6 t c =
-    let place′ = (c .before .before .before .before .before .before .before .before .before .before .before .before .before .before .place) in
-    let args′ = (c .before .before .before .before .before .before .before .before .before .before .before .before .before .before .before .before .before .before .before .before .before .before .before .before .before .before .before .before .before .before .before .before .before .before .before .before .before .before .before .before .before .args) in
+    let p1 = c .before .before .before .before .before .before .before .before .before in
+    let p2 = p1 .before .before .before .before .before in
+    let place′ = p2 .place in
+    let p3 = p2 .before .before .before .before .before .before .before .before .before in
+    let p4 = p3 .before .before .before .before .before .before .before .before .before in
+    let p5 = p4 .before .before .before .before .before .before .before .before .before in
+    let args′ = p5 .args in
     simp length-set (place′ .kept .1 .1 .0 ∙ length-set (args′ .used .now) (args′ .j) true)
 
 attempt-same-length-7 : (t : ℕ) → attempt-lts.Need-same-length-7 (attempt-calls t) (attempt-at t) attempt.Post
 attempt-same-length-7 t c =
-    let unpair2′ = (c .before .before .before .before .unpair2) in
-    let place′ = (c .before .before .before .before .before .before .before .before .before .before .before .before .before .before .place) in
-    let pair-rows′ = (c .before .before .before .before .before .before .before .before .before .before .before .before .before .before .before .before .before .before .before .before .before .before .before .before .before .before .pair-rows) in
+    let p1 = c .before .before .before .before in
+    let unpair2′ = p1 .unpair2 in
+    let p2 = p1 .before .before .before .before .before .before .before .before .before in
+    let p3 = p2 .before in
+    let place′ = p3 .place in
+    let p4 = p3 .before .before .before .before .before .before .before .before .before in
+    let p5 = p4 .before .before .before in
+    let pair-rows′ = p5 .pair-rows in
     unpair2′ .kept .1 .1 .1 .0 ∙ (place′ .kept .1 .1 .1 .0 ∙ pair-rows′ .kept .1 .1 .0)
 
 attempt-same-length-8 : (t : ℕ) → attempt-lts.Need-same-length-8 (attempt-calls t) (attempt-at t) attempt.Post
 attempt-same-length-8 t c =
-    let unpair2′ = (c .before .before .before .before .unpair2) in
-    let place′ = (c .before .before .before .before .before .before .before .before .before .before .before .before .before .before .place) in
-    let pair-rows′ = (c .before .before .before .before .before .before .before .before .before .before .before .before .before .before .before .before .before .before .before .before .before .before .before .before .before .before .pair-rows) in
+    let p1 = c .before .before .before .before in
+    let unpair2′ = p1 .unpair2 in
+    let p2 = p1 .before .before .before .before .before .before .before .before .before in
+    let p3 = p2 .before in
+    let place′ = p3 .place in
+    let p4 = p3 .before .before .before .before .before .before .before .before .before in
+    let p5 = p4 .before .before .before in
+    let pair-rows′ = p5 .pair-rows in
     unpair2′ .kept .1 .1 .1 .1 .0 ∙ (place′ .kept .1 .1 .1 .1 .0 ∙ pair-rows′ .kept .1 .1 .1 .0)
 
 attempt-returns-5 : (t : ℕ) → attempt-lts.Need-returns-5 (attempt-calls t) (attempt-at t) attempt.Post
 attempt-returns-5 t c =
-    let pre′ = (c .before .before .before .before .before .before .before .before .before .before .before .before .before .before .before .before .before .before .before .before .before .before .before .before .before .before .before .before .before .before .before .before .before .before .before .before .before .before .before .before .before .pre) in
-    let if1′ = (c .before .before .before .before .before .before .before .before .before .before .before .before .before .before .before .before .before .before .before .before .before .before .before .before .before .before .before .before .before .before .before .before .before .before .if1) in
-    let if2′ = (c .before .before .before .before .before .before .before .before .before .before .before .before .before .before .before .before .before .before .before .before .before .before .before .before .before .before .before .before .before .before .before .if2) in
-    let pair-rows′ = (c .before .before .before .before .before .before .before .before .before .before .before .before .before .before .before .before .before .before .before .before .before .before .before .before .before .before .pair-rows) in
-    let if3′ = (c .before .before .before .before .before .before .before .before .before .before .before .before .before .before .before .before .before .before .before .if3) in
-    let place′ = (c .before .before .before .before .before .before .before .before .before .before .before .before .before .before .place) in
-    let if4′ = (c .before .before .before .before .before .before .before .if4) in
-    let unpair2′ = (c .before .before .before .before .unpair2) in
+    let p1 = c .before .before .before .before in
+    let unpair2′ = p1 .unpair2 in
+    let p2 = p1 .before .before .before in
+    let if4′ = p2 .if4 in
+    let p3 = p2 .before .before .before .before .before .before .before in
+    let place′ = p3 .place in
+    let p4 = p3 .before .before .before .before .before in
+    let if3′ = p4 .if3 in
+    let p5 = p4 .before .before .before .before .before .before .before in
+    let pair-rows′ = p5 .pair-rows in
+    let p6 = p5 .before .before .before .before .before in
+    let if2′ = p6 .if2 in
+    let p7 = p6 .before .before .before in
+    let if1′ = p7 .if1 in
+    let p8 = p7 .before .before .before .before .before .before .before in
+    let pre′ = p8 .pre in
     try-dead _ _ _ _ _ _ (pre′ .1 .0) (pre′ .1 .1) (pre′ .1 .2) (if1′ .left) (if2′ .left) _ _ _ _ (pair-rows′ .ensures)
     (not-false _ (if3′ .left)) (pair-rows′ .kept .1 .1 .0) (pair-rows′ .kept .1 .1 .1 .0) _ _ _ _ (place′ .ensures) (if4′ .left)
     _ _ (unpair2′ .ensures .0) (unpair2′ .ensures .1)
@@ -253,7 +316,8 @@ place-loop-holds t c =
     let if1′ = (c .if1) in
     placing-start _ _ _ _ _ (pre′ .1) (if1′ .left)
 
-place-attempt-requires : (t : ℕ) → place-lts.Need-attempt-requires (place-calls t) (place-at t) place.Post place-Inv-loop place-μ-loop
+place-attempt-requires : (t : ℕ) → place-lts.Need-attempt-requires (place-calls t)
+    (place-at t) place.Post place-Inv-loop place-μ-loop
 place-attempt-requires t c κs =
     let pre′ = (c .before .before .before .before .before .before .before .before .before .before .before .pre) in
     let if1′ = (c .before .before .before .before .before .if1) in
@@ -272,13 +336,19 @@ place-same-length-3 t c = search needs
 
 place-returns-2 : (t : ℕ) → place-lts.Need-returns-2 (place-calls t) (place-at t) place.Post place-Inv-loop place-μ-loop
 place-returns-2 t c =
-    let pre′ = (c .before .before .before .before .before .before .before .before .before .before .before .before .before .before .before .before .before .before .before .pre) in
-    let if1′ = (c .before .before .before .before .before .before .before .before .before .before .before .before .before .if1) in
-    let loop′ = (c .before .before .before .before .before .before .before .before .before .before .before .before .loop) in
-    let loop-test′ = (c .before .before .before .before .before .before .before .before .before .before .before .loop-test) in
-    let attempt′ = (c .before .before .before .before .before .before .before .attempt) in
-    let if2′ = (c .if2) in
-    placing-found _ _ _ _ _ (pre′ .1) (if1′ .left) _ _ _ _ (loop′ .inv) (loop-test′ .taken) _ _ _ _ (attempt′ .ensures) (if2′ .taken)
+    let if2′ = c .if2 in
+    let p1 = c .before .before .before .before .before .before .before in
+    let attempt′ = p1 .attempt in
+    let p2 = p1 .before .before .before .before in
+    let loop-test′ = p2 .loop-test in
+    let p3 = p2 .before in
+    let loop′ = p3 .loop in
+    let p4 = p3 .before in
+    let if1′ = p4 .if1 in
+    let p5 = p4 .before .before .before .before .before .before in
+    let pre′ = p5 .pre in
+    placing-found _ _ _ _ _ (pre′ .1) (if1′ .left) _ _ _ _ (loop′ .inv) (loop-test′ .taken) _ _ _ _ (attempt′ .ensures)
+    (if2′ .taken)
 
 place-add-j : (t : ℕ) → place-lts.Need-add-j (place-calls t) (place-at t) place.Post place-Inv-loop place-μ-loop
 place-add-j t c = omega arith
@@ -291,13 +361,19 @@ place-loop-less t c =
 
 place-loop-again : (t : ℕ) → place-lts.Need-loop-again (place-calls t) (place-at t) place.Post place-Inv-loop place-μ-loop
 place-loop-again t c =
-    let pre′ = (c .before .before .before .before .before .before .before .before .before .before .before .before .before .before .before .before .before .before .before .pre) in
-    let if1′ = (c .before .before .before .before .before .before .before .before .before .before .before .before .before .if1) in
-    let loop′ = (c .before .before .before .before .before .before .before .before .before .before .before .before .loop) in
-    let loop-test′ = (c .before .before .before .before .before .before .before .before .before .before .before .loop-test) in
-    let attempt′ = (c .before .before .before .before .before .before .before .attempt) in
-    let if2′ = (c .if2) in
-    placing-next _ _ _ _ _ (pre′ .1) (if1′ .left) _ _ _ _ (loop′ .inv) (loop-test′ .taken) _ _ _ _ (attempt′ .ensures) (if2′ .left)
+    let if2′ = c .if2 in
+    let p1 = c .before .before .before .before .before .before .before in
+    let attempt′ = p1 .attempt in
+    let p2 = p1 .before .before .before .before in
+    let loop-test′ = p2 .loop-test in
+    let p3 = p2 .before in
+    let loop′ = p3 .loop in
+    let p4 = p3 .before in
+    let if1′ = p4 .if1 in
+    let p5 = p4 .before .before .before .before .before .before in
+    let pre′ = p5 .pre in
+    placing-next _ _ _ _ _ (pre′ .1) (if1′ .left) _ _ _ _ (loop′ .inv) (loop-test′ .taken) _ _ _ _ (attempt′ .ensures)
+    (if2′ .left)
 
 place-same-length-4 : (t : ℕ) → place-lts.Need-same-length-4 (place-calls t) (place-at t) place.Post place-Inv-loop place-μ-loop
 place-same-length-4 t c = search needs

@@ -1,9 +1,7 @@
 -- `text::fields::next_field` meets its contract: what is known of the bytes passed, one byte on. Assumes nothing.
 use borrow.Author.Needs.{needs}
-use mathlib.Core.Path.{_≡_}
-use Prim.Native.Nat.{ℕ, _≤_, _<_, _-_}
+use Prim.Native.Nat.{_≤_, _-_}
 use native.Mathlib.Omega.{arith}
-use lib.ListN.{length}
 use Rattle.text.specs.Splits.{Passed, part}
 use Rattle.text.proofs.Passing.{passed-start, passed-step}
 use Rattle.text.proofs.fields.next_field.Statement.{statement}

@@ -1,59 +1,93 @@
--- `text::fields::number_of` meets its contract: each test rules out the digits, or leaves the rest to the next. Assumes nothing.
+-- `text::fields::number_of` meets its contract: a key of one digit, of two, or neither. Assumes nothing.
 use borrow.Author.Needs.{needs}
-use Rattle.text.proofs.Keys.{tested-low, tested-one, tested-two, tested-front-low, tested-front-high}
-use Rattle.text.proofs.Keys.{tested-last-low, tested-last-high}
+use mathlib.Core.Path.{_≡_, sym, _∙_}
+use mathlib.Core.Bool.{true, false}
+use Prim.Native.Nat.{_/_, _%_}
+use native.Mathlib.Omega.{arith}
+use Rattle.text.specs.Bytes.{between}
+use Rattle.text.proofs.Bools.{and-false}
+use Rattle.text.proofs.ClassLaws.{between-true}
+use Rattle.text.proofs.Numbers.{number-one-digit, number-two-digits, number-no-digits}
 use Rattle.text.proofs.fields.number_of.Statement.{statement}
 use Rattle.text.proofs.fields.number_of.Tie as tie
 
-returns : tie.Need-returns
-returns c = search tested-low
+is-digit-requires : tie.Need-is-digit-requires
+is-digit-requires c κs = search needs
 
-cast-result : tie.Need-cast-result
-cast-result c = search needs
-
-returns-2 : tie.Need-returns-2
-returns-2 c = search tested-one
-
-returns-3 : tie.Need-returns-3
-returns-3 c = search tested-front-low
-
-returns-4 : tie.Need-returns-4
-returns-4 c = search tested-front-high
-
-returns-5 : tie.Need-returns-5
-returns-5 c = search tested-last-low
-
-returns-6 : tie.Need-returns-6
-returns-6 c = search tested-last-high
+-- one digit
+one : (c : tie.Then1) → between 48 57 (c .before .before .args .key) ≡ true
+one c = sym (c .before .is-digit .ensures) ∙ c .if1 .taken
 
 sub-result : tie.Need-sub-result
-sub-result c = search needs
+sub-result c = omega (arith, between-true 48 57 _ (one c))
+
+cast-result : tie.Need-cast-result
+cast-result c = omega (arith, between-true 48 57 _ (one c))
+
+returns : tie.Need-returns
+returns c = sym (number-one-digit _ (one c))
+
+is-digit-requires-2 : tie.Need-is-digit-requires-2
+is-digit-requires-2 c κs = search needs
+
+is-digit-requires-3 : tie.Need-is-digit-requires-3
+is-digit-requires-3 c κs = search needs
+
+-- not one digit; the first of two, the second of two
+more : (c : tie.Else1) → between 48 57 (c .before .before .args .key) ≡ false
+more c = sym (c .before .is-digit .ensures) ∙ c .if1 .left
+
+tens : (c : tie.Then2) → between 49 57 (c .before .before .before .before .args .key / 256) ≡ true
+tens c = sym (c .before .is-digit2 .ensures) ∙ c .if2 .taken
+
+ones : (c : tie.Then3) → between 48 57 (c .before .before .before .before .before .before .args .key % 256) ≡ true
+ones c = sym (c .before .is-digit3 .ensures) ∙ c .if3 .taken
+
+sub-result-2 : tie.Need-sub-result-2
+sub-result-2 c = omega (arith, between-true 49 57 _ (tens (c .before .before)))
 
 mul-result : tie.Need-mul-result
 mul-result c = search needs
+
+sub-result-3 : tie.Need-sub-result-3
+sub-result-3 c = omega (arith, between-true 48 57 _ (ones c))
 
 add-result : tie.Need-add-result
 add-result c = search needs
 
 cast-result-2 : tie.Need-cast-result-2
-cast-result-2 c = search needs
+cast-result-2 c = omega (arith, between-true 49 57 _ (tens (c .before .before)), between-true 48 57 _ (ones c))
 
-returns-7 : tie.Need-returns-7
-returns-7 c = search tested-two
+returns-2 : tie.Need-returns-2
+returns-2 c = sym (number-two-digits _ (more (c .before .before .before .before)) (tens (c .before .before)) (ones c))
+
+returns-3 : tie.Need-returns-3
+returns-3 c =
+    let none : between 48 57 (c .before .before .before .before .before .before .args .key % 256) ≡ false =
+    sym (c .before .is-digit3 .ensures) ∙ c .if3 .left in
+    sym (number-no-digits _ (more (c .before .before .before .before)) (rw none (and-false (between 49 57 _))))
+
+returns-4 : tie.Need-returns-4
+returns-4 c =
+    let none : between 49 57 (c .before .before .before .before .args .key / 256) ≡ false =
+    sym (c .before .is-digit2 .ensures) ∙ c .if2 .left in
+    sym (number-no-digits _ (more (c .before .before)) (rw none))
 
 pub number-of-spec : {M : Type 1} → statement M
 number-of-spec =
     tie.close
     (tie.spec
-    returns
-    cast-result
-    returns-2
-    returns-3
-    returns-4
-    returns-5
-    returns-6
+    is-digit-requires
     sub-result
+    cast-result
+    returns
+    is-digit-requires-2
+    is-digit-requires-3
+    sub-result-2
     mul-result
+    sub-result-3
     add-result
     cast-result-2
-    returns-7)
+    returns-2
+    returns-3
+    returns-4)

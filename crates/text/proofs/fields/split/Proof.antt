@@ -1,8 +1,7 @@
 -- `text::fields::split` meets its contract: the fields so far, one field on. Assumes nothing.
 use borrow.Author.Needs.{needs}
-use Prim.Native.Nat.{ℕ, suc, _≤_, _<_, _-_}
 use native.Mathlib.Omega.{arith}
-use lib.ListN.{length}
+use Prim.Native.Nat.{suc, _-_}
 use Rattle.text.proofs.Splitting.{Walk, walk-start, walk-comma, walk-feed, walk-fault}
 use Rattle.text.proofs.fields.split.Statement.{statement}
 use Rattle.text.proofs.fields.split.Tie as tie
@@ -24,7 +23,12 @@ next-field-requires : tie.Need-next-field-requires Inv-loop μ-loop
 next-field-requires c κs = search needs
 
 returns : tie.Need-returns Inv-loop μ-loop
-returns c = search walk-fault
+returns c =
+    let field = c .before .before in
+    let loop′ = field .before in
+    let start = loop′ .before .before .before .before in
+    walk-fault _ _ _ _ _ _ _ _ (loop′ .loop .inv) (field .next-field .ensures) (start .pre .2)
+    (loop′ .before .reach .ensures) (omega arith)
 
 note-requires : tie.Need-note-requires Inv-loop μ-loop
 note-requires c κs = search needs
@@ -42,7 +46,13 @@ loop-less : tie.Need-loop-less Inv-loop μ-loop
 loop-less c = search needs
 
 loop-again : tie.Need-loop-again Inv-loop μ-loop
-loop-again c = search walk-comma
+loop-again c =
+    let note′ = c .before .before .note in
+    let field = c .before .before .before .before .before .before .before in
+    let loop′ = field .before in
+    let start = loop′ .before .before .before .before in
+    walk-comma _ _ _ _ _ _ _ _ (loop′ .loop .inv) (field .next-field .ensures) (start .pre .2)
+    (loop′ .before .reach .ensures) _ _ (note′ .ensures .0) (note′ .ensures .1) (omega arith) (c .if2 .left)
 
 pub split-spec : {M : Type 1} → statement M
 split-spec =

@@ -1,7 +1,8 @@
--- `text::fields::word_end` meets its contract: no byte passed ends the word, so it ends at the same place from each. Assumes nothing.
+-- `text::fields::word_end` meets its contract: no byte passed ends the word, so it ends at the same place from each.
+-- Assumes nothing.
 use borrow.Author.Needs.{needs}
 use mathlib.Core.Path.{_≡_, refl}
-use Prim.Native.Nat.{_≤_, _<_, _+_, _-_}
+use Prim.Native.Nat.{_≤_, _+_, _-_}
 use native.Mathlib.Omega.{arith}
 use lib.ListN.{length, drop}
 use Rattle.text.specs.Keys.{wordLength}

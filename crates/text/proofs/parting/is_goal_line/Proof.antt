@@ -4,12 +4,12 @@ use mathlib.Core.Path.{_≡_, ap, sym, _∙_}
 use mathlib.Core.List.{List}
 use Prim.Native.Nat.{ℕ, _+_, _-_}
 use native.Mathlib.Omega.{arith}
-use lib.ListN.{length, take, drop, length-take, length-drop}
+use lib.ListN.{take, drop, length-take, length-drop}
 use Rattle.text.specs.Bytes.{ascii}
 use Rattle.text.specs.Lists.{sameBytes}
 use Rattle.text.specs.Lines.{goalLine}
 use Rattle.text.proofs.Laws.{same-lengths}
-use Rattle.text.proofs.Forms.{goal-length}
+use Rattle.text.proofs.PartingLaws.{goal-length}
 use borrow.Author.Needs.{needs}
 use Rattle.text.proofs.parting.is_goal_line.Statement.{statement}
 use Rattle.text.proofs.parting.is_goal_line.Tie as tie

@@ -1,10 +1,10 @@
 -- `text::parting::same_bytes` meets its contract: the bytes passed are equal, so the rest decides. Assumes nothing.
 use borrow.Author.Needs.{needs}
 use mathlib.Core.Path.{_≡_, refl, sym, _∙_}
-use Prim.Native.Nat.{_≤_, _<_, _+_, _-_}
+use Prim.Native.Nat.{_≤_, _-_}
 use native.Mathlib.Numerals.{add-one}
 use native.Mathlib.Omega.{arith}
-use lib.ListN.{length, drop, getD}
+use lib.ListN.{length, drop}
 use Rattle.text.specs.Lists.{sameBytes}
 use Rattle.text.proofs.Laws.{same-lengths, same-fails, same-step, same-end}
 use Rattle.text.proofs.parting.same_bytes.Statement.{statement}

@@ -1,17 +1,18 @@
--- `text::parting::split_goal` meets its contract: what was passed is the program's, and the rest is parted from here on. Assumes nothing.
+-- `text::parting::split_goal` meets its contract: what was passed is the program's, and the rest is parted from here on.
+-- Assumes nothing.
 use borrow.Author.Needs.{needs}
 use mathlib.Core.Path.{_≡_, ap, sym, refl, _∙_}
 use mathlib.Core.Logic.{⊎-elim}
 use mathlib.Core.Bool.{Bool, true, false, _&&_}
-use mathlib.Core.List.{List, [], _∷_}
-use Prim.Native.Nat.{ℕ, suc, _≤_, _<_, _+_, _-_}
+use mathlib.Core.List.{[]}
+use Prim.Native.Nat.{_≤_, _-_}
 use native.Mathlib.Numerals.{add-one}
 use native.Mathlib.Omega.{arith}
-use lib.ListN.{length, take, drop, getD, length-take, length-drop}
+use lib.ListN.{length, take, drop}
 use Rattle.text.specs.Lists.{sameBytes}
-use Rattle.text.specs.Lines.{goalLine, Parts, partedFrom, parted}
+use Rattle.text.specs.Lines.{goalLine, partedFrom, parted}
 use Rattle.text.specs.Places.{behind}
-use Rattle.text.proofs.Forms.{parted-step, parted-found, parted-end, goal-room}
+use Rattle.text.proofs.PartingLaws.{parted-step, parted-found, parted-end, goal-room}
 use Rattle.text.proofs.parting.split_goal.Statement.{statement}
 use Rattle.text.proofs.parting.split_goal.Tie as tie
 

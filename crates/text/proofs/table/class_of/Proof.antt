@@ -1,10 +1,9 @@
 -- `text::table::class_of` meets its contract: an entry of the table is the class of its number. Assumes nothing.
-use borrow.Author.Needs.{needs}
-use mathlib.Core.Path.{_≡_, ap, _∙_}
+use mathlib.Core.Path.{ap, _∙_}
 use mathlib.Core.List.{List}
-use Prim.Native.Nat.{ℕ, _<_}
+use Prim.Native.Nat.{ℕ}
 use native.Mathlib.Omega.{arith}
-use lib.ListN.{length, getD}
+use lib.ListN.{getD}
 use Rattle.text.specs.Bytes.{classOf, classNumber}
 use Rattle.text.specs.Places.{classTable}
 use Rattle.text.proofs.Laws.{tabled-length, tabled-at}

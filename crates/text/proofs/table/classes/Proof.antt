@@ -1,6 +1,5 @@
--- `text::table::classes` meets its contract: the constant table is the table of the definition, which antt computes, entry by entry.
--- Assumes nothing.
-use borrow.Author.Needs.{needs}
+-- `text::table::classes` meets its contract: the constant table is the table of the definition, which antt computes, entry by
+-- entry. Assumes nothing.
 use mathlib.Core.Path.{refl}
 use Rattle.text.specs.Bytes.{between, classOf, classNumber}
 use Rattle.text.specs.Places.{classTable}

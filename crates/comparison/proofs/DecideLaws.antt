@@ -1,0 +1,281 @@
+-- The comparison step by step: what each step says of the answer.
+--   cells-…               two lists of cells
+--   order-same            another order of the constraints
+--   renumbered-same       variables numbered anew
+--   decide-…, compare-…   one step after the other
+-- Assumes nothing.
+use Prim.Native.Nat.{ℕ, zero, suc, _+_, _*_, _≤_, _<_, max}
+use native.Mathlib.Omega.{arith}
+use native.Mathlib.Numerals.{add-one}
+use mathlib.Core.Bool.{Bool, true, false}
+use mathlib.Core.List.{List, [], _∷_}
+use mathlib.Core.Logic.{_⊎_, inl, inr, ⊎-elim}
+use mathlib.Core.Path.{_≡_, refl, sym, ap, _∙_}
+use lib.ListN.{length, getD}
+use lib.Seq.{ext-getD}
+use borrow.Author.Tests.{ltb-true}
+use Rattle.text.specs.Lists.{every}
+use Rattle.semantics.specs.Terms.{Constraint, State}
+use Rattle.semantics.specs.Variants.{OneToOne, empty}
+use Rattle.semantics.specs.Variants.{each, ConstraintVariant, Variant, sameState}
+use Rattle.semantics.proofs.Options.{true-false}
+use Rattle.semantics.proofs.Multisets.{multiset-left, multiset-back, multiset-of-pointwise, pointwise-map}
+use Rattle.semantics.proofs.VariantLaws.{variant-refl, variant-sym, variant-trans}
+use Rattle.semantics.proofs.Comparison.{sameState-complete}
+use Rattle.tables.specs.Cells.{cellTerm, cellConstraints}
+use Rattle.tables.specs.Cells.{isLow}
+use Rattle.tables.proofs.CellLaws.{le-or-lt, every-first, every-rest}
+use Rattle.comparison.specs.Rows.{rowOf}
+use Rattle.comparison.specs.Renamings.{Below, TermsBelow}
+use Rattle.comparison.specs.Comparing.{endOf, Side, Alike, Comparable}
+use Rattle.comparison.specs.Classes.{Colourable, Classified}
+use Rattle.comparison.specs.Settlements.{Found}
+use Rattle.comparison.specs.Numbering.{Renames, Numbering, Renumbered}
+use Rattle.comparison.specs.Order.{Reordered}
+use Rattle.comparison.proofs.RowLaws.{pointwise-at, rows-pointwise, row-at, constraints-count}
+use Rattle.comparison.proofs.AgreeLaws.{prefix-agree}
+use Rattle.comparison.proofs.ClassLaws.{same-iff}
+
+-- the cells before i are the same
+pub record Matching (a b : List ℕ) (i : ℕ) : Type 0 where
+  pub within : i ≤ length a
+  pub same : (k : ℕ) → k < i → getD a k 0 ≡ getD b k 0
+
+pub cells-start : (a b : List ℕ) → Matching a b 0
+cells-start a b = record { within = omega arith; same = λ k h. absurd (omega arith) }
+
+pub cells-apart : (a b : List ℕ) → Alike false a b
+cells-apart a b = record { same = λ z. true-false z refl }
+
+module _ (a b : List ℕ) (i : ℕ) (s : length a ≡ length b) (w : Matching a b i) where
+  pub cells-done : length a ≤ i → Alike true a b
+  cells-done h = record { same = λ z. ext-getD 0 a b s (λ k l. w .same k (omega arith)) }
+
+  pub cells-next : i < length a → getD a i 0 ≡ getD b i 0 → Matching a b (i + 1)
+  cells-next h e = rw (add-one i) (record { within = h; same = λ k l. go k l (le-cases k l) })
+    where
+      le-cases : (k : ℕ) → k < suc i → (k < i) ⊎ (k ≡ i)
+      le-cases k l = ⊎-elim (λ q. inr (omega arith)) (λ q. inl q) (le-or-lt i k)
+
+      go : (k : ℕ) → k < suc i → (k < i) ⊎ (k ≡ i) → getD a k 0 ≡ getD b k 0
+      go k l (inl q) = w .same k q
+      go k l (inr q) = rw q e
+
+-- another order of the constraints of the first state
+pub order-same :
+    (f a a′ g b : List ℕ) → Reordered a a′
+    → sameState (endOf f a′) (endOf g b) ≡ sameState (endOf f a) (endOf g b)
+order-same f a a′ g b r =
+    same-iff (endOf f a) (endOf g b) (endOf f a′) (endOf g b)
+    (λ v. (v .0, v .1, v .2, multiset-left (r .same) (v .3)))
+    (λ v. (v .0, v .1, v .2, multiset-left (multiset-back (r .same)) (v .3)))
+
+-- variants of both states
+pub variants-same :
+    (s t s′ t′ : State) → Variant s s′ → Variant t t′ → sameState s′ t′ ≡ sameState s t
+variants-same s t s′ t′ v w =
+    same-iff s t s′ t′
+    (λ x. variant-trans s′ s t′ (variant-sym s s′ v) (variant-trans s t t′ x w))
+    (λ x. variant-trans s s′ t v (variant-trans s′ t′ t x (variant-sym t t′ w)))
+
+-- what all elements pass, each does
+every-at : {A : Type 0} (t : A → Bool) (l : List A) (i : ℕ) (z : A) → every t l ≡ true → i < length l → t (getD l i z) ≡ true
+every-at t [] i z e h = absurd (omega arith)
+every-at t (x ∷ l) zero z e h = every-first t x l e
+every-at t (x ∷ l) (suc i) z e h = every-at t l i z (every-rest t x l e) (omega arith)
+
+-- the symbols of a state lie below the variables
+low-symbol :
+    (n : ℕ) (l : List ℕ) (i : ℕ) → length l ≡ 5 * n → every isLow (cellConstraints l) ≡ true → i < n → getD l (5 * i) 0 < 256
+unfolding isLow rowOf
+low-symbol n l i s e h =
+    let none : Constraint = record { symbol = 0; terms = [] } in
+    let t = every-at isLow (cellConstraints l) i none e (rw (constraints-count n l s) h) in
+    ltb-true (getD l (5 * i) 0) 256 (rw (row-at i l none (omega arith)) at t)
+
+-- a table of numbers renames one to one
+renames-one : (numbers : List ℕ) (next : ℕ) → Numbering numbers next → OneToOne (Renames numbers)
+renames-one numbers next n = (
+  λ x y z p q. omega arith,
+  λ x y z p q.
+      let e : x + 256 ≡ y + 256 = n .one (x + 256) (y + 256) (p ∙ sym q) (λ k. omega arith) in
+      omega arith,
+)
+
+module _ (n : ℕ) (cells bound out bound′ : List ℕ) (next : ℕ) (s : length cells ≡ 5 * n) (l : length out ≡ length cells)
+    (q : length bound′ ≡ length bound) (low : every isLow (cellConstraints cells) ≡ true)
+    (r : Renumbered cells bound out bound′ next) where
+  row-renumbered : (i : ℕ) → i < n → ConstraintVariant (Renames (r .numbers)) (rowOf cells i) (rowOf out i)
+  unfolding rowOf
+  row-renumbered i h =
+      record {
+        symbols = sym (r .constant (5 * i) (low-symbol n cells i s low h));
+        terms = prefix-agree _ _
+            (each (r .same (5 * i + 1) (omega arith)) (each (r .same (5 * i + 2) (omega arith))
+            (each (r .same (5 * i + 3) (omega arith)) (each (r .same (5 * i + 4) (omega arith)) empty))));
+      }
+
+  -- a state and itself with its variables numbered anew
+  pub renumbered-variant : Variant (endOf bound cells) (endOf bound′ out)
+  renumbered-variant = (
+    Renames (r .numbers),
+    renames-one (r .numbers) next (r .numbering),
+    pointwise-map cellTerm cellTerm (pointwise-at 0 0 bound bound′ (sym q) (r .same-bound)),
+    multiset-of-pointwise (rows-pointwise n cells out s (l ∙ s) row-renumbered),
+  )
+
+  -- its cells lie below the next number
+  pub renumbered-colourable : (size : ℕ) → next ≤ size → size ≤ 2844 → Colourable out bound′ size n
+  renumbered-colourable size h k =
+      record {
+        count = l ∙ s;
+        room = k;
+        terms = record { below = λ i j m. omega (arith, r .below (5 * i + (1 + j))) };
+        bound-below = record { below = λ i. omega (arith, r .bound-below i) };
+      }
+
+-- terms that have places in a table have them in a larger one
+terms-more : (m k : ℕ) (cells : List ℕ) → m ≤ k → TermsBelow m cells → TermsBelow k cells
+terms-more m k cells h b = record { below = λ i j l. omega (arith, b .below i j l) }
+
+pub colourable-more : (cells bound : List ℕ) (size n : ℕ) → Colourable cells bound size n → Colourable cells bound 2844 n
+colourable-more cells bound size n c =
+    record {
+      count = c .count;
+      room = omega arith;
+      terms = terms-more size 2844 cells (c .room) (c .terms);
+      bound-below = record { below = λ i. omega (arith, c .bound-below .below i, c .room) };
+    }
+
+pub colourable-after :
+    (cells bound cells′ : List ℕ) (size n : ℕ) → Colourable cells bound size n → length cells′ ≡ length cells
+    → ((m : ℕ) → TermsBelow m cells → TermsBelow m cells′) → Colourable cells′ bound size n
+colourable-after cells bound cells′ size n c l t =
+    record { count = l ∙ c .count; room = c .room; terms = t size (c .terms); bound-below = c .bound-below }
+
+-- states in the same order
+pub straight-same :
+    (f a g b : List ℕ) → f ≡ g → a ≡ b → true ≡ sameState (endOf f a) (endOf g b)
+straight-same f a g b e d =
+    rw (e, d) (sym (sameState-complete (endOf g b) (endOf g b) (variant-refl (endOf g b))))
+
+module _ (f a g b : List ℕ) (size n : ℕ) (ca : Colourable a f size n) (cb : Colourable b g size n) (r₁ : Bool) (a₁ b₁ : List ℕ)
+    (k₁ : Classified r₁ f a g b a₁ b₁) where
+  -- the classes by signatures differ
+  pub decide-apart : r₁ ≡ false → false ≡ sameState (endOf f a) (endOf g b)
+  decide-apart e = sym (k₁ .apart e)
+
+  module _ (t₁ : r₁ ≡ true) (la : length a₁ ≡ length a) (lb : length b₁ ≡ length b) where
+    first-left : Colourable a₁ f size n
+    first-left = colourable-after a f a₁ size n ca la (k₁ .left t₁)
+
+    pub decide-right : Colourable b₁ g size n
+    decide-right = colourable-after b g b₁ size n cb lb (k₁ .right t₁)
+
+    -- what the order asks
+    pub decide-arrange : (length a₁ ≡ 5 * n) × TermsBelow 2844 a₁
+    decide-arrange = (first-left .count, colourable-more a₁ f size n first-left .terms)
+
+    module _ (a₂ : List ℕ) (l₂ : length a₂ ≡ length a₁) (o : Reordered a₁ a₂) where
+      pub decide-left : Colourable a₂ f size n
+      decide-left = colourable-after a₁ f a₂ size n first-left l₂ (o .below)
+
+      so-far : sameState (endOf f a₂) (endOf g b₁) ≡ sameState (endOf f a) (endOf g b)
+      so-far = order-same f a₁ a₂ g b₁ o ∙ k₁ .same t₁
+
+      -- what placing without going back asks, and what it finds
+      pub settle-left : Colourable a₂ f 2844 n
+      settle-left = colourable-more a₂ f size n decide-left
+
+      pub settle-right : Colourable b₁ g 2844 n
+      settle-right = colourable-more b₁ g size n decide-right
+
+      pub decide-settled : (r : Bool) → Found r f a₂ g b₁ → r ≡ true → true ≡ sameState (endOf f a) (endOf g b)
+      decide-settled r w e = sym (w .same e) ∙ so-far
+
+      module _ (r₂ : Bool) (a₃ b₃ : List ℕ) (k₂ : Classified r₂ f a₂ g b₁ a₃ b₃) where
+        -- the classes by what stands out differ
+        pub decide-deep : r₂ ≡ false → false ≡ sameState (endOf f a) (endOf g b)
+        decide-deep e = sym (k₂ .apart e) ∙ so-far
+
+        module _ (t₂ : r₂ ≡ true) (la₃ : length a₃ ≡ length a₂) (lb₃ : length b₃ ≡ length b₁) where
+          -- what the search asks
+          pub search-left : Colourable a₃ f 2844 n
+          search-left = colourable-more a₃ f size n (colourable-after a₂ f a₃ size n decide-left la₃ (k₂ .left t₂))
+
+          pub search-right : Colourable b₃ g 2844 n
+          search-right = colourable-more b₃ g size n (colourable-after b₁ g b₃ size n decide-right lb₃ (k₂ .right t₂))
+
+          -- and what it finds
+          pub decide-answer : (r : Bool) → r ≡ sameState (endOf f a₃) (endOf g b₃) → r ≡ sameState (endOf f a) (endOf g b)
+          decide-answer r e = e ∙ (k₂ .same t₂ ∙ so-far)
+
+module _ (a f ca₀ l₀ b g cb₀ r₀ : List ℕ) (p : Comparable a f ca₀ l₀ b g cb₀ r₀) where
+  -- what numbering the second state asks
+  pub compare-second :
+      Below 13596 b × Below 13596 g × (length cb₀ ≡ length b) × (length r₀ ≡ length g) × (length b ≤ 2560) × (length g ≤ 28)
+  compare-second = (
+    p .second .below,
+    p .second .bound-below,
+    p .room-b,
+    p .room-right,
+    omega (arith, p .second .size, p .second .few),
+    p .second .bound-few,
+  )
+
+  -- as many constraints as cells hold
+  pub compare-count : length a ≡ 5 * length (cellConstraints a)
+  compare-count = rw (constraints-count (p .count) a (p .first .size)) (p .first .size)
+
+  module _ (ca l : List ℕ) (x : ℕ) (cb r : List ℕ) (y : ℕ) (lca : length ca ≡ length ca₀) (ll : length l ≡ length l₀)
+      (lcb : length cb ≡ length cb₀) (lr : length r ≡ length r₀) (ra : Renumbered a f ca l x) (rb : Renumbered b g cb r y) where
+    -- the numbered states answer for the states
+    pub compare-same : sameState (endOf l ca) (endOf r cb) ≡ sameState (endOf f a) (endOf g b)
+    compare-same =
+        variants-same (endOf f a) (endOf g b) (endOf l ca) (endOf r cb)
+        (renumbered-variant (p .count) a f ca l x (p .first .size) (lca ∙ p .room-a) (ll ∙ p .room-left) (p .first .low) ra)
+        (renumbered-variant (p .count) b g cb r y (p .second .size) (lcb ∙ p .room-b) (lr ∙ p .room-right) (p .second .low) rb)
+
+    -- states in the same order
+    pub compare-straight :
+        (s t : Bool) → Alike s l r → s ≡ true → Alike t ca cb → t ≡ true → true ≡ sameState (endOf f a) (endOf g b)
+    compare-straight s t u e v d = straight-same l ca r cb (u .same e) (v .same d) ∙ compare-same
+
+    -- what the later steps ask
+    pub compare-ready :
+        (n size : ℕ) → length a ≡ 5 * n → size ≡ max x y
+        → Colourable ca l size n × Colourable cb r size n × (length l ≡ length r) × (n ≤ 512)
+    compare-ready n size e m =
+        let same : p .count ≡ n = omega (arith, p .first .size) in
+        let left-room : x ≤ 2844 = omega (arith, ra .most, p .first .size, p .first .few, p .first .bound-few) in
+        let right-room : y ≤ 2844 = omega (arith, rb .most, p .second .size, p .second .few, p .second .bound-few) in (
+          rw same at (renumbered-colourable (p .count) a f ca l x (p .first .size) (lca ∙ p .room-a) (ll ∙ p .room-left)
+              (p .first .low) ra
+              size (omega arith) (omega arith)),
+          rw same at (renumbered-colourable (p .count) b g cb r y (p .second .size) (lcb ∙ p .room-b) (lr ∙ p .room-right)
+              (p .second .low) rb
+              size (omega arith) (omega arith)),
+          ll ∙ (p .room-left ∙ (p .bounds ∙ sym (lr ∙ p .room-right))),
+          omega (arith, p .first .few),
+        )
+
+    -- and what they find
+    pub compare-answer : (q : Bool) → q ≡ sameState (endOf l ca) (endOf r cb) → q ≡ sameState (endOf f a) (endOf g b)
+    compare-answer q e = e ∙ compare-same
+
+-- two states of the same size, and room for their cells
+pub comparable :
+    (a : List ℕ) (n : ℕ) (f b : List ℕ) (m : ℕ) (g cells-a left cells-b right : List ℕ) → Side a n f → Side b m g → n ≡ m
+    → length f ≡ length g → length cells-a ≡ 5 * n → length left ≡ length f → length cells-b ≡ 5 * n → length right ≡ length f
+    → Comparable a f cells-a left b g cells-b right
+comparable a n f b m g cells-a left cells-b right s t e l ka kl kb kr =
+    record {
+      count = n;
+      first = s;
+      second = rw e t;
+      bounds = l;
+      room-a = ka ∙ sym (s .size);
+      room-left = kl;
+      room-b = kb ∙ (ap (λ k. 5 * k) e ∙ sym (t .size));
+      room-right = kr ∙ l;
+    }

@@ -1,0 +1,49 @@
+-- `begin_both` meets its contract: each side fires.
+-- Assumes nothing.
+use Rattle.judging.proofs.EndLaws.{first-begins, second-begins, both-begun}
+use borrow.Author.Needs.{needs}
+use Rattle.judging.proofs.begin_both.Statement.{statement}
+use Rattle.judging.proofs.begin_both.Tie as tie
+
+begin-requires : tie.Need-begin-requires
+begin-requires c κs =
+    let start = c .before .before .before .before .before .before .before .before .before in
+    first-begins _ _ _ _ _ _ _ _ (start .pre .overlapping) _ _ (start .pre .first-bound) (start .pre .first-room)
+
+begin-requires-2 : tie.Need-begin-requires-2
+begin-requires-2 c κs =
+    let at-positions = c .before .before .before .before .before .before .before .before .before in
+    let start = at-positions .before .before .before .before .before .before .before in
+    second-begins _ _ _ _ _ _ _ _ (start .pre .overlapping) _ _ (start .pre .second-bound) (start .pre .second-room)
+
+same-length : tie.Need-same-length
+same-length c = search needs
+
+same-length-2 : tie.Need-same-length-2
+same-length-2 c = search needs
+
+same-length-3 : tie.Need-same-length-3
+same-length-3 c = search needs
+
+same-length-4 : tie.Need-same-length-4
+same-length-4 c = search needs
+
+returns : tie.Need-returns
+returns c =
+    let two = c .before .before .before .before in
+    let one = two .before .before .before .before .before .before .before in
+    let start = one .before .before .before .before .before .before .before .before .before .before in
+    both-begun _ _ _ _ _ _ _ _ (start .pre .overlapping) _ _ _ _ _ _ _ _ _ _ _ _ (start .pre .first-bound)
+    (start .pre .second-bound) (one .begin .ensures) (two .begin2 .ensures)
+
+pub begin-both-spec : {M : Type 1} → statement M
+begin-both-spec =
+    tie.close
+    (tie.spec
+    begin-requires
+    begin-requires-2
+    same-length
+    same-length-2
+    same-length-3
+    same-length-4
+    returns)

@@ -1,0 +1,336 @@
+-- The listing of a check: its pieces, how many bytes it has at most, and the verdict that it shows.
+--   pass-is, pass-count      the line of a pass
+--   rules-…, pair-…, pairs-… the line of an overlap's rules, and a line for each joined pair of heads
+--   front-is, ends-…         the lines in front of the ends, and those of the ends
+--   half-…, whole-…          `bounds` while its two parts are numbered
+--   overlap-writable         the listing of an overlap can be counted
+--   overlap-listed           it is that of the verdict on the overlap that the tables hold
+-- Assumes nothing.
+use mathlib.Core.Path.{_≡_, refl, sym, ap, ap₂, _∙_, subst, fun-ext}
+use mathlib.Core.Bool.{Bool, true}
+use mathlib.Core.List.{List, [], _∷_, _++_, append-assoc, append-nil}
+use Prim.Native.Nat.{ℕ, zero, suc, _+_, _-_, _*_, _/_, _≤_, _<_, min}
+use native.Mathlib.Omega.{arith}
+use native.Mathlib.Numerals.{add-one}
+use borrow.Author.Tests.{le-ltb}
+use lib.ListN.{length, take, drop, getD, length-append, length-take, length-drop, drop-of-length-le}
+use lib.Seq.{drop-cons, take-at, drop-at, getD-take, getD-drop, length-take-le}
+use Rattle.text.specs.Bytes.{ascii}
+use Rattle.semantics.specs.Overlaps.{Overlap}
+use Rattle.semantics.specs.Verdict.{Verdict, confluent, unjoined}
+use Rattle.tables.specs.Cells.{cellConstraints}
+use Rattle.tables.specs.Names.{nameIn}
+use Rattle.tables.proofs.NameLaws.{lent-rest}
+use Rattle.listing.specs.Listing.{Naming, decimal, fieldsBehind, lineOf, constraintLines, numberedAs, variableName}
+use Rattle.listing.specs.Listing.{endListing, pairLines, verdictListing}
+use Rattle.listing.specs.Writing.{Countable, Writes, ListedAs}
+use Rattle.listing.specs.Ends.{numberedEnd, endBytes, Listable, EndNumbered, Writable}
+use Rattle.listing.specs.Checks.{rulesLine, frontBytes, numberedEnds, shownBytes, finalOf, Shaped, OverlapWritable}
+use Rattle.listing.specs.Checks.{OverlapListable, ShownBy, OverlapListed}
+use Rattle.listing.specs.declared.End.{End}
+use Rattle.listing.specs.declared.Listed.{Listed}
+use Rattle.listing.specs.declared.checks.Shown.{Shown}
+use Rattle.listing.proofs.WriteLaws.{wrote-none, wrote-is, wrote-both, count-is, count-first}
+use Rattle.listing.proofs.WriteLaws.{Writing, writing-count, writing-line, writing-end, partFrom, partBack}
+use Rattle.listing.proofs.EndLaws.{end-numbered, listed-is}
+use Rattle.listing.proofs.SizeLaws.{Cells, decimal-short, rows-few, end-few, end-writable}
+
+-- the line of a pass
+abbrev pub passBytes : ℕ → List ℕ
+passBytes n = (67 ∷ 79 ∷ 78 ∷ 70 ∷ 76 ∷ 85 ∷ 69 ∷ 78 ∷ 84 ∷ 44 ∷ []) ++ (decimal n ++ (10 ∷ []))
+
+pub pass-is : (n : ℕ) → passBytes n ≡ lineOf (ascii "CONFLUENT") (decimal n ∷ [])
+unfolding lineOf fieldsBehind ascii
+pass-is n = refl
+
+pub pass-count : (n : ℕ) → n < 18446744073709551616 → Countable 0 (passBytes n)
+pass-count n h = record { few = omega (arith, decimal-short n, length-append (decimal n) (10 ∷ [])) }
+
+-- it is that of the verdict
+pub pass-listed : (naming : Naming) (n : ℕ) → lineOf (ascii "CONFLUENT") (decimal n ∷ []) ≡ verdictListing naming (confluent n)
+unfolding verdictListing
+pass-listed naming n = refl
+
+-- the line of an overlap's rules, in pieces
+pub rules-is : (naming : Naming) (first second : ℕ) {s t : List ℕ} → s ≡ naming (192 + first) → t ≡ naming (192 + second)
+    → rulesLine naming first second
+    ≡ (85 ∷ 78 ∷ 74 ∷ 79 ∷ 73 ∷ 78 ∷ 69 ∷ 68 ∷ 44 ∷ []) ++ (s ++ ((44 ∷ []) ++ (t ++ (10 ∷ []))))
+unfolding rulesLine lineOf fieldsBehind ascii
+rules-is naming first second {s} {t} e f = rw (e, f)
+
+-- the line of a head without a partner, and of one with a partner
+pub pair-none : (n d : ℕ) (o : List ℕ) → d ≡ 0 → Writes (pairLines n (d ∷ [])) 0 o o 0
+unfolding pairLines
+pair-none n d o e = rw e (wrote-none o 0)
+
+pub pair-is : (n d : ℕ) → (d ≡ 0 → ⊥)
+    → pairLines n (d ∷ []) ≡ (80 ∷ 44 ∷ []) ++ (decimal n ++ ((44 ∷ []) ++ (decimal d ++ (10 ∷ []))))
+unfolding pairLines lineOf fieldsBehind ascii
+pair-is n zero h = absurd (h refl)
+pair-is n (suc d) h = append-nil (80 ∷ 44 ∷ (decimal n ++ (44 ∷ (decimal (suc d) ++ (10 ∷ [])))))
+
+-- a line for each joined pair, one head on
+pairs-step : (n d : ℕ) (ds : List ℕ) → pairLines n (d ∷ ds) ≡ pairLines n (d ∷ []) ++ pairLines (suc n) ds
+unfolding pairLines
+pairs-step n zero ds = refl
+pairs-step n (suc d) ds = rw (append-nil (lineOf (ascii "P") (decimal n ∷ decimal (suc d) ∷ [])))
+
+abbrev pub pairsFrom : List ℕ → ℕ → List ℕ
+pairsFrom ds i = pairLines (suc i) (drop i ds)
+
+module _ (ds : List ℕ) {o p : List ℕ} {at end : ℕ} (i : ℕ) (w : Writing (pairLines 1 ds) at o p end (pairsFrom ds i)) where
+  pair-here : i < length ds → pairsFrom ds i ≡ pairLines (i + 1) (getD ds i 0 ∷ []) ++ pairsFrom ds (suc i)
+  pair-here h = rw (drop-cons ds i 0 h, add-one i) (pairs-step (suc i) (getD ds i 0) (drop (suc i) ds))
+
+  pub pair-count : i < length ds → Countable at (pairLines 1 ds) → Countable end (pairLines (i + 1) (getD ds i 0 ∷ []))
+  pair-count h c = count-first (pairsFrom ds (suc i)) (count-is (pair-here h) (writing-count c w))
+
+  pub pairs-next : {part : List ℕ} {k : ℕ} (from : ℕ) → i < length ds → from ≡ min end (length p)
+      → Writes (pairLines (i + 1) (getD ds i 0 ∷ [])) 0 (partFrom from p) part k → length part ≡ length (partFrom from p)
+      → Writing (pairLines 1 ds) at o (partBack from p part) (end + k) (pairsFrom ds (i + 1))
+  pairs-next {part} {k} from h b v l =
+      let next : pairsFrom ds (i + 1) ≡ pairsFrom ds (suc i) = ap (pairsFrom ds) (add-one i) in
+      rw next (writing-line from (pairsFrom ds (suc i)) (pair-here h) w b v l)
+
+  pub pairs-wrote : length ds ≤ i → Writes (pairLines 1 ds) at o p end
+  unfolding pairLines
+  pairs-wrote h = writing-end w (rw (drop-of-length-le ds h))
+
+-- no letter stands for a variable of an overlap's goal
+unlettered : variableName [] ≡ numberedAs (86 ∷ [])
+unfolding variableName ascii
+unlettered = fun-ext (λ x. rw (le-ltb x 0 (omega arith)))
+
+-- the lines in front of the ends, in pieces
+pub front-is : (naming : Naming) (goal : List ℕ) (s : Shown)
+    → frontBytes naming goal s
+    ≡ rulesLine naming (s .first) (s .second)
+    ++ (pairLines 1 (take (s .heads) (s .partners))
+    ++ constraintLines (71 ∷ []) naming (numberedAs (86 ∷ [])) (cellConstraints goal))
+unfolding frontBytes ascii
+front-is naming goal s =
+    ap (λ (shown : ℕ → List ℕ). rulesLine naming (s .first) (s .second) ++ (pairLines 1 (take (s .heads) (s .partners))
+    ++ constraintLines (71 ∷ []) naming shown (cellConstraints goal))) unlettered
+
+-- the lines of the ends; the second's part of `bounds` as it is lent
+module _ (naming : Naming) (bounds one two : List ℕ) (s : Shown) where
+  abbrev firstBytes : List ℕ
+  firstBytes = numberedEnd naming [] (take (s .variables) bounds) one (s .one)
+
+  abbrev secondBytes : List ℕ
+  secondBytes = numberedEnd naming [] (drop (s .variables) bounds) two (s .two)
+
+  abbrev lentBytes : List ℕ
+  lentBytes = numberedEnd naming [] (partFrom (s .variables) bounds) two (s .two)
+
+  lent-is : lentBytes ≡ secondBytes
+  lent-is = ap (λ (l : List ℕ). numberedEnd naming [] l two (s .two)) (lent-rest bounds (s .variables))
+
+  ends-is : numberedEnds naming bounds one two s ≡ firstBytes ++ lentBytes
+  unfolding numberedEnds
+  ends-is = ap (λ (l : List ℕ). firstBytes ++ l) (sym lent-is)
+
+  pub lent-writable : Writable naming [] (drop (s .variables) bounds) two (s .two)
+      → Writable naming [] (partFrom (s .variables) bounds) two (s .two)
+  lent-writable w = subst (λ (l : List ℕ). Writable naming [] l two (s .two)) (sym (lent-rest bounds (s .variables))) w
+
+  module _ {at : ℕ} (c : Countable at (numberedEnds naming bounds one two s)) {o p : List ℕ} {k : ℕ}
+      (w : Writes firstBytes 0 o p k)
+    where
+      pub ends-room : at + k < 18446744073709551616
+      ends-room = omega (arith, count-is ends-is c .few, w .counted, length-append firstBytes lentBytes)
+
+      pub ends-all-room : {q r : List ℕ} {l : ℕ} → Writes lentBytes 0 q r l → at + k + l < 18446744073709551616
+      ends-all-room v = omega (arith, count-is ends-is c .few, w .counted, v .counted, length-append firstBytes lentBytes)
+
+  pub ends-wrote : {o part part′ : List ℕ} {at k l : ℕ} (from start : ℕ) → from ≡ min at (length o)
+      → Writes firstBytes 0 (partFrom from o) part k → length part ≡ length (partFrom from o)
+      → start ≡ min (at + k) (length (partBack from o part)) → Writes lentBytes 0 (partFrom start (partBack from o part)) part′ l
+      → Writes (numberedEnds naming bounds one two s) at o (partBack start (partBack from o part) part′) (at + k + l)
+  ends-wrote from start e w h f v = wrote-is (sym ends-is) (wrote-both from start e w h f v)
+
+-- the whole listing
+pub shown-is : (naming : Naming) (goal bounds one two : List ℕ) (s : Shown)
+    → shownBytes naming goal bounds one two s ≡ frontBytes naming goal s ++ numberedEnds naming bounds one two s
+unfolding shownBytes
+shown-is naming goal bounds one two s = refl
+
+-- numbers below m stay so in a part
+few-take : (m n : ℕ) (l : List ℕ) → ((i : ℕ) → getD l i 0 < m) → (i : ℕ) → getD (take n l) i 0 < m
+few-take m zero l h i = omega (arith, h 0)
+few-take m (suc n) [] h i = omega (arith, h 0)
+few-take m (suc n) (x ∷ l) h zero = h 0
+few-take m (suc n) (x ∷ l) h (suc i) = few-take m n l (λ j. h (suc j)) i
+
+few-drop : (m n : ℕ) (l : List ℕ) → ((i : ℕ) → getD l i 0 < m) → (i : ℕ) → getD (drop n l) i 0 < m
+few-drop m n l h i = rw (getD-drop n l i 0) (h (n + i))
+
+-- the lines of joined pairs, and all in front of the ends
+pairs-few : (n : ℕ) (ds : List ℕ) → ((i : ℕ) → getD ds i 0 < 18446744073709551616) → n + length ds ≤ 100
+    → length (pairLines n ds) ≤ 1900000000000000000 * length ds
+unfolding pairLines lineOf fieldsBehind ascii
+pairs-few n [] h k = omega arith
+pairs-few n (zero ∷ ds) h k = omega (arith, pairs-few (suc n) ds (λ i. h (suc i)) (omega arith))
+pairs-few n (suc d ∷ ds) h k =
+    let last = decimal (suc d) ++ (10 ∷ []) in
+    omega (
+      arith,
+      length-append (decimal n ++ (44 ∷ last)) (pairLines (suc n) ds),
+      length-append (decimal n) (44 ∷ last),
+      length-append (decimal (suc d)) (10 ∷ []),
+      decimal-short n,
+      decimal-short (suc d),
+      h 0,
+      pairs-few (suc n) ds (λ i. h (suc i)) (omega arith),
+    )
+
+module _ (naming : Naming) (short : (n : ℕ) → length (naming n) ≤ 8) where
+  rules-few : (first second : ℕ) → length (rulesLine naming first second) ≤ 30
+  rules-few first second =
+      let one = naming (192 + first) in
+      let two = naming (192 + second) in
+      rw (rules-is naming first second refl refl)
+      (omega (
+        arith,
+        length-append one ((44 ∷ []) ++ (two ++ (10 ∷ []))),
+        length-append two (10 ∷ []),
+        short (192 + first),
+        short (192 + second),
+      ))
+
+  front-few : (goal : List ℕ) (s : Shown) → Shaped s → Cells goal → length goal ≤ 65000
+      → ((i : ℕ) → getD (s .partners) i 0 < 18446744073709551616) → length (frontBytes naming goal s) ≤ 7700000000000000000
+  front-few goal s h c k d =
+      let ds = take (s .heads) (s .partners) in
+      let size : length ds ≤ 4 = omega (arith, length-take (s .heads) (s .partners), h .heads-few) in
+      let pairs = pairLines 1 ds in
+      let rows = constraintLines (71 ∷ []) naming (numberedAs (86 ∷ [])) (cellConstraints goal) in
+      let rules = rulesLine naming (s .first) (s .second) in
+      rw (front-is naming goal s)
+      (omega (
+        arith,
+        length-append rules (pairs ++ rows),
+        length-append pairs rows,
+        rules-few (s .first) (s .second),
+        pairs-few 1 ds (few-take 18446744073709551616 (s .heads) (s .partners) d) (omega arith),
+        rows-few naming short 71 86 goal c,
+        size,
+      ))
+
+  -- the listing of an overlap whose ends are numbered can be counted
+  pub overlap-writable : (goal bounds bounds′ one one′ two two′ : List ℕ) (s : Shown) → OverlapListable goal bounds one two s
+      → length bounds′ ≡ length bounds → length one′ ≡ length one → length two′ ≡ length two
+      → ((i : ℕ) → getD goal i 0 < 65536) → ((i : ℕ) → getD bounds′ i 0 < 65536) → ((i : ℕ) → getD one′ i 0 < 65536)
+      → ((i : ℕ) → getD two′ i 0 < 65536) → ((i : ℕ) → getD (s .partners) i 0 < 18446744073709551616)
+      → s .one .firings < 18446744073709551616 → s .two .firings < 18446744073709551616
+      → OverlapWritable naming goal bounds′ one′ two′ s
+  unfolding shownBytes numberedEnds
+  overlap-writable goal bounds bounds′ one one′ two two′ s h b e f cg cb co ct cp ko kt =
+      let v = s .variables in
+      let first = take v bounds′ in
+      let second = drop v bounds′ in
+      let firstCells : Cells first = λ i l. few-take 65536 v bounds′ cb i in
+      let secondCells : Cells second = λ i l. few-drop 65536 v bounds′ cb i in
+      let firstFew : s .one .alive ≡ true → length first + length one′ ≤ 65000 =
+      λ l. omega (arith, h .first-end .live l .few, length-take v bounds′, length-take v bounds, b, e) in
+      let secondFew : s .two .alive ≡ true → length second + length two′ ≤ 65000 =
+      λ l. omega (arith, h .second-end .live l .few, length-drop v bounds′, length-drop v bounds, b, f) in
+      let a = numberedEnd naming [] first one′ (s .one) in
+      let z = numberedEnd naming [] second two′ (s .two) in
+      record {
+        shaped = h .shaped;
+        counted =
+            record {
+              few =
+                  omega (
+                    arith,
+                    length-append (frontBytes naming goal s) (a ++ z),
+                    length-append a z,
+                    front-few goal s (h .shaped) (λ i l. cg i) (h .goal-few) cp,
+                    end-few naming short [] first one′ (s .one) firstCells (λ i l. co i) firstFew ko,
+                    end-few naming short [] second two′ (s .two) secondCells (λ i l. ct i) secondFew kt,
+                  );
+            };
+        within = omega (arith, h .within, b);
+        first-end = end-writable naming short [] first one′ (s .one) firstCells (λ i l. co i) firstFew ko;
+        second-end = end-writable naming short [] second two′ (s .two) secondCells (λ i l. ct i) secondFew kt;
+      }
+
+-- `bounds` while the first v of its cells, and then those behind them, are numbered
+module _ (v : ℕ) (b ys : List ℕ) (h : v ≤ length b) (l : length ys ≡ length (take v b)) where
+  abbrev half : List ℕ
+  half = ys ++ drop v b
+
+  front-size : length ys ≡ v
+  front-size = l ∙ length-take-le v b h
+
+  -- the cells behind, as they are lent
+  pub half-rest : partFrom v half ≡ drop v b
+  half-rest = lent-rest half v ∙ drop-at ys (drop v b) v front-size
+
+  pub half-listable : {alive : Bool} {next : ℕ} {cells : List ℕ} → Listable alive next (drop v b) cells
+      → Listable alive next (partFrom v half) cells
+  half-listable {alive} {next} {cells} a = subst (λ (r : List ℕ). Listable alive next r cells) (sym half-rest) a
+
+  module _ (zs : List ℕ) (k : length zs ≡ length (partFrom v half)) where
+    whole-is : partBack v half zs ≡ ys ++ zs
+    whole-is =
+        let short : length (drop v half) ≤ length half - v = omega (arith, length-drop v half) in
+        let none : drop (length half - v) (drop v half) ≡ [] = drop-of-length-le (drop v half) short in
+        rw (none, append-nil zs, take-at ys (drop v b) v front-size)
+
+    pub whole-size : length (partBack v half zs) ≡ length b
+    whole-size =
+        rw whole-is (omega (arith, length-append ys zs, front-size, k, ap length half-rest, length-drop v b))
+
+    whole-first : take v (partBack v half zs) ≡ ys
+    whole-first = rw whole-is (take-at ys zs v front-size)
+
+    whole-second : drop v (partBack v half zs) ≡ zs
+    whole-second = rw whole-is (drop-at ys zs v front-size)
+
+    -- what numbering each part has promised, of the whole
+    pub first-numbered : {alive : Bool} {cells cells′ : List ℕ} {m : ℕ} → EndNumbered alive (take v b) cells ys cells′ m
+        → EndNumbered alive (take v b) cells (take v (partBack v half zs)) cells′ m
+    first-numbered {alive} {cells} {cells′} {m} a =
+        subst (λ (r : List ℕ). EndNumbered alive (take v b) cells r cells′ m) (sym whole-first) a
+
+    pub second-numbered : {alive : Bool} {cells cells′ : List ℕ} {m : ℕ} → EndNumbered alive (partFrom v half) cells zs cells′ m
+        → EndNumbered alive (drop v b) cells (drop v (partBack v half zs)) cells′ m
+    second-numbered {alive} {cells} {cells′} {m} a =
+        subst (λ (r : List ℕ). EndNumbered alive (drop v b) cells r cells′ m) (sym whole-second)
+        (subst (λ (r : List ℕ). EndNumbered alive r cells zs cells′ m) half-rest a)
+
+-- the listing of an overlap is that of the verdict on the overlap that the tables hold
+verdict-is : (program places goal bounds one two : List ℕ) (s : Shown) (o : Overlap) → ShownBy (nameIn program [] places) goal s o
+    → frontBytes (nameIn program [] places) goal s
+    ++ (endBytes program [] places [] (take (s .variables) bounds) one (s .one)
+    ++ endBytes program [] places [] (drop (s .variables) bounds) two (s .two))
+    ≡ verdictListing (nameIn program [] places)
+    (unjoined o (finalOf (take (s .variables) bounds) one (s .one)) (finalOf (drop (s .variables) bounds) two (s .two)))
+unfolding frontBytes rulesLine endBytes finalOf verdictListing
+verdict-is program places goal bounds one two s o h =
+    let naming = nameIn program [] places in
+    let rules = lineOf (ascii "UNJOINED") (naming (192 + s .first) ∷ naming (192 + s .second) ∷ []) in
+    let pairs = pairLines 1 (take (s .heads) (s .partners)) in
+    let rows = constraintLines (ascii "G") naming (variableName []) (cellConstraints goal) in
+    let ends =
+    endBytes program [] places [] (take (s .variables) bounds) one (s .one)
+    ++ endBytes program [] places [] (drop (s .variables) bounds) two (s .two) in
+    rw (h .first-name, h .second-name, h .partners-same, h .goal-same)
+    (append-assoc rules (pairs ++ rows) ends ∙ ap (λ (l : List ℕ). rules ++ l) (append-assoc pairs rows ends))
+
+pub overlap-listed : (program places goal bounds bounds′ one one′ two two′ : List ℕ) (s : Shown) (m n : ℕ)
+    {before after : List ℕ} {reply : Listed}
+    → EndNumbered (s .one .alive) (take (s .variables) bounds) one (take (s .variables) bounds′) one′ m
+    → EndNumbered (s .two .alive) (drop (s .variables) bounds) two (drop (s .variables) bounds′) two′ n
+    → ListedAs (shownBytes (nameIn program [] places) goal bounds′ one′ two′ s) before after reply
+    → OverlapListed program places goal bounds one two s before after reply
+unfolding shownBytes numberedEnds
+overlap-listed program places goal bounds bounds′ one one′ two two′ s m n {before} {after} {reply} a z l =
+    let v = s .variables in
+    let ends =
+    ap₂ (λ (x y : List ℕ). frontBytes (nameIn program [] places) goal s ++ (x ++ y))
+    (end-numbered program [] places [] (take v bounds) one (take v bounds′) one′ (s .one) m a)
+    (end-numbered program [] places [] (drop v bounds) two (drop v bounds′) two′ (s .two) n z) in
+    record { listed = λ o h. listed-is (ends ∙ verdict-is program places goal bounds one two s o h) l }

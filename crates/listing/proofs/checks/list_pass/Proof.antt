@@ -1,0 +1,56 @@
+-- `listing::checks::list_pass` meets its contract: counted into no output, and then written. Assumes nothing.
+use borrow.Author.Needs.{needs}
+use native.Mathlib.Omega.{arith}
+use Rattle.listing.proofs.WriteLaws.{wrote-is}
+use Rattle.listing.proofs.EndLaws.{listed-short, listed-written}
+use Rattle.listing.proofs.CheckLaws.{pass-is, pass-count}
+use Rattle.listing.proofs.checks.list_pass.Statement.{statement}
+use Rattle.listing.proofs.checks.list_pass.Tie as tie
+
+array-borrow-prefix-none : tie.Need-array-borrow-prefix-none
+array-borrow-prefix-none c = search needs
+
+slice-aggregate-put-head : tie.Need-slice-aggregate-put-head
+slice-aggregate-put-head c = search needs
+
+slice-aggregate-put-head-2 : tie.Need-slice-aggregate-put-head-2
+slice-aggregate-put-head-2 c = search needs
+
+put-head-requires : tie.Need-put-head-requires
+put-head-requires c κs =
+    pass-count _ (omega arith)
+
+returns : tie.Need-returns
+returns c = listed-short (wrote-is (pass-is _) (c .before .before .put-head .ensures)) (c .if1 .taken)
+
+slice-aggregate-put-head-3 : tie.Need-slice-aggregate-put-head-3
+slice-aggregate-put-head-3 c = search needs
+
+put-head-requires-2 : tie.Need-put-head-requires-2
+put-head-requires-2 c κs =
+    pass-count _ (omega arith)
+
+same-length : tie.Need-same-length
+same-length c = search needs
+
+returns-2 : tie.Need-returns-2
+returns-2 c =
+    let at-put-head2 = c .before .before in
+    let at-if1 = at-put-head2 .before .before .before in
+    let at-put-head = at-if1 .before .before in
+    listed-written (wrote-is (pass-is _) (at-put-head .put-head .ensures)) (at-if1 .if1 .left)
+    (wrote-is (pass-is _) (at-put-head2 .put-head2 .ensures))
+
+pub list-pass-spec : {M : Type 1} → statement M
+list-pass-spec =
+    tie.close
+    (tie.spec
+    array-borrow-prefix-none
+    slice-aggregate-put-head
+    slice-aggregate-put-head-2
+    put-head-requires
+    returns
+    slice-aggregate-put-head-3
+    put-head-requires-2
+    same-length
+    returns-2)

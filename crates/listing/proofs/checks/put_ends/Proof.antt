@@ -1,0 +1,133 @@
+-- `listing::checks::put_ends` meets its contract: one end behind the other. Assumes nothing.
+use borrow.Author.Needs.{needs}
+use mathlib.Core.Path.{sym}
+use native.Mathlib.Omega.{arith}
+use lib.Seq.{length-take-le}
+use Rattle.listing.proofs.CheckLaws.{lent-writable, ends-room, ends-all-room, ends-wrote}
+use Rattle.listing.proofs.checks.put_ends.Statement.{statement}
+use Rattle.listing.proofs.checks.put_ends.Tie as tie
+
+behind-requires : tie.Need-behind-requires
+behind-requires c κs = search needs
+
+sub-put-end : tie.Need-sub-put-end
+sub-put-end c = omega (arith, c .behind .ensures)
+
+part-put-end-start : tie.Need-part-put-end-start
+part-put-end-start c = omega (arith, c .behind .ensures)
+
+part-put-end-end : tie.Need-part-put-end-end
+part-put-end-end c = search needs
+
+slice-aggregate-put-end : tie.Need-slice-aggregate-put-end
+slice-aggregate-put-end c = search needs
+
+slice-aggregate-put-end-2 : tie.Need-slice-aggregate-put-end-2
+slice-aggregate-put-end-2 c = search needs
+
+slice-aggregate-put-end-3 : tie.Need-slice-aggregate-put-end-3
+slice-aggregate-put-end-3 c =
+    let start = c .before .before .before .before .before .before .before .before .before .before .before in
+    sym (length-take-le (start .args .shown .variables) (start .args .bounds .now) (start .pre .within))
+
+put-end-requires : tie.Need-put-end-requires
+put-end-requires c κs =
+    let start = c .before .before .before .before .before .before .before .before .before .before .before in
+    start .pre .first-end
+
+add-next : tie.Need-add-next
+add-next c =
+    let at-put-end = c .before .before in
+    let start = at-put-end .before .before .before .before .before .before .before .before .before .before .before .before in
+    omega (arith, ends-room _ _ _ _ _ (start .pre .counted) (at-put-end .put-end .ensures))
+
+behind-requires-2 : tie.Need-behind-requires-2
+behind-requires-2 c κs = search needs
+
+sub-put-end-2 : tie.Need-sub-put-end-2
+sub-put-end-2 c = omega (arith, c .behind2 .ensures)
+
+part-put-end-start-2 : tie.Need-part-put-end-start-2
+part-put-end-start-2 c = omega (arith, c .behind2 .ensures)
+
+part-put-end-end-2 : tie.Need-part-put-end-end-2
+part-put-end-end-2 c = search needs
+
+slice-aggregate-put-end-4 : tie.Need-slice-aggregate-put-end-4
+slice-aggregate-put-end-4 c = search needs
+
+slice-aggregate-put-end-5 : tie.Need-slice-aggregate-put-end-5
+slice-aggregate-put-end-5 c = search needs
+
+mul-put-end : tie.Need-mul-put-end
+mul-put-end c = search needs
+
+sub-put-end-3 : tie.Need-sub-put-end-3
+sub-put-end-3 c =
+    let at-put-end = c .before .before .before .before .before .before in
+    let start = at-put-end .before .before .before .before .before .before .before .before .before .before .before .before in
+    omega (arith, start .pre .within)
+
+part-put-end-start-3 : tie.Need-part-put-end-start-3
+part-put-end-start-3 c =
+    let at-put-end = c .before .before .before .before .before .before in
+    let start = at-put-end .before .before .before .before .before .before .before .before .before .before .before .before in
+    omega (arith, start .pre .within)
+
+part-put-end-end-3 : tie.Need-part-put-end-end-3
+part-put-end-end-3 c = search needs
+
+put-end-requires-2 : tie.Need-put-end-requires-2
+put-end-requires-2 c κs =
+    let at-put-end = c .before .before .before .before .before .before .before in
+    let start = at-put-end .before .before .before .before .before .before .before .before .before .before .before .before in
+    lent-writable _ (start .args .bounds .now) (start .args .one .now) _ (start .args .shown) (start .pre .second-end)
+
+add-result : tie.Need-add-result
+add-result c =
+    let at-put-end2 = c .before .before in
+    let at-put-end = at-put-end2 .before .before .before .before .before .before .before .before in
+    let start = at-put-end .before .before .before .before .before .before .before .before .before .before .before .before in
+    let room = ends-all-room _ _ _ _ _ (start .pre .counted) (at-put-end .put-end .ensures) (at-put-end2 .put-end2 .ensures) in
+    omega (arith, room)
+
+same-length : tie.Need-same-length
+same-length c = search needs
+
+returns : tie.Need-returns
+returns c =
+    let at-put-end2 = c .before .before in
+    let at-behind2 = at-put-end2 .before .before .before .before .before in
+    let at-put-end = at-behind2 .before .before .before in
+    let at-behind = at-put-end .before .before .before .before .before in
+    let one = at-put-end .put-end in
+    ends-wrote _ _ _ _ _ _ _ (at-behind .behind .ensures) (one .ensures) (one .kept .0) (at-behind2 .behind2 .ensures)
+    (at-put-end2 .put-end2 .ensures)
+
+pub put-ends-spec : {M : Type 1} → statement M
+put-ends-spec =
+    tie.close
+    (tie.spec
+    behind-requires
+    sub-put-end
+    part-put-end-start
+    part-put-end-end
+    slice-aggregate-put-end
+    slice-aggregate-put-end-2
+    slice-aggregate-put-end-3
+    put-end-requires
+    add-next
+    behind-requires-2
+    sub-put-end-2
+    part-put-end-start-2
+    part-put-end-end-2
+    slice-aggregate-put-end-4
+    slice-aggregate-put-end-5
+    mul-put-end
+    sub-put-end-3
+    part-put-end-start-3
+    part-put-end-end-3
+    put-end-requires-2
+    add-result
+    same-length
+    returns)
