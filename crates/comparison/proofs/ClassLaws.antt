@@ -12,7 +12,7 @@ use mathlib.Core.Path.{_≡_, refl, sym, ap, _∙_}
 use lib.Dec.{eqb}
 use lib.ListN.{length, getD, take, replicate, length-replicate}
 use lib.Seq.{length-take-le}
-use Rattle.text.specs.Lists.{placeFrom}
+use Rattle.text.specs.Lists.{indexFrom}
 use Rattle.semantics.specs.Terms.{Constraint, State, live}
 use Rattle.semantics.specs.Variants.{OneToOne, ConstraintVariant, Pointwise, TermVariant, SameMultiset, done, put}
 use Rattle.semantics.specs.Variants.{Variant, sameState}
@@ -48,27 +48,27 @@ same-iff s t u v f g = go (decide (sameState s t))
     go (inr e) = not-variant u v (λ w. true-false (sameState-complete s t (g w)) e) ∙ sym e
 
 -- a place is not before the first
-place-least : (t : ℕ → Bool) (i : ℕ) (ks : List ℕ) → i ≤ placeFrom t i ks
-place-least t i [] = omega arith
-place-least t i (x ∷ ks) = go (t x) (place-least t (suc i) ks)
+index-least : (t : ℕ → Bool) (i : ℕ) (ks : List ℕ) → i ≤ indexFrom t i ks
+index-least t i [] = omega arith
+index-least t i (x ∷ ks) = go (t x) (index-least t (suc i) ks)
   where
-    go : (b : Bool) → suc i ≤ placeFrom t (suc i) ks → i ≤ cond b i (placeFrom t (suc i) ks)
+    go : (b : Bool) → suc i ≤ indexFrom t (suc i) ks → i ≤ cond b i (indexFrom t (suc i) ks)
     go true h = omega arith
     go false h = omega arith
 
 -- keys in the same class are the same
-place-one :
-    (i : ℕ) (ks : List ℕ) (k j : ℕ) → Member k ks → placeFrom (eqb k) i ks ≡ placeFrom (eqb j) i ks → k ≡ j
-place-one i [] k j m e = elim m [ ]
-place-one i (x ∷ ks) k j m e =
-    go (eqb k x) refl (eqb j x) refl (member-cons m) e (place-one (suc i) ks k j) (place-least (eqb k) (suc i) ks)
-    (place-least (eqb j) (suc i) ks)
+index-one :
+    (i : ℕ) (ks : List ℕ) (k j : ℕ) → Member k ks → indexFrom (eqb k) i ks ≡ indexFrom (eqb j) i ks → k ≡ j
+index-one i [] k j m e = elim m [ ]
+index-one i (x ∷ ks) k j m e =
+    go (eqb k x) refl (eqb j x) refl (member-cons m) e (index-one (suc i) ks k j) (index-least (eqb k) (suc i) ks)
+    (index-least (eqb j) (suc i) ks)
   where
     go :
         (a : Bool) → eqb k x ≡ a → (b : Bool) → eqb j x ≡ b → Or (k ≡ x) (Member k ks)
-        → cond a i (placeFrom (eqb k) (suc i) ks) ≡ cond b i (placeFrom (eqb j) (suc i) ks)
-        → (Member k ks → placeFrom (eqb k) (suc i) ks ≡ placeFrom (eqb j) (suc i) ks → k ≡ j)
-        → suc i ≤ placeFrom (eqb k) (suc i) ks → suc i ≤ placeFrom (eqb j) (suc i) ks → k ≡ j
+        → cond a i (indexFrom (eqb k) (suc i) ks) ≡ cond b i (indexFrom (eqb j) (suc i) ks)
+        → (Member k ks → indexFrom (eqb k) (suc i) ks ≡ indexFrom (eqb j) (suc i) ks → k ≡ j)
+        → suc i ≤ indexFrom (eqb k) (suc i) ks → suc i ≤ indexFrom (eqb j) (suc i) ks → k ≡ j
     go true p true q m e more l r = eqb-equal p ∙ sym (eqb-equal q)
     go true p false q m e more l r = absurd (omega arith)
     go false p true q m e more l r = absurd (omega arith)
@@ -77,7 +77,7 @@ place-one i (x ∷ ks) k j m e =
 
 pub class-one : (ks : List ℕ) (k j : ℕ) → Member k ks → classOf ks k ≡ classOf ks j → k ≡ j
 unfolding classOf
-class-one ks k j m e = place-one 0 ks k j m e
+class-one ks k j m e = index-one 0 ks k j m e
 
 -- each pair, with both sides known to be of the lists
 multiset-members :

@@ -16,7 +16,7 @@ use lib.Dec.{eqb}
 use lib.ListN.{length, getD, set, drop, length-set, drop-of-length-le}
 use lib.Seq.{getD-set-same, getD-set-other, drop-cons}
 use borrow.Author.Tests.{eq-eqb, ne-eqb, eqb-true, eqb-false}
-use Rattle.text.specs.Lists.{placeFrom}
+use Rattle.text.specs.Lists.{indexFrom}
 use Rattle.semantics.specs.Terms.{Term, Constraint}
 use Rattle.tables.specs.Cells.{cellTerms, cellConstraints}
 use Rattle.tables.proofs.CellLaws.{either}
@@ -158,7 +158,7 @@ module _ (keys : List ℕ) (total i : ℕ) (w : Totalling keys total i) where
 -- no key before i is the same
 pub record Seeking (keys : List ℕ) (key i : ℕ) : Type 0 where
   pub within : i ≤ length keys
-  pub same : placeFrom (eqb key) i (drop i keys) ≡ classOf keys key
+  pub same : indexFrom (eqb key) i (drop i keys) ≡ classOf keys key
 
 pub class-start : (keys : List ℕ) (key : ℕ) → Seeking keys key 0
 unfolding classOf

@@ -105,7 +105,7 @@ pub record Absorbed (colours received colours′ received′ : List ℕ) : Type 
   pub at : (x : ℕ) → x < length colours → getD colours′ x 0 ≡ mixed (getD colours x 0) (getD received x 0)
   pub none : Empty received′
 
--- what a round asks: n constraints whose terms have their places, and nothing received
+-- what a round asks: n constraints whose terms lie below the length of the table, and nothing received
 pub record Ready (cells : List ℕ) (n : ℕ) (colours received : List ℕ) : Type 0 where
   pub size : length cells ≡ 5 * n
   pub below : TermsBelow (length colours) cells

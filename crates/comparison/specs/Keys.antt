@@ -1,5 +1,5 @@
 -- Keys of constraints: numbers that a renaming cannot change, with the symbol in them.
---   plainOf          colours after three rounds, those of goal variables known by their place
+--   plainOf          colours after three rounds, those of goal variables known by their number
 --   deepOf           one number for all constraints, where the terms of one stand out
 --   keyOf            a constraint's key
 --   summed           the sum of keys, in any order
@@ -11,13 +11,13 @@ use mathlib.Core.Bool.{Bool, cond}
 use mathlib.Core.List.{List, [], _∷_, map}
 use mathlib.Core.Path.{_≡_}
 use lib.Dec.{eqb}
-use Rattle.text.specs.Lists.{placeFrom}
+use Rattle.text.specs.Lists.{indexFrom}
 use Rattle.semantics.specs.Terms.{Term, Constraint}
 use Rattle.tables.specs.Cells.{cellConstraints}
 use Rattle.comparison.specs.Renamings.{TermsBelow}
 use Rattle.comparison.specs.Colours.{Colours, signature, refined, rounds, digest, base}
 
--- colours after three rounds; what the goal variables became stands out before, each by its place
+-- colours after three rounds; what the goal variables became stands out before, each by its number
 unfoldable pub plainOf : List Term → List Constraint → Term → ℕ
 plainOf bound cs = rounds 3 cs (refined base (record { symbol = 0; terms = bound } ∷ []))
 
@@ -38,9 +38,9 @@ unfoldable pub summed : List ℕ → ℕ → ℕ
 summed [] sum = sum
 summed (k ∷ ks) sum = summed ks ((sum + k) % 2 ^ 64)
 
--- the class of a key among keys: the place of the first that is the same
+-- the class of a key among keys: the index of the first that is the same
 unfoldable pub classOf : List ℕ → ℕ → ℕ
-classOf keys k = placeFrom (eqb k) 0 keys
+classOf keys k = indexFrom (eqb k) 0 keys
 
 -- a constraint with the class of its key for its symbol
 unfoldable pub relabel : List ℕ → (Constraint → ℕ) → Constraint → Constraint

@@ -25,7 +25,7 @@ attempted a b j us ps =
 unfoldable pub placed : List ℕ → List ℕ → List ℕ → List Pair → Bool
 placed a b us ps = place (cellConstraints a) (cellConstraints b) us ps
 
--- a mark for each constraint of b, and a place in the tables for each term
+-- a mark for each constraint of b, and an entry of the tables for each term
 pub record Placing (a b : List ℕ) (used : List Bool) (forth back : List ℕ) : Type 0 where
   pub partners : length b ≡ 5 * length used
   pub left : TermsBelow (length forth) a

@@ -3,7 +3,7 @@
 --   Joined                     a function on renamings, done on tables
 --   cleared                    a table with the partners of some columns forgotten
 --   Linked, RowsLinked         what pairing two terms and two constraints promises
---   Below, TermsBelow, Rows    cells that have a place in a table
+--   Below, TermsBelow, Rows    cells below the length of a table
 -- Assumes nothing.
 use Prim.Native.Nat.{ℕ, _+_, _*_, _<_}
 use mathlib.Core.Bool.{Bool, true, false, cond, not, _&&_}
@@ -43,15 +43,15 @@ pub record Linked (x y : ℕ) (fits fresh : Bool) (forth back forth′ back′ :
   pub forth-back : cond fresh (set forth′ x 0) forth′ ≡ forth
   pub back-back : cond fresh (set back′ y 0) back′ ≡ back
 
--- every cell has its place in a table of n
+-- every cell lies below n
 pub record Below (n : ℕ) (cells : List ℕ) : Type 0 where
   pub below : (i : ℕ) → getD cells i 0 < n
 
--- every term of a list of constraints, five cells to each, has its place in a table of n
+-- every term of a list of constraints, five cells to each, lies below n
 pub record TermsBelow (n : ℕ) (cells : List ℕ) : Type 0 where
   pub below : (i j : ℕ) → j < 4 → getD cells (5 * i + (1 + j)) 0 < n
 
--- two constraints of five cells, whose terms have their places in the tables
+-- two constraints of five cells, whose terms lie below the length of the tables
 pub record Rows (a b forth back : List ℕ) : Type 0 where
   pub left-size : length a ≡ 5
   pub right-size : length b ≡ 5

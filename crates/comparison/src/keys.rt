@@ -109,7 +109,7 @@ pub fn sum(keys: &[u64]) -> u64
     total
 }
 
-// The class of a key: the place of the first that is the same.
+// The class of a key: the index of the first that is the same.
 pub fn class(keys: &[u64], key: u64) -> usize
     ensures { λ r. ⌜ (r ≡ classOf (now (keys .entry)) key) × (r ≤ length (now (keys .entry))) ⌝ }
 {

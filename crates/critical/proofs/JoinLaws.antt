@@ -20,7 +20,7 @@ use Rattle.semantics.specs.Solving.{unify, solve}
 use Rattle.semantics.specs.Overlaps.{equateTerms, equate, joinEquations, unjoinedHeads, goalOf, apart}
 use Rattle.semantics.specs.Overlaps.{Numbered, Overlap, overlapOf}
 use Rattle.semantics.proofs.Options.{bind-some, none-some}
-use Rattle.semantics.proofs.Places.{some-equal}
+use Rattle.semantics.proofs.Indices.{some-equal}
 use Rattle.semantics.proofs.Pairings.{leftover-map, unjoined-leftover}
 use Rattle.engine.proofs.SolveLaws.{solve-through}
 use Rattle.critical.specs.Joins.{joined, allJoined, goalFrom}

@@ -19,7 +19,8 @@ use Rattle.semantics.specs.Overlaps.{Numbered, Overlap, numberedFrom, overlapsO
 use Rattle.semantics.specs.Verdict.{confluent, unjoined, isJoinable, judge, verdict}
 use Rattle.semantics.proofs.Configurations.{Or, inl, inr}
 use Rattle.semantics.proofs.Options.{true-false, none-some}
-use Rattle.semantics.proofs.Places.{le-or-lt, some-equal}
+use Rattle.semantics.proofs.Enumeration.{numbered-at}
+use Rattle.semantics.proofs.Indices.{le-or-lt, some-equal}
 use Rattle.critical.specs.Rests.{Judged}
 use Rattle.critical.proofs.JoinLaws.{drop-at-element, at-left, at-right}
 
@@ -115,19 +116,6 @@ pub numbered-length : (n : ℕ) (rs : List Rule) → length (numberedFrom n rs) 
 unfolding numberedFrom
 numbered-length n [] = refl
 numbered-length n (r ∷ rs) = ap suc (numbered-length (suc n) rs)
-
--- a rule with its number
-numbered-at :
-    (n k : ℕ) (rs : List Rule) {r : Rule} → getElem? rs k ≡ some r
-    → getElem? (numberedFrom n rs) k ≡ some (record { number = n + k; rule = r })
-unfolding numberedFrom
-numbered-at n k [] e = none-some refl e
-numbered-at n zero (q ∷ rs) e =
-    let z : n ≡ n + 0 = omega arith in
-    λ i. some (record { number = z i; rule = some-equal e i })
-numbered-at n (suc k) (q ∷ rs) {r} e =
-    numbered-at (suc n) k rs e
-    ∙ ap (λ m. some (record { number = m; rule = r })) (let z : suc n + k ≡ n + suc k = omega arith in z)
 
 -- a rule of a table, with its number
 pub numbered-rule :

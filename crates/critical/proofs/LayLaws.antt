@@ -14,12 +14,12 @@ use Rattle.semantics.specs.Terms.{Term, con, var, Constraint, mapTerms, isBelow
 use Rattle.semantics.specs.Matching.{unassigned}
 use Rattle.semantics.specs.Firing.{instance}
 use Rattle.semantics.specs.Overlaps.{apart}
-use Rattle.semantics.proofs.Bools.{and-true}
+use Rattle.text.proofs.Bools.{and-true}
 use Rattle.tables.specs.Cells.{cellConstraints, isLow}
 use Rattle.tables.specs.Rows.{ruleOfRow}
 use Rattle.tables.proofs.MapLaws.{acts-constraints}
 use Rattle.engine.specs.Cells.{assigned, instanceCell}
-use Rattle.engine.specs.Places.{isLettered}
+use Rattle.engine.specs.Positions.{isLettered}
 use Rattle.engine.proofs.FireLaws.{instance-acts, constraints-append}
 use Rattle.critical.specs.Cells.{RuleRow, headsOf}
 use Rattle.critical.proofs.TermLaws.{replaced-none}

@@ -16,11 +16,11 @@ use borrow.Author.Tests.{lt-ltb, ltb-true}
 use Rattle.text.specs.Lists.{every}
 use Rattle.semantics.specs.Terms.{Term, con, var, Constraint, mapTerms, isBelow, alphabet}
 use Rattle.semantics.specs.Overlaps.{apart}
-use Rattle.semantics.proofs.Bools.{and-true}
+use Rattle.text.proofs.Bools.{and-true}
 use Rattle.tables.specs.Cells.{cellConstraints, isLow}
 use Rattle.tables.specs.Rows.{ruleOfRow}
 use Rattle.tables.specs.Numbers.{isWithin}
-use Rattle.engine.specs.Places.{isLettered}
+use Rattle.engine.specs.Positions.{isLettered}
 use Rattle.engine.proofs.RuleLaws.{every-append}
 use Rattle.engine.proofs.RunLaws.{length-constraints}
 use Rattle.critical.specs.Joins.{joinNext, paired}

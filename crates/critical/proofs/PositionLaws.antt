@@ -13,20 +13,20 @@ use lib.Dec.{eqb}
 use lib.ListN.{length, take, drop, getD, set, length-set, drop-of-length-le}
 use lib.Seq.{drop-cons, getD-take, length-take-le, take-suc-set}
 use borrow.Author.Tests.{eq-eqb, ne-eqb}
-use Rattle.text.specs.Lists.{every, has, placeFrom}
+use Rattle.text.specs.Lists.{every, has, indexFrom}
 use Rattle.text.proofs.Laws.{every-fails, every-step, every-end}
 use Rattle.semantics.specs.Overlaps.{secondPositions}
 use Rattle.semantics.proofs.Configurations.{Or, inl, inr}
 use Rattle.semantics.proofs.Options.{decide, true-false}
-use Rattle.semantics.proofs.Places.{place-below}
+use Rattle.semantics.proofs.Indices.{index-below}
 
 -- the place of a number that does not stand in a list
-place-behind : (x i : ℕ) (ds : List ℕ) → has x ds ≡ false → placeFrom (eqb x) i ds ≡ i + length ds
-place-behind x i [] h = omega arith
-place-behind x i (d ∷ ds) h = go (eqb x d) h (place-behind x (suc i) ds)
+index-behind : (x i : ℕ) (ds : List ℕ) → has x ds ≡ false → indexFrom (eqb x) i ds ≡ i + length ds
+index-behind x i [] h = omega arith
+index-behind x i (d ∷ ds) h = go (eqb x d) h (index-behind x (suc i) ds)
   where
-    go : (b : Bool) → (b || has x ds) ≡ false → (has x ds ≡ false → placeFrom (eqb x) (suc i) ds ≡ suc i + length ds)
-        → cond b i (placeFrom (eqb x) (suc i) ds) ≡ i + suc (length ds)
+    go : (b : Bool) → (b || has x ds) ≡ false → (has x ds ≡ false → indexFrom (eqb x) (suc i) ds ≡ suc i + length ds)
+        → cond b i (indexFrom (eqb x) (suc i) ds) ≡ i + suc (length ds)
     go true e more = true-false refl e
     go false e more = omega (arith, more e)
 
@@ -35,14 +35,14 @@ pub record Looking (partners : List ℕ) (m d h : ℕ) : Type 0 where
   pub within : h ≤ m
   pub room : m ≤ 4
   pub size : length partners ≡ 4
-  pub same : placeFrom (eqb d) 0 (take m partners) ≡ placeFrom (eqb d) h (drop h (take m partners))
+  pub same : indexFrom (eqb d) 0 (take m partners) ≡ indexFrom (eqb d) h (drop h (take m partners))
 
 pub looking-start : (partners : List ℕ) (m d : ℕ) → m ≤ 4 → length partners ≡ 4 → Looking partners m d 0
 looking-start partners m d l e = record { within = omega arith; room = l; size = e; same = refl }
 
 module _ (partners : List ℕ) (m d h : ℕ) (w : Looking partners m d h) where
   -- no head is
-  pub looking-end : m ≤ h → m ≡ placeFrom (eqb d) 0 (take m partners)
+  pub looking-end : m ≤ h → m ≡ indexFrom (eqb d) 0 (take m partners)
   looking-end l =
       let e : h ≡ m = omega (arith, w .within) in
       let s : length (take m partners) ≡ m = length-take-le m partners (omega (arith, w .room, w .size)) in
@@ -50,14 +50,14 @@ module _ (partners : List ℕ) (m d h : ℕ) (w : Looking partners m d h) where
 
   module _ (l : h < m) where
     more :
-        placeFrom (eqb d) 0 (take m partners)
-        ≡ cond (eqb d (getD partners h 0)) h (placeFrom (eqb d) (suc h) (drop (suc h) (take m partners)))
+        indexFrom (eqb d) 0 (take m partners)
+        ≡ cond (eqb d (getD partners h 0)) h (indexFrom (eqb d) (suc h) (drop (suc h) (take m partners)))
     more =
         let s : length (take m partners) ≡ m = length-take-le m partners (omega (arith, w .room, w .size)) in
         w .same ∙ rw (drop-cons (take m partners) h 0 (omega arith), getD-take m partners h 0 l)
 
     -- this one is
-    pub looking-found : d ≡ getD partners h 0 → h ≡ placeFrom (eqb d) 0 (take m partners)
+    pub looking-found : d ≡ getD partners h 0 → h ≡ indexFrom (eqb d) 0 (take m partners)
     looking-found e = sym (more ∙ rw (eq-eqb d (getD partners h 0) e))
 
     -- it is not
@@ -97,11 +97,11 @@ module _ (m n : ℕ) (ds positions : List ℕ) (free g : ℕ) (w : Standing m n 
       let s : take g positions ++ [] ≡ secondPositions 1 m n ds = rw z at (w .same) in
       rw (← e) (sym (append-nil (take g positions))) ∙ s
 
-  module _ (l : g < n) (h : ℕ) (e : h ≡ placeFrom (eqb (g + 1)) 0 ds) where
+  module _ (l : g < n) (h : ℕ) (e : h ≡ indexFrom (eqb (g + 1)) 0 ds) where
     left : n - g ≡ suc (n - suc g)
     left = omega arith
 
-    place : h ≡ placeFrom (eqb (suc g)) 0 ds
+    place : h ≡ indexFrom (eqb (suc g)) 0 ds
     place = rw (add-one g) at e
 
     set-take : (v : ℕ) (rest : List ℕ) → take (suc g) (set positions g v) ++ rest ≡ take g positions ++ (v ∷ rest)
@@ -125,7 +125,7 @@ module _ (m n : ℕ) (ds positions : List ℕ) (free g : ℕ) (w : Standing m n 
           where
             go : Or (has (suc g) ds ≡ true) (has (suc g) ds ≡ false) → has (suc g) ds ≡ true
             go (inl t) = t
-            go (inr t) = absurd (omega (arith, place-behind (suc g) 0 ds t, w .partners, place))
+            go (inr t) = absurd (omega (arith, index-behind (suc g) 0 ds t, w .partners, place))
 
     -- another behind the first rule's heads
     pub standing-free : m ≤ h → Standing m n ds (set positions g free) (free + 1) (g + 1)
@@ -143,7 +143,7 @@ module _ (m n : ℕ) (ds positions : List ℕ) (free g : ℕ) (w : Standing m n 
         away = go (decide (has (suc g) ds))
           where
             go : Or (has (suc g) ds ≡ true) (has (suc g) ds ≡ false) → has (suc g) ds ≡ false
-            go (inl t) = absurd (omega (arith, place-below (suc g) ds t, w .partners, place))
+            go (inl t) = absurd (omega (arith, index-below (suc g) ds t, w .partners, place))
             go (inr t) = t
 
 -- none of the first h heads has a partner

@@ -20,7 +20,7 @@ use Rattle.semantics.specs.Overlaps.{partnerLists, isOneToOne, isPairing, pairi
 use Rattle.semantics.specs.Overlaps.{Numbered, Overlap, overlapOf, overlapsOf}
 use Rattle.semantics.proofs.Configurations.{Or, inl, inr}
 use Rattle.semantics.proofs.Options.{decide, true-false, apart-eqb, equal-eqb, eqb-equal}
-use Rattle.semantics.proofs.Bools.{and-true, or-false}
+use Rattle.text.proofs.Bools.{and-true, or-false}
 use Rattle.tables.proofs.NumberLaws.{has-more}
 use Rattle.critical.specs.Joins.{allJoined, goalFrom}
 use Rattle.critical.specs.Rests.{rest, restFrom}

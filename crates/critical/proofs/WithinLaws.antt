@@ -18,9 +18,10 @@ use Rattle.semantics.specs.Solving.{solve}
 use Rattle.semantics.specs.Overlaps.{equateTerms, equate, unjoinedHeads, appearingIn, appearing}
 use Rattle.semantics.proofs.Configurations.{Or, inl, inr, Member}
 use Rattle.semantics.proofs.Options.{decide, true-false, none-some, bind-some, cond-some, cond-some-not, eqb-equal, equal-eqb}
-use Rattle.semantics.proofs.Bools.{and-true, or-cases, or-right}
+use Rattle.text.proofs.Bools.{and-true}
+use Rattle.semantics.proofs.Bools.{or-cases, or-right}
 use Rattle.semantics.proofs.Multisets.{member-cons, member-nil}
-use Rattle.semantics.proofs.Places.{some-equal}
+use Rattle.semantics.proofs.Indices.{some-equal}
 use Rattle.semantics.proofs.SolveLaws.{solve-keeps}
 use Rattle.tables.specs.Cells.{cellTerm, cellTerms, cellConstraints, isLow}
 use Rattle.tables.specs.Numbers.{isWithin}

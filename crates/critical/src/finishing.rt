@@ -8,7 +8,7 @@ ghost use mathlib.Core.Path.{_≡_};
 ghost use Prim.Native.Nat.{_+_, _*_, _≤_};
 ghost use lib.Dec.{eqb};
 ghost use lib.ListN.{length, take};
-ghost use Rattle.text.specs.Lists.{placeFrom};
+ghost use Rattle.text.specs.Lists.{indexFrom};
 ghost use Rattle.semantics.specs.Overlaps.{secondPositions};
 ghost use Rattle.tables.specs.Layout.{constraintSize};
 ghost use Rattle.critical.specs.Cells.{Unjoined};
@@ -35,7 +35,7 @@ pub fn drop_joined(cells: &mut [u16], m: usize, n: usize, partners: [usize; 4]) 
 // The head of the first rule, of its m, that is joined to head d of the second; m where none is.
 pub fn partner_of(partners: [usize; 4], m: usize, d: usize) -> usize
     requires { ⌜ (m ≤ 4) × (length partners ≡ 4) ⌝ }
-    ensures { λ r. ⌜ (r ≡ placeFrom (eqb d) 0 (take m partners)) × (r ≤ m) ⌝ }
+    ensures { λ r. ⌜ (r ≡ indexFrom (eqb d) 0 (take m partners)) × (r ≤ m) ⌝ }
 {
     let mut h = 0;
     while h < m {

@@ -15,7 +15,7 @@ use Rattle.semantics.specs.Strategy.{find, chooseFrom, choose}
 use Rattle.tables.specs.Cells.{cellConstraints}
 use Rattle.tables.specs.Rows.{ruleOfRow, ruleOf, rulesOf, rowOf}
 use Rattle.engine.specs.Cells.{assigned}
-use Rattle.engine.specs.Places.{foundOf, Seeking, Located, Row, Table, choiceOf, Chosen}
+use Rattle.engine.specs.Positions.{foundOf, Seeking, Located, Row, Table, choiceOf, Chosen}
 use Rattle.tables.proofs.CellLaws.{le-or-lt}
 
 -- no cell of zeros is settled

@@ -37,11 +37,11 @@ use Rattle.semantics.specs.Strategy.{goalState, run}
 use Rattle.tables.specs.Layout.{firstRule}
 use Rattle.tables.specs.Cells.{cellTerm, isLow, stateOf}
 use Rattle.tables.specs.Rows.{symbolOf, symbolsOf, ruleOfRow, ruleOf, rulesOf, rowOf, nameOf}
-use Rattle.engine.specs.Places.{isLettered, isSide, Row, Table}
+use Rattle.engine.specs.Positions.{isLettered, isSide, Row, Table}
 use Rattle.engine.specs.Runs.{weightBy, Lowers, storeOf, Runnable, Startable, Ended}
-use Rattle.semantics.proofs.Bools.{and-true}
+use Rattle.text.proofs.Bools.{and-true}
 use Rattle.engine.proofs.ChooseLaws.{length-tabled, getD-tabled}
-use Rattle.semantics.proofs.Places.{getElem-at, getD-at}
+use Rattle.semantics.proofs.Indices.{getElem-at, getD-at}
 use Rattle.semantics.proofs.Weights.{rule-lowers}
 
 -- whether a term is no constant 0, which stands for no term

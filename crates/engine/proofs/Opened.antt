@@ -3,7 +3,7 @@
 use Prim.Native.Nat.{ℕ}
 use Rattle.engine.specs.Cells.{assigned, fitOf, opposed, mayTerms, mayFit, swap, clashes, merge}
 use Rattle.engine.specs.Cells.{instanceCell, movedRow}
-use Rattle.engine.specs.Places.{isLettered, foundOf, isSide, choiceOf}
+use Rattle.engine.specs.Positions.{isLettered, foundOf, isSide, choiceOf}
 use Rattle.engine.specs.Runs.{weightBy, storeOf}
 use Rattle.engine.specs.Stated.{matchRow, fireRow}
 

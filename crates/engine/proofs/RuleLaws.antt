@@ -16,9 +16,9 @@ use Rattle.semantics.specs.Firing.{without, instance, fired}
 use Rattle.tables.specs.Cells.{cellTerm, cellConstraints, cellEquations, isLow}
 use Rattle.tables.specs.Rows.{ruleOfRow}
 use Rattle.engine.specs.Cells.{assigned, instanceCell}
-use Rattle.engine.specs.Places.{isLettered, isSide, Row}
+use Rattle.engine.specs.Positions.{isLettered, isSide, Row}
 use Rattle.engine.specs.States.{Solvable, Solved, Removed, Appended, Equated, SolvedRule, Fires, Fired}
-use Rattle.semantics.proofs.Bools.{and-true}
+use Rattle.text.proofs.Bools.{and-true}
 use Rattle.tables.proofs.CellLaws.{le-or-lt, cell-low}
 use Rattle.tables.proofs.MapLaws.{low-kept, acts-constraints, acts-equations, acts-used}
 use Rattle.engine.proofs.FireLaws.{instance-acts, constraints-append}

@@ -17,7 +17,7 @@ use Rattle.semantics.specs.Matching.{Assignment, matchConstraint}
 use Rattle.semantics.specs.Strategy.{Match, firstIn, find}
 use Rattle.tables.specs.Cells.{cellConstraints, rowConstraint}
 use Rattle.engine.specs.Cells.{assigned, fitOf, mayFit, Rows, Matched}
-use Rattle.engine.specs.Places.{isLettered, foundOf, Seeking, Located}
+use Rattle.engine.specs.Positions.{isLettered, foundOf, Seeking, Located}
 use Rattle.engine.proofs.OpposeLaws.{may-not}
 use Rattle.tables.proofs.CellLaws.{every-first, every-rest, constraints-at}
 

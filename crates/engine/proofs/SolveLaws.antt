@@ -35,7 +35,7 @@ use Rattle.semantics.specs.Firing.{settle}
 use Rattle.tables.specs.Cells.{cellTerm, cellConstraints, cellEquations, isLow, stateOf}
 use Rattle.engine.specs.Cells.{swap, clashes, merge}
 use Rattle.engine.specs.States.{Merged, Solvable, Solved}
-use Rattle.semantics.proofs.Bools.{and-true}
+use Rattle.text.proofs.Bools.{and-true}
 use Rattle.tables.proofs.CellLaws.{either, le-or-lt, cell-low, cell-high}
 use Rattle.tables.proofs.MapLaws.{Acts, anything, all-low, all-terms, all-equations, low-kept}
 use Rattle.tables.proofs.MapLaws.{acts-constraints, acts-equations, acts-bound, acts-used}

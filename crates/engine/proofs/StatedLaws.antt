@@ -18,7 +18,7 @@ use Rattle.semantics.specs.Firing.{fireAt}
 use Rattle.tables.specs.Cells.{cellConstraints, rowConstraint}
 use Rattle.tables.specs.Rows.{ruleOfRow}
 use Rattle.engine.specs.Cells.{assigned, fitOf, Rows, Matched}
-use Rattle.engine.specs.Places.{isLettered, Row}
+use Rattle.engine.specs.Positions.{isLettered, Row}
 use Rattle.engine.specs.States.{Fires, Fired}
 use Rattle.engine.specs.Runs.{storeOf}
 use Rattle.engine.specs.Stated.{statedAt, matchRow, fireRow, Stated, FiredAt}

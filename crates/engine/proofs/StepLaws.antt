@@ -15,7 +15,7 @@ use Rattle.tables.specs.Layout.{firstRule}
 use Rattle.tables.specs.Cells.{cellConstraints}
 use Rattle.tables.specs.Rows.{nameOf, ruleOfRow, rowOf, ruleOf}
 use Rattle.engine.specs.Cells.{assigned}
-use Rattle.engine.specs.Places.{foundOf, Row, Table, choiceOf, Chosen}
+use Rattle.engine.specs.Positions.{foundOf, Row, Table, choiceOf, Chosen}
 use Rattle.engine.specs.States.{Fires, Fired}
 use Rattle.engine.specs.Runs.{storeOf, Live, Stepped}
 use Rattle.engine.proofs.ChooseLaws.{lentRow, row-cells}

@@ -1,6 +1,6 @@
 -- How the engine's arrays decode. Assumes nothing.
 pub mod Cells
-pub mod Places
+pub mod Positions
 pub mod States
 pub mod Runs
 pub mod Stated

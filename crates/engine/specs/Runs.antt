@@ -17,7 +17,7 @@ use Rattle.semantics.specs.Strategy.{advance, normalise}
 use Rattle.tables.specs.Layout.{constraintSize}
 use Rattle.tables.specs.Cells.{cellTerm, cellConstraints, isLow, stateOf}
 use Rattle.tables.specs.Rows.{ruleOfRow, rulesOf, rowOf}
-use Rattle.engine.specs.Places.{Table}
+use Rattle.engine.specs.Positions.{Table}
 
 -- the weight of constraints, where w weighs the symbols by their numbers
 unfoldable pub weightBy : (ℕ → ℕ) → List Constraint → ℕ

@@ -16,7 +16,7 @@ use Rattle.semantics.specs.Firing.{fireAt}
 use Rattle.tables.specs.Layout.{constraintSize, headsCell}
 use Rattle.tables.specs.Cells.{cellTerm, cellConstraints, isLow, stateOf}
 use Rattle.tables.specs.Rows.{ruleOfRow}
-use Rattle.engine.specs.Places.{Row}
+use Rattle.engine.specs.Positions.{Row}
 use Rattle.engine.specs.Runs.{weightBy, storeOf}
 
 -- as many of the positions as a rule has heads

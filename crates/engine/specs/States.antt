@@ -18,7 +18,7 @@ use Rattle.tables.specs.Layout.{constraintSize, headsCell, bodyCell}
 use Rattle.tables.specs.Cells.{stateOf, cellTerm, cellConstraints, cellEquations, isLow}
 use Rattle.tables.specs.Rows.{ruleOfRow}
 use Rattle.engine.specs.Cells.{assigned, clashes, merge}
-use Rattle.engine.specs.Places.{Row}
+use Rattle.engine.specs.Positions.{Row}
 
 -- an equation between cells, put in throughout or found to clash
 pub record Merged (alive : Bool) (a b : ℕ) (equations bound cells equations′ bound′ cells′ : List ℕ) : Type 0 where

@@ -15,7 +15,7 @@ ghost use Prim.Native.Nat.{_+_, _*_, _≤_, min};
 ghost use lib.ListN.{length, take};
 ghost use Rattle.tables.specs.Layout.{constraintSize};
 ghost use Rattle.engine.specs.Cells.{instanceCell, movedRow};
-ghost use Rattle.engine.specs.Places.{Row};
+ghost use Rattle.engine.specs.Positions.{Row};
 ghost use Rattle.engine.specs.States.{Removed, Appended, Equated, SolvedRule, Fires, Fired};
 
 // A cell of a rule's body: what the rule's variable is bound to, or a new variable.

@@ -20,7 +20,7 @@ ghost use Rattle.tables.specs.Layout.{constraintSize, headsCell};
 ghost use Rattle.tables.specs.Cells.{cellConstraints, rowConstraint};
 ghost use Rattle.tables.specs.Rows.{ruleOfRow};
 ghost use Rattle.engine.specs.Cells.{assigned, Rows, Matched};
-ghost use Rattle.engine.specs.Places.{Seeking, Located, Row, Table, Chosen};
+ghost use Rattle.engine.specs.Positions.{Seeking, Located, Row, Table, Chosen};
 
 // Whether positions were found, with them and the bindings under which the heads fit there.
 pub struct Found {

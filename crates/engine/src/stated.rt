@@ -12,7 +12,7 @@ ghost use Prim.Native.Nat.{_*_};
 ghost use lib.ListN.{length};
 ghost use Rattle.tables.specs.Layout.{constraintSize};
 ghost use Rattle.engine.specs.Cells.{Matched};
-ghost use Rattle.engine.specs.Places.{Row};
+ghost use Rattle.engine.specs.Positions.{Row};
 ghost use Rattle.engine.specs.Stated.{matchRow, Stated, FiredAt};
 
 // The heads of a rule against the constraints at its positions, in written order; no position may serve two heads.

@@ -13,13 +13,13 @@ use borrow.Author.Tests.{lt-ltb, le-ltb, ne-eqb, eq-eqb, leb-false}
 use lib.Dec.{leb, ltb}
 use lib.ListN.{length, take, drop, getD, length-map, length-drop}
 use lib.Seq.{paste, take-length, take-paste, length-paste, length-take-le}
-use Rattle.text.specs.Lists.{placeOf}
+use Rattle.text.specs.Lists.{indexOf}
 use Rattle.text.specs.Lines.{lines}
 use Rattle.text.specs.Fields.{fields}
 use Rattle.text.specs.Keys.{keyOf}
 use Rattle.text.specs.Splits.{lineFrom, Holds, SplitAt}
 use Rattle.text.specs.declared.fields.Fields.{Fields}
-use Rattle.text.proofs.Cursors.{fields-some}
+use Rattle.text.proofs.LineLaws.{fields-some}
 use Rattle.text.proofs.SplitLaws.{lines-at, lines-split, lines-done, line-fine}
 use Rattle.semantics.specs.Terms.{Term, Constraint, Symbol, weight}
 use Rattle.syntax.specs.Answers.{Answer, refused, accepted, refuseIf, andThen}
@@ -97,7 +97,7 @@ module _ (f : Fields) (s : GoalCounts) (symbols names places cells letters : Lis
       after = lettersAfter (drop 2 fs) (lettersOf letters (s .letters))
 
       abbrev variable : List ℕ → ℕ
-      variable g = placeOf g after
+      variable g = indexOf g after
 
       abbrev onto : Found → Answer GoalDraft
       onto x = accepted (record {
@@ -193,7 +193,7 @@ module _ (f : Fields) (s : GoalCounts) (symbols names places cells letters : Lis
             abbrev cs : List (List ℕ)
             cs = constantsAfter (drop 2 fs) (constantsOf names (s .constants))
 
-            few : (g : List ℕ) → placeOf g cs < 192
+            few : (g : List ℕ) → indexOf g cs < 192
             few g = omega (
               arith,
               name-most g cs,

@@ -15,12 +15,12 @@ use borrow.Author.Tests.{lt-ltb, le-ltb, eq-eqb, ne-eqb, ltb-true}
 use lib.Dec.{eqb, ltb}
 use lib.ListN.{length, take, drop, getD, set, length-set}
 use lib.Seq.{take-suc, getD-set-same, getD-set-other}
-use Rattle.text.specs.Lists.{every, placeFrom, placeOf, isKnown, withName, sameBytes}
+use Rattle.text.specs.Lists.{every, indexFrom, indexOf, isKnown, withName, sameBytes}
 use Rattle.text.specs.Fields.{isName, isTerm}
 use Rattle.text.specs.Keys.{keyOf}
 use Rattle.text.proofs.Laws.{tabled-length, tabled-at}
 use Rattle.text.proofs.Keys.{letter-key, variable-range}
-use Rattle.text.proofs.ClassLaws.{and-true}
+use Rattle.text.proofs.Bools.{and-true}
 use Rattle.semantics.specs.Terms.{Term, con, var}
 use Rattle.syntax.specs.Forms.{firstConstant, termOf}
 use Rattle.syntax.specs.Goals.{lettersAfter}
@@ -77,11 +77,11 @@ pigeon (suc n) (suc k) f low apart =
 -- the place of the first that passes a test is not behind one that does
 pub place-le {ℓ} : {A : Type ℓ} (test : A → Bool) (d : A) (j : ℕ) (xs : List A) (i : ℕ) → i < length xs
     → test (getD xs i d) ≡ true
-    → placeFrom test j xs ≤ j + i
+    → indexFrom test j xs ≤ j + i
 place-le test d j [] i h e = absurd (omega arith)
 place-le test d j (x ∷ xs) zero h e = rw e (omega arith)
 place-le test d j (x ∷ xs) (suc i) h e =
-    pick (test x) (placeFrom test (suc j) xs) (place-le test d (suc j) xs i (omega arith) e)
+    pick (test x) (indexFrom test (suc j) xs) (place-le test d (suc j) xs i (omega arith) e)
   where
     pick : (t : Bool) (p : ℕ) → p ≤ suc j + i → cond t j p ≤ j + suc i
     pick true p l = omega arith
@@ -97,9 +97,9 @@ module _ (letters : List ℕ) (v : ℕ) where
   letters-at i h = tabled-at (λ i. getD letters i 0 ∷ []) v i [] h
 
   -- a letter that is not found is none of them
-  module _ (b : ℕ) (far : v ≤ placeOf (b ∷ []) (lettersOf letters v)) where
+  module _ (b : ℕ) (far : v ≤ indexOf (b ∷ []) (lettersOf letters v)) where
     pub letter-new : (i : ℕ) → i < v → getD letters i 0 ≡ b → ⊥
-    unfolding placeOf
+    unfolding indexOf
     letter-new i h e =
         let passes : sameBytes (b ∷ []) (getD (lettersOf letters v) i []) ≡ true =
         ap (sameBytes (b ∷ [])) (letters-at i h) ∙ ap (λ (t : Bool). t && true) (eq-eqb b (getD letters i 0) (sym e)) in
@@ -190,13 +190,13 @@ one-same b x = go (eqb b x)
     go true = refl
     go false = refl
 
-place-letters : (b i : ℕ) (xs : List ℕ) → placeFrom (eqb b) i xs ≡ placeFrom (sameBytes (b ∷ [])) i (map (λ x. x ∷ []) xs)
-place-letters b i [] = refl
-place-letters b i (x ∷ xs) = ap₂ (λ (t : Bool) (p : ℕ). cond t i p) (one-same b x) (place-letters b (suc i) xs)
+index-letters : (b i : ℕ) (xs : List ℕ) → indexFrom (eqb b) i xs ≡ indexFrom (sameBytes (b ∷ [])) i (map (λ x. x ∷ []) xs)
+index-letters b i [] = refl
+index-letters b i (x ∷ xs) = ap₂ (λ (t : Bool) (p : ℕ). cond t i p) (one-same b x) (index-letters b (suc i) xs)
 
-place-one : (g : List ℕ) → placeOf g (g ∷ []) ≡ 0
-unfolding placeOf
-place-one g = rw (same-refl g)
+index-one : (g : List ℕ) → indexOf g (g ∷ []) ≡ 0
+unfolding indexOf
+index-one g = rw (same-refl g)
 
 -- one cell, as the code goes by cases
 module _ (cell v : ℕ) (letters : List ℕ) (low : cell < 282) (size : length letters ≡ 26) (fit : LettersFit letters v) where
@@ -208,12 +208,12 @@ module _ (cell v : ℕ) (letters : List ℕ) (low : cell < 282) (size : length l
   letter-low h =
       record { lettered = rw (lt-ltb cell 256 h); numbered = rw (lt-ltb cell 256 h); fits = fit; size = refl }
 
-  module _ (h : 256 ≤ cell) (b k : ℕ) (e : b ≡ cell - 191) (q : k ≡ placeFrom (eqb b) 0 (take v letters)) where
-    placed : k ≡ placeOf (letterOf cell) ls
-    unfolding placeOf letterOf
+  module _ (h : 256 ≤ cell) (b k : ℕ) (e : b ≡ cell - 191) (q : k ≡ indexFrom (eqb b) 0 (take v letters)) where
+    placed : k ≡ indexOf (letterOf cell) ls
+    unfolding indexOf letterOf
     placed =
-        q ∙ place-letters b 0 (take v letters)
-        ∙ ap₂ (λ (g : List ℕ) (l : List (List ℕ)). placeFrom (sameBytes g) 0 l) (ap (λ (x : ℕ). x ∷ []) e)
+        q ∙ index-letters b 0 (take v letters)
+        ∙ ap₂ (λ (g : List ℕ) (l : List (List ℕ)). indexFrom (sameBytes g) 0 l) (ap (λ (x : ℕ). x ∷ []) e)
         (letters-named letters v (omega (arith, fit .few)))
 
     letter-same : b ∷ [] ≡ letterOf cell
@@ -231,8 +231,8 @@ module _ (cell v : ℕ) (letters : List ℕ) (low : cell < 282) (size : length l
         }
 
     module _ (l : v ≤ k) where
-      far : v ≤ placeOf (b ∷ []) ls
-      far = omega (arith, placed, ap (λ (g : List ℕ). placeOf g ls) letter-same)
+      far : v ≤ indexOf (b ∷ []) ls
+      far = omega (arith, placed, ap (λ (g : List ℕ). indexOf g ls) letter-same)
 
       pub letter-fits : v < 26
       letter-fits = letter-room letters v b far fit (omega arith) (omega arith)
@@ -249,9 +249,9 @@ module _ (cell v : ℕ) (letters : List ℕ) (low : cell < 282) (size : length l
             lettered = grown
                 ∙ sym (rw (le-ltb cell 256 h, ← placed, le-ltb k (length ls) (omega (arith, letters-length letters v))) refl);
             numbered =
-                let last : placeOf (letterOf cell) (ls ++ (letterOf cell ∷ [])) ≡ v =
+                let last : indexOf (letterOf cell) (ls ++ (letterOf cell ∷ [])) ≡ v =
                 name-second (letterOf cell) ls (letterOf cell ∷ []) (omega (arith, placed, letters-length letters v))
-                ∙ omega (arith, place-one (letterOf cell), letters-length letters v) in
+                ∙ omega (arith, index-one (letterOf cell), letters-length letters v) in
                 rw (le-ltb cell 256 h, grown, last);
             fits = rw (add-one v) (fit-more letters v b far fit (omega arith) (omega arith) size);
             size = length-set letters v b;
@@ -282,8 +282,8 @@ module _ (c d : ℕ) (l : List (List ℕ)) (s : Seen c l) where
   unfolding numberedCell isKnown
   numbered-more = let (more, q) = with-grows d l in rw q (go more (ltb c 256) s)
     where
-      go : (more : List (List ℕ)) (b : Bool) → (b ≡ false → ltb (placeOf (letterOf c) l) (length l) ≡ true)
-          → cond b c (256 + placeOf (letterOf c) (l ++ more)) ≡ cond b c (256 + placeOf (letterOf c) l)
+      go : (more : List (List ℕ)) (b : Bool) → (b ≡ false → ltb (indexOf (letterOf c) l) (length l) ≡ true)
+          → cond b c (256 + indexOf (letterOf c) (l ++ more)) ≡ cond b c (256 + indexOf (letterOf c) l)
       go more true k = refl
       go more false k = ap (λ (p : ℕ). 256 + p) (name-first (letterOf c) l more (ltb-true _ _ (k refl)))
 
@@ -364,7 +364,7 @@ module _ (row : List ℕ) (v : ℕ) (l₀ l₁ l₂ l₃ l₄ : List ℕ) (a b c
       }
 
 -- the letter of a term's cell is the term
-module _ (cs : List (List ℕ)) (g : List ℕ) (t : isTerm g ≡ true) (few : placeOf g cs < 192) where
+module _ (cs : List (List ℕ)) (g : List ℕ) (t : isTerm g ≡ true) (few : indexOf g cs < 192) where
   letter-back : isName g ≡ false → letterOf (254 + keyOf g) ≡ g
   unfolding letterOf
   letter-back n =
@@ -377,38 +377,38 @@ module _ (cs : List (List ℕ)) (g : List ℕ) (t : isTerm g ≡ true) (few : pl
   one-letter l = go (isName g) refl
     where
       go : (b : Bool) → isName g ≡ b
-          → cond (ltb (cond b (firstConstant + placeOf g cs) (254 + keyOf g)) 256) l
-          (withName (letterOf (cond b (firstConstant + placeOf g cs) (254 + keyOf g))) l)
+          → cond (ltb (cond b (firstConstant + indexOf g cs) (254 + keyOf g)) 256) l
+          (withName (letterOf (cond b (firstConstant + indexOf g cs) (254 + keyOf g))) l)
           ≡ cond b l (withName g l)
-      go true e = rw (lt-ltb (firstConstant + placeOf g cs) 256 (omega arith))
+      go true e = rw (lt-ltb (firstConstant + indexOf g cs) 256 (omega arith))
       go false e =
           rw (le-ltb (254 + keyOf g) 256 (omega (arith, letter-range g t e .0)), letter-back e)
 
-  one-number : (l : List (List ℕ)) → cellTerm (numberedCell l (termCell cs g)) ≡ termOf (λ f. placeOf f l) cs g
+  one-number : (l : List (List ℕ)) → cellTerm (numberedCell l (termCell cs g)) ≡ termOf (λ f. indexOf f l) cs g
   unfolding numberedCell termCell termOf
   one-number l = go (isName g) refl
     where
       go : (b : Bool) → isName g ≡ b
-          → cellTerm (cond (ltb (cond b (firstConstant + placeOf g cs) (254 + keyOf g)) 256)
-          (cond b (firstConstant + placeOf g cs) (254 + keyOf g))
-          (256 + placeOf (letterOf (cond b (firstConstant + placeOf g cs) (254 + keyOf g))) l))
-          ≡ cond b (con (firstConstant + placeOf g cs)) (var (placeOf g l))
+          → cellTerm (cond (ltb (cond b (firstConstant + indexOf g cs) (254 + keyOf g)) 256)
+          (cond b (firstConstant + indexOf g cs) (254 + keyOf g))
+          (256 + indexOf (letterOf (cond b (firstConstant + indexOf g cs) (254 + keyOf g))) l))
+          ≡ cond b (con (firstConstant + indexOf g cs)) (var (indexOf g l))
       go true e =
-          rw (lt-ltb (firstConstant + placeOf g cs) 256 (omega arith)) (cell-low (firstConstant + placeOf g cs) (omega arith))
+          rw (lt-ltb (firstConstant + indexOf g cs) 256 (omega arith)) (cell-low (firstConstant + indexOf g cs) (omega arith))
       go false e =
           rw (le-ltb (254 + keyOf g) 256 (omega (arith, letter-range g t e .0)), letter-back e)
-          (cell-high (256 + placeOf g l) (omega arith)
-          ∙ ap var (let z : 256 + placeOf g l - 256 ≡ placeOf g l = omega arith in z))
+          (cell-high (256 + indexOf g l) (omega arith)
+          ∙ ap var (let z : 256 + indexOf g l - 256 ≡ indexOf g l = omega arith in z))
 
   one-used : (l : List (List ℕ)) → numberedCell l (termCell cs g) ≡ 0 → ⊥
   unfolding numberedCell termCell
   one-used l = go (isName g) refl
     where
       go : (b : Bool) → isName g ≡ b
-          → cond (ltb (cond b (firstConstant + placeOf g cs) (254 + keyOf g)) 256)
-          (cond b (firstConstant + placeOf g cs) (254 + keyOf g))
-          (256 + placeOf (letterOf (cond b (firstConstant + placeOf g cs) (254 + keyOf g))) l) ≡ 0 → ⊥
-      go true e z = let y = rw (lt-ltb (firstConstant + placeOf g cs) 256 (omega arith)) at z in omega (arith, y)
+          → cond (ltb (cond b (firstConstant + indexOf g cs) (254 + keyOf g)) 256)
+          (cond b (firstConstant + indexOf g cs) (254 + keyOf g))
+          (256 + indexOf (letterOf (cond b (firstConstant + indexOf g cs) (254 + keyOf g))) l) ≡ 0 → ⊥
+      go true e z = let y = rw (lt-ltb (firstConstant + indexOf g cs) 256 (omega arith)) at z in omega (arith, y)
       go false e z =
           let y = rw (le-ltb (254 + keyOf g) 256 (omega (arith, letter-range g t e .0))) at z in omega (arith, y)
 
@@ -424,7 +424,7 @@ zeros-terms (suc n) l = refl
 
 -- the letters after a line
 pub letters-after :
-    (n : ℕ) (cs gs l : List (List ℕ)) → length gs ≤ n → ((g : List ℕ) → placeOf g cs < 192) → every isTerm gs ≡ true
+    (n : ℕ) (cs gs l : List (List ℕ)) → length gs ≤ n → ((g : List ℕ) → indexOf g cs < 192) → every isTerm gs ≡ true
     → withLetters (padded n (map (termCell cs) gs)) l ≡ lettersAfter gs l
 unfolding padded withLetters lettersAfter
 letters-after n cs [] l h few t = zeros-letters n l
@@ -436,8 +436,8 @@ letters-after (suc n) cs (g ∷ gs) l h few t =
 
 -- the terms that the numbered cells of a line stand for
 pub cells-numbered :
-    (n : ℕ) (cs gs l : List (List ℕ)) → length gs ≤ n → ((g : List ℕ) → placeOf g cs < 192) → every isTerm gs ≡ true
-    → cellTerms (map (numberedCell l) (padded n (map (termCell cs) gs))) ≡ map (termOf (λ f. placeOf f l) cs) gs
+    (n : ℕ) (cs gs l : List (List ℕ)) → length gs ≤ n → ((g : List ℕ) → indexOf g cs < 192) → every isTerm gs ≡ true
+    → cellTerms (map (numberedCell l) (padded n (map (termCell cs) gs))) ≡ map (termOf (λ f. indexOf f l) cs) gs
 unfolding padded cellTerms
 cells-numbered n cs [] l h few t = zeros-terms n l
 cells-numbered zero cs (g ∷ gs) l h few t = absurd (omega arith)

@@ -12,7 +12,7 @@ use mathlib.Core.Bool.{cond}
 use mathlib.Core.List.{List, [], _∷_, map}
 use lib.Dec.{ltb}
 use lib.ListN.{length, getD, take, drop}
-use Rattle.text.specs.Lists.{placeOf, withName}
+use Rattle.text.specs.Lists.{indexOf, withName}
 use Rattle.text.specs.Lines.{lines}
 use Rattle.text.specs.Splits.{Holds}
 use Rattle.text.specs.declared.fields.Fields.{Fields}
@@ -52,7 +52,7 @@ withLetters (c ∷ cells) letters = withLetters cells (withLetter c letters)
 
 -- a cell with its variable's letter replaced by the letter's number
 unfoldable pub numberedCell : List (List ℕ) → ℕ → ℕ
-numberedCell letters cell = cond (ltb cell firstVariable) cell (firstVariable + placeOf (letterOf cell) letters)
+numberedCell letters cell = cond (ltb cell firstVariable) cell (firstVariable + indexOf (letterOf cell) letters)
 
 -- what is promised of a term's cell
 pub record LetterIn (cell v : ℕ) (letters letters′ : List ℕ) (r : LetterRead) : Type 0 where

@@ -5,12 +5,12 @@ ghost use mathlib.Core.Path.{_≡_};
 ghost use Prim.Native.Nat.{ℕ, _≤_, _<_};
 ghost use lib.Dec.{eqb};
 ghost use lib.ListN.{length, getD};
-ghost use Rattle.text.specs.Lists.{placeFrom};
+ghost use Rattle.text.specs.Lists.{indexFrom};
 ghost use Rattle.goals.specs.ReadGoal.{LettersFit, LetterIn, RowIn};
 
-// The place of a letter; behind the last where none is it.
+// The index of a letter; behind the last where none is it.
 fn find_letter(letters: &[u8], b: u8) -> usize
-    ensures { λ r. ⌜ (r ≡ placeFrom (eqb b) 0 (now (letters .entry))) × (r ≤ length (now (letters .entry))) ⌝ }
+    ensures { λ r. ⌜ (r ≡ indexFrom (eqb b) 0 (now (letters .entry))) × (r ≤ length (now (letters .entry))) ⌝ }
 {
     let mut i = 0;
     while i < letters.len() {

@@ -19,7 +19,7 @@ use Rattle.semantics.proofs.OverlapGoals.{overlap-goal, wellFormed-heads}
 use Rattle.tables.specs.Layout.{constraintSize, headsCell}
 use Rattle.tables.specs.Cells.{cellConstraints}
 use Rattle.tables.specs.Rows.{ruleOfRow, ruleOf, rulesOf, rowOf}
-use Rattle.engine.specs.Places.{Row}
+use Rattle.engine.specs.Positions.{Row}
 use Rattle.engine.specs.Runs.{Runnable}
 use Rattle.engine.proofs.RunLaws.{length-constraints}
 use Rattle.engine.proofs.GoalLaws.{rule-stands}

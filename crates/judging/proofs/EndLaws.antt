@@ -16,7 +16,7 @@ use borrow.Author.Tests.{lt-ltb, ltb-true}
 use Rattle.text.specs.Lists.{every}
 use Rattle.semantics.specs.Terms.{Term, con, var, Constraint, Equation, Symbol, Rule, Program, isDeclared, isBelow, alphabet}
 use Rattle.semantics.specs.Overlaps.{Overlap, firstEnd, secondEnd}
-use Rattle.semantics.proofs.Bools.{and-true}
+use Rattle.text.proofs.Bools.{and-true}
 use Rattle.semantics.proofs.Configurations.{All, none, also, TermBelow}
 use Rattle.semantics.proofs.Listings.{all-every}
 use Rattle.semantics.proofs.Multisets.{all-mono}

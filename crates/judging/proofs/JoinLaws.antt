@@ -18,7 +18,7 @@ use Rattle.semantics.specs.Strategy.{Final}
 use Rattle.semantics.specs.Overlaps.{Overlap, firstEnd, secondEnd}
 use Rattle.semantics.specs.Variants.{sameState}
 use Rattle.semantics.specs.Verdict.{isJoinable}
-use Rattle.semantics.proofs.Bools.{and-true}
+use Rattle.text.proofs.Bools.{and-true}
 use Rattle.semantics.proofs.Comparison.{sameState-complete}
 use Rattle.semantics.proofs.Letters.{every-all}
 use Rattle.semantics.proofs.Listings.{all-every}

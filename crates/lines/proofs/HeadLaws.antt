@@ -12,7 +12,7 @@ use borrow.Author.Tests.{lt-ltb, le-ltb, eq-eqb, ne-eqb}
 use lib.Dec.{eqb, ltb}
 use lib.ListN.{length, take, drop, getD, length-drop}
 use lib.Seq.{getD-take}
-use Rattle.text.specs.Lists.{placeFrom, placeOf, tabled}
+use Rattle.text.specs.Lists.{indexFrom, indexOf, tabled}
 use Rattle.text.specs.Fields.{isName}
 use Rattle.text.specs.Keys.{keyOf}
 use Rattle.text.proofs.Laws.{tabled-length, tabled-at}
@@ -22,7 +22,7 @@ use Rattle.syntax.proofs.Tabled.{tabled-same, map-tabled}
 use Rattle.tables.specs.Rows.{nameOf, symbolOf, symbolsOf}
 use Rattle.lines.specs.Read.{constraintHead, headAnswer}
 use Rattle.lines.specs.declared.HeadRead.the-variants.{Refused, Symbol as HeadSymbol}
-use Rattle.lines.proofs.Named.{Wide, named-place, place-take}
+use Rattle.lines.proofs.Named.{Wide, named-index, index-take}
 
 module _ (names symbols : List ℕ) (k : ℕ) where
   pub symbols-length : length (symbolsOf names symbols k) ≡ k
@@ -58,17 +58,17 @@ head-faulty symbols n fs e = rw e
 -- number 6, by the place of the symbol's key among all keys
 module _ (fs : List (List ℕ)) (names symbols : List ℕ) (n k s key : ℕ) (fine : isConstraintFaulty fs ≡ false)
     (w : Wide names) (size : length symbols ≡ 2 * k) (room : length symbols ≤ 2 * length names)
-    (named : isName (fieldAt 1 fs) ≡ true) (keyed : key ≡ keyOf (fieldAt 1 fs)) (e : s ≡ placeFrom (eqb key) 0 names) where
+    (named : isName (fieldAt 1 fs) ≡ true) (keyed : key ≡ keyOf (fieldAt 1 fs)) (e : s ≡ indexFrom (eqb key) 0 names) where
   abbrev S : List Symbol
   S = symbolsOf names symbols k
 
   number-is : symbolNumber S (fieldAt 1 fs) ≡ min s k
   unfolding symbolNumber
   number-is =
-      ap (placeOf (fieldAt 1 fs)) (symbol-names names symbols k)
-      ∙ sym (named-place (fieldAt 1 fs) names 0 k named w (omega arith))
-      ∙ ap (λ (x : ℕ). placeFrom (eqb x) 0 (take k names)) (sym keyed)
-      ∙ place-take (eqb key) 0 k names (omega arith) ∙ ap₂ min (sym e) (zero-add k)
+      ap (indexOf (fieldAt 1 fs)) (symbol-names names symbols k)
+      ∙ sym (named-index (fieldAt 1 fs) names 0 k named w (omega arith))
+      ∙ ap (λ (x : ℕ). indexFrom (eqb x) 0 (take k names)) (sym keyed)
+      ∙ index-take (eqb key) 0 k names (omega arith) ∙ ap₂ min (sym e) (zero-add k)
 
   tests : isUndeclared S fs ≡ (not (ltb (min s k) k) || not (eqb (length (drop 2 fs)) (symbolAt S (min s k) .arity)))
   unfolding isUndeclared

@@ -15,8 +15,8 @@ use Rattle.text.specs.Bytes.{between, classOf, classNumber, isClass}
 use Rattle.text.specs.Fields.{isName, isVariable}
 use Rattle.text.specs.Keys.{keyOf}
 use Rattle.syntax.specs.Forms.{symbolForm, headForm, bodyForm, equationForm, noForm, formOfByte, formOf}
-use Rattle.syntax.specs.Forms.{placeAfter}
-use Rattle.lines.specs.Read.{placeMeant}
+use Rattle.syntax.specs.Forms.{sectionAfter}
+use Rattle.lines.specs.Read.{sectionMeant}
 use Rattle.text.proofs.Keys.{name-key, variable-key, letter-key, key-of-more}
 
 pub form-none : (b : ℕ) → (b ≡ 75 → ⊥) → (b ≡ 82 → ⊥) → (b ≡ 72 → ⊥) → (b ≡ 66 → ⊥) → (b ≡ 69 → ⊥) → (b ≡ 71 → ⊥)
@@ -63,30 +63,30 @@ form-word (b ∷ []) h =
     never false = refl
 form-word (b ∷ c ∷ s) h = refl
 
-pub place-symbol : (p : ℕ) → (p ≡ 0 → ⊥) → placeAfter symbolForm (placeMeant p) ≡ none
-unfolding placeAfter placeMeant
-place-symbol zero h = absurd (h refl)
-place-symbol (suc zero) h = refl
-place-symbol (suc (suc zero)) h = refl
-place-symbol (suc (suc (suc p))) h = refl
+pub section-symbol : (p : ℕ) → (p ≡ 0 → ⊥) → sectionAfter symbolForm (sectionMeant p) ≡ none
+unfolding sectionAfter sectionMeant
+section-symbol zero h = absurd (h refl)
+section-symbol (suc zero) h = refl
+section-symbol (suc (suc zero)) h = refl
+section-symbol (suc (suc (suc p))) h = refl
 
-pub place-head : (p : ℕ) → (p ≡ 1 → ⊥) → placeAfter headForm (placeMeant p) ≡ none
-unfolding placeAfter placeMeant
-place-head zero h = refl
-place-head (suc zero) h = absurd (h refl)
-place-head (suc (suc zero)) h = refl
-place-head (suc (suc (suc p))) h = refl
+pub section-head : (p : ℕ) → (p ≡ 1 → ⊥) → sectionAfter headForm (sectionMeant p) ≡ none
+unfolding sectionAfter sectionMeant
+section-head zero h = refl
+section-head (suc zero) h = absurd (h refl)
+section-head (suc (suc zero)) h = refl
+section-head (suc (suc (suc p))) h = refl
 
-pub place-body : (p : ℕ) → (p ≡ 1 → ⊥) → (p ≡ 2 → ⊥) → placeAfter bodyForm (placeMeant p) ≡ none
-unfolding placeAfter placeMeant
-place-body zero h k = refl
-place-body (suc zero) h k = absurd (h refl)
-place-body (suc (suc zero)) h k = absurd (k refl)
-place-body (suc (suc (suc p))) h k = refl
+pub section-body : (p : ℕ) → (p ≡ 1 → ⊥) → (p ≡ 2 → ⊥) → sectionAfter bodyForm (sectionMeant p) ≡ none
+unfolding sectionAfter sectionMeant
+section-body zero h k = refl
+section-body (suc zero) h k = absurd (h refl)
+section-body (suc (suc zero)) h k = absurd (k refl)
+section-body (suc (suc (suc p))) h k = refl
 
-pub place-equation : (p : ℕ) → (p ≡ 0 → ⊥) → placeAfter equationForm (placeMeant p) ≡ some (placeMeant 3)
-unfolding placeAfter placeMeant
-place-equation zero h = absurd (h refl)
-place-equation (suc zero) h = refl
-place-equation (suc (suc zero)) h = refl
-place-equation (suc (suc (suc p))) h = refl
+pub section-equation : (p : ℕ) → (p ≡ 0 → ⊥) → sectionAfter equationForm (sectionMeant p) ≡ some (sectionMeant 3)
+unfolding sectionAfter sectionMeant
+section-equation zero h = absurd (h refl)
+section-equation (suc zero) h = refl
+section-equation (suc (suc zero)) h = refl
+section-equation (suc (suc (suc p))) h = refl

@@ -1,7 +1,7 @@
 -- Laws of names in a table of keys.
 --   packed-spell, same-key       a key is that of its spelling, so equal keys are equal spellings
---   place-take                   the place of the first of a list that passes a test, in its front
---   named-place                  the place of a name among the names of a part of a table
+--   index-take                   the place of the first of a list that passes a test, in its front
+--   named-index                  the place of a name among the names of a part of a table
 --   placed-set                   a name and its place, stored
 -- Assumes nothing.
 use mathlib.Core.Path.{_≡_, refl, sym, ap, ap₂, _∙_}
@@ -15,9 +15,9 @@ use borrow.Author.Tests.{eqb-true, eqb-false}
 use lib.Dec.{eqb}
 use lib.ListN.{length, take, drop, getD, set, length-take, length-drop, List·getD-eq-default}
 use lib.Seq.{take-suc, getD-take, getD-drop, getD-set-same, getD-set-other}
-use Rattle.text.specs.Lists.{placeFrom, placeOf, sameBytes, tabled}
+use Rattle.text.specs.Lists.{indexFrom, indexOf, sameBytes, tabled}
 use Rattle.text.specs.Fields.{isName}
-use Rattle.text.proofs.ClassLaws.{and-true}
+use Rattle.text.proofs.Bools.{and-true}
 use Rattle.text.specs.Keys.{keyOf, spell, spellFrom, packed, packedFrom}
 use Rattle.syntax.proofs.Known.{same-refl}
 use Rattle.syntax.proofs.Tabled.{map-append}
@@ -73,29 +73,29 @@ same-key f k n h = go (eqb (keyOf f) k) refl
 abbrev pub Wide : List ℕ → Type 0
 Wide keys = (i : ℕ) → getD keys i 0 < 18446744073709551616
 
-place-keys : (f : List ℕ) → isName f ≡ true → (i : ℕ) (keys : List ℕ) → Wide keys
-    → placeFrom (eqb (keyOf f)) i keys ≡ placeFrom (sameBytes f) i (map spell keys)
-place-keys f n i [] w = refl
-place-keys f n i (k ∷ keys) w =
-    ap₂ (λ (t : Bool) (p : ℕ). cond t i p) (same-key f k n (w 0)) (place-keys f n (suc i) keys (λ j. w (suc j)))
+index-keys : (f : List ℕ) → isName f ≡ true → (i : ℕ) (keys : List ℕ) → Wide keys
+    → indexFrom (eqb (keyOf f)) i keys ≡ indexFrom (sameBytes f) i (map spell keys)
+index-keys f n i [] w = refl
+index-keys f n i (k ∷ keys) w =
+    ap₂ (λ (t : Bool) (p : ℕ). cond t i p) (same-key f k n (w 0)) (index-keys f n (suc i) keys (λ j. w (suc j)))
 
 -- what is found in a list is found in its front, or else the front is passed
-place-least : (t : ℕ → Bool) (i : ℕ) (xs : List ℕ) → i ≤ placeFrom t i xs
-place-least t i [] = omega arith
-place-least t i (x ∷ xs) = go (t x) (place-least t (suc i) xs)
+index-least : (t : ℕ → Bool) (i : ℕ) (xs : List ℕ) → i ≤ indexFrom t i xs
+index-least t i [] = omega arith
+index-least t i (x ∷ xs) = go (t x) (index-least t (suc i) xs)
   where
-    go : (b : Bool) → suc i ≤ placeFrom t (suc i) xs → i ≤ cond b i (placeFrom t (suc i) xs)
+    go : (b : Bool) → suc i ≤ indexFrom t (suc i) xs → i ≤ cond b i (indexFrom t (suc i) xs)
     go true h = omega arith
     go false h = omega arith
 
-pub place-take : (t : ℕ → Bool) (i k : ℕ) (xs : List ℕ) → k ≤ length xs
-    → placeFrom t i (take k xs) ≡ min (placeFrom t i xs) (i + k)
-place-take t i zero xs h = omega (arith, place-least t i xs)
-place-take t i (suc k) [] h = absurd (omega arith)
-place-take t i (suc k) (x ∷ xs) h = go (t x) (place-take t (suc i) k xs (omega arith))
+pub index-take : (t : ℕ → Bool) (i k : ℕ) (xs : List ℕ) → k ≤ length xs
+    → indexFrom t i (take k xs) ≡ min (indexFrom t i xs) (i + k)
+index-take t i zero xs h = omega (arith, index-least t i xs)
+index-take t i (suc k) [] h = absurd (omega arith)
+index-take t i (suc k) (x ∷ xs) h = go (t x) (index-take t (suc i) k xs (omega arith))
   where
-    go : (b : Bool) → placeFrom t (suc i) (take k xs) ≡ min (placeFrom t (suc i) xs) (suc i + k)
-        → cond b i (placeFrom t (suc i) (take k xs)) ≡ min (cond b i (placeFrom t (suc i) xs)) (i + suc k)
+    go : (b : Bool) → indexFrom t (suc i) (take k xs) ≡ min (indexFrom t (suc i) xs) (suc i + k)
+        → cond b i (indexFrom t (suc i) (take k xs)) ≡ min (cond b i (indexFrom t (suc i) xs)) (i + suc k)
     go true e = omega arith
     go false e = omega (arith, e)
 
@@ -119,12 +119,12 @@ wide-take n keys w i = elim (decLt i n) [
 ]
 
 -- the place of a name among the names of a part of a table, which is that of its key
-pub named-place : (f names : List ℕ) (a n : ℕ) → isName f ≡ true → Wide names → a + n ≤ length names
-    → placeFrom (eqb (keyOf f)) 0 (take n (drop a names)) ≡ placeOf f (tabled (λ i. nameOf names (a + i)) n)
-unfolding placeOf
-named-place f names a n e w h =
-    place-keys f e 0 (take n (drop a names)) (wide-take n (drop a names) (wide-drop a names w))
-    ∙ ap (placeFrom (sameBytes f) 0) (part-named names a n h)
+pub named-index : (f names : List ℕ) (a n : ℕ) → isName f ≡ true → Wide names → a + n ≤ length names
+    → indexFrom (eqb (keyOf f)) 0 (take n (drop a names)) ≡ indexOf f (tabled (λ i. nameOf names (a + i)) n)
+unfolding indexOf
+named-index f names a n e w h =
+    index-keys f e 0 (take n (drop a names)) (wide-take n (drop a names) (wide-drop a names w))
+    ∙ ap (indexFrom (sameBytes f) 0) (part-named names a n h)
 
 -- a name and its place, stored
 pub placed-set :

@@ -12,10 +12,10 @@ use borrow.Author.Tests.{ne-eqb, leb-true, ltb-true}
 use lib.Dec.{ltb, leb}
 use lib.ListN.{length, getD, set}
 use Rattle.text.specs.Bytes.{between}
-use Rattle.text.specs.Lists.{every, placeOf, isKnown}
+use Rattle.text.specs.Lists.{every, indexOf, isKnown}
 use Rattle.text.specs.Fields.{isName, isVariable, isTerm}
 use Rattle.text.specs.Keys.{keyOf}
-use Rattle.text.proofs.ClassLaws.{and-true}
+use Rattle.text.proofs.Bools.{and-true}
 use Rattle.semantics.specs.Terms.{Term, con, var}
 use Rattle.syntax.specs.Forms.{constantsAfter, firstConstant, termOf, letterNumber}
 use Rattle.syntax.proofs.Known.{with-known}
@@ -48,14 +48,14 @@ module _ (f : List ℕ) (t : isTerm f ≡ true) (n : isName f ≡ false) where
 
 -- what the cell of a term stands for
 module _ (cs : List (List ℕ)) (f : List ℕ) (t : isTerm f ≡ true) where
-  pub cell-term : placeOf f cs < 192 → cellTerm (termCell cs f) ≡ termOf letterNumber cs f
+  pub cell-term : indexOf f cs < 192 → cellTerm (termCell cs f) ≡ termOf letterNumber cs f
   unfolding termCell termOf
   cell-term h = go (isName f) refl
     where
       go : (b : Bool) → isName f ≡ b
-          → cellTerm (cond b (firstConstant + placeOf f cs) (254 + keyOf f))
-          ≡ cond b (con (firstConstant + placeOf f cs)) (var (letterNumber f))
-      go true e = cell-low (firstConstant + placeOf f cs) (omega arith)
+          → cellTerm (cond b (firstConstant + indexOf f cs) (254 + keyOf f))
+          ≡ cond b (con (firstConstant + indexOf f cs)) (var (letterNumber f))
+      go true e = cell-low (firstConstant + indexOf f cs) (omega arith)
       go false e =
           let (a, b) = letter-range f t e in
           cell-high (254 + keyOf f) (omega arith)
@@ -65,7 +65,7 @@ module _ (cs : List (List ℕ)) (f : List ℕ) (t : isTerm f ≡ true) where
   unfolding termCell
   cell-used = go (isName f)
     where
-      go : (b : Bool) → cond b (firstConstant + placeOf f cs) (254 + keyOf f) ≡ 0 → ⊥
+      go : (b : Bool) → cond b (firstConstant + indexOf f cs) (254 + keyOf f) ≡ 0 → ⊥
       go true e = omega arith
       go false e = omega arith
 
@@ -75,9 +75,9 @@ pub cell-later : (cs more : List (List ℕ)) (f : List ℕ) → (isName f ≡ tr
 unfolding termCell isKnown
 cell-later cs more f h = go (isName f) h
   where
-    go : (b : Bool) → (b ≡ true → ltb (placeOf f cs) (length cs) ≡ true)
-        → cond b (firstConstant + placeOf f (cs ++ more)) (254 + keyOf f) ≡ cond b (firstConstant + placeOf f cs) (254 + keyOf f)
-    go true k = ap (λ (p : ℕ). firstConstant + p) (name-first f cs more (ltb-true (placeOf f cs) (length cs) (k refl)))
+    go : (b : Bool) → (b ≡ true → ltb (indexOf f cs) (length cs) ≡ true)
+        → cond b (firstConstant + indexOf f (cs ++ more)) (254 + keyOf f) ≡ cond b (firstConstant + indexOf f cs) (254 + keyOf f)
+    go true k = ap (λ (p : ℕ). firstConstant + p) (name-first f cs more (ltb-true (indexOf f cs) (length cs) (k refl)))
     go false k = refl
 
 -- a term's own name is known behind it
@@ -104,7 +104,7 @@ padded-none zero = refl
 padded-none (suc n) = refl
 
 pub padded-terms :
-    (n : ℕ) (cs gs : List (List ℕ)) → length gs ≤ n → ((g : List ℕ) → placeOf g cs < 192) → every isTerm gs ≡ true
+    (n : ℕ) (cs gs : List (List ℕ)) → length gs ≤ n → ((g : List ℕ) → indexOf g cs < 192) → every isTerm gs ≡ true
     → cellTerms (padded n (map (termCell cs) gs)) ≡ map (termOf letterNumber cs) gs
 unfolding padded cellTerms
 padded-terms n cs [] h few t = padded-none n

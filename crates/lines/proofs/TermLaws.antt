@@ -12,13 +12,13 @@ use borrow.Author.Tests.{lt-ltb, le-ltb}
 use lib.Dec.{eqb}
 use lib.ListN.{length, take, drop, getD, set, length-append, length-map, length-set, length-drop, length-take, drop-of-length-le}
 use lib.Seq.{drop-cons, take-suc, take-all, getD-drop, getD-set-same, getD-set-other}
-use Rattle.text.specs.Lists.{every, placeFrom, placeOf, isKnown, withName}
+use Rattle.text.specs.Lists.{every, indexFrom, indexOf, isKnown, withName}
 use Rattle.text.specs.Fields.{isName, isTerm}
 use Rattle.text.specs.Keys.{keyOf, spell}
 use Rattle.text.specs.Splits.{Holds}
 use Rattle.text.specs.declared.fields.Fields.{Fields}
 use Rattle.text.proofs.Laws.{tabled-length}
-use Rattle.text.proofs.ClassLaws.{and-true}
+use Rattle.text.proofs.Bools.{and-true}
 use Rattle.syntax.specs.Forms.{constantsAfter, firstConstant}
 use Rattle.syntax.proofs.Vocabulary.{constants-more, constants-least}
 use Rattle.syntax.proofs.Known.{same-refl}
@@ -31,7 +31,7 @@ use Rattle.lines.specs.declared.TermsRead.{TermsRead}
 use Rattle.lines.specs.Read.{termCell, padded, Outside, Spelled, KeepsPlaces, TermMeans, TermIn, TermsIn}
 use Rattle.text.proofs.Keys.{name-key, spell-key}
 use Rattle.lines.proofs.Held.{key-at}
-use Rattle.lines.proofs.Named.{Wide, named-place, placed-set}
+use Rattle.lines.proofs.Named.{Wide, named-index, placed-set}
 use Rattle.lines.proofs.TermCells.{cell-later, one-known, padded-set}
 
 pub constants-length : (names : List ℕ) (n : ℕ) → length (constantsOf names n) ≡ n
@@ -67,29 +67,29 @@ module _ (g : List ℕ) (cs : List (List ℕ)) where
   unfolding constantsAfter
   after-letter e = rw e
 
-  after-known : isName g ≡ true → placeOf g cs < length cs → constantsAfter (g ∷ []) cs ≡ cs
+  after-known : isName g ≡ true → indexOf g cs < length cs → constantsAfter (g ∷ []) cs ≡ cs
   unfolding constantsAfter withName isKnown
-  after-known e h = rw (e, lt-ltb (placeOf g cs) (length cs) h)
+  after-known e h = rw (e, lt-ltb (indexOf g cs) (length cs) h)
 
-  after-new : isName g ≡ true → length cs ≤ placeOf g cs → constantsAfter (g ∷ []) cs ≡ cs ++ (g ∷ [])
+  after-new : isName g ≡ true → length cs ≤ indexOf g cs → constantsAfter (g ∷ []) cs ≡ cs ++ (g ∷ [])
   unfolding constantsAfter withName isKnown
-  after-new e h = rw (e, le-ltb (placeOf g cs) (length cs) h)
+  after-new e h = rw (e, le-ltb (indexOf g cs) (length cs) h)
 
   letter-cell : isName g ≡ false → termCell cs g ≡ 254 + keyOf g
   unfolding termCell
   letter-cell e = rw e
 
-  name-cell : isName g ≡ true → termCell cs g ≡ 64 + placeOf g cs
+  name-cell : isName g ≡ true → termCell cs g ≡ 64 + indexOf g cs
   unfolding termCell
   name-cell e = rw e
 
 -- a new name's place is behind the others
-place-one : (g : List ℕ) → placeOf g (g ∷ []) ≡ 0
-unfolding placeOf
-place-one g = rw (same-refl g)
+index-one : (g : List ℕ) → indexOf g (g ∷ []) ≡ 0
+unfolding indexOf
+index-one g = rw (same-refl g)
 
-place-last : (g : List ℕ) (cs : List (List ℕ)) → length cs ≤ placeOf g cs → placeOf g (cs ++ (g ∷ [])) ≡ length cs
-place-last g cs h = name-second g cs (g ∷ []) h ∙ omega (arith, place-one g)
+index-last : (g : List ℕ) (cs : List (List ℕ)) → length cs ≤ indexOf g cs → indexOf g (cs ++ (g ∷ [])) ≡ length cs
+index-last g cs h = name-second g cs (g ∷ []) h ∙ omega (arith, index-one g)
 
 module _ (key place count : ℕ) (names places : List ℕ) (few : count ≤ 64) (a : length names ≡ maxNames)
     (b : length places ≡ maxNames) where
@@ -111,7 +111,7 @@ module _ (key place count : ℕ) (names places : List ℕ) (few : count ≤ 64) 
       }
 
   module _ (k : ℕ) (h : 28 ≤ key) (w : Wide names)
-      (q : k ≡ placeFrom (eqb key) 0 (take (64 + count - 64) (drop 64 names))) where
+      (q : k ≡ indexFrom (eqb key) 0 (take (64 + count - 64) (drop 64 names))) where
     abbrev cs : List (List ℕ)
     cs = constantsOf names count
 
@@ -119,12 +119,12 @@ module _ (key place count : ℕ) (names places : List ℕ) (few : count ≤ 64) 
       named : isName g ≡ true
       named = name-key g ∙ lt-ltb 27 (keyOf g) (omega arith)
 
-      placed : k ≡ placeOf g cs
+      placed : k ≡ indexOf g cs
       unfolding constantsOf
       placed =
           let size : 64 + count - 64 ≡ count = omega arith in
-          q ∙ ap₂ (λ (x n : ℕ). placeFrom (eqb x) 0 (take n (drop 64 names))) e size
-          ∙ named-place g names 64 count named w (omega arith)
+          q ∙ ap₂ (λ (x n : ℕ). indexFrom (eqb x) 0 (take n (drop 64 names))) e size
+          ∙ named-index g names 64 count named w (omega arith)
 
     pub term-known : k < count → TermIn key place count names places names places (record { cell = 64 + k; count = count })
     term-known l =
@@ -184,7 +184,7 @@ module _ (key place count : ℕ) (names places : List ℕ) (few : count ≤ 64) 
               cell = λ _.
                   sym (rw (grown g e) (name-cell g (cs ++ (g ∷ [])) (named g e)
                   ∙ ap (λ (i : ℕ). 64 + i)
-                  (place-last g cs (omega (arith, constants-length names count, placed g e))
+                  (index-last g cs (omega (arith, constants-length names count, placed g e))
                   ∙ constants-length names count)));
             };
             keeps = λ program goal p d.

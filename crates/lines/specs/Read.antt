@@ -1,5 +1,5 @@
 -- What the readers of both texts find in a line: one decoding for each of their answers.
---   formMeant, placeMeant, placeAnswer      the code's forms and places
+--   formMeant, sectionMeant, sectionAnswer      the code's forms and places
 --   constraintHead, headAnswer              numbers 4 and 6 of an H, B or G line
 --   termCell, padded                        the cell of a term, and cells with zeros behind them
 --   Lent, Outside, Spelled, KeepsPlaces     the tables lent, and what a line does to names and places
@@ -13,7 +13,7 @@ use mathlib.Core.List.{List, [], _∷_, map}
 use mathlib.Core.Option.{Option, none, some}
 use lib.Dec.{ltb, eqb}
 use lib.ListN.{length, drop, getD}
-use Rattle.text.specs.Lists.{every, placeOf}
+use Rattle.text.specs.Lists.{every, indexOf}
 use Rattle.text.specs.Fields.{isName, isTerm}
 use Rattle.text.specs.Keys.{keyOf, spell}
 use Rattle.text.specs.Splits.{Holds}
@@ -21,7 +21,7 @@ use Rattle.text.specs.declared.fields.Fields.{Fields}
 use Rattle.semantics.specs.Terms as terms
 use Rattle.syntax.specs.Answers.{Answer, refused, accepted, refuseIf}
 use Rattle.syntax.specs.Forms.{Form, symbolForm, ruleForm, headForm, bodyForm, equationForm, goalForm, noForm}
-use Rattle.syntax.specs.Forms.{Place, inSymbols, inHeads, inBody, inEquations, fieldAt, constantsAfter, firstConstant}
+use Rattle.syntax.specs.Forms.{Section, inSymbols, inHeads, inBody, inEquations, fieldAt, constantsAfter, firstConstant}
 use Rattle.syntax.specs.Forms.{letterNumber, isConstraintFaulty, symbolNumber, isUndeclared}
 use Rattle.syntax.specs.Programs.{Found, constraintLine}
 use Rattle.tables.specs.Layout.{maxNames, firstRule, goalPlace}
@@ -47,15 +47,15 @@ formMeant Goal = goalForm
 formMeant Nothing = noForm
 
 -- the place that a number stands for
-unfoldable pub placeMeant : ℕ → Place
-placeMeant zero = inSymbols
-placeMeant (suc zero) = inHeads
-placeMeant (suc (suc zero)) = inBody
-placeMeant (suc (suc (suc n))) = inEquations
+unfoldable pub sectionMeant : ℕ → Section
+sectionMeant zero = inSymbols
+sectionMeant (suc zero) = inHeads
+sectionMeant (suc (suc zero)) = inBody
+sectionMeant (suc (suc (suc n))) = inEquations
 
 -- the place that a line leads to: none from 4 on
-unfoldable pub placeAnswer : ℕ → Option Place
-placeAnswer n = cond (ltb n 4) (some (placeMeant n)) none
+unfoldable pub sectionAnswer : ℕ → Option Section
+sectionAnswer n = cond (ltb n 4) (some (sectionMeant n)) none
 
 -- an H, B or G line at line n: number 4, then 6; else its symbol
 unfoldable pub constraintHead : List terms.Symbol → ℕ → List (List ℕ) → Answer ℕ
@@ -75,7 +75,7 @@ headFits f size (HeadSymbol s) = (2 ≤ f .count) × (f .count ≤ 6) × (2 * s 
 
 -- the cell of a term field: a constant's number, or 256 more than its letter's
 unfoldable pub termCell : List (List ℕ) → List ℕ → ℕ
-termCell constants f = cond (isName f) (firstConstant + placeOf f constants) (254 + keyOf f)
+termCell constants f = cond (isName f) (firstConstant + indexOf f constants) (254 + keyOf f)
 
 -- n cells: those of a list, and zeros behind them
 unfoldable pub padded : ℕ → List ℕ → List ℕ

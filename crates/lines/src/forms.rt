@@ -4,8 +4,8 @@ ghost use mathlib.Core.Path.{_≡_};
 ghost use mathlib.Core.List.{List};
 ghost use Prim.Native.Nat.{ℕ};
 ghost use Rattle.text.specs.Keys.{keyOf};
-ghost use Rattle.syntax.specs.Forms.{formOfByte, formOf, placeAfter};
-ghost use Rattle.lines.specs.Read.{formMeant, placeMeant, placeAnswer};
+ghost use Rattle.syntax.specs.Forms.{formOfByte, formOf, sectionAfter};
+ghost use Rattle.lines.specs.Read.{formMeant, sectionMeant, sectionAnswer};
 
 // What a byte stands for as the first letter of a line, over all byte values.
 fn form_of_byte(b: u8) -> LineForm
@@ -34,20 +34,20 @@ pub fn form_of(key: u64) -> LineForm
     LineForm::Nothing
 }
 
-// The place behind a line of a form, or 4 where it may not stand: 0 among K lines, 1 behind R or H, 2 behind B, 3 behind E.
-pub fn place_after(form: LineForm, place: u8) -> u8
-    ensures { λ r. ⌜ placeAnswer r ≡ placeAfter (formMeant form) (placeMeant place) ⌝ }
+// The section behind a line of a form, or 4 where it may not stand: 0 among K lines, 1 behind R or H, 2 behind B, 3 behind E.
+pub fn section_after(form: LineForm, section: u8) -> u8
+    ensures { λ r. ⌜ sectionAnswer r ≡ sectionAfter (formMeant form) (sectionMeant section) ⌝ }
 {
     match form {
-        LineForm::Symbol => if place == 0 { 0 } else { 4 },
+        LineForm::Symbol => if section == 0 { 0 } else { 4 },
         LineForm::Rule => 1,
-        LineForm::Head => if place == 1 { 1 } else { 4 },
-        LineForm::Body => if place == 1 {
+        LineForm::Head => if section == 1 { 1 } else { 4 },
+        LineForm::Body => if section == 1 {
             2
         } else {
-            if place == 2 { 2 } else { 4 }
+            if section == 2 { 2 } else { 4 }
         },
-        LineForm::Equation => if place == 0 { 4 } else { 3 },
+        LineForm::Equation => if section == 0 { 4 } else { 3 },
         LineForm::Goal => 4,
         LineForm::Nothing => 4,
     }

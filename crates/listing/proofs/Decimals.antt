@@ -15,7 +15,7 @@ use Rattle.text.specs.Bytes.{digit, between, isClass}
 use Rattle.text.specs.Fields.{isNumber, valueFrom, valueOf}
 use Rattle.text.specs.Lists.{every}
 use Rattle.text.proofs.ClassLaws.{is-digit}
-use Rattle.semantics.proofs.Bools.{and-true}
+use Rattle.text.proofs.Bools.{and-true}
 use Rattle.semantics.proofs.Entering.{every-last}
 use Rattle.listing.specs.Listing.{decimalFrom, decimal}
 

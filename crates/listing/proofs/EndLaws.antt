@@ -21,7 +21,7 @@ use Rattle.tables.specs.Names.{nameIn}
 use Rattle.tables.specs.Numbers.{orderOf, Renumbered}
 use Rattle.listing.specs.Listing.{Naming, decimal, fieldsBehind, lineOf, termShown, constraintShown, constraintLines}
 use Rattle.listing.specs.Listing.{numberedAs, unbound, variableName, boundLines, stateListing, endListing}
-use Rattle.listing.specs.Writing.{laid, Countable, Writes, listedIn, outputAfter, ListedAs}
+use Rattle.listing.specs.Writing.{laid, Countable, Writes, listedIn, listedOver, ListedAs}
 use Rattle.listing.specs.Ends.{liveBytes, numberedEnd, endBytes, EndNumbered}
 use Rattle.listing.specs.declared.End.{End}
 use Rattle.listing.specs.declared.Listed.{Listed}
@@ -153,13 +153,13 @@ end-numbered program goal places letters bound cells bound′ cells′ e count n
 -- the reply where the listing does not fit, and where it does
 module _ {bytes none none′ o : List ℕ} {size : ℕ} (counted : Writes bytes 0 none none′ size) where
   pub listed-short : length o < size → ListedAs bytes o o TooShort
-  unfolding listedIn outputAfter
+  unfolding listedIn listedOver
   listed-short h =
       let over : ltb (length o) (length bytes) ≡ true = lt-ltb (length o) (length bytes) (omega (arith, counted .counted)) in
       record { answer = rw over; output = rw over }
 
   pub listed-written : {p : List ℕ} {n : ℕ} → size ≤ length o → Writes bytes 0 o p n → ListedAs bytes o p (Written size)
-  unfolding listedIn outputAfter laid
+  unfolding listedIn listedOver laid
   listed-written h w =
       let all : size ≡ length bytes = omega (arith, counted .counted) in
       let fits : ltb (length o) (length bytes) ≡ false = le-ltb (length o) (length bytes) (omega (arith, counted .counted)) in

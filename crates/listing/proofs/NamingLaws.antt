@@ -17,7 +17,7 @@ use Rattle.text.specs.Lists.{every}
 use Rattle.semantics.specs.Terms.{Term, con, var, Constraint, Symbol, State, failed, live, noSymbol, symbolAt}
 use Rattle.semantics.specs.Overlaps.{appearingIn, appearing}
 use Rattle.text.proofs.Laws.{tabled-at}
-use Rattle.semantics.proofs.Bools.{and-true}
+use Rattle.text.proofs.Bools.{and-true}
 use Rattle.syntax.specs.Forms.{firstConstant}
 use Rattle.tables.specs.Layout.{maxNames}
 use Rattle.tables.specs.Rows.{nameOf, symbolOf, symbolsOf, constantsOf, lettersOf}

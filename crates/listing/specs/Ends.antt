@@ -51,7 +51,7 @@ pub record Listable (alive : Bool) (next : ℕ) (bound cells : List ℕ) : Type 
   pub few : next ≤ 13340
   pub live : alive ≡ true → Renumberable next bound cells
 
--- what numbering its variables promises: where it lives, each is its place in the order of first appearance
+-- what numbering its variables promises: where it lives, each is its index in the order of first appearance
 pub record EndNumbered (alive : Bool) (bound cells bound′ cells′ : List ℕ) (count : ℕ) : Type 0 where
   pub live : alive ≡ true → Renumbered bound cells bound′ cells′ count
 

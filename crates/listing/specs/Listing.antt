@@ -11,7 +11,7 @@ use mathlib.Core.List.{List, [], _∷_, _++_, map}
 use lib.Dec.{ltb, eqb}
 use lib.ListN.{length, getD}
 use Rattle.text.specs.Bytes.{ascii}
-use Rattle.text.specs.Lists.{placeFrom, gather}
+use Rattle.text.specs.Lists.{indexFrom, gather}
 use Rattle.semantics.specs.Terms.{Term, con, var, Constraint, Symbol, State, failed, live, symbolAt}
 use Rattle.semantics.specs.Strategy.{Final}
 use Rattle.semantics.specs.Overlaps.{Overlap, appearingIn, appearing}
@@ -64,9 +64,9 @@ constraintLines first naming shown cs = gather (λ c. lineOf first (constraintSh
 unfoldable pub numberedAs : List ℕ → ℕ → List ℕ
 numberedAs letter x = letter ++ decimal (suc x)
 
--- an unbound variable of an end: U1, U2 and on, by its place among those that appear
+-- an unbound variable of an end: U1, U2 and on, by its index among those that appear
 unfoldable pub unbound : List ℕ → ℕ → List ℕ
-unbound order x = numberedAs (ascii "U") (placeFrom (eqb x) 0 order)
+unbound order x = numberedAs (ascii "U") (indexFrom (eqb x) 0 order)
 
 -- a goal variable, from 0: its letter, or V and its number where no letter stands for it, as in an overlap's goal
 unfoldable pub variableName : List ℕ → ℕ → List ℕ

@@ -2,7 +2,7 @@
 --   laid         an output with bytes laid over it from a place on
 --   Countable    bytes whose end the machine can count to
 --   Writes       what a function that writes promises
---   written      the reply of a listing, and every byte of the output afterwards
+--   listedIn, listedOver, ListedAs     the reply of a listing, and every byte of the output afterwards
 -- A writer asks no room: where its bytes do not fit it only counts them, so that counting is writing into no output.
 -- Assumes nothing.
 use Prim.Native.Nat.{ℕ, _+_, _≤_, _<_}
@@ -11,6 +11,7 @@ use mathlib.Core.List.{List, _++_}
 use mathlib.Core.Path.{_≡_}
 use lib.Dec.{ltb}
 use lib.ListN.{length, take, drop}
+use Rattle.text.specs.Lists.{overlaid}
 use Rattle.listing.specs.declared.Listed.{Listed}
 use Rattle.listing.specs.declared.Listed.the-variants.{TooShort, Written}
 
@@ -32,10 +33,10 @@ unfoldable pub listedIn : ℕ → List ℕ → Listed
 listedIn room bytes = cond (ltb room (length bytes)) TooShort (Written (length bytes))
 
 -- every byte of the output afterwards: untouched where the listing does not fit; the listing, and then the old bytes, otherwise
-unfoldable pub outputAfter : List ℕ → List ℕ → List ℕ
-outputAfter bytes before = cond (ltb (length before) (length bytes)) before (bytes ++ drop (length bytes) before)
+unfoldable pub listedOver : List ℕ → List ℕ → List ℕ
+listedOver bytes before = cond (ltb (length before) (length bytes)) before (overlaid bytes before)
 
 -- what a listing promises
 pub record ListedAs (bytes before after : List ℕ) (reply : Listed) : Type 0 where
   pub answer : reply ≡ listedIn (length before) bytes
-  pub output : after ≡ outputAfter bytes before
+  pub output : after ≡ listedOver bytes before

@@ -12,11 +12,11 @@ use borrow.Author.Tests.{leb-false, le-leb, lt-leb, lt-ltb, le-ltb, ne-eqb, eq-e
 use lib.Dec.{leb, eqb}
 use lib.ListN.{length, take, drop, getD, set}
 use lib.Seq.{paste, getD-take}
-use Rattle.text.specs.Lists.{every, placeOf}
+use Rattle.text.specs.Lists.{every, indexOf}
 use Rattle.text.specs.Fields.{isTerm}
 use Rattle.text.specs.Splits.{Holds}
 use Rattle.text.specs.declared.fields.Fields.{Fields}
-use Rattle.text.proofs.ClassLaws.{and-true}
+use Rattle.text.proofs.Bools.{and-true}
 use Rattle.semantics.specs.Terms.{Symbol, Rule}
 use Rattle.syntax.specs.Answers.{Answer, refused, accepted, andThen}
 use Rattle.syntax.specs.Forms.{equationForm, fieldAt, constantsAfter, termOf, letterNumber, isEquationFaulty}
@@ -56,7 +56,7 @@ kept-outside f names places names′ places′ o e k = record { names-size = o .
 draft-grown :
     (names symbols rules names′ rules′ : List ℕ) (s : Stage) (i count : ℕ) (f : Rule → Rule) → s .symbols ≤ 32 → s .rules ≡ suc i
     → Outside names names′ → rulesRead names′ rules′ (suc i) ≡ onLast f (rulesRead names rules (suc i))
-    → draftOf names′ symbols rules′ (record { place = s .place; symbols = s .symbols; rules = s .rules; constants = count })
+    → draftOf names′ symbols rules′ (record { section = s .section; symbols = s .symbols; rules = s .rules; constants = count })
     ≡ withRule f (constantsOf names′ count) (draftOf names symbols rules s)
 unfolding draftOf withRule
 draft-grown names symbols rules names′ rules′ s i count f few q o p =
@@ -87,7 +87,7 @@ sides-shape fs h = rw (eq-eqb (length fs) 3 h)
 -- two terms as cells
 two-sides :
     (cs fs : List (List ℕ)) (cells : List ℕ) → length fs ≡ 3 → every isTerm (drop 1 fs) ≡ true
-    → cells ≡ padded 4 (map (termCell cs) (drop 1 fs)) → ((g : List ℕ) → placeOf g cs < 192)
+    → cells ≡ padded 4 (map (termCell cs) (drop 1 fs)) → ((g : List ℕ) → indexOf g cs < 192)
     → (cellTerm (getD cells 0 0) ≡ termOf letterNumber cs (fieldAt 1 fs))
     × (cellTerm (getD cells 1 0) ≡ termOf letterNumber cs (fieldAt 2 fs))
 unfolding fieldAt padded
@@ -126,7 +126,7 @@ module _ (f : Fields) (s : Stage) (names places rules : List ℕ) (size : length
   few-sides = omega (arith, row-cell rules i 5 (omega arith), fits .equations)
 
   abbrev next : ℕ → Stage
-  next count = record { place = s .place; symbols = s .symbols; rules = s .rules; constants = count }
+  next count = record { section = s .section; symbols = s .symbols; rules = s .rules; constants = count }
 
   -- an H or B line, by what is found of it
   module _ (w h : ℕ) (p : w ≤ 1) (e : h ≡ getD rules (64 * i + (3 + w)) 0) (used names′ places′ : List ℕ)

@@ -18,13 +18,14 @@ use lib.Dec.{leb, ltb, eqb}
 use lib.ListN.{length, take, drop, getD, set, length-set, length-map}
 use lib.Seq.{paste, getD-take, getD-drop, getD-set-same, getD-set-other}
 use Rattle.text.specs.Bytes.{between}
-use Rattle.text.specs.Lists.{placeFrom, placeOf, isKnown, tabled}
+use Rattle.text.specs.Lists.{indexFrom, indexOf, isKnown, tabled}
 use Rattle.text.specs.Fields.{isName, isNumberIn, valueOf}
 use Rattle.text.specs.Keys.{keyOf, spell, numberOf}
 use Rattle.text.specs.Splits.{Holds}
 use Rattle.text.specs.declared.fields.Fields.{Fields}
 use Rattle.text.proofs.Laws.{tabled-length}
-use Rattle.text.proofs.Keys.{name-key, spell-key, number-key, value-key}
+use Rattle.text.proofs.Keys.{name-key, spell-key}
+use Rattle.text.proofs.Numbers.{number-key, value-key}
 use Rattle.semantics.specs.Terms.{Symbol}
 use Rattle.syntax.specs.Answers.{refused, accepted}
 use Rattle.syntax.specs.Forms.{fieldAt, firstConstant, isSymbolFaulty, isRuleFaulty}
@@ -38,7 +39,7 @@ use Rattle.tables.specs.Names.{placedAt}
 use Rattle.lines.specs.Read.{Lent}
 use Rattle.lines.proofs.Held.{key-at}
 use Rattle.lines.proofs.HeadLaws.{symbols-length, symbol-names, symbols-same}
-use Rattle.lines.proofs.Named.{Wide, named-place, placed-set}
+use Rattle.lines.proofs.Named.{Wide, named-index, placed-set}
 use Rattle.programs.specs.declared.Stage.{Stage}
 use Rattle.programs.specs.declared.LineRead.the-variants.{Refused, Next}
 use Rattle.programs.specs.Read.{ruleRead, rulesRead, draftOf, lineAnswer, RowFits, Sound, Kept, SymbolIn, RuleIn}
@@ -300,7 +301,7 @@ module _ (f : Fields) (s : Stage) (names places symbols : List ℕ) (lent : Lent
   symbol-faulty e = symbol-refused 4 (λ fs rules n h. rw (← e fs h))
 
   module _ (fine : (fs : List (List ℕ)) → Holds fs f → false ≡ isSymbolFaulty fs) (w : Wide names) (k : ℕ)
-      (q : k ≡ placeFrom (eqb (getD (f .keys) 1 0)) 0 (take (s .symbols) names)) (few : s .symbols ≤ 32) where
+      (q : k ≡ indexFrom (eqb (getD (f .keys) 1 0)) 0 (take (s .symbols) names)) (few : s .symbols ≤ 32) where
     module _ (fs : List (List ℕ)) (h : Holds fs f) where
       formed : SymbolFine fs
       formed = symbol-fine fs (sym (fine fs h))
@@ -312,9 +313,9 @@ module _ (f : Fields) (s : Stage) (names places symbols : List ℕ) (lent : Lent
       unfolding isKnown
       known =
           ap₂ ltb
-          (ap (placeOf (fieldAt 1 fs)) (symbol-names names symbols (s .symbols))
-          ∙ sym (named-place (fieldAt 1 fs) names 0 (s .symbols) (formed .named) w (omega (arith, lent .names-size)))
-          ∙ ap (λ (x : ℕ). placeFrom (eqb x) 0 (take (s .symbols) names)) (sym (key-is 1 (omega arith))) ∙ sym q)
+          (ap (indexOf (fieldAt 1 fs)) (symbol-names names symbols (s .symbols))
+          ∙ sym (named-index (fieldAt 1 fs) names 0 (s .symbols) (formed .named) w (omega (arith, lent .names-size)))
+          ∙ ap (λ (x : ℕ). indexFrom (eqb x) 0 (take (s .symbols) names)) (sym (key-is 1 (omega arith))) ∙ sym q)
           (length-map (symbolsOf names symbols (s .symbols)) (λ (t : Symbol). t .name) ∙ symbols-length names symbols
           (s .symbols))
 
@@ -343,7 +344,7 @@ module _ (f : Fields) (s : Stage) (names places symbols : List ℕ) (lent : Lent
         key₁ = getD (f .keys) 1 0
 
         abbrev next : Stage
-        next = record { place = s .place; symbols = s .symbols + 1; rules = s .rules; constants = s .constants }
+        next = record { section = s .section; symbols = s .symbols + 1; rules = s .rules; constants = s .constants }
 
         draft-new : (fs : List (List ℕ)) (rules : List ℕ) (n : ℕ) → Holds fs f
             → accepted (draftOf (set names (s .symbols) key₁) symbols′ rules next) ≡ readSymbol n fs (draftOf names symbols
@@ -410,7 +411,7 @@ module _ (f : Fields) (n : ℕ) (s : Stage) (names places rules : List ℕ) (len
   rule-faulty e = rule-refused 4 (λ fs symbols h. rw (← e fs h))
 
   module _ (fine : (fs : List (List ℕ)) → Holds fs f → false ≡ isRuleFaulty fs) (w : Wide names) (k : ℕ)
-      (q : k ≡ placeFrom (eqb (getD (f .keys) 1 0)) 0 (take (192 + s .rules - 192) (drop 192 names))) where
+      (q : k ≡ indexFrom (eqb (getD (f .keys) 1 0)) 0 (take (192 + s .rules - 192) (drop 192 names))) where
     module _ (fs : List (List ℕ)) (h : Holds fs f) where
       rule-formed : RuleFine fs
       rule-formed = rule-fine fs (sym (fine fs h))
@@ -423,10 +424,10 @@ module _ (f : Fields) (n : ℕ) (s : Stage) (names places rules : List ℕ) (len
       rule-known =
           let size : 192 + s .rules - 192 ≡ s .rules = omega arith in
           ap₂ ltb
-          (ap (placeOf (fieldAt 1 fs)) (rule-names names rules (s .rules))
-          ∙ sym (named-place (fieldAt 1 fs) names 192 (s .rules) (rule-formed .named) w
+          (ap (indexOf (fieldAt 1 fs)) (rule-names names rules (s .rules))
+          ∙ sym (named-index (fieldAt 1 fs) names 192 (s .rules) (rule-formed .named) w
           (omega (arith, lent .names-size, d .few-rules)))
-          ∙ ap₂ (λ (x m : ℕ). placeFrom (eqb x) 0 (take m (drop 192 names))) (sym rule-key) (sym size) ∙ sym q)
+          ∙ ap₂ (λ (x m : ℕ). indexFrom (eqb x) 0 (take m (drop 192 names))) (sym rule-key) (sym size) ∙ sym q)
           (length-map (rulesRead names rules (s .rules)) (λ (r : RuleRead). r .rule .name) ∙ rules-length names rules (s .rules))
 
     pub rule-repeated : k < s .rules → RuleIn f n s names places rules names places rules (Refused 5)
@@ -447,7 +448,7 @@ module _ (f : Fields) (n : ℕ) (s : Stage) (names places rules : List ℕ) (len
         rule-key₁ = getD (f .keys) 1 0
 
         abbrev rule-next : Stage
-        rule-next = record { place = s .place; symbols = s .symbols; rules = s .rules + 1; constants = s .constants }
+        rule-next = record { section = s .section; symbols = s .symbols; rules = s .rules + 1; constants = s .constants }
 
         room : 64 * s .rules + 64 ≤ length rules
         room = omega arith

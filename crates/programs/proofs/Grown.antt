@@ -12,7 +12,7 @@ use native.Mathlib.Omega.{arith}
 use lib.ListN.{length, take, drop, getD, set, length-set, length-drop}
 use lib.Seq.{paste, getD-set-same, getD-set-other, drop-set-lt, drop-set-add, take-set-le, take-take, drop-drop, length-take-le}
 use Rattle.text.specs.Lists.{tabled}
-use Rattle.text.proofs.Cursors.{drop-take}
+use Rattle.text.proofs.Laws.{drop-take}
 use Rattle.semantics.specs.Terms.{Constraint, Equation, Rule}
 use Rattle.syntax.specs.Programs.{RuleRead, onLast, lastRule, withHead, withBody, withEquation}
 use Rattle.syntax.proofs.Tabled.{tabled-same}
@@ -174,7 +174,7 @@ module _ (cells : List ℕ) (i s at h : ℕ) (vs : List ℕ) (room : 64 * i + 64
 
   pub sound-grown : (st : Stage) (count : ℕ) → st .rules ≡ suc i → Sound cells st → count ≤ 64 → (3 ≡ s → h < 4)
       → (4 ≡ s → h < 6) → (5 ≡ s → h < 4)
-      → Sound grown (record { place = st .place; symbols = st .symbols; rules = st .rules; constants = count })
+      → Sound grown (record { section = st .section; symbols = st .symbols; rules = st .rules; constants = count })
   sound-grown st count q g fit x y z =
       record {
         few-symbols = g .few-symbols;

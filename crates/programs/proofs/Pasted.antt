@@ -12,7 +12,7 @@ use lib.Seq.{take-length, drop-append-le, take-at, take-append-le, take-take, dr
 use lib.Seq.{getD-take}
 use lib.Seq.{getD-append-add, drop-append-add}
 use lib.Seq.{length-paste}
-use Rattle.text.proofs.Cursors.{drop-take}
+use Rattle.text.proofs.Laws.{drop-take}
 
 module _ (l : List ℕ) (a : ℕ) (vs : List ℕ) (fits : a + length vs ≤ length l) where
   abbrev k : ℕ

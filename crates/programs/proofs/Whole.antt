@@ -1,6 +1,6 @@
--- Laws of a line by its form and its place, of all lines, and of a program's text.
+-- Laws of a line by its form and its section, of all lines, and of a program's text.
 --   line-placeless, line-symbol, line-rule, line-adds, line-none    a line, by what decides it
---   begun-.., first-place                 where a line of a form stands
+--   begun-.., first-section                 where a line of a form stands
 --   LinesSoFar, lines-..                  the lines of a text, as far as they are read
 --   program-..                            a program's text
 -- Assumes nothing.
@@ -20,18 +20,19 @@ use Rattle.text.specs.Fields.{fields}
 use Rattle.text.specs.Keys.{keyOf}
 use Rattle.text.specs.Splits.{lineFrom, Holds, SplitAt}
 use Rattle.text.specs.declared.fields.Fields.{Fields}
-use Rattle.text.proofs.Cursors.{drop-take, fields-some}
+use Rattle.text.proofs.Laws.{drop-take}
+use Rattle.text.proofs.LineLaws.{fields-some}
 use Rattle.text.proofs.SplitLaws.{lines-at, lines-split, lines-done, line-fine}
 use Rattle.semantics.specs.Terms.{Symbol, Rule}
 use Rattle.syntax.specs.Answers.{Answer, refused, accepted, andThen}
 use Rattle.syntax.specs.Forms.{Form, symbolForm, ruleForm, headForm, bodyForm, equationForm, goalForm, noForm, formOf}
-use Rattle.syntax.specs.Forms.{Place, inSymbols, inHeads, inBody, inEquations, placeAfter, fieldAt}
-use Rattle.syntax.specs.Programs.{RuleRead, Draft, Reading, blank, atPlace, readForm, readFields, readLine, readLines, checkRules}
+use Rattle.syntax.specs.Forms.{Section, inSymbols, inHeads, inBody, inEquations, sectionAfter, fieldAt}
+use Rattle.syntax.specs.Programs.{RuleRead, Draft, Reading, blank, inSection, readForm, readFields, readLine, readLines, checkRules}
 use Rattle.syntax.specs.Programs.{readProgram}
 use Rattle.syntax.proofs.Tabled.{tabled-same, map-tabled}
 use Rattle.tables.specs.Rows.{symbolsOf, constantsOf, rowOf, ruleOf, rulesOf}
 use Rattle.tables.specs.Names.{Placed}
-use Rattle.lines.specs.Read.{placeMeant, placeAnswer}
+use Rattle.lines.specs.Read.{sectionMeant, sectionAnswer}
 use Rattle.lines.proofs.Held.{key-at}
 use Rattle.lines.proofs.Spelling.{spelled-program}
 use Rattle.programs.specs.declared.Stage.{Stage}
@@ -49,75 +50,75 @@ use Rattle.programs.specs.Read.{programAnswer, programFits, ProgramIn}
 use Rattle.programs.proofs.Drafts.{kept-same}
 use Rattle.programs.proofs.AddLaws.{symbols-used}
 
--- a place that a line leads to
-place-some : (p : ℕ) (o : Option Place) → placeAnswer p ≡ o → p < 4 → o ≡ some (placeMeant p)
-unfolding placeAnswer
-place-some p o q r = sym q ∙ ap (λ (b : Bool). cond b (some (placeMeant p)) none) (lt-ltb p 4 r)
+-- a section that a line leads to
+section-some : (p : ℕ) (o : Option Section) → sectionAnswer p ≡ o → p < 4 → o ≡ some (sectionMeant p)
+unfolding sectionAnswer
+section-some p o q r = sym q ∙ ap (λ (b : Bool). cond b (some (sectionMeant p)) none) (lt-ltb p 4 r)
 
-place-none : (p : ℕ) (o : Option Place) → placeAnswer p ≡ o → 3 < p → o ≡ none
-unfolding placeAnswer
-place-none p o q r = sym q ∙ ap (λ (b : Bool). cond b (some (placeMeant p)) none) (le-ltb p 4 (omega arith))
+section-none : (p : ℕ) (o : Option Section) → sectionAnswer p ≡ o → 3 < p → o ≡ none
+unfolding sectionAnswer
+section-none p o q r = sym q ∙ ap (λ (b : Bool). cond b (some (sectionMeant p)) none) (le-ltb p 4 (omega arith))
 
--- a K line leads to the place of symbols
-symbols-only : (w v : Place) → placeAfter symbolForm w ≡ some v → v ≡ inSymbols
-unfolding placeAfter
+-- a K line leads to the section of symbols
+symbols-only : (w v : Section) → sectionAfter symbolForm w ≡ some v → v ≡ inSymbols
+unfolding sectionAfter
 symbols-only inSymbols v z = cc
 symbols-only inHeads v z = absurd (let y : _≡_ {A = ℕ} 0 1 = cc in omega arith)
 symbols-only inBody v z = absurd (let y : _≡_ {A = ℕ} 0 1 = cc in omega arith)
 symbols-only inEquations v z = absurd (let y : _≡_ {A = ℕ} 0 1 = cc in omega arith)
 
-place-zero : (p : ℕ) → placeMeant p ≡ inSymbols → p ≡ 0
-unfolding placeMeant
-place-zero zero e = refl
-place-zero (suc zero) e = absurd (let y : _≡_ {A = ℕ} 0 1 = cc in omega arith)
-place-zero (suc (suc zero)) e = absurd (let y : _≡_ {A = ℕ} 0 1 = cc in omega arith)
-place-zero (suc (suc (suc p))) e = absurd (let y : _≡_ {A = ℕ} 0 1 = cc in omega arith)
+section-zero : (p : ℕ) → sectionMeant p ≡ inSymbols → p ≡ 0
+unfolding sectionMeant
+section-zero zero e = refl
+section-zero (suc zero) e = absurd (let y : _≡_ {A = ℕ} 0 1 = cc in omega arith)
+section-zero (suc (suc zero)) e = absurd (let y : _≡_ {A = ℕ} 0 1 = cc in omega arith)
+section-zero (suc (suc (suc p))) e = absurd (let y : _≡_ {A = ℕ} 0 1 = cc in omega arith)
 
-pub first-place : (p q : ℕ) → placeAnswer p ≡ placeAfter symbolForm (placeMeant q) → p < 4 → p ≡ 0
-first-place p q e h =
-    place-zero p (symbols-only (placeMeant q) (placeMeant p) (place-some p (placeAfter symbolForm (placeMeant q)) e h))
+pub first-section : (p q : ℕ) → sectionAnswer p ≡ sectionAfter symbolForm (sectionMeant q) → p < 4 → p ≡ 0
+first-section p q e h =
+    section-zero p (symbols-only (sectionMeant q) (sectionMeant p) (section-some p (sectionAfter symbolForm (sectionMeant q)) e h))
 
-begun : (form : Form) (p q : ℕ) → placeAfter form inSymbols ≡ none → placeAnswer p ≡ placeAfter form (placeMeant q) → p < 4
+begun : (form : Form) (p q : ℕ) → sectionAfter form inSymbols ≡ none → sectionAnswer p ≡ sectionAfter form (sectionMeant q) → p < 4
     → 0 < q
-unfolding placeMeant
+unfolding sectionMeant
 begun form p zero x e h =
-    let z : none ≡ some (placeMeant p) = sym x ∙ place-some p (placeAfter form inSymbols) e h in
+    let z : none ≡ some (sectionMeant p) = sym x ∙ section-some p (sectionAfter form inSymbols) e h in
     absurd (let y : _≡_ {A = ℕ} 0 1 = cc in omega arith)
 begun form p (suc q) x e h = omega arith
 
-module _ (form : Form) (p q : ℕ) (led : placeAnswer p ≡ placeAfter form (placeMeant q)) (l : p < 4) where
+module _ (form : Form) (p q : ℕ) (led : sectionAnswer p ≡ sectionAfter form (sectionMeant q)) (l : p < 4) where
   pub begun-head : form ≡ headForm → 0 < q
-  unfolding placeAfter
+  unfolding sectionAfter
   begun-head e = begun form p q (rw e) led l
 
   pub begun-body : form ≡ bodyForm → 0 < q
-  unfolding placeAfter
+  unfolding sectionAfter
   begun-body e = begun form p q (rw e) led l
 
   pub begun-equation : form ≡ equationForm → 0 < q
-  unfolding placeAfter
+  unfolding sectionAfter
   begun-equation e = begun form p q (rw e) led l
 
--- counts do not depend on the place
+-- counts do not depend on the section
 pub sound-moved : (rules : List ℕ) (s : Stage) (p : ℕ) → Sound rules s
-    → Sound rules (record { place = p; symbols = s .symbols; rules = s .rules; constants = s .constants })
+    → Sound rules (record { section = p; symbols = s .symbols; rules = s .rules; constants = s .constants })
 sound-moved rules s p d =
     record { few-symbols = d .few-symbols; few-rules = d .few-rules; few-constants = d .few-constants; rows = d .rows }
 
--- a line of a form that leads to a place
+-- a line of a form that leads to a section
 module _ (f : Fields) (n : ℕ) (s : Stage) (names places symbols rules : List ℕ) (form : Form) (p : ℕ)
     (formed : (g : List ℕ) → getD (f .keys) 0 0 ≡ keyOf g → form ≡ formOf g)
-    (led : placeAnswer p ≡ placeAfter form (placeMeant (s .place))) where
+    (led : sectionAnswer p ≡ sectionAfter form (sectionMeant (s .section))) where
   abbrev at : Stage
-  at = record { place = p; symbols = s .symbols; rules = s .rules; constants = s .constants }
+  at = record { section = p; symbols = s .symbols; rules = s .rules; constants = s .constants }
 
   first-form : (fs : List (List ℕ)) → Holds fs f → 0 < length fs → form ≡ formOf (fieldAt 0 fs)
   unfolding fieldAt
   first-form fs h some-field = formed (getD fs 0 []) (key-at fs (f .keys) (h .keyed) 0 some-field (omega arith))
 
-  onward-is : (fs : List (List ℕ)) (d : Draft) → Holds fs f → 0 < length fs → d .place ≡ placeMeant (s .place)
+  onward-is : (fs : List (List ℕ)) (d : Draft) → Holds fs f → 0 < length fs → d .section ≡ sectionMeant (s .section)
       → readFields n fs d
-      ≡ onward (placeAfter form (placeMeant (s .place))) (refused 3 n) (λ place. readForm form n fs (atPlace place d))
+      ≡ onward (sectionAfter form (sectionMeant (s .section))) (refused 3 n) (λ section. readForm form n fs (inSection section d))
   unfolding readFields
   onward-is fs d h some-field e = rw (← first-form fs h some-field, e)
 
@@ -128,8 +129,8 @@ module _ (f : Fields) (n : ℕ) (s : Stage) (names places symbols rules : List �
       record {
         answers = λ fs h some-field.
             sym (onward-is fs (draftOf names symbols rules s) h some-field refl
-            ∙ ap (λ (o : Option Place). onward o (refused 3 n) (λ place. readForm form n fs (atPlace place
-            (draftOf names symbols rules s)))) (place-none p (placeAfter form (placeMeant (s .place))) led l));
+            ∙ ap (λ (o : Option Section). onward o (refused 3 n) (λ section. readForm form n fs (inSection section
+            (draftOf names symbols rules s)))) (section-none p (sectionAfter form (sectionMeant (s .section))) led l));
         sound = tt;
         kept = kept-same f names places;
         symbols-size = refl;
@@ -139,11 +140,11 @@ module _ (f : Fields) (n : ℕ) (s : Stage) (names places symbols rules : List �
   module _ (l : p < 4) where
     moved : (fs : List (List ℕ)) → Holds fs f → 0 < length fs
         → readForm form n fs (draftOf names symbols rules at) ≡ readFields n fs (draftOf names symbols rules s)
-    unfolding draftOf atPlace
+    unfolding draftOf inSection
     moved fs h some-field =
         sym (onward-is fs (draftOf names symbols rules s) h some-field refl
-        ∙ ap (λ (o : Option Place). onward o (refused 3 n) (λ place. readForm form n fs (atPlace place
-        (draftOf names symbols rules s)))) (place-some p (placeAfter form (placeMeant (s .place))) led l))
+        ∙ ap (λ (o : Option Section). onward o (refused 3 n) (λ section. readForm form n fs (inSection section
+        (draftOf names symbols rules s)))) (section-some p (sectionAfter form (sectionMeant (s .section))) led l))
 
     -- a form that no line of a program has
     pub line-none : ((fs : List (List ℕ)) (d : Draft) → readForm form n fs d ≡ refused 3 n)
@@ -170,7 +171,7 @@ module _ (f : Fields) (n : ℕ) (s : Stage) (names places symbols rules : List �
           sound = c .sound rules (sound-moved rules s p d) (λ z. absurd (omega (
             arith,
             z,
-            first-place p (s .place) (rw e at
+            first-section p (s .section) (rw e at
                 led) l,
           )));
           kept = c .kept;
@@ -227,8 +228,8 @@ pub record LinesSoFar (text names₀ places₀ names places symbols rules : List
 
 pub lines-start : (text names places symbols rules : List ℕ) → Room names places symbols rules
     → LinesSoFar text names places names places symbols rules 0 1
-    (record { place = 0; symbols = 0; rules = 0; constants = 0 })
-unfolding draftOf blank symbolsOf rulesRead constantsOf placeMeant
+    (record { section = 0; symbols = 0; rules = 0; constants = 0 })
+unfolding draftOf blank symbolsOf rulesRead constantsOf sectionMeant
 lines-start text names places symbols rules room =
     record {
       within = omega arith;

@@ -25,7 +25,7 @@ use Rattle.syntax.specs.Programs.{readProgram}
 use Rattle.tables.specs.Layout.{maxNames, symbolSize, rowSize, lineCell, headsCell, bodyCell, equationsCell}
 use Rattle.tables.specs.Rows.{symbolsOf, constantsOf, ruleOfRow, rowOf, ruleOf, rulesOf}
 use Rattle.tables.specs.Names.{Placed}
-use Rattle.lines.specs.Read.{placeMeant, KeepsPlaces}
+use Rattle.lines.specs.Read.{sectionMeant, KeepsPlaces}
 use Rattle.programs.specs.declared.Stage.{Stage}
 use Rattle.programs.specs.declared.LineRead.{LineRead}
 use Rattle.programs.specs.declared.LineRead.the-variants.{Refused as lineRefused, Next}
@@ -49,7 +49,7 @@ rulesRead names rules n = tabled (ruleRead names rules) n
 unfoldable pub draftOf : List ℕ → List ℕ → List ℕ → Stage → Draft
 draftOf names symbols rules s =
     record {
-      place = placeMeant (s .place);
+      section = sectionMeant (s .section);
       symbols = symbolsOf names symbols (s .symbols);
       rules = rulesRead names rules (s .rules);
       constants = constantsOf names (s .constants);
@@ -70,7 +70,7 @@ pub record Sound (rules : List ℕ) (s : Stage) : Type 0 where
 
 -- behind the K lines a rule has begun
 abbrev pub Begun : Stage → Type 0
-Begun s = 0 < s .place → 0 < s .rules
+Begun s = 0 < s .section → 0 < s .rules
 
 -- the tables that a program fills, by their lengths
 pub record Room (names places symbols rules : List ℕ) : Type 0 where

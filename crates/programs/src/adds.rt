@@ -50,7 +50,7 @@ pub fn constraint_line(
     let start = FIRST_HEAD + 20 * part + 5 * h;
     add_cells(rules, row + slot, row + start, &cells);
     LineRead::Next(Stage {
-        place: stage.place,
+        section: stage.section,
         symbols: stage.symbols,
         rules: stage.rules,
         constants: r.count,
@@ -98,7 +98,7 @@ pub fn equation_line(
     let start = FIRST_EQUATION + 2 * h;
     add_cells(rules, slot, row + start, &sides);
     LineRead::Next(Stage {
-        place: stage.place,
+        section: stage.section,
         symbols: stage.symbols,
         rules: stage.rules,
         constants: t.count,

@@ -67,7 +67,7 @@ pub fn symbol_line(
     names[n] = keys[1];
     places[n] = starts[1] as u16;
     LineRead::Next(Stage {
-        place: stage.place,
+        section: stage.section,
         symbols: n + 1,
         rules: stage.rules,
         constants: stage.constants,
@@ -116,7 +116,7 @@ pub fn rule_line(
     names[at] = keys[1];
     places[at] = starts[1] as u16;
     LineRead::Next(Stage {
-        place: stage.place,
+        section: stage.section,
         symbols: stage.symbols,
         rules: n + 1,
         constants: stage.constants,

@@ -6,9 +6,9 @@ mod rules;
 
 pub use program::read_program;
 
-// Where reading stands behind a line: the place, and how many symbols, rules and constants there are.
+// Where reading stands behind a line: the section, and how many symbols, rules and constants there are.
 pub struct Stage {
-    pub place: u8,
+    pub section: u8,
     pub symbols: usize,
     pub rules: usize,
     pub constants: usize,

@@ -12,7 +12,7 @@ use crate::declarations::symbol_line;
 use crate::rules::check_rules;
 use lines::LineForm;
 use lines::forms::form_of;
-use lines::forms::place_after;
+use lines::forms::section_after;
 use tables::layout::ROW_SIZE;
 use tables::layout::SYMBOL_SIZE;
 use text::fields::Fields;
@@ -40,12 +40,12 @@ fn read_line(
 {
     let keys = f.keys;
     let form = form_of(keys[0]);
-    let place = place_after(form, stage.place);
-    if 3 < place {
+    let section = section_after(form, stage.section);
+    if 3 < section {
         return LineRead::Refused(3);
     }
     let at = Stage {
-        place: place,
+        section: section,
         symbols: stage.symbols,
         rules: stage.rules,
         constants: stage.constants,
@@ -78,7 +78,7 @@ fn read_lines(
     let mut at = 0;
     let mut number: u16 = 1;
     let mut stage = Stage {
-        place: 0,
+        section: 0,
         symbols: 0,
         rules: 0,
         constants: 0,

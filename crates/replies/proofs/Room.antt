@@ -18,7 +18,7 @@ use lib.Dec.{ltb, eqb}
 use lib.ListN.{length, length-append, length-map, getD}
 use borrow.Author.Tests.{ltb-true, ltb-false, eqb-true}
 use Rattle.text.specs.Bytes.{ascii}
-use Rattle.text.specs.Lists.{has, placeFrom}
+use Rattle.text.specs.Lists.{has, indexFrom}
 use Rattle.text.specs.Lines.{parted}
 use Rattle.semantics.specs.Terms.{Term, con, var, Constraint, Symbol, Rule, Program, Goal, State, failed, live}
 use Rattle.semantics.specs.Terms.{noSymbol, symbolAt, weight, isDeclared, isWellFormed}
@@ -26,7 +26,7 @@ use Rattle.semantics.specs.Strategy.{goalState, run}
 use Rattle.semantics.specs.Overlaps.{appearingIn, appearing}
 use Rattle.semantics.proofs.Configurations.{All, also}
 use Rattle.semantics.proofs.Configurations as C
-use Rattle.semantics.proofs.Bools.{and-true}
+use Rattle.text.proofs.Bools.{and-true}
 use Rattle.semantics.proofs.Multisets.{all-mono, all-map, all-of-members}
 use Rattle.semantics.proofs.Normal.{Reach, arrived, fires, normalise-reach}
 use Rattle.semantics.proofs.Weights.{weight-cons, stateWeight, fireAt-lighter}
@@ -65,11 +65,11 @@ four-digits n h =
     digits-more 3 1000 (digits-more 2 100 (digits-more 1 10 (λ m k. rw (decimal-low m k) (omega arith)))) n (omega arith)
 
 -- a place is at most behind the last
-place-few : (t : ℕ → Bool) (i : ℕ) (xs : List ℕ) → placeFrom t i xs ≤ i + length xs
-place-few t i [] = omega arith
-place-few t i (x ∷ xs) = go (t x) (place-few t (suc i) xs)
+index-few : (t : ℕ → Bool) (i : ℕ) (xs : List ℕ) → indexFrom t i xs ≤ i + length xs
+index-few t i [] = omega arith
+index-few t i (x ∷ xs) = go (t x) (index-few t (suc i) xs)
   where
-    go : (b : Bool) → placeFrom t (suc i) xs ≤ suc i + length xs → cond b i (placeFrom t (suc i) xs) ≤ i + suc (length xs)
+    go : (b : Bool) → indexFrom t (suc i) xs ≤ suc i + length xs → cond b i (indexFrom t (suc i) xs) ≤ i + suc (length xs)
     go true h = omega arith
     go false h = omega arith
 
@@ -101,7 +101,7 @@ number-short letter x h = omega (arith, four-digits (suc x) (omega arith))
 -- so are the U numbers
 unbound-short : (order : List ℕ) (x : ℕ) → length order < 9999 → Short (unbound order x)
 unfolding unbound ascii
-unbound-short order x h = number-short 85 (placeFrom (eqb x) 0 order) (omega (arith, place-few (eqb x) 0 order))
+unbound-short order x h = number-short 85 (indexFrom (eqb x) 0 order) (omega (arith, index-few (eqb x) 0 order))
 
 -- a line of short fields behind its first
 behind-few : (fs : List (List ℕ)) → All Short fs → length (fieldsBehind fs) ≤ 9 * length fs + 1

@@ -16,7 +16,7 @@ use lib.Dec.{leb, ltb, eqb}
 use lib.ListN.{length, drop}
 use borrow.Author.Tests.{leb-true, ltb-false}
 use Rattle.text.specs.Bytes.{between}
-use Rattle.text.specs.Lists.{onward, every, placeOf, isKnown, withName}
+use Rattle.text.specs.Lists.{onward, every, indexOf, isKnown, withName}
 use Rattle.text.specs.Lines.{Line, lines, inFirstLine, lineIsFaulty}
 use Rattle.text.specs.Fields.{fields, isName, isVariable, isTerm, isNumberIn}
 use Rattle.semantics.specs.Terms.{Constraint, Symbol, Rule, weight}
@@ -25,15 +25,15 @@ use Rattle.semantics.proofs.Configurations as C
 use Rattle.semantics.proofs.Multisets.{all-append, all-mono, all-map}
 use Rattle.syntax.specs.Answers.{Answer, refused, accepted, refuseIf, andThen}
 use Rattle.syntax.specs.Forms.{Form, symbolForm, ruleForm, headForm, bodyForm, equationForm, goalForm, noForm, formOf}
-use Rattle.syntax.specs.Forms.{Place, placeAfter, fieldAt, constantsAfter, letterNumber}
+use Rattle.syntax.specs.Forms.{Section, sectionAfter, fieldAt, constantsAfter, letterNumber}
 use Rattle.syntax.specs.Forms.{isSymbolFaulty, isRuleFaulty, isEquationFaulty, isConstraintFaulty, isUndeclared, constraintOf}
-use Rattle.syntax.specs.Programs.{RuleRead, Draft, Reading, Found, blank, atPlace, onLast, lastRule, withHead, withBody}
+use Rattle.syntax.specs.Programs.{RuleRead, Draft, Reading, Found, blank, inSection, onLast, lastRule, withHead, withBody}
 use Rattle.syntax.specs.Programs.{withEquation, withRule, readSymbol, readRule, constraintLine, readConstraint, readEquation}
 use Rattle.syntax.specs.Programs.{readForm, readFields, readLine, readLines, checkRules, readProgram}
 use Rattle.syntax.specs.Programs.{maxText, maxSymbols, maxRules, maxHeads, maxBody, maxEquations, maxConstants}
 use Rattle.syntax.specs.Goals.{GoalDraft, GoalReading, maxGoal, maxWeight, lettersAfter, readConstraintOfGoal, isGoalForm}
 use Rattle.syntax.specs.Goals.{readGoalFields, readGoalLine, readGoalLines, readGoal}
-use Rattle.semantics.proofs.Bools.{and-true}
+use Rattle.text.proofs.Bools.{and-true}
 use Rattle.syntax.proofs.WellFormed.{or-neither, not-false}
 
 -- at most 8 bytes
@@ -266,19 +266,19 @@ module _ (n : ℕ) (low : n ≤ 16384) where
   form-reads goalForm fs d s = turned 3 n refl low
   form-reads noForm fs d s = turned 3 n refl low
 
-  moved-termed : (place : Place) (d : Draft) → TermedDraft d → TermedDraft (atPlace place d)
-  unfolding atPlace
-  moved-termed place d s = record { symbols = s .symbols; rules = s .rules; constants = s .constants }
+  moved-termed : (section : Section) (d : Draft) → TermedDraft d → TermedDraft (inSection section d)
+  unfolding inSection
+  moved-termed section d s = record { symbols = s .symbols; rules = s .rules; constants = s .constants }
 
   fields-read : (fs : List (List ℕ)) (d : Draft) → TermedDraft d → Reads TermedDraft (readFields n fs d)
   unfolding readFields
-  fields-read fs d s = go (placeAfter (formOf (fieldAt 0 fs)) (d .place))
+  fields-read fs d s = go (sectionAfter (formOf (fieldAt 0 fs)) (d .section))
     where
       go :
-          (o : Option Place)
-          → Reads TermedDraft (onward o (refused 3 n) (λ place. readForm (formOf (fieldAt 0 fs)) n fs (atPlace place d)))
+          (o : Option Section)
+          → Reads TermedDraft (onward o (refused 3 n) (λ section. readForm (formOf (fieldAt 0 fs)) n fs (inSection section d)))
       go none = turned 3 n refl low
-      go (some place) = form-reads (formOf (fieldAt 0 fs)) fs (atPlace place d) (moved-termed place d s)
+      go (some section) = form-reads (formOf (fieldAt 0 fs)) fs (inSection section d) (moved-termed section d s)
 
   line-reads : (l : Line) (d : Draft) → TermedDraft d → Reads TermedDraft (readLine n l d)
   unfolding readLine
@@ -348,7 +348,7 @@ unfolding readGoalLine readGoalFields readConstraintOfGoal
 goal-line-reads before symbols n l d low s =
     let fs = fields (l .bytes) in
     let letters = lettersAfter (drop 2 fs) (d .letters) in
-    let variable : List ℕ → ℕ = λ f. placeOf f letters in
+    let variable : List ℕ → ℕ = λ f. indexOf f letters in
     let full = leb maxGoal (length (d .constraints)) in
     let P = TermedGoalDraft before in
     reads-refuseIf P (lineIsFaulty l) 2 n _ refl low

@@ -9,9 +9,10 @@ use Prim.Native.Nat.{ℕ}
 use mathlib.Core.Bool.{cond}
 use mathlib.Core.List.{List, [], _∷_, _++_}
 use lib.Dec.{ltb}
-use lib.ListN.{length, getD, drop}
+use lib.ListN.{length, getD}
 use Rattle.text.specs.Bytes.{ascii}
 use Rattle.text.specs.Lines.{parted}
+use Rattle.text.specs.Lists.{overlaid}
 use Rattle.semantics.specs.Strategy.{run}
 use Rattle.semantics.specs.Verdict.{verdict}
 use Rattle.syntax.specs.Answers.{Answer, refused, accepted}
@@ -59,7 +60,7 @@ checkReply program room = replyOf programText (readProgram program) (λ p. fitte
 -- the lent output afterwards: untouched under a refusal; the listing, and then the old bytes, otherwise
 unfoldable pub outputAfter : Reply → List ℕ → List ℕ
 outputAfter (refusal number text line) old = old
-outputAfter (listing bytes) old = bytes ++ drop (length bytes) old
+outputAfter (listing bytes) old = overlaid bytes old
 
 -- the letter of a text
 unfoldable pub textLetter : Text → List ℕ

@@ -18,7 +18,7 @@ use lib.Seq.{take-all, length-take-le}
 use borrow.Author.Tests.{ltb-true, ltb-false}
 use Rattle.text.specs.Bytes.{ascii}
 use Rattle.text.specs.Lines.{Parts, parted}
-use Rattle.text.specs.Places.{partsAt}
+use Rattle.text.specs.Cursors.{partsAt}
 use Rattle.listing.specs.Listing.{decimal, fieldsBehind, lineOf}
 use Rattle.listing.specs.Writing.{laid, Countable, Writes}
 use Rattle.listing.proofs.Decimals.{decimal-low, decimal-high, decimal-few}

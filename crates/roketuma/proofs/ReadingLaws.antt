@@ -16,7 +16,7 @@ use Rattle.text.specs.Lists.{every, tabled}
 use Rattle.text.specs.Keys.{spell, spellFrom}
 use Rattle.text.proofs.Laws.{tabled-length, tabled-at}
 use Rattle.semantics.specs.Terms.{Symbol, Rule, Program, noSymbol}
-use Rattle.semantics.proofs.Bools.{and-true}
+use Rattle.text.proofs.Bools.{and-true}
 use Rattle.semantics.proofs.Configurations.{All}
 use Rattle.syntax.specs.Answers.{refused, accepted}
 use Rattle.syntax.specs.Forms.{firstConstant}

@@ -19,7 +19,7 @@ use Rattle.text.proofs.Laws.{tabled-length, tabled-at}
 use Rattle.semantics.specs.Terms.{Term, con, var, Constraint, Equation, Symbol, Program, State, failed, live, noSymbol}
 use Rattle.semantics.specs.Terms.{isDeclared, isBelow, isGoalOf, isWellFormed, weight, alphabet, Rule}
 use Rattle.semantics.specs.Strategy.{Final, advance, normalise, goalState, run}
-use Rattle.semantics.proofs.Bools.{and-true}
+use Rattle.text.proofs.Bools.{and-true}
 use Rattle.semantics.proofs.Configurations.{All, also, TermBelow}
 use Rattle.semantics.proofs.Configurations as C
 use Rattle.semantics.proofs.Multisets.{all-mono}

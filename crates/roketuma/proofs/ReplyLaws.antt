@@ -15,8 +15,7 @@ use lib.Seq.{take-at}
 use Rattle.syntax.specs.Answers.{refused, accepted}
 use Rattle.syntax.specs.Programs.{Reading, readProgram}
 use Rattle.syntax.specs.Goals.{readGoal}
-use Rattle.listing.specs.Writing.{listedIn, ListedAs}
-use Rattle.listing.specs.Writing as listing-after
+use Rattle.listing.specs.Writing.{listedIn, listedOver, ListedAs}
 use Rattle.listing.specs.declared.Listed.{Listed}
 use Rattle.listing.specs.declared.Listed.the-variants.{TooShort, Written}
 use Rattle.replies.specs.Replies.{Text, programText, goalText, Reply, refusal, listing, replyOf, fitted, runReply}
@@ -47,7 +46,7 @@ refused-goal program goal output p number line r e = rw (r, e) (record { meant =
 pub listed-short :
     {bytes before after : List ℕ} {reply : Listed} → ListedAs bytes before after reply → reply ≡ TooShort
     → Replied (fitted goalText (length before) bytes) before after (Refused (record { number = 11; text = G; line = 0 }))
-unfolding fitted listedIn listing-after.outputAfter outputAfter replyMeant textMeant answerOf letterOf
+unfolding fitted listedIn listedOver outputAfter replyMeant textMeant answerOf letterOf
 listed-short {bytes} {before} {after} {reply} l e = go (ltb (length before) (length bytes)) (sym e ∙ l .answer) (l .output)
   where
     go :
@@ -61,7 +60,7 @@ listed-short {bytes} {before} {after} {reply} l e = go (ltb (length before) (len
 pub listed-written :
     {bytes before after : List ℕ} {reply : Listed} (n : ℕ) → ListedAs bytes before after reply → reply ≡ Written n
     → Replied (fitted goalText (length before) bytes) before after (ListedTo n)
-unfolding fitted listedIn listing-after.outputAfter outputAfter replyMeant answerOf
+unfolding fitted listedIn listedOver outputAfter replyMeant answerOf
 listed-written {bytes} {before} {after} {reply} n l e = go (ltb (length before) (length bytes)) (sym e ∙ l .answer) (l .output)
   where
     go :

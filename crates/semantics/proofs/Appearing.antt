@@ -13,18 +13,19 @@ use mathlib.Core.List.{List, [], _∷_, _++_, map, append-assoc, append-nil}
 use mathlib.Core.Path.{_≡_, refl, sym, ap, subst, _∙_}
 use lib.Dec.{eqb}
 use lib.ListN.{length, getD, length-append}
-use Rattle.text.specs.Lists.{has, placeFrom, upTo}
+use Rattle.text.specs.Lists.{has, indexFrom, upTo}
 use Rattle.semantics.specs.Terms.{Term, con, var, Constraint, mapTerms}
 use Rattle.semantics.specs.Overlaps.{appearingIn, appearing, numbered, goalOf}
 use Rattle.semantics.specs.Claims.{ByAppearance}
 use Rattle.semantics.proofs.Configurations.{Or, inl, inr, Member, first, later, All, none, also, TermBelow}
 use Rattle.semantics.proofs.Options.{decide, true-false, eqb-equal, apart-eqb}
-use Rattle.semantics.proofs.Bools.{eqb-same, or-cases, or-false, or-right}
+use Rattle.text.proofs.Bools.{or-false}
+use Rattle.semantics.proofs.Bools.{eqb-same, or-cases, or-right}
 use Rattle.semantics.proofs.Removal.{has-last}
 use Rattle.semantics.proofs.Multisets.{all-member, all-of-members, all-map}
 use Rattle.semantics.proofs.MatchLaws.{instantiate}
-use Rattle.semantics.proofs.Places.{getD-at, has-append, place-stands, place-below, placeFrom-hit, placeFrom-miss}
-use Rattle.semantics.proofs.Places.{Distinct, distinct-append}
+use Rattle.semantics.proofs.Indices.{getD-at, has-append, index-stands, index-below, indexFrom-hit, indexFrom-miss}
+use Rattle.semantics.proofs.Indices.{Distinct, distinct-append}
 
 -- the seen variables with one more, if it is new
 abbrev seenWith : ℕ → List ℕ → List ℕ
@@ -161,7 +162,7 @@ appearing-known {c} {cs} i = all-of-members (c .terms) known
 pub numbered-below : (order : List ℕ) (t : Term) → Known order t → TermBelow (length order) (numbered order t)
 unfolding numbered
 numbered-below order (con c) k = tt
-numbered-below order (var x) k = place-below x order k
+numbered-below order (var x) k = index-below x order k
 
 -- numbering can be undone
 pub numbered-instance :
@@ -169,7 +170,7 @@ pub numbered-instance :
     → instantiate (λ v. θ (getD order v 0)) (numbered order t) ≡ instantiate θ t
 unfolding numbered
 numbered-instance order θ (con c) k = refl
-numbered-instance order θ (var x) k = ap θ (getD-at order (placeFrom (eqb x) 0 order) 0 (place-stands x order k))
+numbered-instance order θ (var x) k = ap θ (getD-at order (indexFrom (eqb x) 0 order) 0 (index-stands x order k))
 
 -- functions that agree on the elements give one image
 pub map-equal :
@@ -223,21 +224,21 @@ appearing-extends seen (c ∷ cs) =
     (more ++ rest, f ∙ ap (_++ rest) e ∙ append-assoc seen more rest)
 
 -- the place of a number that the first of two lists has, and of the first number of the second that the first lacks
-place-left : (x : ℕ) (l m : List ℕ) → has x l ≡ true → placeFrom (eqb x) 0 (l ++ m) < length l
-place-left x [] m h = true-false h refl
-place-left x (y ∷ l) m h = go (decide (eqb x y)) (place-left x l m)
+index-left : (x : ℕ) (l m : List ℕ) → has x l ≡ true → indexFrom (eqb x) 0 (l ++ m) < length l
+index-left x [] m h = true-false h refl
+index-left x (y ∷ l) m h = go (decide (eqb x y)) (index-left x l m)
   where
     go :
-        Or (eqb x y ≡ true) (eqb x y ≡ false) → (has x l ≡ true → placeFrom (eqb x) 0 (l ++ m) < length l)
-        → placeFrom (eqb x) 0 (y ∷ (l ++ m)) < suc (length l)
-    go (inl e) ih = rw (placeFrom-hit (eqb x) 0 (l ++ m) e) (omega arith)
-    go (inr e) ih = rw (placeFrom-miss (eqb x) 0 (l ++ m) e) (let k = ih (rw e at h) in omega arith)
+        Or (eqb x y ≡ true) (eqb x y ≡ false) → (has x l ≡ true → indexFrom (eqb x) 0 (l ++ m) < length l)
+        → indexFrom (eqb x) 0 (y ∷ (l ++ m)) < suc (length l)
+    go (inl e) ih = rw (indexFrom-hit (eqb x) 0 (l ++ m) e) (omega arith)
+    go (inr e) ih = rw (indexFrom-miss (eqb x) 0 (l ++ m) e) (let k = ih (rw e at h) in omega arith)
 
-place-next : (x : ℕ) (l m : List ℕ) → has x l ≡ false → placeFrom (eqb x) 0 (l ++ (x ∷ m)) ≡ length l
-place-next x [] m h = placeFrom-hit (eqb x) 0 m (eqb-same x)
-place-next x (y ∷ l) m h =
+index-next : (x : ℕ) (l m : List ℕ) → has x l ≡ false → indexFrom (eqb x) 0 (l ++ (x ∷ m)) ≡ length l
+index-next x [] m h = indexFrom-hit (eqb x) 0 m (eqb-same x)
+index-next x (y ∷ l) m h =
     let (e, f) = or-false (eqb x y) (has x l) h in
-    placeFrom-miss (eqb x) 0 (l ++ (x ∷ m)) e ∙ ap suc (place-next x l m f)
+    indexFrom-miss (eqb x) 0 (l ++ (x ∷ m)) e ∙ ap suc (index-next x l m f)
 
 -- the numbers below n
 upTo-has : (n i : ℕ) → i < n → has i (upTo n) ≡ true
@@ -268,19 +269,19 @@ terms-count order seen (var x ∷ ts) rest e =
     go :
         Or (has x seen ≡ true) (has x seen ≡ false)
         → (more : List ℕ) × (appearingIn (seenWith x seen) ts ≡ seenWith x seen ++ more)
-        → seenWith (placeFrom (eqb x) 0 order) (upTo (length seen)) ≡ upTo (length (seenWith x seen))
+        → seenWith (indexFrom (eqb x) 0 order) (upTo (length seen)) ≡ upTo (length (seenWith x seen))
     go (inl h) (more, f) =
         let split : order ≡ seenWith x seen ++ (more ++ rest) =
         e ∙ ap (_++ rest) f ∙ append-assoc (seenWith x seen) more rest in
         let known : order ≡ seen ++ (more ++ rest) = rw h at split in
-        let place : placeFrom (eqb x) 0 order < length seen = rw known (place-left x seen (more ++ rest) h) in
-        rw (h, upTo-has (length seen) (placeFrom (eqb x) 0 order) place)
+        let place : indexFrom (eqb x) 0 order < length seen = rw known (index-left x seen (more ++ rest) h) in
+        rw (h, upTo-has (length seen) (indexFrom (eqb x) 0 order) place)
     go (inr h) (more, f) =
         let split : order ≡ seenWith x seen ++ (more ++ rest) =
         e ∙ ap (_++ rest) f ∙ append-assoc (seenWith x seen) more rest in
         let new : order ≡ (seen ++ (x ∷ [])) ++ (more ++ rest) = rw h at split in
-        let place : placeFrom (eqb x) 0 order ≡ length seen =
-        ap (placeFrom (eqb x) 0) (new ∙ append-assoc seen (x ∷ []) (more ++ rest)) ∙ place-next x seen (more ++ rest) h in
+        let place : indexFrom (eqb x) 0 order ≡ length seen =
+        ap (indexFrom (eqb x) 0) (new ∙ append-assoc seen (x ∷ []) (more ++ rest)) ∙ index-next x seen (more ++ rest) h in
         let longer : length (seen ++ (x ∷ [])) ≡ suc (length seen) = length-append seen (x ∷ []) ∙ omega arith in
         rw (place, upTo-lacks (length seen) (length seen) (omega arith), h, longer)
 

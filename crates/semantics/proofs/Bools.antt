@@ -1,36 +1,25 @@
--- Tests, taken apart: what both, one or none of two tests say.
+-- Tests, taken apart, beside those of `text`: what one of two tests says.
 --   eqb-same               a number passes the test against itself
---   and-true               both tests pass
---   or-cases, or-false     one of two tests passes; neither does
+--   or-cases               one of two tests passes
 --   or-right               the second test is enough
 --   none-unless            a value that cannot be there is none
 -- Assumes nothing.
 use Prim.Native.Nat.{ℕ}
-use mathlib.Core.Bool.{Bool, true, false, _&&_, _||_}
+use mathlib.Core.Bool.{Bool, true, false, _||_}
 use mathlib.Core.Option.{Option, none, some}
 use mathlib.Core.Path.{_≡_, refl}
 use lib.Dec.{eqb}
 use Rattle.semantics.proofs.Configurations.{Or, inl, inr}
-use Rattle.semantics.proofs.Options.{true-false, equal-eqb}
+use Rattle.semantics.proofs.Options.{equal-eqb}
 
 -- a number passes the test against itself
 pub eqb-same : (n : ℕ) → eqb n n ≡ true
 eqb-same n = equal-eqb {m = n} refl
 
--- both tests pass
-pub and-true : (a b : Bool) → (a && b) ≡ true → (a ≡ true) × (b ≡ true)
-and-true true b e = (refl, e)
-and-true false b e = true-false e refl
-
 -- one of the tests passes
 pub or-cases : (a b : Bool) → (a || b) ≡ true → Or (a ≡ true) (b ≡ true)
 or-cases true b e = inl refl
 or-cases false b e = inr e
-
--- neither test passes
-pub or-false : (a b : Bool) → (a || b) ≡ false → (a ≡ false) × (b ≡ false)
-or-false true b e = true-false refl e
-or-false false b e = (refl, e)
 
 -- the second test alone is enough
 pub or-right : (a b : Bool) → b ≡ true → (a || b) ≡ true

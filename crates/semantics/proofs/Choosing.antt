@@ -27,7 +27,7 @@ pub record Chosen (n : ℕ) (rs : List Rule) (cs : List Constraint) (c : Choice)
   pub at : ℕ
   pub number : c .number ≡ n + at
   pub stands : getElem? rs at ≡ some (c .rule)
-  pub found : find (c .rule .heads) cs [] unassigned ≡ some (c .place)
+  pub found : find (c .rule .heads) cs [] unassigned ≡ some (c .found)
   pub earlier :
       (i : ℕ) (r : Rule) → i < at → getElem? rs i ≡ some r → find (r .heads) cs [] unassigned ≡ none
 
@@ -53,7 +53,7 @@ chooseFrom-chosen n (r ∷ rs) cs c e = go (chooseFrom-chosen (suc n) rs cs c) (
 
     go :
         (chooseFrom (suc n) rs cs ≡ some c → Chosen (suc n) rs cs c) → (o : Option Match) → find (r .heads) cs [] unassigned ≡ o
-        → orElse (Option·map (λ m. record { number = n; rule = r; place = m }) o) (chooseFrom (suc n) rs cs) ≡ some c
+        → orElse (Option·map (λ m. record { number = n; rule = r; found = m }) o) (chooseFrom (suc n) rs cs) ≡ some c
         → Chosen n (r ∷ rs) cs c
     go more none t e = late t (more e)
     go more (some m) t e = record {
@@ -75,7 +75,7 @@ chooseFrom-none n (q ∷ rs) cs e zero r s =
   where
     go :
         (o : Option Match) → find (q .heads) cs [] unassigned ≡ o
-        → orElse (Option·map (λ m. record { number = n; rule = q; place = m }) o) (chooseFrom (suc n) rs cs) ≡ none
+        → orElse (Option·map (λ m. record { number = n; rule = q; found = m }) o) (chooseFrom (suc n) rs cs) ≡ none
         → find (q .heads) cs [] unassigned ≡ none
     go none t e = t
     go (some m) t e = none-some e refl
@@ -83,7 +83,7 @@ chooseFrom-none n (q ∷ rs) cs e (suc i) r s = chooseFrom-none (suc n) rs cs (g
   where
     go :
         (o : Option Match)
-        → orElse (Option·map (λ m. record { number = n; rule = q; place = m }) o) (chooseFrom (suc n) rs cs) ≡ none
+        → orElse (Option·map (λ m. record { number = n; rule = q; found = m }) o) (chooseFrom (suc n) rs cs) ≡ none
         → chooseFrom (suc n) rs cs ≡ none
     go none e = e
     go (some m) e = none-some e refl
@@ -92,19 +92,19 @@ chooseFrom-none n (q ∷ rs) cs e (suc i) r s = chooseFrom-none (suc n) rs cs (g
 pub choose-sound :
     (rs : List Rule) (cs : List Constraint) (c : Choice) → choose rs cs ≡ some c
     → (getElem? rs (c .number) ≡ some (c .rule))
-    × (matchAt (c .rule .heads) (c .place .positions) cs [] unassigned ≡ some (c .place .assignment))
+    × (matchAt (c .rule .heads) (c .found .positions) cs [] unassigned ≡ some (c .found .assignment))
 unfolding choose
 choose-sound rs cs c e =
     let h = chooseFrom-chosen 0 rs cs c e in
-    (rw (h .number, zero-add) (h .stands), find-sound (c .rule .heads) cs (c .place) (h .found))
+    (rw (h .number, zero-add) (h .stands), find-sound (c .rule .heads) cs (c .found) (h .found))
 
 -- it is chosen at the smallest positions at which it fits
 pub choose-smallest :
     (rs : List Rule) (cs : List Constraint) (c : Choice) → choose rs cs ≡ some c
     → (qs : List ℕ) (end : Assignment) → matchAt (c .rule .heads) qs cs [] unassigned ≡ some end
-    → Or (qs ≡ c .place .positions) (Before (c .place .positions) qs)
+    → Or (qs ≡ c .found .positions) (Before (c .found .positions) qs)
 unfolding choose
-choose-smallest rs cs c e = find-smallest (c .rule .heads) cs (c .place) (chooseFrom-chosen 0 rs cs c e .found)
+choose-smallest rs cs c e = find-smallest (c .rule .heads) cs (c .found) (chooseFrom-chosen 0 rs cs c e .found)
 
 -- no rule of a smaller number fits at any positions
 pub choose-lowest :
@@ -129,10 +129,10 @@ pub advance-fires :
 unfolding advance fireAt
 advance-fires rs failed t e = none-some refl e
 advance-fires rs (live next bound cs) t e =
-    let u = bind-some (choose rs cs) (λ c. some (fired (c .rule) (c .place .positions) (c .place .assignment) next bound cs)) e in
+    let u = bind-some (choose rs cs) (λ c. some (fired (c .rule) (c .found .positions) (c .found .assignment) next bound cs)) e in
     let c = u .0 in
     let h = choose-sound rs cs c (u .1) in
-    (c .number, c .rule, c .place .positions, h .0, rw (h .1) (u .2))
+    (c .number, c .rule, c .found .positions, h .0, rw (h .1) (u .2))
 
 -- the strategy rests in a state exactly where no rule fits
 pub advance-rests : (p : Program) (s : State) → advance (p .rules) s ≡ none → NoRuleFits p s
@@ -142,7 +142,7 @@ advance-rests p (live next bound cs) e n r ps q = rw (choose-complete (p .rules)
   where
     go :
         (o : Option Choice) → choose (p .rules) cs ≡ o
-        → bind o (λ c. some (fired (c .rule) (c .place .positions) (c .place .assignment) next bound cs)) ≡ none
+        → bind o (λ c. some (fired (c .rule) (c .found .positions) (c .found .assignment) next bound cs)) ≡ none
         → choose (p .rules) cs ≡ none
     go none t e = t
     go (some c) t e = none-some e refl

@@ -21,7 +21,7 @@ use Rattle.semantics.specs.Published as P
 use Rattle.semantics.specs.CriticalPairs.{lefts, rights, jointsFrom, picked, shifted, shiftedHeads}
 use Rattle.semantics.proofs.Configurations.{All, none, also}
 use Rattle.semantics.proofs.Options.{none-some, bind-some, cond-some, eqb-equal, equal-eqb, apart-eqb}
-use Rattle.semantics.proofs.Places.{some-equal, getElem-at}
+use Rattle.semantics.proofs.Indices.{some-equal, getElem-at}
 use Rattle.semantics.proofs.Pairings.{alone}
 use Rattle.semantics.proofs.Joinings.{has-rights}
 

@@ -22,7 +22,8 @@ use Rattle.semantics.specs.Variants.{tryPartners, place, sameState, areP
 use Rattle.semantics.proofs.Configurations.{Or, inl, inr}
 use Rattle.semantics.proofs.Multisets.{inserted-length, multiset-length}
 use Rattle.semantics.proofs.Options.{true-false, none-some, eqb-equal}
-use Rattle.semantics.proofs.Bools.{eqb-same, and-true, or-cases, or-right}
+use Rattle.text.proofs.Bools.{and-true}
+use Rattle.semantics.proofs.Bools.{eqb-same, or-cases, or-right}
 use Rattle.semantics.proofs.Removal.{without-none, without-one, without-found}
 use Rattle.semantics.proofs.Pairs.{Paired, Inside, Grown, grown-same, grown-chain, unpaired-one-to-one}
 use Rattle.semantics.proofs.Pairs.{terms-inside, constraint-inside}

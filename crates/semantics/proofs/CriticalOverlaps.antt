@@ -19,7 +19,7 @@ use Rattle.semantics.specs.Published.{EquatedAll}
 use Rattle.semantics.specs.Correspondence.{JoiningsArePairings, OverlapsAreCriticalPairs}
 use Rattle.semantics.proofs.Configurations.{Member, first, All}
 use Rattle.semantics.proofs.Options.{none-some}
-use Rattle.semantics.proofs.Places.{some-equal}
+use Rattle.semantics.proofs.Indices.{some-equal}
 use Rattle.semantics.proofs.Listings.{at-member, member-at, NoRepeat, nothing}
 use Rattle.semantics.proofs.Listings as L
 use Rattle.semantics.proofs.Enumeration.{IsPairing, member-pairings, pairings-member, norepeat-pairings, OverlapParts}

@@ -24,7 +24,7 @@ use Rattle.semantics.proofs.Configurations.{TermBelow, All, also}
 use Rattle.semantics.proofs.Configurations as C
 use Rattle.semantics.proofs.Multisets.{all-member, all-mono, all-map, all-append}
 use Rattle.semantics.proofs.Options.{none-some, bind-some}
-use Rattle.semantics.proofs.Places.{some-equal}
+use Rattle.semantics.proofs.Indices.{some-equal}
 use Rattle.semantics.proofs.Listings.{at-member}
 use Rattle.semantics.proofs.MatchedTerms.{ConstraintBelow}
 use Rattle.semantics.proofs.FireLaws.{Lettered}

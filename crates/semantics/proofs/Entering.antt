@@ -24,7 +24,8 @@ use Rattle.semantics.specs.Derivations.{Event, enter, Progress, become, 
 use Rattle.semantics.specs.Derivations.{allEntered}
 use Rattle.semantics.specs.Strategy.{goalState}
 use Rattle.semantics.proofs.Options.{apart-eqb}
-use Rattle.semantics.proofs.Bools.{eqb-same, and-true, or-right}
+use Rattle.text.proofs.Bools.{and-true}
+use Rattle.semantics.proofs.Bools.{eqb-same, or-right}
 
 -- events one behind the other
 pub followAll-append :

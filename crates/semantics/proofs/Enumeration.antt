@@ -23,7 +23,7 @@ use Rattle.semantics.proofs.Configurations as C
 use Rattle.semantics.proofs.Options.{none-some, bind-some, cond-some}
 use Rattle.semantics.proofs.Multisets.{member-cons, member-nil, member-append, member-append-left, member-append-right}
 use Rattle.semantics.proofs.Multisets.{member-map, member-unmap}
-use Rattle.semantics.proofs.Places.{some-equal}
+use Rattle.semantics.proofs.Indices.{some-equal}
 use Rattle.semantics.proofs.Listings.{member-gather, gather-member, member-answers, answers-member, member-upTo}
 use Rattle.semantics.proofs.Listings.{upTo-member, at-member, member-at, NoRepeat, nothing, norepeat-map}
 use Rattle.semantics.proofs.Listings.{norepeat-gather, norepeat-answers, norepeat-upTo, norepeat-append}
@@ -134,7 +134,7 @@ overlap-parts i j ds e =
     record { equations = es; solution = σ; joined = a; solved = c; made = sym (some-equal d) }
 
 -- the rules with their numbers
-numbered-at : (n k : ℕ) (rs : List Rule) {r : Rule} → getElem? rs k ≡ some r
+pub numbered-at : (n k : ℕ) (rs : List Rule) {r : Rule} → getElem? rs k ≡ some r
     → getElem? (numberedFrom n rs) k ≡ some (record { number = n + k; rule = r })
 unfolding numberedFrom
 numbered-at n k [] e = none-some refl e

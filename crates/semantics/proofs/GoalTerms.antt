@@ -11,7 +11,7 @@ use mathlib.Core.Path.{_≡_, refl, sym, ap, ap₂, subst, _∙_}
 use native.Mathlib.Omega.{arith}
 use lib.Dec.{eqb}
 use lib.ListN.{length, getD, getElem?, length-map}
-use Rattle.text.specs.Lists.{has, placeFrom}
+use Rattle.text.specs.Lists.{has, indexFrom}
 use Rattle.semantics.specs.Terms.{Term, Constraint, Equation, Rule, State, mapTerms}
 use Rattle.semantics.specs.Terms as T
 use Rattle.semantics.specs.Solving.{solve}
@@ -30,7 +30,7 @@ use Rattle.semantics.proofs.Stepping.{fire-iso}
 use Rattle.semantics.proofs.Options.{true-false}
 use Rattle.semantics.proofs.SolveLaws.{solve-solution, solution-again}
 use Rattle.semantics.proofs.MatchedTerms.{pointwise-all}
-use Rattle.semantics.proofs.Places.{getD-at, getElem-at, has-at, place-stands, place-below, place-unique}
+use Rattle.semantics.proofs.Indices.{getD-at, getElem-at, has-at, index-stands, index-below, index-unique}
 use Rattle.semantics.proofs.Appearing.{Known, appearing-from, appearing-distinct}
 use Rattle.semantics.proofs.Reface.{entry, reface, reface-iso, reface-inconsistent}
 use Rattle.semantics.proofs.PublishedStates.{confWith}
@@ -131,7 +131,7 @@ module _ (es : List Equation) (σ : Term → Term) (p : solve es (λ t. t) ≡ s
   unfolding numbered
   number-variable v {x} at =
       ap (numbered goalOrder) (order-fixed x (has-at x goalOrder v at))
-      ∙ ap T.var (place-unique goalOrder v x (appearing-distinct [] (map (mapTerms σ) cs) tt) at)
+      ∙ ap T.var (index-unique goalOrder v x (appearing-distinct [] (map (mapTerms σ) cs) tt) at)
 
   -- numbering undoes denoting
   undo : (u : Tm ℕ) → used u → Eqv [] (sub number (sub denote u)) u
@@ -154,11 +154,11 @@ module _ (es : List Equation) (σ : Term → Term) (p : solve es (λ t. t) ≡ s
     where
       goalUsed : (t : Term) → Known goalOrder t → used (lift (numbered goalOrder t))
       goalUsed (T.con c) h = tt
-      goalUsed (T.var x) h = place-below x goalOrder h
+      goalUsed (T.var x) h = index-below x goalOrder h
 
       back : (t : Term) → Known goalOrder t → sub denote (lift (numbered goalOrder t)) ≡ lift t
       back (T.con c) h = refl
-      back (T.var x) h = ap var (getD-at goalOrder (placeFrom (eqb x) 0 goalOrder) 0 (place-stands x goalOrder h))
+      back (T.var x) h = ap var (getD-at goalOrder (indexFrom (eqb x) 0 goalOrder) 0 (index-stands x goalOrder h))
 
   -- so do terms, and the constraints of such terms
   denotes-terms : {ts : List Term} → All InGoal ts → Pointwise Denotes (map lift (map goalNumber ts)) (map lift ts)

@@ -12,7 +12,7 @@ use mathlib.Core.Option.{some}
 use mathlib.Core.Path.{_≡_, refl, sym, ap, subst, _∙_}
 use lib.Dec.{eqb}
 use lib.ListN.{length, getElem?}
-use Rattle.text.specs.Lists.{bind, has, placeFrom}
+use Rattle.text.specs.Lists.{bind, has, indexFrom}
 use Rattle.semantics.specs.Terms.{Term, Constraint, Equation, mapTerms}
 use Rattle.semantics.specs.Overlaps.{isOneToOne, equateTerms, equate, joinEquations}
 use Rattle.semantics.specs.Variants.{Pointwise, empty, each}
@@ -21,10 +21,10 @@ use Rattle.semantics.proofs.Options.{none-some, bind-some, cond-some, e
 use Rattle.semantics.proofs.Multisets.{member-nil, member-cons, member-append, member-append-left, member-append-right}
 use Rattle.semantics.proofs.Multisets.{pointwise-mono, all-member}
 use Rattle.semantics.proofs.MatchLaws.{ConstraintRel}
-use Rattle.semantics.proofs.Places.{some-equal, getElem-map, getElem-at}
-use Rattle.semantics.proofs.Places.{getElem-below, place-stands, has-at, pointwise-get}
+use Rattle.semantics.proofs.Indices.{some-equal, getElem-map, getElem-at}
+use Rattle.semantics.proofs.Indices.{getElem-below, index-stands, has-at, pointwise-get}
 use Rattle.semantics.proofs.Listings.{at-member}
-use Rattle.semantics.proofs.Pairings.{Agreed, agreed-of, agreed-at, once-place}
+use Rattle.semantics.proofs.Pairings.{Agreed, agreed-of, agreed-at, once-index}
 
 -- a function on terms makes all equations hold
 abbrev pub Holds : (Term → Term) → List Equation → Type 0
@@ -126,10 +126,10 @@ join-agreed hs ds gs {es} p l f holds = agreed-of 1 (map (mapTerms f) hs) (map (
 
     joined :
         (m k : ℕ) (y : Constraint) → m ≡ 1 + k → getElem? (map (mapTerms f) gs) k ≡ some y → has m ds ≡ true
-        → getElem? (map (mapTerms f) hs) (placeFrom (eqb m) 0 ds) ≡ some y
+        → getElem? (map (mapTerms f) hs) (indexFrom (eqb m) 0 ds) ≡ some y
     joined m k y e at h =
-        let i = placeFrom (eqb m) 0 ds in
-        let here : getElem? ds i ≡ some (suc k) = place-stands m ds h ∙ ap some (let z : m ≡ suc k = omega arith in z) in
+        let i = indexFrom (eqb m) 0 ds in
+        let here : getElem? ds i ≡ some (suc k) = index-stands m ds h ∙ ap some (let z : m ≡ suc k = omega arith in z) in
         let below = getElem-below ds i here in
         let (x, atx) = getElem-at hs i (omega arith) in
         meet i k x y atx at (join-sound hs ds gs p i k x atx here)
@@ -191,7 +191,7 @@ agreed-joined f {hs} {gs} {M} {N} ds u b p q a k d h at e =
     let (y, aty, ry) = pointwise-get d q atg in
     let (x, atx, rx) = pointwise-get k p at in
     let found = agreed-at 1 M N ds a (suc d) d (omega arith) aty (has-at (suc d) ds k e) in
-    let same : x ≡ y = some-equal (sym atx ∙ ap (getElem? M) (sym (once-place ds k d u e)) ∙ found) in (
+    let same : x ≡ y = some-equal (sym atx ∙ ap (getElem? M) (sym (once-index ds k d u e)) ∙ found) in (
       g,
       atg,
       record {

@@ -10,7 +10,7 @@ use mathlib.Core.List.{List, [], _∷_, map}
 use mathlib.Core.Path.{_≡_, refl, sym, ap₂, subst}
 use lib.Dec.{eqb}
 use lib.ListN.{getElem?}
-use Rattle.text.specs.Lists.{has, placeFrom}
+use Rattle.text.specs.Lists.{has, indexFrom}
 use Rattle.semantics.specs.Terms.{Term, Constraint, Equation, mapTerms}
 use Rattle.semantics.specs.Terms as T
 use Rattle.semantics.specs.Published.{Equated, EquatedAll, renamed}
@@ -47,7 +47,7 @@ agreed-member n xs (z ∷ ys) ds a first = go (decide (has n ds))
     go :
         Or (has n ds ≡ true) (has n ds ≡ false)
         → Or (Member z xs) (Member z (cond (has n ds) (leftover (suc n) ys ds) (z ∷ leftover (suc n) ys ds)))
-    go (inl h) = inl (at-member xs (placeFrom (eqb n) 0 ds) (a .0 h))
+    go (inl h) = inl (at-member xs (indexFrom (eqb n) 0 ds) (a .0 h))
     go (inr h) = inr (rw h first)
 agreed-member {A} {y} n xs (z ∷ ys) ds a (later i) = go (agreed-member (suc n) xs ys ds (a .1) i)
   where

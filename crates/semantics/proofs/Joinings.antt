@@ -16,8 +16,9 @@ use Rattle.semantics.specs.CriticalPairs.{Joint, rights, Joints, noMore,
 use Rattle.semantics.specs.CriticalPairs.{partnersFrom, partnersOf}
 use Rattle.semantics.proofs.Configurations.{Or, inl, inr, All, none, also}
 use Rattle.semantics.proofs.Options.{decide, true-false, eqb-equal, equal-eqb, apart-eqb}
-use Rattle.semantics.proofs.Bools.{and-true, or-cases}
-use Rattle.semantics.proofs.Places.{not-true}
+use Rattle.text.proofs.Bools.{and-true}
+use Rattle.semantics.proofs.Bools.{or-cases}
+use Rattle.semantics.proofs.Indices.{not-true}
 use Rattle.semantics.proofs.Enumeration.{IsPairing}
 
 -- a head in front of all joints has no partner

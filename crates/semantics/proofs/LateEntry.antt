@@ -27,7 +27,7 @@ use Rattle.semantics.proofs.Multisets.{inserted-map, multiset-refl, mul
 use Rattle.semantics.proofs.Options.{isBelow-below}
 use Rattle.semantics.proofs.MatchedTerms.{ConstraintBelow, without-all}
 use Rattle.semantics.proofs.Options.{none-some, bind-some}
-use Rattle.semantics.proofs.Bools.{and-true}
+use Rattle.text.proofs.Bools.{and-true}
 use Rattle.semantics.proofs.Removal.{without-none, without-every}
 use Rattle.semantics.proofs.Bound.{waiting-enters}
 use Rattle.semantics.proofs.Entering.{tabled-length, constraint-itself, every-upTo}

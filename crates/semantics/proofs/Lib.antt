@@ -36,7 +36,7 @@ pub mod Runs
 pub mod Vocabulary
 pub mod Reordering
 pub mod LateEntry
-pub mod Places
+pub mod Indices
 pub mod Pairings
 pub mod OverlapPositions
 pub mod Partners

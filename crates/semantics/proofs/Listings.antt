@@ -19,7 +19,7 @@ use Rattle.semantics.proofs.Configurations as C
 use Rattle.semantics.proofs.Options.{none-some}
 use Rattle.semantics.proofs.Multisets.{member-nil, member-cons, member-append, member-append-left, member-append-right}
 use Rattle.semantics.proofs.Multisets.{member-unmap}
-use Rattle.semantics.proofs.Places.{some-equal}
+use Rattle.semantics.proofs.Indices.{some-equal}
 
 -- an element of what an element gives
 pub member-gather :

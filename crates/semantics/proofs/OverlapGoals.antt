@@ -28,7 +28,7 @@ use Rattle.semantics.specs.Variants.{Pointwise, empty, each}
 use Rattle.semantics.specs.Claims.{ByAppearance}
 use Rattle.semantics.proofs.Configurations.{All, none, also, TermBelow}
 use Rattle.semantics.proofs.Options.{none-some, below-isBelow, isBelow-below}
-use Rattle.semantics.proofs.Bools.{and-true}
+use Rattle.text.proofs.Bools.{and-true}
 use Rattle.semantics.proofs.Multisets.{all-mono, all-append}
 use Rattle.semantics.proofs.SolveLaws.{solve-solution}
 use Rattle.semantics.proofs.PositionLaws.{Stands}

@@ -10,7 +10,7 @@ use mathlib.Core.List.{List, [], _∷_, _++_}
 use mathlib.Core.Path.{_≡_, refl, sym, ap, _∙_}
 use lib.Dec.{eqb}
 use lib.ListN.{length, getElem?}
-use Rattle.text.specs.Lists.{has, placeFrom, upTo}
+use Rattle.text.specs.Lists.{has, indexFrom, upTo}
 use Rattle.semantics.specs.Terms.{Constraint}
 use Rattle.semantics.specs.Overlaps.{secondPositions}
 use Rattle.semantics.specs.Variants.{Pointwise, empty, each}
@@ -18,8 +18,8 @@ use Rattle.semantics.proofs.Configurations.{Or, inl, inr}
 use Rattle.semantics.proofs.Options.{decide, true-false, eqb-equal}
 use Rattle.semantics.proofs.Bools.{or-cases}
 use Rattle.semantics.proofs.PositionLaws.{Stands, Fresh}
-use Rattle.semantics.proofs.Places.{false-unless, some-equal, getElem-left, getElem-right, place-stands, place-below}
-use Rattle.semantics.proofs.Places.{Distinct, distinct-fresh}
+use Rattle.semantics.proofs.Indices.{false-unless, some-equal, getElem-left, getElem-right, index-stands, index-below}
+use Rattle.semantics.proofs.Indices.{Distinct, distinct-fresh}
 use Rattle.semantics.proofs.Pairings.{leftover, Agreed}
 
 -- n numbers from k on
@@ -87,7 +87,7 @@ second-from cs xs n free (y ∷ ys) ds a f g =
         → ((k : ℕ) → ((i : ℕ) → getElem? cs (k + i) ≡ getElem? (leftover (suc n) ys ds) i)
         → Pointwise (Stands cs) (secondPositions (suc n) k (length ys) ds) ys)
         → Pointwise (Stands cs) (secondPositions n free (suc (length ys)) ds) (y ∷ ys)
-    go (inl h) more = rw h (each (f (placeFrom (eqb n) 0 ds) y (a .0 h)) (more free (λ i. rw h at (g i))))
+    go (inl h) more = rw h (each (f (indexFrom (eqb n) 0 ds) y (a .0 h)) (more free (λ i. rw h at (g i))))
     go (inr h) more =
         rw h (each (ap (getElem? cs) (let z : free ≡ free + 0 = omega arith in z) ∙ (rw h at (g 0)))
         (more (suc free) (λ i.
@@ -104,37 +104,37 @@ second-stand xs ys ds a =
 -- a position of the second side is a free one, or the place of a number of a joined element
 second-cases :
     (q n free k : ℕ) (ds : List ℕ) → has q (secondPositions n free k ds) ≡ true
-    → Or (free ≤ q) ((i : ℕ) × (n ≤ i) × (has i ds ≡ true) × (q ≡ placeFrom (eqb i) 0 ds))
+    → Or (free ≤ q) ((i : ℕ) × (n ≤ i) × (has i ds ≡ true) × (q ≡ indexFrom (eqb i) 0 ds))
 unfolding secondPositions
 second-cases q n free zero ds h = true-false h refl
 second-cases q n free (suc k) ds h =
     go (decide (has n ds)) (second-cases q (suc n) free k ds) (second-cases q (suc n) (suc free) k ds)
   where
-    Place : ℕ → ℕ → Type 0
-    Place f m = Or (f ≤ q) ((i : ℕ) × (m ≤ i) × (has i ds ≡ true) × (q ≡ placeFrom (eqb i) 0 ds))
+    Section : ℕ → ℕ → Type 0
+    Section f m = Or (f ≤ q) ((i : ℕ) × (m ≤ i) × (has i ds ≡ true) × (q ≡ indexFrom (eqb i) 0 ds))
 
-    weaken : (f : ℕ) → free ≤ f → Place f (suc n) → Place free n
+    weaken : (f : ℕ) → free ≤ f → Section f (suc n) → Section free n
     weaken f l (inl z) = inl (omega arith)
     weaken f l (inr (i, z, t, e)) = inr (i, omega arith, t, e)
 
-    atPlace :
-        has n ds ≡ true → Or (eqb q (placeFrom (eqb n) 0 ds) ≡ true) (has q (secondPositions (suc n) free k ds) ≡ true)
-        → (has q (secondPositions (suc n) free k ds) ≡ true → Place free (suc n)) → Place free n
-    atPlace t (inl e) ih = inr (n, omega arith, t, eqb-equal e)
-    atPlace t (inr e) ih = weaken free (omega arith) (ih e)
+    inSection :
+        has n ds ≡ true → Or (eqb q (indexFrom (eqb n) 0 ds) ≡ true) (has q (secondPositions (suc n) free k ds) ≡ true)
+        → (has q (secondPositions (suc n) free k ds) ≡ true → Section free (suc n)) → Section free n
+    inSection t (inl e) ih = inr (n, omega arith, t, eqb-equal e)
+    inSection t (inr e) ih = weaken free (omega arith) (ih e)
 
     atFree :
         Or (eqb q free ≡ true) (has q (secondPositions (suc n) (suc free) k ds) ≡ true)
-        → (has q (secondPositions (suc n) (suc free) k ds) ≡ true → Place (suc free) (suc n)) → Place free n
+        → (has q (secondPositions (suc n) (suc free) k ds) ≡ true → Section (suc free) (suc n)) → Section free n
     atFree (inl e) ih = let z : q ≡ free = eqb-equal e in inl (omega arith)
     atFree (inr e) ih = weaken (suc free) (omega arith) (ih e)
 
     go :
         Or (has n ds ≡ true) (has n ds ≡ false)
-        → (has q (secondPositions (suc n) free k ds) ≡ true → Place free (suc n))
-        → (has q (secondPositions (suc n) (suc free) k ds) ≡ true → Place (suc free) (suc n)) → Place free n
+        → (has q (secondPositions (suc n) free k ds) ≡ true → Section free (suc n))
+        → (has q (secondPositions (suc n) (suc free) k ds) ≡ true → Section (suc free) (suc n)) → Section free n
     go (inl t) one two =
-        atPlace t (or-cases (eqb q (placeFrom (eqb n) 0 ds)) (has q (secondPositions (suc n) free k ds)) (rw t at h)) one
+        inSection t (or-cases (eqb q (indexFrom (eqb n) 0 ds)) (has q (secondPositions (suc n) free k ds)) (rw t at h)) one
     go (inr t) one two =
         atFree (or-cases (eqb q free) (has q (secondPositions (suc n) (suc free) k ds)) (rw t at h)) two
 
@@ -147,25 +147,25 @@ second-distinct n free (suc k) ds l =
   where
     placed :
         has n ds ≡ true
-        → Or (free ≤ placeFrom (eqb n) 0 ds)
-        ((i : ℕ) × (suc n ≤ i) × (has i ds ≡ true) × (placeFrom (eqb n) 0 ds ≡ placeFrom (eqb i) 0 ds)) → ⊥
-    placed t (inl z) = let b = place-below n ds t in omega arith
+        → Or (free ≤ indexFrom (eqb n) 0 ds)
+        ((i : ℕ) × (suc n ≤ i) × (has i ds ≡ true) × (indexFrom (eqb n) 0 ds ≡ indexFrom (eqb i) 0 ds)) → ⊥
+    placed t (inl z) = let b = index-below n ds t in omega arith
     placed t (inr (i, z, s, e)) =
-        let w : n ≡ i = some-equal (sym (place-stands n ds t) ∙ ap (getElem? ds) e ∙ place-stands i ds s) in
+        let w : n ≡ i = some-equal (sym (index-stands n ds t) ∙ ap (getElem? ds) e ∙ index-stands i ds s) in
         omega arith
 
     freed :
-        Or (suc free ≤ free) ((i : ℕ) × (suc n ≤ i) × (has i ds ≡ true) × (free ≡ placeFrom (eqb i) 0 ds)) → ⊥
+        Or (suc free ≤ free) ((i : ℕ) × (suc n ≤ i) × (has i ds ≡ true) × (free ≡ indexFrom (eqb i) 0 ds)) → ⊥
     freed (inl z) = omega arith
-    freed (inr (i, z, s, e)) = let b = place-below i ds s in omega arith
+    freed (inr (i, z, s, e)) = let b = index-below i ds s in omega arith
 
     go :
         Or (has n ds ≡ true) (has n ds ≡ false) → Distinct (secondPositions (suc n) free k ds)
         → Distinct (secondPositions (suc n) (suc free) k ds) → Distinct (secondPositions n free (suc k) ds)
     go (inl t) one two =
         rw t (
-          false-unless (has (placeFrom (eqb n) 0 ds) (secondPositions (suc n) free k ds)) (λ h.
-              placed t (second-cases (placeFrom (eqb n) 0 ds) (suc n) free k ds h)),
+          false-unless (has (indexFrom (eqb n) 0 ds) (secondPositions (suc n) free k ds)) (λ h.
+              placed t (second-cases (indexFrom (eqb n) 0 ds) (suc n) free k ds h)),
           one,
         )
     go (inr t) one two =

@@ -10,7 +10,7 @@ use mathlib.Core.Path.{_≡_, refl, sym, ap, subst, subst₃, _∙_}
 use native.Mathlib.Omega.{arith}
 use lib.Dec.{eqb}
 use lib.ListN.{length, getElem?}
-use Rattle.text.specs.Lists.{has, placeFrom, tabled}
+use Rattle.text.specs.Lists.{has, indexFrom, tabled}
 use Rattle.semantics.specs.Terms.{Term, Constraint, Equation, Rule, Program, State, mapTerms, alphabet, isWellFormed}
 use Rattle.semantics.specs.Terms as T
 use Rattle.semantics.specs.Firing.{without}
@@ -28,7 +28,7 @@ use Rattle.semantics.proofs.MatchedTerms.{without-all}
 use Rattle.semantics.proofs.Renamings.{Separates, Avoids, ConstraintAvoids}
 use Rattle.semantics.proofs.Pairings.{leftover, alone, leftover-map, alone-map, unjoined-leftover}
 use Rattle.semantics.proofs.Listings.{member-at}
-use Rattle.semantics.proofs.Places.{getElem-map, getElem-at, place-stands, has-at}
+use Rattle.semantics.proofs.Indices.{getElem-map, getElem-at, index-stands, has-at}
 use Rattle.semantics.proofs.Appearing.{appearing-known, appearing-has, appearing-from}
 use Rattle.semantics.proofs.Enumeration.{IsPairing, OverlapParts, overlap-parts, Listed, pairings-member}
 use Rattle.semantics.proofs.JoinLaws.{join-agreed}
@@ -261,9 +261,9 @@ module _ (p : Program) (w : isWellFormed p ≡ true) (o : Overlap) (listed : Lis
   covered v h =
       let order = goalOrder es σ (parts .solved) beforehand in
       let (x, at) = getElem-at order v (subst (λ k. v < k) (goal-variables parts) h) in
-      let n = placeFrom (eqb x) 0 variables in
+      let n = indexFrom (eqb x) 0 variables in
       let stands : getElem? variables n ≡ some x =
-      place-stands x variables (goal-variable x (has-at x order v at)) in (
+      index-stands x variables (goal-variable x (has-at x order v at)) in (
         n,
         ap (λ l. getElem? l n) goalTerms-are ∙ getElem-map inGoal (map T.var variables) n (getElem-map T.var variables n stands)
             ∙ ap some (number-variable es σ (parts .solved) beforehand v at),

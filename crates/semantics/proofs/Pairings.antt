@@ -14,15 +14,16 @@ use mathlib.Core.Option.{some}
 use mathlib.Core.Path.{_≡_, refl, sym, ap, subst, subst₂, _∙_}
 use lib.Dec.{eqb, leb}
 use lib.ListN.{length, getElem?}
-use Rattle.text.specs.Lists.{has, every, placeFrom}
+use Rattle.text.specs.Lists.{has, every, indexFrom}
 use Rattle.semantics.specs.Terms.{Constraint}
 use Rattle.semantics.specs.Overlaps.{isOneToOne, unjoinedHeads}
 use Rattle.semantics.specs.Variants.{Pointwise, empty, each, Inserted, here, there, SameMultiset}
 use Rattle.semantics.proofs.Configurations.{Or, inl, inr, All, also}
 use Rattle.semantics.proofs.Options.{decide, true-false, none-some, eqb-equal, equal-eqb, apart-eqb}
-use Rattle.semantics.proofs.Bools.{and-true, or-false, or-cases, or-right}
-use Rattle.semantics.proofs.Places.{le-or-lt, leb-true, leb-false, not-true, some-equal, placeFrom-miss, pointwise-at}
-use Rattle.semantics.proofs.Places.{getElem-map, placeFrom-hit, has-at}
+use Rattle.text.proofs.Bools.{and-true, or-false}
+use Rattle.semantics.proofs.Bools.{or-cases, or-right}
+use Rattle.semantics.proofs.Indices.{le-or-lt, leb-true, leb-false, not-true, some-equal, indexFrom-miss, pointwise-at}
+use Rattle.semantics.proofs.Indices.{getElem-map, indexFrom-hit, has-at}
 use Rattle.semantics.proofs.Multisets.{multiset-put, multiset-of-path, inserted-left, inserted-right}
 
 -- the elements of the second list, the first of them numbered n, that are joined to none
@@ -40,7 +41,7 @@ alone (x ∷ xs) (suc d ∷ ds) = alone xs ds
 -- joined elements are equal, from number n of the second list on
 abbrev pub Agreed : {A : Type 0} → ℕ → List A → List A → List ℕ → Type 0
 Agreed n xs [] ds = Unit {0}
-Agreed n xs (y ∷ ys) ds = (has n ds ≡ true → getElem? xs (placeFrom (eqb n) 0 ds) ≡ some y) × Agreed (suc n) xs ys ds
+Agreed n xs (y ∷ ys) ds = (has n ds ≡ true → getElem? xs (indexFrom (eqb n) 0 ds) ≡ some y) × Agreed (suc n) xs ys ds
 
 -- an element whose partner is none, or has number n or more
 abbrev keeps : ℕ → ℕ → Bool
@@ -104,9 +105,9 @@ rest-skip n (x ∷ xs) (d ∷ ds) h =
 -- a number that joins an element
 rest-take :
     {A : Type 0} (n : ℕ) {y : A} (xs : List A) (ds : List ℕ) → 1 ≤ n → isOneToOne ds ≡ true → has n ds ≡ true
-    → getElem? xs (placeFrom (eqb n) 0 ds) ≡ some y → Inserted y (rest (suc n) xs ds) (rest n xs ds)
+    → getElem? xs (indexFrom (eqb n) 0 ds) ≡ some y → Inserted y (rest (suc n) xs ds) (rest n xs ds)
 unfolding isOneToOne
-rest-take n [] ds l u h e = none-some {o = getElem? [] (placeFrom (eqb n) 0 ds)} refl e
+rest-take n [] ds l u h e = none-some {o = getElem? [] (indexFrom (eqb n) 0 ds)} refl e
 rest-take n (x ∷ xs) [] l u h e = true-false h refl
 rest-take {A} n {y} (x ∷ xs) (d ∷ ds) l u h e =
     let (v, w) = and-true (eqb d 0 || not (has d ds)) (isOneToOne ds) u in
@@ -122,7 +123,7 @@ rest-take {A} n {y} (x ∷ xs) (d ∷ ds) l u h e =
 
     go :
         Or (eqb n d ≡ true) (eqb n d ≡ false) → (eqb d 0 || not (has d ds)) ≡ true
-        → (has n ds ≡ true → getElem? xs (placeFrom (eqb n) 0 ds) ≡ some y → Inserted y (rest (suc n) xs ds) (rest n xs ds))
+        → (has n ds ≡ true → getElem? xs (indexFrom (eqb n) 0 ds) ≡ some y → Inserted y (rest (suc n) xs ds) (rest n xs ds))
         → Inserted y (rest (suc n) (x ∷ xs) (d ∷ ds)) (rest n (x ∷ xs) (d ∷ ds))
     go (inl t) v ih =
         let q : n ≡ d = eqb-equal t in
@@ -130,7 +131,7 @@ rest-take {A} n {y} (x ∷ xs) (d ∷ ds) l u h e =
         let p : x ≡ y = some-equal (rw t at e) in
         rw (keeps-past n d l q, keeps-at n d q, rest-skip n xs ds alone, p) here
     go (inr t) v ih =
-        let p : getElem? xs (placeFrom (eqb n) 0 ds) ≡ some y = rw (placeFrom-miss (eqb n) 0 ds t) at e in
+        let p : getElem? xs (indexFrom (eqb n) 0 ds) ≡ some y = rw (indexFrom-miss (eqb n) 0 ds t) at e in
         rw (keeps-skip n d (λ q. true-false (equal-eqb q) t)) (under (keeps (suc n) d) (ih (rw t at h) p))
 
 -- the first list from number n on and what is left of the second are the second and what the first has beyond it
@@ -182,7 +183,7 @@ join-pointwise {A} {B} {R} {xs} {xs′} n (y ∷ ys) (y′ ∷ ys′) ds p q a b
         Or (has n ds ≡ true) (has n ds ≡ false)
         → (Pointwise R (leftover (suc n) ys ds) (leftover (suc n) ys′ ds) → Pointwise R ys ys′)
         → Pointwise R (y ∷ ys) (y′ ∷ ys′)
-    go (inl h) more = each (pointwise-at (placeFrom (eqb n) 0 ds) p (a .0 h) (b .0 h)) (more (rw h at q))
+    go (inl h) more = each (pointwise-at (indexFrom (eqb n) 0 ds) p (a .0 h) (b .0 h)) (more (rw h at q))
     go (inr h) more = let k = split (rw h at q) in each (k .0) (more (k .1))
 
 -- what is left, and what is alone, of related lists are related
@@ -231,7 +232,7 @@ pub agreed-map :
     {A B : Type 0} (f : A → B) (n : ℕ) (xs ys : List A) (ds : List ℕ) → Agreed n xs ys ds → Agreed n (map f xs) (map f ys) ds
 agreed-map f n xs [] ds a = tt
 agreed-map f n xs (y ∷ ys) ds a =
-    ((λ h. getElem-map f xs (placeFrom (eqb n) 0 ds) (a .0 h)), agreed-map f (suc n) xs ys ds (a .1))
+    ((λ h. getElem-map f xs (indexFrom (eqb n) 0 ds) (a .0 h)), agreed-map f (suc n) xs ys ds (a .1))
 
 -- the definitions' unjoined heads are what is left
 pub unjoined-leftover : (n : ℕ) (gs : List Constraint) (ds : List ℕ) → unjoinedHeads n gs ds ≡ leftover n gs ds
@@ -266,7 +267,7 @@ alone-all (x ∷ xs) (suc d ∷ ds) h e =
 -- joined elements are equal if they are at every number
 pub agreed-of :
     {A : Type 0} (n : ℕ) (xs ys : List A) (ds : List ℕ)
-    → ((m k : ℕ) (y : A) → m ≡ n + k → getElem? ys k ≡ some y → has m ds ≡ true → getElem? xs (placeFrom (eqb m) 0 ds) ≡ some y)
+    → ((m k : ℕ) (y : A) → m ≡ n + k → getElem? ys k ≡ some y → has m ds ≡ true → getElem? xs (indexFrom (eqb m) 0 ds) ≡ some y)
     → Agreed n xs ys ds
 agreed-of n xs [] ds h = tt
 agreed-of n xs (y ∷ ys) ds h =
@@ -275,23 +276,23 @@ agreed-of n xs (y ∷ ys) ds h =
 -- joined elements are equal, by their numbers
 pub agreed-at :
     {A : Type 0} (n : ℕ) (xs ys : List A) (ds : List ℕ) → Agreed n xs ys ds → (m k : ℕ) {y : A} → m ≡ n + k
-    → getElem? ys k ≡ some y → has m ds ≡ true → getElem? xs (placeFrom (eqb m) 0 ds) ≡ some y
+    → getElem? ys k ≡ some y → has m ds ≡ true → getElem? xs (indexFrom (eqb m) 0 ds) ≡ some y
 agreed-at n xs [] ds a m k e s h = none-some refl s
 agreed-at n xs (y ∷ ys) ds a m zero e s h =
     let z : n ≡ m = omega arith in
-    subst (λ i. getElem? xs (placeFrom (eqb i) 0 ds) ≡ some y) z (a .0 (subst (λ i. has i ds ≡ true) (sym z) h)) ∙ s
+    subst (λ i. getElem? xs (indexFrom (eqb i) 0 ds) ≡ some y) z (a .0 (subst (λ i. has i ds ≡ true) (sym z) h)) ∙ s
 agreed-at n xs (y ∷ ys) ds a m (suc k) e s h = agreed-at (suc n) xs ys ds (a .1) m k (omega arith) s h
 
 -- a partner other than 0 stands once
-pub once-place :
-    (ds : List ℕ) (k d : ℕ) → isOneToOne ds ≡ true → getElem? ds k ≡ some (suc d) → placeFrom (eqb (suc d)) 0 ds ≡ k
+pub once-index :
+    (ds : List ℕ) (k d : ℕ) → isOneToOne ds ≡ true → getElem? ds k ≡ some (suc d) → indexFrom (eqb (suc d)) 0 ds ≡ k
 unfolding isOneToOne
-once-place [] k d u e = none-some refl e
-once-place (c ∷ ds) zero d u e = placeFrom-hit (eqb (suc d)) 0 ds (equal-eqb {m = suc d} {n = c} (sym (some-equal e)))
-once-place (c ∷ ds) (suc k) d u e =
+once-index [] k d u e = none-some refl e
+once-index (c ∷ ds) zero d u e = indexFrom-hit (eqb (suc d)) 0 ds (equal-eqb {m = suc d} {n = c} (sym (some-equal e)))
+once-index (c ∷ ds) (suc k) d u e =
     let (v, w) = and-true (eqb c 0 || not (has c ds)) (isOneToOne ds) u in
-    placeFrom-miss (eqb (suc d)) 0 ds (apart-eqb {m = suc d} {n = c} (λ z. twice z (or-cases (eqb c 0) (not (has c ds)) v)))
-    ∙ ap suc (once-place ds k d w e)
+    indexFrom-miss (eqb (suc d)) 0 ds (apart-eqb {m = suc d} {n = c} (λ z. twice z (or-cases (eqb c 0) (not (has c ds)) v)))
+    ∙ ap suc (once-index ds k d w e)
   where
     twice : suc d ≡ c → Or (eqb c 0 ≡ true) (not (has c ds) ≡ true) → ⊥
     twice z (inl p) = let q : c ≡ 0 = eqb-equal p in omega arith

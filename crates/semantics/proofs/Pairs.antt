@@ -17,7 +17,8 @@ use Rattle.semantics.specs.Variants.{Pair, arePartners, arePaired, pairT
 use Rattle.semantics.proofs.Configurations.{Or, inl, inr}
 use Rattle.semantics.proofs.Multisets.{pointwise-mono}
 use Rattle.semantics.proofs.Options.{true-false, none-some, eqb-equal, bind-some, cond-some}
-use Rattle.semantics.proofs.Bools.{eqb-same, and-true, or-cases, or-false, or-right}
+use Rattle.text.proofs.Bools.{and-true, or-false}
+use Rattle.semantics.proofs.Bools.{eqb-same, or-cases, or-right}
 
 -- the renaming of a list of pairs
 abbrev pub Paired : List Pair → ℕ → ℕ → Type 0

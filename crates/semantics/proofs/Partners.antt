@@ -15,7 +15,7 @@ use mathlib.Core.Option.{some}
 use mathlib.Core.Path.{_≡_, refl, sym, ap, subst, _∙_}
 use lib.Dec.{eqb}
 use lib.ListN.{length, getElem?}
-use Rattle.text.specs.Lists.{has, every, placeFrom}
+use Rattle.text.specs.Lists.{has, every, indexFrom}
 use Rattle.semantics.specs.Terms.{Constraint}
 use Rattle.semantics.specs.Firing.{without}
 use Rattle.semantics.specs.Overlaps.{isOneToOne, isPairing}
@@ -26,19 +26,19 @@ use Rattle.semantics.proofs.Bools.{or-cases, or-right}
 use Rattle.semantics.proofs.PositionLaws.{Stands, Fresh, without-taken}
 use Rattle.semantics.proofs.Multisets.{multiset-refl, multiset-right, multiset-back, multiset-append, pointwise-append}
 use Rattle.semantics.proofs.Multisets.{pointwise-length}
-use Rattle.semantics.proofs.Places.{false-unless, some-equal, getElem-below, place-stands}
-use Rattle.semantics.proofs.Places.{has-at, Distinct, distinct-fresh, fresh-distinct, distinct-append, place-unique}
-use Rattle.semantics.proofs.Places.{pointwise-get, pointwise-get-back}
+use Rattle.semantics.proofs.Indices.{false-unless, some-equal, getElem-below, index-stands}
+use Rattle.semantics.proofs.Indices.{has-at, Distinct, distinct-fresh, fresh-distinct, distinct-append, index-unique}
+use Rattle.semantics.proofs.Indices.{pointwise-get, pointwise-get-back}
 use Rattle.semantics.proofs.Pairings.{leftover, alone, Agreed, join-union, leftover-pointwise, agreed-of}
 
 -- one position's place in a list, from 1; 0 where it does not stand there
 abbrev partner : List ℕ → ℕ → ℕ
-partner qs p = cond (has p qs) (suc (placeFrom (eqb p) 0 qs)) 0
+partner qs p = cond (has p qs) (suc (indexFrom (eqb p) 0 qs)) 0
 
 -- for each of the first positions its place among the second, from 1, or 0
 abbrev pub partnersOf : List ℕ → List ℕ → List ℕ
 partnersOf [] qs = []
-partnersOf (p ∷ ps) qs = cond (has p qs) (suc (placeFrom (eqb p) 0 qs)) 0 ∷ partnersOf ps qs
+partnersOf (p ∷ ps) qs = cond (has p qs) (suc (indexFrom (eqb p) 0 qs)) 0 ∷ partnersOf ps qs
 
 -- a partner is 0, or the number of an equal position
 partner-cases : (p : ℕ) (qs : List ℕ) → Or (partner qs p ≡ 0) ((k : ℕ) × (partner qs p ≡ suc k) × (getElem? qs k ≡ some p))
@@ -47,7 +47,7 @@ partner-cases p qs = go (decide (has p qs))
     go :
         Or (has p qs ≡ true) (has p qs ≡ false)
         → Or (partner qs p ≡ 0) ((k : ℕ) × (partner qs p ≡ suc k) × (getElem? qs k ≡ some p))
-    go (inl h) = inr (placeFrom (eqb p) 0 qs, rw h, place-stands p qs h)
+    go (inl h) = inr (indexFrom (eqb p) 0 qs, rw h, index-stands p qs h)
     go (inr h) = inl (rw h)
 
 -- a partner that is not 0 is the number of an equal position
@@ -60,7 +60,7 @@ partner-at p k qs e = go (partner-cases p qs)
 
 -- the number of a position among distinct ones is its partner
 partner-is : (p k : ℕ) (qs : List ℕ) → Distinct qs → getElem? qs k ≡ some p → partner qs p ≡ suc k
-partner-is p k qs d s = rw (has-at p qs k s) (ap suc (place-unique qs k p d s))
+partner-is p k qs d s = rw (has-at p qs k s) (ap suc (index-unique qs k p d s))
 
 -- as many as the first positions
 pub partners-length : (ps qs : List ℕ) → length (partnersOf ps qs) ≡ length ps
@@ -88,8 +88,8 @@ partners-from :
     (ps qs : List ℕ) (k : ℕ) → has (suc k) (partnersOf ps qs) ≡ true
     → (p : ℕ) × (has p ps ≡ true) × (getElem? qs k ≡ some p)
 partners-from ps qs k h =
-    let i = placeFrom (eqb (suc k)) 0 (partnersOf ps qs) in
-    let (p, s, e) = partners-at ps qs i (suc k) (place-stands (suc k) (partnersOf ps qs) h) in
+    let i = indexFrom (eqb (suc k)) 0 (partnersOf ps qs) in
+    let (p, s, e) = partners-at ps qs i (suc k) (index-stands (suc k) (partnersOf ps qs) h) in
     (p, has-at p ps i s, partner-at p k qs e)
 
 -- and the number of a shared position is among them
@@ -139,12 +139,12 @@ partners-agreed cs {M} {N} {ps} {qs} f g = agreed-of 1 M N (partnersOf ps qs) jo
   where
     joined :
         (m k : ℕ) (y : Constraint) → m ≡ 1 + k → getElem? N k ≡ some y → has m (partnersOf ps qs) ≡ true
-        → getElem? M (placeFrom (eqb m) 0 (partnersOf ps qs)) ≡ some y
+        → getElem? M (indexFrom (eqb m) 0 (partnersOf ps qs)) ≡ some y
     joined m k y e s h =
-        let (p, at, is) = partners-at ps qs (placeFrom (eqb m) 0 (partnersOf ps qs)) m (place-stands m (partnersOf ps qs) h) in
+        let (p, at, is) = partners-at ps qs (indexFrom (eqb m) 0 (partnersOf ps qs)) m (index-stands m (partnersOf ps qs) h) in
         let here : getElem? qs k ≡ some p = partner-at p k qs (is ∙ (let z : m ≡ suc k = omega arith in z)) in
         let (q, atq, stq) = pointwise-get-back k g s in
-        let (x, atx, stx) = pointwise-get (placeFrom (eqb m) 0 (partnersOf ps qs)) f at in
+        let (x, atx, stx) = pointwise-get (indexFrom (eqb m) 0 (partnersOf ps qs)) f at in
         let same : q ≡ p = some-equal (sym atq ∙ here) in
         atx ∙ sym stx ∙ ap (getElem? cs) (sym same) ∙ stq
 

@@ -24,7 +24,7 @@ use Rattle.semantics.proofs.MatchLaws.{ConstraintRel, instantiate}
 use Rattle.semantics.proofs.Letters.{program-lettered}
 use Rattle.semantics.proofs.VariantLaws.{variant-sym}
 use Rattle.semantics.proofs.Represent.{ScopedState}
-use Rattle.semantics.proofs.Places.{le-or-lt}
+use Rattle.semantics.proofs.Indices.{le-or-lt}
 use Rattle.semantics.proofs.Pairings.{leftover, alone, Agreed, leftover-all, alone-all}
 use Rattle.semantics.proofs.Partners.{partnersOf, partners-length, partners-bound, partners-once, partners-agreed}
 use Rattle.semantics.proofs.Partners.{partners-whole, partners-first, partners-second, partners-cases}

@@ -26,7 +26,7 @@ use Rattle.semantics.proofs.Lifting.{down, down-lift}
 use Rattle.semantics.proofs.Multisets.{member-unmap, pointwise-mono, pointwise-length}
 use Rattle.semantics.proofs.SolveLaws.{Solution, solve-solution, solve-clash}
 use Rattle.semantics.proofs.MatchLaws.{TermFits, ConstraintRel, instantiate}
-use Rattle.semantics.proofs.Places.{leb-true, leb-false}
+use Rattle.semantics.proofs.Indices.{leb-true, leb-false}
 use Rattle.semantics.proofs.Pairings.{leftover, Agreed, join-pointwise, leftover-map, unjoined-leftover}
 use Rattle.semantics.proofs.Enumeration.{OverlapParts}
 use Rattle.semantics.proofs.Appearing.{goal-instance}

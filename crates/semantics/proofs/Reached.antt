@@ -27,7 +27,7 @@ use Rattle.semantics.proofs.Multisets.{inserted-map, inserted-right, mu
 use Rattle.semantics.proofs.Multisets.{multiset-back, multiset-of-path, all-member}
 use Rattle.semantics.proofs.Isos.{iso-refl}
 use Rattle.semantics.proofs.MatchedTerms.{ConstraintBelow}
-use Rattle.semantics.proofs.Places.{pointwise-get, getElem-map, getElem-at, getD-at}
+use Rattle.semantics.proofs.Indices.{pointwise-get, getElem-map, getElem-at, getD-at}
 use Rattle.semantics.proofs.Listings.{at-member}
 use Rattle.semantics.proofs.Removal.{without-none}
 use Rattle.semantics.proofs.SolveLaws.{solve-solution}

@@ -40,11 +40,11 @@ unfolding advance fireAt
 advance-chosen p failed t e = none-some refl e
 advance-chosen p (live next bound cs) t e =
     let u = bind-some (choose (p .rules) cs)
-    (λ c. some (fired (c .rule) (c .place .positions) (c .place .assignment) next bound cs)) e in
+    (λ c. some (fired (c .rule) (c .found .positions) (c .found .assignment) next bound cs)) e in
     let c = u .0 in
     let h = choose-sound (p .rules) cs c (u .1) in (
       c .number,
-      c .place .positions,
+      c .found .positions,
       record {
         rule = c .rule;
         numbered = h .0;

@@ -20,7 +20,7 @@ use Rattle.semantics.specs.Verdict.{isJoinable}
 use Rattle.semantics.proofs.Configurations.{Config, liftAtom, fireC, confOf, All, Scoped, Rep}
 use Rattle.semantics.proofs.Multisets.{all-member, multiset-right, multiset-of-path}
 use Rattle.semantics.proofs.Letters.{program-lettered}
-use Rattle.semantics.proofs.Bools.{and-true}
+use Rattle.text.proofs.Bools.{and-true}
 use Rattle.semantics.proofs.Comparison.{sameState-sound}
 use Rattle.semantics.proofs.Normal.{normalise-reach}
 use Rattle.semantics.proofs.Pairings.{leftover, alone, join-union}

@@ -16,7 +16,7 @@ use Rattle.semantics.specs.Overlaps.{Overlap, overlaps, firstEnd, second
 use Rattle.semantics.specs.Verdict.{confluent, unjoined, isJoinable, judge, verdict}
 use Rattle.semantics.proofs.Configurations.{Member, All, none, also}
 use Rattle.semantics.proofs.Multisets.{all-member, all-of-members}
-use Rattle.semantics.proofs.Places.{some-equal}
+use Rattle.semantics.proofs.Indices.{some-equal}
 
 -- an answer of one kind is not of the other
 kinds {ℓ} : {A : Type ℓ} {n : ℕ} {o : Overlap} {e f : Final} → confluent n ≡ unjoined o e f → A

@@ -23,7 +23,7 @@ use Rattle.semantics.specs.Strategy.{Final, goalState, normalise, run}
 use Rattle.semantics.specs.Overlaps.{sideEnd}
 use Rattle.semantics.proofs.Configurations.{Or, inl, inr, Member, TermBelow, All, also, Scoped}
 use Rattle.semantics.proofs.Configurations as C
-use Rattle.semantics.proofs.Bools.{and-true}
+use Rattle.text.proofs.Bools.{and-true}
 use Rattle.semantics.proofs.Options.{none-some, bind-some, isBelow-below}
 use Rattle.semantics.proofs.Multisets.{all-member, all-mono, all-append, all-map, member-unmap}
 use Rattle.semantics.proofs.MatchLaws.{Paired, matchAt-sound}

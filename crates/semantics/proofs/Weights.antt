@@ -22,7 +22,7 @@ use Rattle.semantics.specs.Solving.{solve}
 use Rattle.semantics.specs.Firing.{without, instance, settle, fired, fireAt}
 use Rattle.semantics.specs.Variants.{Inserted, here, there}
 use Rattle.semantics.proofs.Options.{true-T, eqb-equal, none-some, bind-some, cond-some}
-use Rattle.semantics.proofs.Bools.{and-true}
+use Rattle.text.proofs.Bools.{and-true}
 use Rattle.semantics.proofs.Removal.{without-none, without-one}
 use Rattle.semantics.proofs.Search.{matchAt-cons}
 

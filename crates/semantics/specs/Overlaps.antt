@@ -10,7 +10,7 @@ use mathlib.Core.List.{List, [], _∷_, _++_, map}
 use mathlib.Core.Option.{Option, none, some}
 use lib.Dec.{eqb}
 use lib.ListN.{length, getElem?}
-use Rattle.text.specs.Lists.{onward, bind, every, has, placeFrom, gather, answers, upTo}
+use Rattle.text.specs.Lists.{onward, bind, every, has, indexFrom, gather, answers, upTo}
 use Rattle.semantics.specs.Terms.{Term, con, var, Constraint, Equation, Rule, Program, Goal, State, mapTerms}
 use Rattle.semantics.specs.Terms.{weight, alphabet}
 use Rattle.semantics.specs.Solving.{solve}
@@ -69,7 +69,7 @@ unjoinedHeads n (g ∷ gs) ds = cond (has n ds) (unjoinedHeads (suc n) gs ds) (g
 unfoldable pub secondPositions : ℕ → ℕ → ℕ → List ℕ → List ℕ
 secondPositions n free zero ds = []
 secondPositions n free (suc k) ds =
-    cond (has n ds) (placeFrom (eqb n) 0 ds ∷ secondPositions (suc n) free k ds)
+    cond (has n ds) (indexFrom (eqb n) 0 ds ∷ secondPositions (suc n) free k ds)
     (free ∷ secondPositions (suc n) (suc free) k ds)
 
 -- the variables of terms, in order of first appearance, behind those already seen
@@ -83,10 +83,10 @@ unfoldable pub appearing : List ℕ → List Constraint → List ℕ
 appearing seen [] = seen
 appearing seen (c ∷ cs) = appearing (appearingIn seen (c .terms)) cs
 
--- a term with its variable numbered by its place in a list
+-- a term with its variable numbered by its index in a list
 unfoldable pub numbered : List ℕ → Term → Term
 numbered order (con c) = con c
-numbered order (var x) = var (placeFrom (eqb x) 0 order)
+numbered order (var x) = var (indexFrom (eqb x) 0 order)
 
 -- the goal of constraints, all of whose variables are goal variables, counted by first appearance
 unfoldable pub goalOf : List Constraint → Goal

@@ -1,5 +1,5 @@
 -- What a run is (document 01: the run), said without the search that finds it.
---   Before             the order of lists of positions: compared place by place, from the first head
+--   Before             the order of lists of positions: compared one by one, from the first head
 --   ChosenFiring       the firing that comes first in the order of choice
 --   Run                such firings, until no rule fits
 --   RunsTo             a finished derivation of a goal that ends with a run

@@ -34,14 +34,14 @@ find (h ∷ hs) cs chosen θ =
 pub record Choice : Type 0 where
   pub number : ℕ
   pub rule : Rule
-  pub place : Match
+  pub found : Match
 
 -- the first rule, the first of them numbered n, that fits
 unfoldable pub chooseFrom : ℕ → List Rule → List Constraint → Option Choice
 chooseFrom n [] cs = none
 chooseFrom n (r ∷ rs) cs =
     let more = chooseFrom (suc n) rs cs in
-    orElse (Option·map (λ m. record { number = n; rule = r; place = m }) (find (r .heads) cs [] unassigned)) more
+    orElse (Option·map (λ m. record { number = n; rule = r; found = m }) (find (r .heads) cs [] unassigned)) more
 
 -- what the strategy fires among these constraints
 unfoldable pub choose : List Rule → List Constraint → Option Choice
@@ -51,7 +51,7 @@ choose rs cs = chooseFrom 0 rs cs
 unfoldable pub advance : List Rule → State → Option State
 advance rs failed = none
 advance rs (live next bound cs) =
-    bind (choose rs cs) (λ c. some (fired (c .rule) (c .place .positions) (c .place .assignment) next bound cs))
+    bind (choose rs cs) (λ c. some (fired (c .rule) (c .found .positions) (c .found .assignment) next bound cs))
 
 -- a state at the end of a derivation, and the derivation's firings (document 01: an end)
 pub record Final : Type 0 where

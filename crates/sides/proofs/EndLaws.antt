@@ -24,7 +24,7 @@ use Rattle.semantics.proofs.Vocabulary.{ConstraintOver, RuleOver, Spoken, Spoke
 use Rattle.tables.specs.Cells.{cellTerm, cellConstraints, stateOf}
 use Rattle.tables.specs.Layout.{firstRule}
 use Rattle.tables.specs.Rows.{nameOf, symbolsOf, ruleOfRow, ruleOf, rulesOf, rowOf}
-use Rattle.engine.specs.Places.{Row}
+use Rattle.engine.specs.Positions.{Row}
 use Rattle.engine.specs.Stated.{statedAt}
 use Rattle.engine.proofs.RunLaws.{length-constraints}
 use Rattle.engine.proofs.GoalLaws.{AsRead, programOf, rule-stands, goal-runnable}

@@ -14,10 +14,10 @@ use lib.Dec.{leb, ltb, eqb}
 use lib.ListN.{length, length-map, length-append, drop, getD}
 use borrow.Author.Tests.{lt-ltb, le-ltb, ltb-true, ltb-false, leb-false, eqb-true, eqb-false, ne-eqb, eq-eqb}
 use Rattle.text.specs.Bytes.{between}
-use Rattle.text.specs.Lists.{every, placeFrom, placeOf, sameBytes, isKnown, withName}
+use Rattle.text.specs.Lists.{every, indexFrom, indexOf, sameBytes, isKnown, withName}
 use Rattle.text.specs.Lines.{Line, lines, lineIsFaulty}
 use Rattle.text.specs.Fields.{fields, isName, isVariable, isTerm}
-use Rattle.text.proofs.ClassLaws.{and-true}
+use Rattle.text.proofs.Bools.{and-true}
 use Rattle.semantics.specs.Terms.{con, var, Constraint, Symbol, weight, symbolAt, isDeclared, isBelow, isGoalOf}
 use Rattle.semantics.proofs.Configurations.{TermBelow, All, also}
 use Rattle.semantics.proofs.Configurations as C
@@ -39,22 +39,22 @@ use Rattle.syntax.proofs.Vocabulary.{ConstantOf, constraints-more, cons
 use Rattle.text.proofs.Keys.{variable-range}
 
 -- whether a name is known behind others: among them, or as the last
-place-split :
+index-split :
     (t : List ℕ → Bool) (i : ℕ) (xs : List (List ℕ)) (y : List ℕ)
-    → ltb (placeFrom t i (xs ++ (y ∷ []))) (i + suc (length xs)) ≡ (ltb (placeFrom t i xs) (i + length xs) || t y)
-place-split t i [] y = go (t y)
+    → ltb (indexFrom t i (xs ++ (y ∷ []))) (i + suc (length xs)) ≡ (ltb (indexFrom t i xs) (i + length xs) || t y)
+index-split t i [] y = go (t y)
   where
     go : (b : Bool) → ltb (cond b i (suc i)) (i + 1) ≡ (ltb i (i + 0) || b)
     go true = rw (lt-ltb i (i + 1) (omega arith), le-ltb i (i + 0) (omega arith))
     go false = rw (le-ltb (suc i) (i + 1) (omega arith), le-ltb i (i + 0) (omega arith))
-place-split t i (x ∷ xs) y = go (place-split t (suc i) xs y) (t x)
+index-split t i (x ∷ xs) y = go (index-split t (suc i) xs y) (t x)
   where
     go :
-        ltb (placeFrom t (suc i) (xs ++ (y ∷ []))) (suc i + suc (length xs)) ≡
-        (ltb (placeFrom t (suc i) xs) (suc i + length xs) || t y)
+        ltb (indexFrom t (suc i) (xs ++ (y ∷ []))) (suc i + suc (length xs)) ≡
+        (ltb (indexFrom t (suc i) xs) (suc i + length xs) || t y)
         → (b : Bool)
-        → ltb (cond b i (placeFrom t (suc i) (xs ++ (y ∷ [])))) (i + suc (suc (length xs)))
-        ≡ (ltb (cond b i (placeFrom t (suc i) xs)) (i + suc (length xs)) || t y)
+        → ltb (cond b i (indexFrom t (suc i) (xs ++ (y ∷ [])))) (i + suc (suc (length xs)))
+        ≡ (ltb (cond b i (indexFrom t (suc i) xs)) (i + suc (length xs)) || t y)
     go more true = rw (lt-ltb i (i + suc (suc (length xs))) (omega arith), lt-ltb i (i + suc (length xs)) (omega arith))
     go more false =
         let a : i + suc (suc (length xs)) ≡ suc i + suc (length xs) = omega arith in
@@ -63,10 +63,10 @@ place-split t i (x ∷ xs) y = go (place-split t (suc i) xs y) (t x)
 
 known-split : (f : List ℕ) (names : List (List ℕ)) (g : List ℕ)
     → isKnown f (names ++ (g ∷ [])) ≡ (isKnown f names || sameBytes f g)
-unfolding isKnown placeOf
+unfolding isKnown indexOf
 known-split f names g =
     let n : length (names ++ (g ∷ [])) ≡ suc (length names) = simp length-append (omega arith) in
-    rw n (simp zero-add at (place-split (sameBytes f) 0 names g))
+    rw n (simp zero-add at (index-split (sameBytes f) 0 names g))
 
 -- the field of a letter by its number
 abbrev letterField : ℕ → List ℕ
@@ -174,20 +174,20 @@ letters-least fs before =
 -- a term field is below the letters, where its letter is among them
 term-lettered :
     (letters constants : List (List ℕ)) (f : List ℕ) → (not (isName f) ≡ true → isKnown f letters ≡ true)
-    → TermBelow (length letters) (termOf (λ f. placeOf f letters) constants f)
+    → TermBelow (length letters) (termOf (λ f. indexOf f letters) constants f)
 unfolding termOf isKnown
 term-lettered letters constants f h = go (isName f) h _
   where
     go :
-        (b : Bool) → (not b ≡ true → ltb (placeOf f letters) (length letters) ≡ true) → (c : ℕ)
-        → TermBelow (length letters) (cond b (con c) (var (placeOf f letters)))
+        (b : Bool) → (not b ≡ true → ltb (indexOf f letters) (length letters) ≡ true) → (c : ℕ)
+        → TermBelow (length letters) (cond b (con c) (var (indexOf f letters)))
     go true k c = tt
-    go false k c = ltb-true (placeOf f letters) (length letters) (k refl)
+    go false k c = ltb-true (indexOf f letters) (length letters) (k refl)
 
 constraint-lettered :
     (symbols : List Symbol) (constants fs before : List (List ℕ))
     → ConstraintBelow (length (lettersAfter (drop 2 fs) before))
-    (constraintOf symbols (λ f. placeOf f (lettersAfter (drop 2 fs) before)) constants fs)
+    (constraintOf symbols (λ f. indexOf f (lettersAfter (drop 2 fs) before)) constants fs)
 unfolding constraintOf
 constraint-lettered symbols constants fs before =
     rw (letters-grown (drop 2 fs) before)
@@ -219,7 +219,7 @@ record GoalSmall (p : Reading) (d : GoalDraft) : Type 0 where
 
 blank-goal : (p : Reading) → length (p .constants) ≤ 64
     → GoalSmall p (record { constraints = []; letters = []; constants = p .constants })
-unfolding isKnown placeOf
+unfolding isKnown indexOf
 blank-goal p h =
     record {
       few = omega arith;
@@ -253,7 +253,7 @@ unfolding readConstraintOfGoal isConstraintFaulty
 constraint-goal p n fs d s =
     let symbols = p .program .symbols in
     let letters = lettersAfter (drop 2 fs) (d .letters) in
-    let variable : List ℕ → ℕ = λ f. placeOf f letters in
+    let variable : List ℕ → ℕ = λ f. indexOf f letters in
     let full = leb 64 (length (d .constraints)) in
     holds-andThen (FoundGoal symbols letters (d .constants) fs (length (d .constraints) < 64)) (GoalSmall p)
     (constraintLine full symbols variable (d .constants) n fs) _

@@ -11,24 +11,24 @@ use mathlib.Core.List.{List, [], _∷_, _++_, append-assoc, append-nil}
 use mathlib.Core.Path.{_≡_, refl, sym, ap, _∙_}
 use lib.ListN.{length, length-append}
 use borrow.Author.Tests.{lt-ltb, ltb-true}
-use Rattle.text.specs.Lists.{placeFrom, placeOf, sameBytes, isKnown, withName}
+use Rattle.text.specs.Lists.{indexFrom, indexOf, sameBytes, isKnown, withName}
 use Rattle.text.specs.Fields.{isName}
 use Rattle.semantics.proofs.Configurations.{All, none, also}
 use Rattle.semantics.proofs.Bools.{eqb-same}
 use Rattle.syntax.specs.Forms.{constantsAfter}
 use Rattle.syntax.specs.Goals.{lettersAfter}
-use Rattle.syntax.proofs.Tabled.{place-first}
+use Rattle.syntax.proofs.Tabled.{index-first}
 
 -- what passes the test behind the others is found there, or before
-place-behind :
+index-behind :
     (t : List ℕ → Bool) (i : ℕ) (xs : List (List ℕ)) (y : List ℕ) → t y ≡ true
-    → placeFrom t i (xs ++ (y ∷ [])) < i + suc (length xs)
-place-behind t i [] y e = rw e (omega arith)
-place-behind t i (x ∷ xs) y e = go (place-behind t (suc i) xs y e) (t x)
+    → indexFrom t i (xs ++ (y ∷ [])) < i + suc (length xs)
+index-behind t i [] y e = rw e (omega arith)
+index-behind t i (x ∷ xs) y e = go (index-behind t (suc i) xs y e) (t x)
   where
     go :
-        placeFrom t (suc i) (xs ++ (y ∷ [])) < suc i + suc (length xs) → (b : Bool)
-        → cond b i (placeFrom t (suc i) (xs ++ (y ∷ []))) < i + suc (suc (length xs))
+        indexFrom t (suc i) (xs ++ (y ∷ [])) < suc i + suc (length xs) → (b : Bool)
+        → cond b i (indexFrom t (suc i) (xs ++ (y ∷ []))) < i + suc (suc (length xs))
     go more true = omega arith
     go more false = omega arith
 
@@ -38,18 +38,18 @@ same-refl (b ∷ s) = rw (eqb-same b) (same-refl s)
 
 -- a known name stays known with more behind
 pub known-front : (f : List ℕ) (names more : List (List ℕ)) → isKnown f names ≡ true → isKnown f (names ++ more) ≡ true
-unfolding isKnown placeOf
+unfolding isKnown indexOf
 known-front f names more h =
-    let k : placeFrom (sameBytes f) 0 names < length names = ltb-true _ _ h in
-    let e = place-first (sameBytes f) 0 names more (omega arith) in
-    lt-ltb (placeFrom (sameBytes f) 0 (names ++ more)) (length (names ++ more)) (omega (arith, e, length-append names more))
+    let k : indexFrom (sameBytes f) 0 names < length names = ltb-true _ _ h in
+    let e = index-first (sameBytes f) 0 names more (omega arith) in
+    lt-ltb (indexFrom (sameBytes f) 0 (names ++ more)) (length (names ++ more)) (omega (arith, e, length-append names more))
 
 -- a name is known behind the others
 pub known-behind : (f : List ℕ) (names : List (List ℕ)) → isKnown f (names ++ (f ∷ [])) ≡ true
-unfolding isKnown placeOf
+unfolding isKnown indexOf
 known-behind f names =
-    let k = place-behind (sameBytes f) 0 names f (same-refl f) in
-    lt-ltb (placeFrom (sameBytes f) 0 (names ++ (f ∷ []))) (length (names ++ (f ∷ [])))
+    let k = index-behind (sameBytes f) 0 names f (same-refl f) in
+    lt-ltb (indexFrom (sameBytes f) 0 (names ++ (f ∷ []))) (length (names ++ (f ∷ [])))
     (omega (arith, length-append names (f ∷ [])))
 
 -- names, with those of the picked fields that are new behind them

@@ -1,10 +1,10 @@
 -- Opens every definition of this crate at once: a proof that says `unfolding opened` computes with all of them.
 -- Assumes nothing.
 use Prim.Native.Nat.{ℕ}
-use Rattle.syntax.specs.Forms.{formOfByte, formOf, placeAfter, fieldAt, constantsAfter, termOf}
+use Rattle.syntax.specs.Forms.{formOfByte, formOf, sectionAfter, fieldAt, constantsAfter, termOf}
 use Rattle.syntax.specs.Forms.{letterNumber, isSymbolFaulty, isRuleFaulty, isEquationFaulty, isConstraintFaulty}
 use Rattle.syntax.specs.Forms.{symbolNumber, isUndeclared, constraintOf}
-use Rattle.syntax.specs.Programs.{blank, atPlace, onLast, lastRule, withHead, withBody, withEquation, readSymbol}
+use Rattle.syntax.specs.Programs.{blank, inSection, onLast, lastRule, withHead, withBody, withEquation, readSymbol}
 use Rattle.syntax.specs.Programs.{readRule, constraintLine, withRule, readConstraint, readEquation, readForm, readFields}
 use Rattle.syntax.specs.Programs.{readLine, readLines, checkRules, readProgram}
 use Rattle.syntax.specs.Goals.{lettersAfter, readConstraintOfGoal, isGoalForm, readGoalFields}
@@ -12,5 +12,5 @@ use Rattle.syntax.specs.Goals.{readGoalLine, readGoalLines, readGoal}
 
 -- a name to say on an `unfolding` line
 unfoldable pub opened : ℕ
-unfolding formOfByte formOf placeAfter fieldAt constantsAfter termOf letterNumber isSymbolFaulty isRuleFaulty isEquationFaulty isConstraintFaulty symbolNumber isUndeclared constraintOf blank atPlace onLast lastRule withHead withBody withEquation readSymbol readRule constraintLine withRule readConstraint readEquation readForm readFields readLine readLines checkRules readProgram lettersAfter readConstraintOfGoal isGoalForm readGoalFields readGoalLine readGoalLines readGoal
+unfolding formOfByte formOf sectionAfter fieldAt constantsAfter termOf letterNumber isSymbolFaulty isRuleFaulty isEquationFaulty isConstraintFaulty symbolNumber isUndeclared constraintOf blank inSection onLast lastRule withHead withBody withEquation readSymbol readRule constraintLine withRule readConstraint readEquation readForm readFields readLine readLines checkRules readProgram lettersAfter readConstraintOfGoal isGoalForm readGoalFields readGoalLine readGoalLines readGoal
 opened = 0

@@ -14,10 +14,10 @@ use lib.Dec.{leb, ltb, eqb}
 use lib.ListN.{length, length-append, length-map, drop}
 use borrow.Author.Tests.{ltb-true, ltb-false, leb-true, leb-false}
 use Rattle.text.specs.Bytes.{between}
-use Rattle.text.specs.Lists.{onward, isKnown, placeOf}
+use Rattle.text.specs.Lists.{onward, isKnown, indexOf}
 use Rattle.text.specs.Lines.{Line, lines, lineIsFaulty}
 use Rattle.text.specs.Fields.{fields, isName, isNumber, isNumberIn, valueOf}
-use Rattle.text.proofs.ClassLaws.{and-true}
+use Rattle.text.proofs.Bools.{and-true}
 use Rattle.semantics.specs.Terms.{Term, con, var, Constraint, Symbol, Rule, weight}
 use Rattle.semantics.proofs.Configurations.{All, also}
 use Rattle.semantics.proofs.Configurations as C
@@ -25,9 +25,9 @@ use Rattle.semantics.proofs.Multisets.{all-mono, all-append, all-map}
 use Rattle.semantics.proofs.Vocabulary.{TermOver, ConstraintOver, RuleOver}
 use Rattle.syntax.specs.Answers.{Answer, refused, accepted}
 use Rattle.syntax.specs.Forms.{Form, symbolForm, ruleForm, headForm, bodyForm, equationForm, goalForm, noForm, formOf}
-use Rattle.syntax.specs.Forms.{Place, placeAfter, fieldAt, constantsAfter, firstConstant, termOf, letterNumber}
+use Rattle.syntax.specs.Forms.{Section, sectionAfter, fieldAt, constantsAfter, firstConstant, termOf, letterNumber}
 use Rattle.syntax.specs.Forms.{isSymbolFaulty, isRuleFaulty, isEquationFaulty, constraintOf}
-use Rattle.syntax.specs.Programs.{Draft, RuleRead, Reading, Found, blank, atPlace, onLast, lastRule, withHead, withBody}
+use Rattle.syntax.specs.Programs.{Draft, RuleRead, Reading, Found, blank, inSection, onLast, lastRule, withHead, withBody}
 use Rattle.syntax.specs.Programs.{withEquation, withRule, readSymbol, readRule}
 use Rattle.syntax.specs.Programs.{constraintLine, readConstraint, readEquation}
 use Rattle.syntax.specs.Programs.{readForm, readFields, readLine, readLines, checkRules, readProgram, maxText}
@@ -84,8 +84,8 @@ term-over variable constants f h = go (isName f) refl
   where
     go :
         (b : Bool) → isName f ≡ b
-        → TermOver (ConstantOf (length constants)) (cond b (con (firstConstant + placeOf f constants)) (var (variable f)))
-    go true e = let k : placeOf f constants < length constants = ltb-true _ _ (h e) in (omega arith, omega arith)
+        → TermOver (ConstantOf (length constants)) (cond b (con (firstConstant + indexOf f constants)) (var (variable f)))
+    go true e = let k : indexOf f constants < length constants = ltb-true _ _ (h e) in (omega arith, omega arith)
     go false e = tt
 
 -- the constants after a line are those before it and more
@@ -302,9 +302,9 @@ form-small equationForm n fs d s = equation-small n fs d s
 form-small goalForm n fs d s = tt
 form-small noForm n fs d s = tt
 
-moved-small : (place : Place) (d : Draft) → Small d → Small (atPlace place d)
-unfolding atPlace
-moved-small place d s =
+moved-small : (section : Section) (d : Draft) → Small d → Small (inSection section d)
+unfolding inSection
+moved-small section d s =
     record {
       few-symbols = s .few-symbols;
       few-rules = s .few-rules;
@@ -315,12 +315,12 @@ moved-small place d s =
 
 fields-small : (n : ℕ) (fs : List (List ℕ)) (d : Draft) → Small d → Holds Small (readFields n fs d)
 unfolding readFields
-fields-small n fs d s = go (placeAfter (formOf (fieldAt 0 fs)) (d .place))
+fields-small n fs d s = go (sectionAfter (formOf (fieldAt 0 fs)) (d .section))
   where
-    go : (o : Option Place)
-        → Holds Small (onward o (refused 3 n) (λ place. readForm (formOf (fieldAt 0 fs)) n fs (atPlace place d)))
+    go : (o : Option Section)
+        → Holds Small (onward o (refused 3 n) (λ section. readForm (formOf (fieldAt 0 fs)) n fs (inSection section d)))
     go none = tt
-    go (some place) = form-small (formOf (fieldAt 0 fs)) n fs (atPlace place d) (moved-small place d s)
+    go (some section) = form-small (formOf (fieldAt 0 fs)) n fs (inSection section d) (moved-small section d s)
 
 line-small : (n : ℕ) (l : Line) (d : Draft) → Small d → Holds Small (readLine n l d)
 unfolding readLine

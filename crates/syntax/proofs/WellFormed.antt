@@ -15,16 +15,16 @@ use Rattle.text.specs.Lists.{onward, every, isKnown}
 use Rattle.text.specs.Lines.{Line, lines, lineIsFaulty}
 use Rattle.text.specs.Fields.{fields, isName, isVariable, isTerm}
 use Rattle.text.proofs.Keys.{variable-range}
-use Rattle.text.proofs.ClassLaws.{and-true}
+use Rattle.text.proofs.Bools.{and-true}
 use Rattle.semantics.specs.Terms.{con, var, Constraint, Equation, Symbol, Rule, weight}
 use Rattle.semantics.specs.Terms.{isDeclared, isBelow, alphabet, isOfRule, isRuleOf, isWellFormed, symbolAt}
 use Rattle.semantics.proofs.Options.{true-false, true-T, T-true, none-some}
 use Rattle.syntax.specs.Answers.{Answer, refused, accepted, refuseIf, andThen}
 use Rattle.syntax.specs.Forms.{Form, symbolForm, ruleForm, headForm, bodyForm, equationForm, goalForm, noForm, formOf}
-use Rattle.syntax.specs.Forms.{Place, inSymbols, inHeads, inBody, inEquations, placeAfter, fieldAt, constantsAfter}
+use Rattle.syntax.specs.Forms.{Section, inSymbols, inHeads, inBody, inEquations, sectionAfter, fieldAt, constantsAfter}
 use Rattle.syntax.specs.Forms.{termOf, letterNumber, isSymbolFaulty, isRuleFaulty, isEquationFaulty, isConstraintFaulty}
 use Rattle.syntax.specs.Forms.{isUndeclared, symbolNumber, constraintOf}
-use Rattle.syntax.specs.Programs.{Draft, RuleRead, Reading, Found, blank, atPlace, onLast, lastRule, withHead, withBody}
+use Rattle.syntax.specs.Programs.{Draft, RuleRead, Reading, Found, blank, inSection, onLast, lastRule, withHead, withBody}
 use Rattle.syntax.specs.Programs.{withEquation, withRule, readSymbol, readRule}
 use Rattle.syntax.specs.Programs.{constraintLine, readConstraint, readEquation}
 use Rattle.syntax.specs.Programs.{readForm, readFields, readLine, readLines, checkRules, readProgram}
@@ -176,7 +176,7 @@ length-onLast f (r ∷ q ∷ rs) = ap suc (length-onLast f (q ∷ rs))
 
 -- a draft whose rules are over its symbols, and which has none while symbols are still declared
 record Sound (d : Draft) : Type 0 where
-  before : d .place ≡ inSymbols → d .rules ≡ []
+  before : d .section ≡ inSymbols → d .rules ≡ []
   over : every (λ r. isOver (d .symbols) (r .rule)) (d .rules) ≡ true
 
 blank-sound : Sound blank
@@ -184,33 +184,33 @@ unfolding blank
 blank-sound = record { before = λ _. refl; over = refl }
 
 -- a K line stands among the K lines
-symbol-place : (place after : Place) → placeAfter symbolForm place ≡ some after → place ≡ inSymbols
-unfolding placeAfter
-symbol-place inSymbols after e = refl
-symbol-place inHeads after e = none-some refl e
-symbol-place inBody after e = none-some refl e
-symbol-place inEquations after e = none-some refl e
+symbol-section : (section after : Section) → sectionAfter symbolForm section ≡ some after → section ≡ inSymbols
+unfolding sectionAfter
+symbol-section inSymbols after e = refl
+symbol-section inHeads after e = none-some refl e
+symbol-section inBody after e = none-some refl e
+symbol-section inEquations after e = none-some refl e
 
 -- a rule's lines stand in a rule
-rule-place : (form : Form) (place after : Place) → placeAfter form place ≡ some after → (form ≡ symbolForm → ⊥)
+rule-section : (form : Form) (section after : Section) → sectionAfter form section ≡ some after → (form ≡ symbolForm → ⊥)
     → after ≡ inSymbols → ⊥
-unfolding placeAfter
-rule-place symbolForm place after e n k = n refl
-rule-place ruleForm place after e n k = let z : _≡_ {A = ℕ} 0 1 = cc in omega arith
-rule-place headForm inSymbols after e n k = none-some refl e
-rule-place headForm inHeads after e n k = let z : _≡_ {A = ℕ} 0 1 = cc in omega arith
-rule-place headForm inBody after e n k = none-some refl e
-rule-place headForm inEquations after e n k = none-some refl e
-rule-place bodyForm inSymbols after e n k = none-some refl e
-rule-place bodyForm inHeads after e n k = let z : _≡_ {A = ℕ} 0 1 = cc in omega arith
-rule-place bodyForm inBody after e n k = let z : _≡_ {A = ℕ} 0 1 = cc in omega arith
-rule-place bodyForm inEquations after e n k = none-some refl e
-rule-place equationForm inSymbols after e n k = none-some refl e
-rule-place equationForm inHeads after e n k = let z : _≡_ {A = ℕ} 0 1 = cc in omega arith
-rule-place equationForm inBody after e n k = let z : _≡_ {A = ℕ} 0 1 = cc in omega arith
-rule-place equationForm inEquations after e n k = let z : _≡_ {A = ℕ} 0 1 = cc in omega arith
-rule-place goalForm place after e n k = none-some refl e
-rule-place noForm place after e n k = none-some refl e
+unfolding sectionAfter
+rule-section symbolForm section after e n k = n refl
+rule-section ruleForm section after e n k = let z : _≡_ {A = ℕ} 0 1 = cc in omega arith
+rule-section headForm inSymbols after e n k = none-some refl e
+rule-section headForm inHeads after e n k = let z : _≡_ {A = ℕ} 0 1 = cc in omega arith
+rule-section headForm inBody after e n k = none-some refl e
+rule-section headForm inEquations after e n k = none-some refl e
+rule-section bodyForm inSymbols after e n k = none-some refl e
+rule-section bodyForm inHeads after e n k = let z : _≡_ {A = ℕ} 0 1 = cc in omega arith
+rule-section bodyForm inBody after e n k = let z : _≡_ {A = ℕ} 0 1 = cc in omega arith
+rule-section bodyForm inEquations after e n k = none-some refl e
+rule-section equationForm inSymbols after e n k = none-some refl e
+rule-section equationForm inHeads after e n k = let z : _≡_ {A = ℕ} 0 1 = cc in omega arith
+rule-section equationForm inBody after e n k = let z : _≡_ {A = ℕ} 0 1 = cc in omega arith
+rule-section equationForm inEquations after e n k = let z : _≡_ {A = ℕ} 0 1 = cc in omega arith
+rule-section goalForm section after e n k = none-some refl e
+rule-section noForm section after e n k = none-some refl e
 
 -- each line keeps a draft sound
 symbol-sound : (n : ℕ) (fs : List (List ℕ)) (d : Draft) → d .rules ≡ [] → Holds Sound (readSymbol n fs d)
@@ -220,7 +220,7 @@ symbol-sound n fs d e =
     λ _. holds-refuseIf Sound (isKnown (fieldAt 1 fs) (map (λ s. s .name) (d .symbols))) 5 n _
     λ _. holds-refuseIf Sound (leb maxSymbols (length (d .symbols))) 7 n _ λ _. record { before = λ _. e; over = rw e refl }
 
-rule-sound : (n : ℕ) (fs : List (List ℕ)) (d : Draft) → Sound d → (d .place ≡ inSymbols → ⊥) → Holds Sound (readRule n fs d)
+rule-sound : (n : ℕ) (fs : List (List ℕ)) (d : Draft) → Sound d → (d .section ≡ inSymbols → ⊥) → Holds Sound (readRule n fs d)
 unfolding readRule
 rule-sound n fs d s o =
     holds-refuseIf Sound (isRuleFaulty fs) 4 n _
@@ -252,7 +252,7 @@ holds-constraintLine P full symbols variable constants n fs k =
 
 constraint-sound :
     (count most : ℕ) (add : Constraint → Rule → Rule) (n : ℕ) (fs : List (List ℕ)) (d : Draft) → Sound d
-    → (d .place ≡ inSymbols → ⊥)
+    → (d .section ≡ inSymbols → ⊥)
     → ((c : Constraint) → isOfRule (d .symbols) c ≡ true → (r : Rule) → isOver (d .symbols) r ≡ true
     → isOver (d .symbols) (add c r) ≡ true)
     → Holds Sound (readConstraint count most add n fs d)
@@ -282,7 +282,7 @@ sides-below constants (a ∷ b ∷ c ∷ fs) e =
     let k = and-true (isTerm c) (every isTerm fs) (h .1) in
     rw (term-below constants b (h .0), term-below constants c (k .0))
 
-equation-sound : (n : ℕ) (fs : List (List ℕ)) (d : Draft) → Sound d → (d .place ≡ inSymbols → ⊥)
+equation-sound : (n : ℕ) (fs : List (List ℕ)) (d : Draft) → Sound d → (d .section ≡ inSymbols → ⊥)
     → Holds Sound (readEquation n fs d)
 unfolding readEquation withRule
 equation-sound n fs d s o =
@@ -297,40 +297,40 @@ equation-sound n fs d s o =
           (over-equation (d .symbols) _ (sides-below (constantsAfter (drop 1 fs) (d .constants)) fs a)) (s .over);
     }
 
--- a draft at another place, which is behind the K lines
-moved-sound : (place : Place) (d : Draft) → Sound d → (place ≡ inSymbols → ⊥) → Sound (atPlace place d)
-unfolding atPlace
-moved-sound place d s o = record { before = λ k. absurd (o k); over = s .over }
+-- a draft at another section, which is behind the K lines
+moved-sound : (section : Section) (d : Draft) → Sound d → (section ≡ inSymbols → ⊥) → Sound (inSection section d)
+unfolding inSection
+moved-sound section d s o = record { before = λ k. absurd (o k); over = s .over }
 
 form-sound :
-    (form : Form) (n : ℕ) (place : Place) (fs : List (List ℕ)) (d : Draft) → Sound d → placeAfter form (d .place) ≡ some place
-    → Holds Sound (readForm form n fs (atPlace place d))
-unfolding readForm atPlace
-form-sound symbolForm n place fs d s e = symbol-sound n fs (atPlace place d) (s .before (symbol-place (d .place) place e))
-form-sound ruleForm n place fs d s e =
-    let o = rule-place ruleForm (d .place) place e (λ k. let z : _≡_ {A = ℕ} 0 1 = cc in omega arith) in
-    rule-sound n fs (atPlace place d) (moved-sound place d s o) o
-form-sound headForm n place fs d s e =
-    let o = rule-place headForm (d .place) place e (λ k. let z : _≡_ {A = ℕ} 0 1 = cc in omega arith) in
-    constraint-sound _ _ withHead n fs (atPlace place d) (moved-sound place d s o) o (over-head (d .symbols))
-form-sound bodyForm n place fs d s e =
-    let o = rule-place bodyForm (d .place) place e (λ k. let z : _≡_ {A = ℕ} 0 1 = cc in omega arith) in
-    constraint-sound _ _ withBody n fs (atPlace place d) (moved-sound place d s o) o (over-body (d .symbols))
-form-sound equationForm n place fs d s e =
-    let o = rule-place equationForm (d .place) place e (λ k. let z : _≡_ {A = ℕ} 0 1 = cc in omega arith) in
-    equation-sound n fs (atPlace place d) (moved-sound place d s o) o
-form-sound goalForm n place fs d s e = tt
-form-sound noForm n place fs d s e = tt
+    (form : Form) (n : ℕ) (section : Section) (fs : List (List ℕ)) (d : Draft) → Sound d → sectionAfter form (d .section) ≡ some section
+    → Holds Sound (readForm form n fs (inSection section d))
+unfolding readForm inSection
+form-sound symbolForm n section fs d s e = symbol-sound n fs (inSection section d) (s .before (symbol-section (d .section) section e))
+form-sound ruleForm n section fs d s e =
+    let o = rule-section ruleForm (d .section) section e (λ k. let z : _≡_ {A = ℕ} 0 1 = cc in omega arith) in
+    rule-sound n fs (inSection section d) (moved-sound section d s o) o
+form-sound headForm n section fs d s e =
+    let o = rule-section headForm (d .section) section e (λ k. let z : _≡_ {A = ℕ} 0 1 = cc in omega arith) in
+    constraint-sound _ _ withHead n fs (inSection section d) (moved-sound section d s o) o (over-head (d .symbols))
+form-sound bodyForm n section fs d s e =
+    let o = rule-section bodyForm (d .section) section e (λ k. let z : _≡_ {A = ℕ} 0 1 = cc in omega arith) in
+    constraint-sound _ _ withBody n fs (inSection section d) (moved-sound section d s o) o (over-body (d .symbols))
+form-sound equationForm n section fs d s e =
+    let o = rule-section equationForm (d .section) section e (λ k. let z : _≡_ {A = ℕ} 0 1 = cc in omega arith) in
+    equation-sound n fs (inSection section d) (moved-sound section d s o) o
+form-sound goalForm n section fs d s e = tt
+form-sound noForm n section fs d s e = tt
 
 fields-sound : (n : ℕ) (fs : List (List ℕ)) (d : Draft) → Sound d → Holds Sound (readFields n fs d)
 unfolding readFields
-fields-sound n fs d s = go (placeAfter (formOf (fieldAt 0 fs)) (d .place)) refl
+fields-sound n fs d s = go (sectionAfter (formOf (fieldAt 0 fs)) (d .section)) refl
   where
     go :
-        (o : Option Place) → placeAfter (formOf (fieldAt 0 fs)) (d .place) ≡ o
-        → Holds Sound (onward o (refused 3 n) (λ place. readForm (formOf (fieldAt 0 fs)) n fs (atPlace place d)))
+        (o : Option Section) → sectionAfter (formOf (fieldAt 0 fs)) (d .section) ≡ o
+        → Holds Sound (onward o (refused 3 n) (λ section. readForm (formOf (fieldAt 0 fs)) n fs (inSection section d)))
     go none e = tt
-    go (some place) e = form-sound (formOf (fieldAt 0 fs)) n place fs d s e
+    go (some section) e = form-sound (formOf (fieldAt 0 fs)) n section fs d s e
 
 line-sound : (n : ℕ) (l : Line) (d : Draft) → Sound d → Holds Sound (readLine n l d)
 unfolding readLine

@@ -1,6 +1,6 @@
 -- The forms of a line, and what its term fields stand for.
 --   Form, formOf             what a line means, by its first field
---   Place, placeAfter        which form may follow which
+--   Section, sectionAfter    which form may follow which
 --   constantsAfter, termOf   constants and variables, numbered by first appearance
 --   isSymbolFaulty, isRuleFaulty, isEquationFaulty, isConstraintFaulty    number 4 of each form
 -- Assumes nothing.
@@ -11,7 +11,7 @@ use mathlib.Core.Option.{Option, none, some}
 use lib.Dec.{ltb, eqb}
 use lib.ListN.{length, getD, drop}
 use Rattle.text.specs.Bytes.{between}
-use Rattle.text.specs.Lists.{every, placeOf, withName}
+use Rattle.text.specs.Lists.{every, indexOf, withName}
 use Rattle.text.specs.Fields.{isName, isTerm, isNumberIn}
 use Rattle.semantics.specs.Terms.{Term, con, var, Constraint, Symbol, symbolAt}
 
@@ -33,31 +33,31 @@ formOf (b ∷ []) = formOfByte b
 formOf (b ∷ c ∷ s) = noForm
 
 -- where a line stands in a program: among the K lines, or in a rule behind its R or H lines, its B lines or its E lines
-pub data Place : Type 0 where
-  inSymbols inHeads inBody inEquations : Place
+pub data Section : Type 0 where
+  inSymbols inHeads inBody inEquations : Section
 
--- the place behind a line of a form, if it may stand at this place: all K lines come first; in each rule H lines come before
+-- the section after a line of a form, if it may stand in this section: all K lines come first; in each rule H lines come before
 -- B lines, and B lines before E lines
-unfoldable pub placeAfter : Form → Place → Option Place
-placeAfter symbolForm inSymbols = some inSymbols
-placeAfter symbolForm inHeads = none
-placeAfter symbolForm inBody = none
-placeAfter symbolForm inEquations = none
-placeAfter ruleForm place = some inHeads
-placeAfter headForm inSymbols = none
-placeAfter headForm inHeads = some inHeads
-placeAfter headForm inBody = none
-placeAfter headForm inEquations = none
-placeAfter bodyForm inSymbols = none
-placeAfter bodyForm inHeads = some inBody
-placeAfter bodyForm inBody = some inBody
-placeAfter bodyForm inEquations = none
-placeAfter equationForm inSymbols = none
-placeAfter equationForm inHeads = some inEquations
-placeAfter equationForm inBody = some inEquations
-placeAfter equationForm inEquations = some inEquations
-placeAfter goalForm place = none
-placeAfter noForm place = none
+unfoldable pub sectionAfter : Form → Section → Option Section
+sectionAfter symbolForm inSymbols = some inSymbols
+sectionAfter symbolForm inHeads = none
+sectionAfter symbolForm inBody = none
+sectionAfter symbolForm inEquations = none
+sectionAfter ruleForm section = some inHeads
+sectionAfter headForm inSymbols = none
+sectionAfter headForm inHeads = some inHeads
+sectionAfter headForm inBody = none
+sectionAfter headForm inEquations = none
+sectionAfter bodyForm inSymbols = none
+sectionAfter bodyForm inHeads = some inBody
+sectionAfter bodyForm inBody = some inBody
+sectionAfter bodyForm inEquations = none
+sectionAfter equationForm inSymbols = none
+sectionAfter equationForm inHeads = some inEquations
+sectionAfter equationForm inBody = some inEquations
+sectionAfter equationForm inEquations = some inEquations
+sectionAfter goalForm section = none
+sectionAfter noForm section = none
 
 -- a field of a line by its number, from 0
 unfoldable pub fieldAt : ℕ → List (List ℕ) → List ℕ
@@ -72,9 +72,9 @@ constantsAfter (f ∷ fs) constants = constantsAfter fs (cond (isName f) (withNa
 abbrev pub firstConstant : ℕ
 firstConstant = 64
 
--- what a term field stands for: a constant by its place, or a variable by the number that its letter has
+-- what a term field stands for: a constant by its index, or a variable by the number that its letter has
 unfoldable pub termOf : (List ℕ → ℕ) → List (List ℕ) → List ℕ → Term
-termOf variable constants f = cond (isName f) (con (firstConstant + placeOf f constants)) (var (variable f))
+termOf variable constants f = cond (isName f) (con (firstConstant + indexOf f constants)) (var (variable f))
 
 -- the number of a rule's variable: its letter's, A being 0
 unfoldable pub letterNumber : List ℕ → ℕ
@@ -100,7 +100,7 @@ isConstraintFaulty fs = not (between 2 6 (length fs)) || not (isName (fieldAt 1 
 
 -- the number of a symbol by its name; behind the last where none has it
 unfoldable pub symbolNumber : List Symbol → List ℕ → ℕ
-symbolNumber symbols name = placeOf name (map (λ s. s .name) symbols)
+symbolNumber symbols name = indexOf name (map (λ s. s .name) symbols)
 
 -- whether the symbol of an H, B or G line was not declared, or the number of terms is not its own
 unfoldable pub isUndeclared : List Symbol → List (List ℕ) → Bool

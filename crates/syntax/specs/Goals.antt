@@ -7,7 +7,7 @@ use mathlib.Core.Bool.{Bool, true, false, cond, not}
 use mathlib.Core.List.{List, [], _∷_, _++_}
 use lib.Dec.{leb, ltb}
 use lib.ListN.{length, drop}
-use Rattle.text.specs.Lists.{placeOf, withName}
+use Rattle.text.specs.Lists.{indexOf, withName}
 use Rattle.text.specs.Lines.{Line, lines, lineIsFaulty}
 use Rattle.text.specs.Fields.{fields, isName}
 use Rattle.semantics.specs.Terms.{Constraint, Symbol, Goal, weight}
@@ -45,7 +45,7 @@ lettersAfter (f ∷ fs) letters = lettersAfter fs (cond (isName f) letters (with
 unfoldable pub readConstraintOfGoal : List Symbol → ℕ → List (List ℕ) → GoalDraft → Answer GoalDraft
 readConstraintOfGoal symbols n fs d =
     let letters = lettersAfter (drop 2 fs) (d .letters) in
-    andThen (constraintLine (leb maxGoal (length (d .constraints))) symbols (λ f. placeOf f letters) (d .constants) n fs)
+    andThen (constraintLine (leb maxGoal (length (d .constraints))) symbols (λ f. indexOf f letters) (d .constants) n fs)
     (λ found. accepted
     (record { constraints = d .constraints ++ (found .constraint ∷ []); letters = letters; constants = found .constants }))
 

@@ -16,7 +16,7 @@ use Rattle.text.specs.Fields.{fields, valueOf}
 use Rattle.semantics.specs.Terms.{Term, Constraint, Equation, Symbol, Rule, Program, weight}
 use Rattle.syntax.specs.Answers.{Answer, refused, accepted, refuseIf, andThen}
 use Rattle.syntax.specs.Forms.{Form, symbolForm, ruleForm, headForm, bodyForm, equationForm, goalForm, noForm, formOf}
-use Rattle.syntax.specs.Forms.{Place, inSymbols, placeAfter, fieldAt, constantsAfter, termOf, letterNumber}
+use Rattle.syntax.specs.Forms.{Section, inSymbols, sectionAfter, fieldAt, constantsAfter, termOf, letterNumber}
 use Rattle.syntax.specs.Forms.{isSymbolFaulty, isRuleFaulty, isEquationFaulty, isConstraintFaulty}
 use Rattle.syntax.specs.Forms.{isUndeclared, constraintOf}
 
@@ -52,21 +52,21 @@ pub record RuleRead : Type 0 where
   pub rule : Rule
   pub line : ℕ
 
--- what the lines so far have given: the place behind the last one, the symbols, the rules and the constants. The last rule is the
+-- what the lines so far have given: the section of the last one, the symbols, the rules and the constants. The last rule is the
 -- one that H, B and E lines add to
 pub record Draft : Type 0 where
-  pub place : Place
+  pub section : Section
   pub symbols : List Symbol
   pub rules : List RuleRead
   pub constants : List (List ℕ)
 
 -- where reading starts
 unfoldable pub blank : Draft
-blank = record { place = inSymbols; symbols = []; rules = []; constants = [] }
+blank = record { section = inSymbols; symbols = []; rules = []; constants = [] }
 
--- a draft at another place
-unfoldable pub atPlace : Place → Draft → Draft
-atPlace place d = record { place = place; symbols = d .symbols; rules = d .rules; constants = d .constants }
+-- a draft in another section
+unfoldable pub inSection : Section → Draft → Draft
+inSection section d = record { section = section; symbols = d .symbols; rules = d .rules; constants = d .constants }
 
 -- the rules with the last one changed
 unfoldable pub onLast : (Rule → Rule) → List RuleRead → List RuleRead
@@ -99,7 +99,7 @@ readSymbol n fs d =
     (refuseIf (leb maxSymbols (length (d .symbols))) 7 n
     (accepted
     (record {
-      place = d .place;
+      section = d .section;
       symbols = d .symbols ++ (record { name = name; arity = valueOf (fieldAt 2 fs); weight = valueOf (fieldAt 3 fs) } ∷ []);
       rules = d .rules;
       constants = d .constants;
@@ -114,7 +114,7 @@ readRule n fs d =
     (refuseIf (leb maxRules (length (d .rules))) 7 n
     (accepted
     (record {
-      place = d .place;
+      section = d .section;
       symbols = d .symbols;
       rules = d .rules ++ (record { rule = record { name = name; heads = []; body = []; equations = [] }; line = n } ∷ []);
       constants = d .constants;
@@ -137,7 +137,7 @@ constraintLine full symbols variable constants n fs =
 -- the draft after a line that changes the last rule and may bring constants
 unfoldable pub withRule : (Rule → Rule) → List (List ℕ) → Draft → Draft
 withRule change constants d =
-    record { place = d .place; symbols = d .symbols; rules = onLast change (d .rules); constants = constants }
+    record { section = d .section; symbols = d .symbols; rules = onLast change (d .rules); constants = constants }
 
 -- an H or B line at line n, of which the last rule has `count` and may have `most`
 unfoldable pub readConstraint : ℕ → ℕ → (Constraint → Rule → Rule) → ℕ → List (List ℕ) → Draft → Answer Draft
@@ -168,7 +168,7 @@ readForm noForm n fs d = refused 3 n
 unfoldable pub readFields : ℕ → List (List ℕ) → Draft → Answer Draft
 readFields n fs d =
     let form = formOf (fieldAt 0 fs) in
-    onward (placeAfter form (d .place)) (refused 3 n) (λ place. readForm form n fs (atPlace place d))
+    onward (sectionAfter form (d .section)) (refused 3 n) (λ section. readForm form n fs (inSection section d))
 
 -- line n: number 2, then 3 to 7
 unfoldable pub readLine : ℕ → Line → Draft → Answer Draft

@@ -13,7 +13,8 @@ use borrow.Author.Tests.{eq-eqb}
 use Rattle.text.specs.Lists.{has, every}
 use Rattle.semantics.specs.Terms.{Term, con, var, Constraint}
 use Rattle.semantics.specs.Overlaps.{appearingIn, appearing}
-use Rattle.semantics.proofs.Bools.{and-true, or-right}
+use Rattle.text.proofs.Bools.{and-true}
+use Rattle.semantics.proofs.Bools.{or-right}
 use Rattle.tables.proofs.NumberLaws.{has-more}
 
 -- a constant, or a variable that stands in the order

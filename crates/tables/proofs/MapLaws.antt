@@ -16,7 +16,7 @@ use lib.Seq.{drop-cons, take-suc, length-take-le, set-at, getD-at, take-all}
 use borrow.Author.Tests.{eq-eqb, ne-eqb, eqb-true, eqb-false, le-leb, leb-true, ltb-true}
 use Rattle.text.specs.Lists.{every}
 use Rattle.semantics.specs.Terms.{Term, Constraint, Equation, mapTerms, mapSides}
-use Rattle.semantics.proofs.Bools.{and-true}
+use Rattle.text.proofs.Bools.{and-true}
 use Rattle.tables.specs.Cells.{cellTerm, cellTerms, cellConstraints, cellEquations, isLow}
 use Rattle.tables.proofs.CellLaws.{either}
 

@@ -18,10 +18,10 @@ use lib.Dec.{eqb, ltb}
 use lib.ListN.{length, take, drop, getD, set, length-set, length-append, length-drop, length-take, drop-of-length-le}
 use lib.ListN.{List·getD-eq-default}
 use lib.Seq.{drop-cons, drop-drop, take-take, getD-set-same, getD-set-other}
-use Rattle.text.specs.Lists.{has, every, placeFrom}
+use Rattle.text.specs.Lists.{has, every, indexFrom}
 use Rattle.semantics.specs.Terms.{Term, con, var, Constraint, mapTerms, isBelow}
 use Rattle.semantics.specs.Overlaps.{appearingIn, appearing, numbered}
-use Rattle.semantics.proofs.Bools.{and-true}
+use Rattle.text.proofs.Bools.{and-true}
 use Rattle.tables.specs.Cells.{cellTerm, cellTerms, rowConstraint, cellConstraints, isLow}
 use Rattle.tables.specs.Numbers.{usedCells, orderOf, newCell, Numbering, Numbered, RowsNumbered, renumberedCell, isWithin}
 use Rattle.tables.specs.Numbers.{Renumberable, Renumbered}
@@ -67,28 +67,28 @@ has-more z y (x ∷ o) = go (eqb z x) (has-more z y o)
     go false e = e
 
 -- its place stays where it was
-pub place-kept : (z y i : ℕ) (o : List ℕ) → has z o ≡ true → placeFrom (eqb z) i (o ++ (y ∷ [])) ≡ placeFrom (eqb z) i o
-place-kept z y i [] h = let bad : _≡_ {A = ℕ} 0 1 = cc in absurd (omega arith)
-place-kept z y i (x ∷ o) h = go (eqb z x) h (λ k. place-kept z y (suc i) o k)
+pub index-kept : (z y i : ℕ) (o : List ℕ) → has z o ≡ true → indexFrom (eqb z) i (o ++ (y ∷ [])) ≡ indexFrom (eqb z) i o
+index-kept z y i [] h = let bad : _≡_ {A = ℕ} 0 1 = cc in absurd (omega arith)
+index-kept z y i (x ∷ o) h = go (eqb z x) h (λ k. index-kept z y (suc i) o k)
   where
     go : (b : Bool) → (b || has z o) ≡ true
-        → (has z o ≡ true → placeFrom (eqb z) (suc i) (o ++ (y ∷ [])) ≡ placeFrom (eqb z) (suc i) o)
-        → cond b i (placeFrom (eqb z) (suc i) (o ++ (y ∷ []))) ≡ cond b i (placeFrom (eqb z) (suc i) o)
+        → (has z o ≡ true → indexFrom (eqb z) (suc i) (o ++ (y ∷ [])) ≡ indexFrom (eqb z) (suc i) o)
+        → cond b i (indexFrom (eqb z) (suc i) (o ++ (y ∷ []))) ≡ cond b i (indexFrom (eqb z) (suc i) o)
     go true e f = refl
     go false e f = f e
 
 -- a new variable's place is behind the others
-pub place-new : (y i : ℕ) (o : List ℕ) → has y o ≡ false → placeFrom (eqb y) i (o ++ (y ∷ [])) ≡ i + length o
-place-new y i [] h = rw (eq-eqb y y refl) (omega arith)
-place-new y i (x ∷ o) h = go (eqb y x) h (λ k. place-new y (suc i) o k)
+pub index-new : (y i : ℕ) (o : List ℕ) → has y o ≡ false → indexFrom (eqb y) i (o ++ (y ∷ [])) ≡ i + length o
+index-new y i [] h = rw (eq-eqb y y refl) (omega arith)
+index-new y i (x ∷ o) h = go (eqb y x) h (λ k. index-new y (suc i) o k)
   where
-    go : (b : Bool) → (b || has y o) ≡ false → (has y o ≡ false → placeFrom (eqb y) (suc i) (o ++ (y ∷ [])) ≡ suc i + length o)
-        → cond b i (placeFrom (eqb y) (suc i) (o ++ (y ∷ []))) ≡ i + suc (length o)
+    go : (b : Bool) → (b || has y o) ≡ false → (has y o ≡ false → indexFrom (eqb y) (suc i) (o ++ (y ∷ [])) ≡ suc i + length o)
+        → cond b i (indexFrom (eqb y) (suc i) (o ++ (y ∷ []))) ≡ i + suc (length o)
     go true e f = let bad : _≡_ {A = ℕ} 0 1 = cc in absurd (omega arith)
     go false e f = omega (arith, f e)
 
 -- the new cell of a variable that has appeared, and of one that has not
-pub new-seen : (order : List ℕ) (x : ℕ) → has x order ≡ true → newCell order x ≡ 256 + placeFrom (eqb x) 0 order
+pub new-seen : (order : List ℕ) (x : ℕ) → has x order ≡ true → newCell order x ≡ 256 + indexFrom (eqb x) 0 order
 unfolding newCell
 new-seen order x h = rw h
 
@@ -115,7 +115,7 @@ seen-cell order x h = go (has x order) refl
 new-new : (order : List ℕ) (y : ℕ) → has y order ≡ false → newCell (order ++ (y ∷ [])) y ≡ 256 + length order
 new-new order y h =
     new-seen (order ++ (y ∷ [])) y (has-more y y order ∙ rw (h, eq-eqb y y refl))
-    ∙ ap (λ (k : ℕ). 256 + k) (place-new y 0 order h ∙ omega arith)
+    ∙ ap (λ (k : ℕ). 256 + k) (index-new y 0 order h ∙ omega arith)
 
 new-other : (order : List ℕ) (y z : ℕ) → (z ≡ y → ⊥) → newCell (order ++ (y ∷ [])) z ≡ newCell order z
 new-other order y z h = go (has z order) refl
@@ -125,7 +125,7 @@ new-other order y z h = go (has z order) refl
 
     go : (b : Bool) → has z order ≡ b → newCell (order ++ (y ∷ [])) z ≡ newCell order z
     go true e =
-        new-seen (order ++ (y ∷ [])) z (same ∙ rw e) ∙ ap (λ (k : ℕ). 256 + k) (place-kept z y 0 order e)
+        new-seen (order ++ (y ∷ [])) z (same ∙ rw e) ∙ ap (λ (k : ℕ). 256 + k) (index-kept z y 0 order e)
         ∙ sym (new-seen order z e)
     go false e = new-unseen (order ++ (y ∷ [])) z (same ∙ rw e) ∙ sym (new-unseen order z e)
 

@@ -12,10 +12,10 @@ use native.Mathlib.Omega.{arith}
 use borrow.Author.Tests.{eqb-true, eqb-false}
 use lib.Dec.{eqb}
 use lib.ListN.{length, take, getD}
-use Rattle.text.specs.Lists.{has, every, placeFrom}
+use Rattle.text.specs.Lists.{has, every, indexFrom}
 use Rattle.semantics.specs.Terms.{Term, con, var, Constraint, isBelow}
 use Rattle.semantics.specs.Overlaps.{appearingIn, appearing, numbered}
-use Rattle.semantics.proofs.Bools.{and-true}
+use Rattle.text.proofs.Bools.{and-true}
 use Rattle.tables.specs.Cells.{cellTerm, cellConstraints, isLow}
 use Rattle.tables.specs.Numbers.{orderOf, newCell, Numbering, Numbered, RowsNumbered, renumberedCell, isWithin}
 use Rattle.tables.specs.Numbers.{Renumberable, Renumbered}
@@ -40,7 +40,7 @@ module _ (order table : List ℕ) (count : ℕ) (n : Numbering order table count
   placed x h =
       ⊎-elim
       (λ high.
-      let place = placeFrom (eqb (x - 256)) 0 order in
+      let place = indexFrom (eqb (x - 256)) 0 order in
       let seen : has (x - 256) order ≡ true = rw (cell-high x high) at h in
       let new : getD table (x - 256) 0 ≡ 256 + place = n .each (x - 256) ∙ new-seen order (x - 256) seen in
       let found : 256 + place ≡ renumberedCell table x =

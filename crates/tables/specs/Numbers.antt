@@ -10,7 +10,7 @@ use mathlib.Core.List.{List, [], _∷_, map}
 use mathlib.Core.Path.{_≡_}
 use lib.Dec.{eqb, ltb}
 use lib.ListN.{length, getD}
-use Rattle.text.specs.Lists.{has, every, placeFrom}
+use Rattle.text.specs.Lists.{has, every, indexFrom}
 use Rattle.semantics.specs.Terms.{Term, Constraint, mapTerms, isBelow}
 use Rattle.semantics.specs.Overlaps.{appearingIn, appearing, numbered}
 use Rattle.tables.specs.Layout.{firstVariable}
@@ -27,7 +27,7 @@ orderOf bound cells = appearing (appearingIn [] (map cellTerm bound)) (cellConst
 
 -- the new cell of variable x among those that have appeared; 0 where it has not
 unfoldable pub newCell : List ℕ → ℕ → ℕ
-newCell order x = cond (has x order) (firstVariable + placeFrom (eqb x) 0 order) 0
+newCell order x = cond (has x order) (firstVariable + indexFrom (eqb x) 0 order) 0
 
 -- a table of the new cells of all variables, with the count of those that have appeared
 pub record Numbering (order table : List ℕ) (count : ℕ) : Type 0 where
@@ -59,7 +59,7 @@ pub record Renumberable (v : ℕ) (bound cells : List ℕ) : Type 0 where
   pub within : every (isWithin v) (cellConstraints cells) ≡ true
   pub few : length bound + length cells ≤ 65000
 
--- what it promises: every variable is its place in the order of first appearance
+-- what it promises: every variable is its index in the order of first appearance
 pub record Renumbered (bound cells bound′ cells′ : List ℕ) (count : ℕ) : Type 0 where
   pub bound-same : map cellTerm bound′ ≡ map (numbered (orderOf bound cells)) (map cellTerm bound)
   pub same : cellConstraints cells′ ≡ map (mapTerms (numbered (orderOf bound cells))) (cellConstraints cells)

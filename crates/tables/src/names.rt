@@ -6,14 +6,14 @@ ghost use mathlib.Core.Path.{_≡_};
 ghost use Prim.Native.Nat.{_≤_, min};
 ghost use lib.Dec.{eqb};
 ghost use lib.ListN.{length, getD};
-ghost use Rattle.text.specs.Lists.{placeFrom};
+ghost use Rattle.text.specs.Lists.{indexFrom};
 ghost use Rattle.text.specs.Keys.{wordLength};
 ghost use Rattle.tables.specs.Layout.{maxName};
 ghost use Rattle.tables.specs.Names.{nameAt, nameIn};
 
-// The place of a key among keys; behind the last where none is it.
+// The index of a key among keys; behind the last where none is it.
 pub fn find_key(keys: &[u64], key: u64) -> usize
-    ensures { λ r. ⌜ (r ≡ placeFrom (eqb key) 0 (now (keys .entry))) × (r ≤ length (now (keys .entry))) ⌝ }
+    ensures { λ r. ⌜ (r ≡ indexFrom (eqb key) 0 (now (keys .entry))) × (r ≤ length (now (keys .entry))) ⌝ }
 {
     let mut i = 0;
     while i < keys.len() {

@@ -15,7 +15,7 @@ use lib.Dec.{ltb, leb·suc-suc}
 use lib.ListN.{length, take, drop}
 use Rattle.text.specs.Lines.{Line, inFirstLine, lines}
 use Rattle.text.specs.Fields.{inFirstField, fields}
-use Rattle.text.specs.Places.{before}
+use Rattle.text.specs.Cursors.{before}
 
 -- one element in front: what stands before the first x, the lines and the fields
 pub before-is : (x b : ℕ) (s : List ℕ) → b ≡ x → before x (b ∷ s) ≡ 0

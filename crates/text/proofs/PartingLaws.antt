@@ -13,7 +13,7 @@ use lib.Seq.{drop-drop, drop-cons, take-suc, append-snoc}
 use Rattle.text.specs.Bytes.{ascii}
 use Rattle.text.specs.Lists.{sameBytes}
 use Rattle.text.specs.Lines.{goalLine, Parts, inProgram, partedFrom}
-use Rattle.text.specs.Places.{behind, partsAt}
+use Rattle.text.specs.Cursors.{behind, partsAt}
 use Rattle.text.proofs.Laws.{same-length}
 
 -- the line `GOAL` is 5 bytes

@@ -15,7 +15,7 @@ use Rattle.text.specs.Bytes.{between}
 use Rattle.text.specs.Lines.{lines, lineIsFaulty}
 use Rattle.text.specs.Fields.{fields, isName, isVariable}
 use Rattle.text.specs.Keys.{keyOf}
-use Rattle.text.specs.Places.{before}
+use Rattle.text.specs.Cursors.{before}
 use Rattle.text.specs.Splits.{firstLine, lineFrom, lineEnd, Holds, SplitAt}
 use Rattle.text.specs.declared.fields.Fields.{Fields}
 use Rattle.text.proofs.LineLaws.{lines-from, fields-some}

@@ -23,7 +23,7 @@ use Rattle.text.specs.Lists.{every}
 use Rattle.text.specs.Lines.{Line, lineIsFaulty, isOther}
 use Rattle.text.specs.Fields.{inFirstField, fields, isName, isVariable}
 use Rattle.text.specs.Keys.{keyOf, wordLength, word}
-use Rattle.text.specs.Places.{before}
+use Rattle.text.specs.Cursors.{before}
 use Rattle.text.specs.Splits.{firstLine, lineFrom, lineEnd, isPlain, part, Stopped, SplitAt}
 use Rattle.text.specs.declared.fields.Field.{Field}
 use Rattle.text.proofs.ClassLaws.{isInner, plain-inner, inner-comma, inner-not-feed, inner-not-other, plain-not}

@@ -4,5 +4,5 @@ pub mod Lists
 pub mod Lines
 pub mod Fields
 pub mod Keys
-pub mod Places
+pub mod Cursors
 pub mod Splits

@@ -2,7 +2,8 @@
 --   onward, bind, orElse    an optional value, taken apart
 --   every, total, has       over all elements
 --   sameBytes               equal lists of bytes
---   placeFrom, placeOf      the place of the first element that passes a test, of a name
+--   indexFrom, indexOf      the index of the first element that passes a test, of a name
+--   overlaid                a list with another laid over its beginning
 --   gather, answers         the lists of all elements, the answers of those that have one
 --   tabled, upTo            the list of f 0, f 1, … and of the numbers below n
 -- Why not the kit's: its bind, orElse, Option·elim, flatMap and filterMap have the equations of bind, orElse, onward, gather and
@@ -14,7 +15,7 @@ use mathlib.Core.Bool.{Bool, true, false, cond, _&&_, _||_}
 use mathlib.Core.List.{List, [], _∷_, _++_}
 use mathlib.Core.Option.{Option, none, some}
 use lib.Dec.{eqb, ltb}
-use lib.ListN.{length}
+use lib.ListN.{length, drop}
 
 -- what follows from a value, or else `otherwise`
 abbrev pub onward {ℓ κ} : {A : Type ℓ} {B : Type κ} → Option A → B → (A → B) → B
@@ -53,24 +54,28 @@ sameBytes [] (b ∷ t) = false
 sameBytes (a ∷ s) [] = false
 sameBytes (a ∷ s) (b ∷ t) = eqb a b && sameBytes s t
 
--- the place, counted from i, of the first element that passes the test; behind the last where none does
-abbrev pub placeFrom {ℓ} : {A : Type ℓ} → (A → Bool) → ℕ → List A → ℕ
-placeFrom test i [] = i
-placeFrom test i (x ∷ xs) =
-    let more = placeFrom test (suc i) xs in
+-- the index, counted from i, of the first element that passes the test; behind the last where none does
+abbrev pub indexFrom {ℓ} : {A : Type ℓ} → (A → Bool) → ℕ → List A → ℕ
+indexFrom test i [] = i
+indexFrom test i (x ∷ xs) =
+    let more = indexFrom test (suc i) xs in
     cond (test x) i more
 
--- the place of a name in a list of names
-unfoldable pub placeOf : List ℕ → List (List ℕ) → ℕ
-placeOf name names = placeFrom (sameBytes name) 0 names
+-- the index of a name in a list of names
+unfoldable pub indexOf : List ℕ → List (List ℕ) → ℕ
+indexOf name names = indexFrom (sameBytes name) 0 names
 
 -- whether a name stands in a list of names
 unfoldable pub isKnown : List ℕ → List (List ℕ) → Bool
-isKnown name names = ltb (placeOf name names) (length names)
+isKnown name names = ltb (indexOf name names) (length names)
 
 -- the names with one more behind them, if it is new
 unfoldable pub withName : List ℕ → List (List ℕ) → List (List ℕ)
 withName name names = cond (isKnown name names) names (names ++ (name ∷ []))
+
+-- a list with another laid over its beginning
+abbrev pub overlaid : List ℕ → List ℕ → List ℕ
+overlaid new old = new ++ drop (length new) old
 
 -- the lists that the elements give, one behind the other
 abbrev pub gather {ℓ κ} : {A : Type ℓ} {B : Type κ} → (A → List B) → List A → List B

@@ -15,7 +15,7 @@ use Rattle.text.specs.Lists.{every}
 use Rattle.text.specs.Lines.{Line, lineIsFaulty}
 use Rattle.text.specs.Fields.{fields}
 use Rattle.text.specs.Keys.{keyOf, packed, word}
-use Rattle.text.specs.Places.{before}
+use Rattle.text.specs.Cursors.{before}
 use Rattle.text.specs.declared.fields.Field.{Field}
 use Rattle.text.specs.declared.fields.Fields.{Fields}
 

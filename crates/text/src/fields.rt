@@ -12,7 +12,7 @@ ghost use lib.Dec.{eqb};
 ghost use lib.ListN.{length, drop, set};
 ghost use Rattle.text.specs.Bytes.{between};
 ghost use Rattle.text.specs.Keys.{keyOf, numberOf, wordLength, word};
-ghost use Rattle.text.specs.Places.{classTable};
+ghost use Rattle.text.specs.Cursors.{classTable};
 ghost use Rattle.text.specs.Splits.{sevenBytes, Passed, Stopped, SplitAt};
 
 // A line's fields: how many there are, and of the first 8 the keys and where they start. Where the line is faulty, only that.

@@ -6,6 +6,5 @@ pub mod fields;
 pub mod parting;
 pub mod table;
 
-pub use parting::same_bytes;
 pub use parting::split_goal;
 pub use table::classes;

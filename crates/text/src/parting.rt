@@ -4,7 +4,7 @@ ghost use Prim.Native.Nat.{_≤_};
 ghost use lib.ListN.{length, take, drop};
 ghost use Rattle.text.specs.Lists.{sameBytes};
 ghost use Rattle.text.specs.Lines.{goalLine, parted};
-ghost use Rattle.text.specs.Places.{partsAt};
+ghost use Rattle.text.specs.Cursors.{partsAt};
 
 // Whether two parts hold the same bytes.
 pub fn same_bytes(a: &[u8], b: &[u8]) -> bool

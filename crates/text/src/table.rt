@@ -1,7 +1,7 @@
 // The constant table of the 256 classes.
 ghost use mathlib.Core.Path.{_≡_};
 ghost use Rattle.text.specs.Bytes.{classOf, classNumber};
-ghost use Rattle.text.specs.Places.{classTable};
+ghost use Rattle.text.specs.Cursors.{classTable};
 
 // The numbers of the classes that the code names; a small letter's is 0, a comma's 3.
 pub const CAPITAL: u8 = 1;

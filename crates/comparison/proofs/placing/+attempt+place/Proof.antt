@@ -38,12 +38,12 @@ attempt-below t = and 5 attempt-kinds.ps (falls 5 attempt-kinds.ps _<_ μ-attemp
 abbrev place-at : ℕ → In 5 place-kinds.ps
 place-at t = and 5 place-kinds.ps (is 5 place-kinds.ps μ-place t) place.Pre
 
-abbrev place-below : ℕ → In 5 place-kinds.ps
-place-below t = and 5 place-kinds.ps (falls 5 place-kinds.ps _<_ μ-place t) place.Pre
+abbrev index-below : ℕ → In 5 place-kinds.ps
+index-below t = and 5 place-kinds.ps (falls 5 place-kinds.ps _<_ μ-place t) place.Pre
 
 abbrev attempt-calls : ℕ → attempt-lts.Claims
 attempt-calls t =
-    (pair-rows-reads.Asked, pair-rows-reads.Learnt, unpair-reads.Asked, unpair-reads.Learnt, place-below t, place.Post)
+    (pair-rows-reads.Asked, pair-rows-reads.Learnt, unpair-reads.Asked, unpair-reads.Learnt, index-below t, place.Post)
 
 abbrev place-calls : ℕ → place-lts.Claims
 place-calls t = (attempt-below t, attempt.Post)

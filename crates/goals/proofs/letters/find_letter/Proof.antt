@@ -8,13 +8,13 @@ use native.Mathlib.Omega.{arith}
 use borrow.Author.Tests.{eq-eqb, ne-eqb}
 use lib.Dec.{eqb}
 use lib.ListN.{length, drop}
-use Rattle.text.specs.Lists.{placeFrom}
-use Rattle.syntax.proofs.Tabled.{place-here, place-step, place-end}
+use Rattle.text.specs.Lists.{indexFrom}
+use Rattle.syntax.proofs.Tabled.{index-here, index-step, index-end}
 use Rattle.goals.proofs.letters.find_letter.Statement.{statement}
 use Rattle.goals.proofs.letters.find_letter.Tie as tie
 
 abbrev Inv-loop : tie.InvT-loop
-Inv-loop letters b i₀ i = (i ≤ length letters) × (placeFrom (eqb b) i (drop i letters) ≡ placeFrom (eqb b) 0 letters)
+Inv-loop letters b i₀ i = (i ≤ length letters) × (indexFrom (eqb b) i (drop i letters) ≡ indexFrom (eqb b) 0 letters)
 
 abbrev μ-loop : tie.MeasureT-loop
 μ-loop letters b i₀ i = length letters - i
@@ -27,7 +27,7 @@ returns c =
     let at-loop-test = c .before .before in
     let at-loop = at-loop-test .before in
     let start = at-loop .before in (
-      sym (place-here (eqb (start .args .b)) 0 (start .args .letters .now) (at-loop .loop .i)
+      sym (index-here (eqb (start .args .b)) 0 (start .args .letters .now) (at-loop .loop .i)
           (at-loop-test .loop-test .taken) (eq-eqb _ _ (c .if1 .taken)))
           ∙ at-loop .loop .inv .1,
       omega arith,
@@ -40,7 +40,7 @@ loop-again c =
     let start = at-loop .before in (
       omega arith,
       rw add-one
-          (sym (place-step (eqb (start .args .b)) 0 (start .args .letters .now) (at-loop .loop .i)
+          (sym (index-step (eqb (start .args .b)) 0 (start .args .letters .now) (at-loop .loop .i)
           (at-loop-test .loop-test .taken) (ne-eqb _ _ (c .if1 .left)))
           ∙ at-loop .loop .inv .1),
     )
@@ -49,7 +49,7 @@ returns-2 : tie.Need-returns-2 Inv-loop μ-loop
 returns-2 c =
     let at-loop = c .before in
     let start = at-loop .before in (
-      sym (place-end (eqb (start .args .b)) (start .args .letters .now) (at-loop .loop .i) (c .loop-test .left)) ∙
+      sym (index-end (eqb (start .args .b)) (start .args .letters .now) (at-loop .loop .i) (c .loop-test .left)) ∙
           at-loop .loop .inv .1,
       omega arith,
     )

@@ -14,9 +14,9 @@ use Rattle.programs.proofs.program.read_line.Tie as tie
 
 returns : tie.Need-returns
 returns c =
-    let at-place-after = c .before in
-    let at-form-of = at-place-after .before in
-    line-placeless _ _ _ _ _ _ _ _ _ (at-form-of .form-of .ensures) (at-place-after .place-after .ensures) (c .if1 .taken)
+    let at-section-after = c .before in
+    let at-form-of = at-section-after .before in
+    line-placeless _ _ _ _ _ _ _ _ _ (at-form-of .form-of .ensures) (at-section-after .section-after .ensures) (c .if1 .taken)
 
 mul-used : tie.Need-mul-used
 mul-used c =
@@ -52,13 +52,13 @@ unfolding formMeant partForm
 constraint-line-requires c κs =
     let at-enum-told3 = c .before .before .before .before in
     let at-if1 = at-enum-told3 .before .before .before in
-    let at-place-after = at-if1 .before in
-    let start = at-place-after .before .before .before .before .before .before .before in (
+    let at-section-after = at-if1 .before in
+    let start = at-section-after .before .before .before .before .before .before .before in (
       start .pre .0,
       length-take-le _ (start .args .symbols .now) (omega (arith, start .pre .1, start .pre .3 .few-symbols)),
       start .pre .2,
       sound-moved _ _ _ (start .pre .3),
-      start .pre .4 (begun-head _ _ _ (at-place-after .place-after .ensures) (omega (arith, at-if1 .if1 .left)) (ap formMeant
+      start .pre .4 (begun-head _ _ _ (at-section-after .section-after .ensures) (omega (arith, at-if1 .if1 .left)) (ap formMeant
           (at-enum-told3 .enum-told3 .given .1))),
       omega arith,
     )
@@ -80,13 +80,13 @@ unfolding formMeant partForm
 constraint-line-requires-2 c κs =
     let at-enum-told4 = c .before .before .before .before in
     let at-if1 = at-enum-told4 .before .before .before in
-    let at-place-after = at-if1 .before in
-    let start = at-place-after .before .before .before .before .before .before .before in (
+    let at-section-after = at-if1 .before in
+    let start = at-section-after .before .before .before .before .before .before .before in (
       start .pre .0,
       length-take-le _ (start .args .symbols .now) (omega (arith, start .pre .1, start .pre .3 .few-symbols)),
       start .pre .2,
       sound-moved _ _ _ (start .pre .3),
-      start .pre .4 (begun-body _ _ _ (at-place-after .place-after .ensures) (omega (arith, at-if1 .if1 .left)) (ap formMeant
+      start .pre .4 (begun-body _ _ _ (at-section-after .section-after .ensures) (omega (arith, at-if1 .if1 .left)) (ap formMeant
           (at-enum-told4 .enum-told4 .given .1))),
       omega arith,
     )
@@ -96,12 +96,12 @@ unfolding formMeant
 equation-line-requires c κs =
     let at-enum-told5 = c .before .before .before in
     let at-if1 = at-enum-told5 .before .before .before in
-    let at-place-after = at-if1 .before in
-    let start = at-place-after .before .before .before .before .before .before .before in (
+    let at-section-after = at-if1 .before in
+    let start = at-section-after .before .before .before .before .before .before .before in (
       start .pre .0,
       start .pre .2,
       sound-moved _ _ _ (start .pre .3),
-      start .pre .4 (begun-equation _ _ _ (at-place-after .place-after .ensures) (omega (arith, at-if1 .if1 .left)) (ap
+      start .pre .4 (begun-equation _ _ _ (at-section-after .section-after .ensures) (omega (arith, at-if1 .if1 .left)) (ap
           formMeant (at-enum-told5 .enum-told5 .given .1))),
     )
 
@@ -111,10 +111,10 @@ returns-2 c =
     let at-symbol-line = c .before .before .before .before .before .before in
     let at-enum-told = at-symbol-line .before .before .before .before in
     let at-if1 = at-enum-told .before .before .before in
-    let at-place-after = at-if1 .before in
-    let at-form-of = at-place-after .before in
+    let at-section-after = at-if1 .before in
+    let at-form-of = at-section-after .before in
     let start = at-form-of .before .before .before .before .before .before in
-    line-symbol _ _ _ _ _ _ _ _ _ (at-form-of .form-of .ensures) (at-place-after .place-after .ensures)
+    line-symbol _ _ _ _ _ _ _ _ _ (at-form-of .form-of .ensures) (at-section-after .section-after .ensures)
     (omega (arith, at-if1 .if1 .left)) (ap formMeant (at-enum-told .enum-told .given .1)) (start .pre .3) (start .pre .4)
     (at-symbol-line .symbol-line .ensures)
 
@@ -124,9 +124,9 @@ returns-3 c =
     let at-rule-line = c .before .before .before .before .before .before in
     let at-enum-told2 = at-rule-line .before .before .before .before in
     let at-if1 = at-enum-told2 .before .before .before in
-    let at-place-after = at-if1 .before in
-    let at-form-of = at-place-after .before in
-    line-rule _ _ _ _ _ _ _ _ _ (at-form-of .form-of .ensures) (at-place-after .place-after .ensures)
+    let at-section-after = at-if1 .before in
+    let at-form-of = at-section-after .before in
+    line-rule _ _ _ _ _ _ _ _ _ (at-form-of .form-of .ensures) (at-section-after .section-after .ensures)
     (omega (arith, at-if1 .if1 .left)) (ap formMeant (at-enum-told2 .enum-told2 .given .1)) (at-rule-line .rule-line .ensures)
 
 returns-4 : tie.Need-returns-4
@@ -135,9 +135,9 @@ returns-4 c =
     let at-constraint-line = c .before .before .before .before .before .before in
     let at-enum-told3 = at-constraint-line .before .before .before .before .before in
     let at-if1 = at-enum-told3 .before .before .before in
-    let at-place-after = at-if1 .before in
-    let at-form-of = at-place-after .before in
-    line-adds _ _ _ _ _ _ _ _ _ (at-form-of .form-of .ensures) (at-place-after .place-after .ensures)
+    let at-section-after = at-if1 .before in
+    let at-form-of = at-section-after .before in
+    line-adds _ _ _ _ _ _ _ _ _ (at-form-of .form-of .ensures) (at-section-after .section-after .ensures)
     (omega (arith, at-if1 .if1 .left)) (ap formMeant (at-enum-told3 .enum-told3 .given .1))
     (at-constraint-line .constraint-line .ensures)
 
@@ -147,9 +147,9 @@ returns-5 c =
     let at-constraint-line2 = c .before .before .before .before .before .before in
     let at-enum-told4 = at-constraint-line2 .before .before .before .before .before in
     let at-if1 = at-enum-told4 .before .before .before in
-    let at-place-after = at-if1 .before in
-    let at-form-of = at-place-after .before in
-    line-adds _ _ _ _ _ _ _ _ _ (at-form-of .form-of .ensures) (at-place-after .place-after .ensures)
+    let at-section-after = at-if1 .before in
+    let at-form-of = at-section-after .before in
+    line-adds _ _ _ _ _ _ _ _ _ (at-form-of .form-of .ensures) (at-section-after .section-after .ensures)
     (omega (arith, at-if1 .if1 .left)) (ap formMeant (at-enum-told4 .enum-told4 .given .1))
     (at-constraint-line2 .constraint-line2 .ensures)
 
@@ -159,9 +159,9 @@ returns-6 c =
     let at-equation-line = c .before .before .before .before .before .before in
     let at-enum-told5 = at-equation-line .before .before .before .before in
     let at-if1 = at-enum-told5 .before .before .before in
-    let at-place-after = at-if1 .before in
-    let at-form-of = at-place-after .before in
-    line-adds _ _ _ _ _ _ _ _ _ (at-form-of .form-of .ensures) (at-place-after .place-after .ensures)
+    let at-section-after = at-if1 .before in
+    let at-form-of = at-section-after .before in
+    line-adds _ _ _ _ _ _ _ _ _ (at-form-of .form-of .ensures) (at-section-after .section-after .ensures)
     (omega (arith, at-if1 .if1 .left)) (ap formMeant (at-enum-told5 .enum-told5 .given .1))
     (at-equation-line .equation-line .ensures _)
 
@@ -169,18 +169,18 @@ returns-7 : tie.Need-returns-7
 unfolding formMeant
 returns-7 c =
     let at-if1 = c .before .before .before in
-    let at-place-after = at-if1 .before in
-    let at-form-of = at-place-after .before in
-    line-none _ _ _ _ _ _ _ _ _ (at-form-of .form-of .ensures) (at-place-after .place-after .ensures)
+    let at-section-after = at-if1 .before in
+    let at-form-of = at-section-after .before in
+    line-none _ _ _ _ _ _ _ _ _ (at-form-of .form-of .ensures) (at-section-after .section-after .ensures)
     (omega (arith, at-if1 .if1 .left)) (rw (c .enum-told6 .given .1) (goal-form _))
 
 returns-8 : tie.Need-returns-8
 unfolding formMeant
 returns-8 c =
     let at-if1 = c .before .before .before in
-    let at-place-after = at-if1 .before in
-    let at-form-of = at-place-after .before in
-    line-none _ _ _ _ _ _ _ _ _ (at-form-of .form-of .ensures) (at-place-after .place-after .ensures)
+    let at-section-after = at-if1 .before in
+    let at-form-of = at-section-after .before in
+    line-none _ _ _ _ _ _ _ _ _ (at-form-of .form-of .ensures) (at-section-after .section-after .ensures)
     (omega (arith, at-if1 .if1 .left)) (rw (c .enum-told7 .given .1) (no-form _))
 
 pub read-line-spec : {M : Type 1} → statement M

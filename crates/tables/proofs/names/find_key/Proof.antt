@@ -7,13 +7,13 @@ use native.Mathlib.Omega.{arith}
 use borrow.Author.Tests.{eq-eqb, ne-eqb}
 use lib.Dec.{eqb}
 use lib.ListN.{length, drop}
-use Rattle.text.specs.Lists.{placeFrom}
-use Rattle.syntax.proofs.Tabled.{place-here, place-step, place-end}
+use Rattle.text.specs.Lists.{indexFrom}
+use Rattle.syntax.proofs.Tabled.{index-here, index-step, index-end}
 use Rattle.tables.proofs.names.find_key.Statement.{statement}
 use Rattle.tables.proofs.names.find_key.Tie as tie
 
 abbrev Inv-loop : tie.InvT-loop
-Inv-loop keys key i₀ i = (i ≤ length keys) × (placeFrom (eqb key) i (drop i keys) ≡ placeFrom (eqb key) 0 keys)
+Inv-loop keys key i₀ i = (i ≤ length keys) × (indexFrom (eqb key) i (drop i keys) ≡ indexFrom (eqb key) 0 keys)
 
 abbrev μ-loop : tie.MeasureT-loop
 μ-loop keys key i₀ i = length keys - i
@@ -34,7 +34,7 @@ returns c =
     let args = at-loop .before .args in
     let i = at-loop .loop .i in
     let keys = args .keys .now in (
-      sym (place-here (eqb (args .key)) 0 keys i (at-test .loop-test .taken) (eq-eqb _ _ (c .if1 .taken)))
+      sym (index-here (eqb (args .key)) 0 keys i (at-test .loop-test .taken) (eq-eqb _ _ (c .if1 .taken)))
           ∙ at-loop .loop .inv .1,
       omega arith,
     )
@@ -54,7 +54,7 @@ loop-again c =
     let keys = args .keys .now in (
       omega arith,
       rw add-one
-          (sym (place-step (eqb (args .key)) 0 keys i (at-test .loop-test .taken) (ne-eqb _ _ (c .if1 .left)))
+          (sym (index-step (eqb (args .key)) 0 keys i (at-test .loop-test .taken) (ne-eqb _ _ (c .if1 .left)))
           ∙ at-loop .loop .inv .1),
     )
 
@@ -62,7 +62,7 @@ returns-2 : tie.Need-returns-2 Inv-loop μ-loop
 returns-2 c =
     let at-loop = c .before in
     let args = at-loop .before .args in (
-      sym (place-end (eqb (args .key)) (args .keys .now) (at-loop .loop .i) (c .loop-test .left))
+      sym (index-end (eqb (args .key)) (args .keys .now) (at-loop .loop .i) (c .loop-test .left))
           ∙ at-loop .loop .inv .1,
       omega arith,
     )

@@ -11,7 +11,7 @@ use native.Mathlib.Omega.{arith}
 use lib.ListN.{length, take, drop}
 use Rattle.text.specs.Lists.{sameBytes}
 use Rattle.text.specs.Lines.{goalLine, partedFrom, parted}
-use Rattle.text.specs.Places.{behind}
+use Rattle.text.specs.Cursors.{behind}
 use Rattle.text.proofs.PartingLaws.{parted-step, parted-found, parted-end, goal-room}
 use Rattle.text.proofs.parting.split_goal.Statement.{statement}
 use Rattle.text.proofs.parting.split_goal.Tie as tie

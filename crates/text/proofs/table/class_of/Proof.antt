@@ -5,7 +5,7 @@ use Prim.Native.Nat.{ℕ}
 use native.Mathlib.Omega.{arith}
 use lib.ListN.{getD}
 use Rattle.text.specs.Bytes.{classOf, classNumber}
-use Rattle.text.specs.Places.{classTable}
+use Rattle.text.specs.Cursors.{classTable}
 use Rattle.text.proofs.Laws.{tabled-length, tabled-at}
 use Rattle.text.proofs.table.class_of.Statement.{statement}
 use Rattle.text.proofs.table.class_of.Tie as tie

@@ -2,7 +2,7 @@
 -- entry. Assumes nothing.
 use mathlib.Core.Path.{refl}
 use Rattle.text.specs.Bytes.{between, classOf, classNumber}
-use Rattle.text.specs.Places.{classTable}
+use Rattle.text.specs.Cursors.{classTable}
 use Rattle.text.proofs.table.classes.Statement.{statement}
 use Rattle.text.proofs.table.classes.Tie as tie
 

@@ -67,7 +67,7 @@ pub record Table (rules : List ℕ) (n : ℕ) : Type 0 where
 -- the rule of a number, the number of its heads that the table holds, and where it fits; the table of names gives the rules'
 unfoldable pub choiceOf : List ℕ → List ℕ → Bool → ℕ → List ℕ → List ℕ → Option Choice
 choiceOf names rules found number positions bindings =
-    Option·map (λ (m : Match). record { number = number; rule = ruleOf names rules number; place = m })
+    Option·map (λ (m : Match). record { number = number; rule = ruleOf names rules number; found = m })
     (foundOf found (getD (rowOf rules number) headsCell 0) positions bindings)
 
 -- the choice promises that of its definition, whatever the rules' names are

@@ -1,6 +1,6 @@
 -- Numbers and places in lists: whether a number stands in one, where its first place is, and what stands at a place.
 --   le-or-lt, leb-true, leb-false        the order of numbers and its test
---   placeFrom-…, place-…                 the first place
+--   indexFrom-…, place-…                 the first place
 --   getElem-…, getD-at                   the element at a place
 --   pointwise-at, pointwise-get          the elements at one place of two related lists
 --   has-…, Distinct                      a number of a list; lists without repetition
@@ -14,7 +14,7 @@ use mathlib.Core.Option.{some}
 use mathlib.Core.Path.{_≡_, refl, sym, ap, subst, subst₂, _∙_}
 use lib.Dec.{eqb, leb, leb→le, le→leb, nleb→lt}
 use lib.ListN.{length, getD, getElem?}
-use Rattle.text.specs.Lists.{has, placeFrom}
+use Rattle.text.specs.Lists.{has, indexFrom}
 use Rattle.semantics.specs.Variants.{Pointwise, empty, each}
 use Rattle.semantics.proofs.Configurations.{Or, inl, inr}
 use Rattle.semantics.proofs.Options.{decide, true-false, none-some, true-T, T-true, eqb-equal, equal-eqb, apart-eqb}
@@ -56,23 +56,23 @@ pub some-equal : {A : Type 0} {a b : A} → some a ≡ some b → a ≡ b
 some-equal p = cc
 
 -- the place counts on
-pub placeFrom-suc : {A : Type 0} (t : A → Bool) (i : ℕ) (l : List A) → placeFrom t (suc i) l ≡ suc (placeFrom t i l)
-placeFrom-suc t i [] = refl
-placeFrom-suc t i (x ∷ l) = go (t x) (placeFrom-suc t (suc i) l)
+pub indexFrom-suc : {A : Type 0} (t : A → Bool) (i : ℕ) (l : List A) → indexFrom t (suc i) l ≡ suc (indexFrom t i l)
+indexFrom-suc t i [] = refl
+indexFrom-suc t i (x ∷ l) = go (t x) (indexFrom-suc t (suc i) l)
   where
     go :
-        (b : Bool) → placeFrom t (suc (suc i)) l ≡ suc (placeFrom t (suc i) l)
-        → cond b (suc i) (placeFrom t (suc (suc i)) l) ≡ suc (cond b i (placeFrom t (suc i) l))
+        (b : Bool) → indexFrom t (suc (suc i)) l ≡ suc (indexFrom t (suc i) l)
+        → cond b (suc i) (indexFrom t (suc (suc i)) l) ≡ suc (cond b i (indexFrom t (suc i) l))
     go true e = refl
     go false e = e
 
 -- the place of an element that passes, and of one behind an element that does not
-pub placeFrom-hit : {A : Type 0} (t : A → Bool) (i : ℕ) {x : A} (l : List A) → t x ≡ true → placeFrom t i (x ∷ l) ≡ i
-placeFrom-hit t i l e = rw e
+pub indexFrom-hit : {A : Type 0} (t : A → Bool) (i : ℕ) {x : A} (l : List A) → t x ≡ true → indexFrom t i (x ∷ l) ≡ i
+indexFrom-hit t i l e = rw e
 
-pub placeFrom-miss :
-    {A : Type 0} (t : A → Bool) (i : ℕ) {x : A} (l : List A) → t x ≡ false → placeFrom t i (x ∷ l) ≡ suc (placeFrom t i l)
-placeFrom-miss t i l e = rw e (placeFrom-suc t i l)
+pub indexFrom-miss :
+    {A : Type 0} (t : A → Bool) (i : ℕ) {x : A} (l : List A) → t x ≡ false → indexFrom t i (x ∷ l) ≡ suc (indexFrom t i l)
+indexFrom-miss t i l e = rw e (indexFrom-suc t i l)
 
 -- elements at one place of related lists are related
 pub pointwise-at :
@@ -135,18 +135,18 @@ getElem-at (x ∷ l) zero h = (x, refl)
 getElem-at (x ∷ l) (suc i) h = getElem-at l i (omega arith)
 
 -- a number of a list stands at its first place
-pub place-stands : (n : ℕ) (l : List ℕ) → has n l ≡ true → getElem? l (placeFrom (eqb n) 0 l) ≡ some n
-place-stands n [] h = true-false h refl
-place-stands n (m ∷ l) h = go (decide (eqb n m)) (place-stands n l)
+pub index-stands : (n : ℕ) (l : List ℕ) → has n l ≡ true → getElem? l (indexFrom (eqb n) 0 l) ≡ some n
+index-stands n [] h = true-false h refl
+index-stands n (m ∷ l) h = go (decide (eqb n m)) (index-stands n l)
   where
     go :
-        Or (eqb n m ≡ true) (eqb n m ≡ false) → (has n l ≡ true → getElem? l (placeFrom (eqb n) 0 l) ≡ some n)
-        → getElem? (m ∷ l) (placeFrom (eqb n) 0 (m ∷ l)) ≡ some n
-    go (inl e) ih = rw (placeFrom-hit (eqb n) 0 l e) (ap some (sym (eqb-equal e)))
-    go (inr e) ih = rw (placeFrom-miss (eqb n) 0 l e) (ih (rw e at h))
+        Or (eqb n m ≡ true) (eqb n m ≡ false) → (has n l ≡ true → getElem? l (indexFrom (eqb n) 0 l) ≡ some n)
+        → getElem? (m ∷ l) (indexFrom (eqb n) 0 (m ∷ l)) ≡ some n
+    go (inl e) ih = rw (indexFrom-hit (eqb n) 0 l e) (ap some (sym (eqb-equal e)))
+    go (inr e) ih = rw (indexFrom-miss (eqb n) 0 l e) (ih (rw e at h))
 
-pub place-below : (n : ℕ) (l : List ℕ) → has n l ≡ true → placeFrom (eqb n) 0 l < length l
-place-below n l h = getElem-below l (placeFrom (eqb n) 0 l) (place-stands n l h)
+pub index-below : (n : ℕ) (l : List ℕ) → has n l ≡ true → indexFrom (eqb n) 0 l < length l
+index-below n l h = getElem-below l (indexFrom (eqb n) 0 l) (index-stands n l h)
 
 -- what stands at a place is a number of the list
 pub has-at : (n : ℕ) (l : List ℕ) (i : ℕ) → getElem? l i ≡ some n → has n l ≡ true
@@ -201,9 +201,9 @@ distinct-append (p ∷ l) m d e h = (
 )
 
 -- a place of distinct numbers is the first place of what stands there
-pub place-unique : (l : List ℕ) (i n : ℕ) → Distinct l → getElem? l i ≡ some n → placeFrom (eqb n) 0 l ≡ i
-place-unique [] i n d s = none-some refl s
-place-unique (m ∷ l) zero n d s = placeFrom-hit (eqb n) 0 l (equal-eqb {m = n} {n = m} (sym (some-equal s)))
-place-unique (m ∷ l) (suc i) n d s =
-    placeFrom-miss (eqb n) 0 l (apart-eqb {m = n} {n = m} (λ e.
-    true-false (has-at m l i (s ∙ ap some e)) (d .0))) ∙ ap suc (place-unique l i n (d .1) s)
+pub index-unique : (l : List ℕ) (i n : ℕ) → Distinct l → getElem? l i ≡ some n → indexFrom (eqb n) 0 l ≡ i
+index-unique [] i n d s = none-some refl s
+index-unique (m ∷ l) zero n d s = indexFrom-hit (eqb n) 0 l (equal-eqb {m = n} {n = m} (sym (some-equal s)))
+index-unique (m ∷ l) (suc i) n d s =
+    indexFrom-miss (eqb n) 0 l (apart-eqb {m = n} {n = m} (λ e.
+    true-false (has-at m l i (s ∙ ap some e)) (d .0))) ∙ ap suc (index-unique l i n (d .1) s)
