@@ -14,13 +14,23 @@ use lib.ListN.{length, take, drop, getD, set, length-set, drop-of-length-le}
 use lib.Seq.{drop-cons, getD-take, length-take-le, take-suc-set}
 use borrow.Author.Tests.{eq-eqb, ne-eqb}
 use Rattle.text.specs.Lists.{every, has, indexFrom}
-use Rattle.text.proofs.Laws.{every-fails, every-step, every-end}
 use Rattle.semantics.specs.Overlaps.{secondPositions}
 use Rattle.semantics.proofs.Configurations.{Or, inl, inr}
 use Rattle.semantics.proofs.Options.{decide, true-false}
 use Rattle.semantics.proofs.Indices.{index-below}
 
--- the place of a number that does not stand in a list
+-- a test of all numbers from an index on: it fails there, goes on behind it, and is over
+module _ (test : ℕ → Bool) (s : List ℕ) (i : ℕ) where
+  every-fails : i < length s → test (getD s i 0) ≡ false → every test (drop i s) ≡ false
+  every-fails h e = rw (drop-cons s i 0 h, e)
+
+  every-step : i < length s → test (getD s i 0) ≡ true → every test (drop i s) ≡ every test (drop (suc i) s)
+  every-step h e = rw (drop-cons s i 0 h, e)
+
+  every-end : length s ≤ i → every test (drop i s) ≡ true
+  every-end h = rw (drop-of-length-le s {i = i} h)
+
+-- the index of a number that does not stand in a list
 index-behind : (x i : ℕ) (ds : List ℕ) → has x ds ≡ false → indexFrom (eqb x) i ds ≡ i + length ds
 index-behind x i [] h = omega arith
 index-behind x i (d ∷ ds) h = go (eqb x d) h (index-behind x (suc i) ds)
