@@ -1,3 +1,4 @@
 -- What the public functions' answers mean, and what the stages of a run ask. Assumes nothing.
 pub mod Answers
 pub mod Stages
+pub mod Promises

@@ -28,6 +28,13 @@ pub enum RunReply {
     Listed(usize),
 }
 
+// The answer of a check: a refusal, or the length of the listing that was written, of a pass or of an unjoined overlap.
+pub enum CheckReply {
+    Refused(Refusal),
+    Confluent(usize),
+    Unjoined(usize),
+}
+
 // How many rules the tables of a program hold, and how many constraints those of a goal.
 pub struct Sizes {
     pub rules: usize,
