@@ -3,3 +3,4 @@ pub mod ReplyLaws
 pub mod ReadyLaws
 pub mod ReadingLaws
 pub mod PrintLaws
+pub mod CheckLaws
