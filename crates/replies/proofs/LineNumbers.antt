@@ -72,7 +72,8 @@ run-within program goal room = go (readProgram program) refl
         (p : Reading) → readProgram program ≡ accepted p → (a : Answer GoalReading)
         → readGoal (p .program .symbols) (p .constants) goal ≡ a
         → Within (replyOf goalText a (λ g. fitted goalText room (runListing p g)))
-    goals p k (refused n l) h = turned-within 10 n goalText l (omega arith) (goal-turned (p .program .symbols) (p .constants) goal h)
+    goals p k (refused n l) h =
+        turned-within 10 n goalText l (omega arith) (goal-turned (p .program .symbols) (p .constants) goal h)
     goals p k (accepted g) h = fitted-within goalText room (runListing p g) (omega (arith, run-few program goal p g k h))
 
     go :

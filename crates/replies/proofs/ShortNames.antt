@@ -301,7 +301,8 @@ unfolding checkRules
 rules-read P symbols [] otherwise all h = h
 rules-read P symbols (r ∷ rs) otherwise (also s all) h =
     reads-refuseIf 9 P (eqb (length (r .rule .heads)) 0) 8 (r .line) _ refl (s .within)
-    λ _. reads-refuseIf 9 P (leb (weight symbols (r .rule .heads)) (weight symbols (r .rule .body))) 9 (r .line) _ refl (s .within)
+    λ _. reads-refuseIf 9 P (leb (weight symbols (r .rule .heads)) (weight symbols (r .rule .body))) 9 (r .line) _ refl
+    (s .within)
     λ _. rules-read P symbols rs otherwise all h
 
 -- a text has no more lines than bytes

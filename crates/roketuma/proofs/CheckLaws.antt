@@ -7,23 +7,24 @@ use Prim.Native.Nat.{ℕ, _≤_, _<_}
 use native.Mathlib.Omega.{arith}
 use mathlib.Core.Bool.{Bool, true, false, cond}
 use mathlib.Core.List.{List}
-use mathlib.Core.Logic.{_⊎_, inl, inr, ⊎-elim, _↔_}
-use mathlib.Core.Path.{_≡_, refl, sym, ap, subst, _∙_}
+use mathlib.Core.Logic.{_⊎_, inl, inr, ⊎-elim}
+use mathlib.Core.Path.{_≡_, refl, sym, ap, _∙_}
 use lib.Dec.{ltb}
 use lib.ListN.{length, take}
 use borrow.Author.Tests.{ltb-true, ltb-false, lt-ltb}
 use Rattle.semantics.specs.Strategy.{Final}
 use Rattle.semantics.specs.Overlaps.{Overlap, overlaps}
 use Rattle.semantics.specs.Verdict.{Verdict, verdict, confluent, unjoined}
-use Rattle.semantics.specs.Claims.{OneOutcome, Demand3, Counterexample}
+use Rattle.semantics.specs.Claims.{OneOutcome, Demand3}
 use Rattle.semantics.proofs.Demand3.{verdict-exact}
 use Rattle.syntax.specs.Answers.{Answer, refused, accepted}
 use Rattle.syntax.specs.Programs.{Reading, readProgram}
 use Rattle.syntax.proofs.WellFormed.{read-wellFormed}
+use Rattle.listing.proofs.Decimals.{decimal-exact}
 use Rattle.replies.specs.Replies.{Text, programText, Reply, refusal, listing, replyOf, fitted, checkListing, checkReply}
 use Rattle.replies.specs.Replies.{outputAfter}
 use Rattle.replies.specs.Claims.{verdictReply}
-use Rattle.replies.proofs.Demand3.{check-listed}
+use Rattle.replies.proofs.Demand3.{check-listed, verdict-one}
 use Rattle.replies.proofs.LineNumbers.{program-number}
 use Rattle.roketuma.specs.Answers.{textMeant}
 use Rattle.roketuma.specs.Promises.{checkMeant, CheckReplied, Told, CheckedAs, ofProgram, Demand3Of}
@@ -88,23 +89,22 @@ fitted-is text room bytes l e = go (ltb room (length bytes)) e
     go true k = absurd (let z : _≡_ {A = ℕ} 0 1 = cc in omega arith)
     go false k = sym k
 
--- one verdict is not two
-verdict-one {ℓ} : {A : Type ℓ} {v : Verdict} {n : ℕ} {o : Overlap} {one two : Final} → v ≡ confluent n → v ≡ unjoined o one two
-    → A
-verdict-one e f = absurd (let z : _≡_ {A = ℕ} 0 1 = cc in omega arith)
-
 module _ (s before after : List ℕ) (r : CheckReply) (c : CheckReplied (checkReply s (length before)) before after r) where
   -- what the answer means, by its form
   meant-by : (q : CheckReply) → r ≡ q → checkReply s (length before) ≡ checkMeant q after
   meant-by q e = sym (c .meant) ∙ ap (λ (x : CheckReply). checkMeant x after) e
 
   -- the reply to a text that reads
-  read-reply : (p : Reading) → readProgram s ≡ accepted p → checkReply s (length before) ≡ fitted programText (length before) (checkListing p)
+  read-reply :
+      (p : Reading) → readProgram s ≡ accepted p
+      → checkReply s (length before) ≡ fitted programText (length before) (checkListing p)
   unfolding checkReply replyOf
   read-reply p e = rw e
 
   -- and to one that does not
-  turned-reply : (number line : ℕ) → readProgram s ≡ refused number line → checkReply s (length before) ≡ refusal number programText line
+  turned-reply :
+      (number line : ℕ) → readProgram s ≡ refused number line
+      → checkReply s (length before) ≡ refusal number programText line
   unfolding checkReply replyOf
   turned-reply number line e = rw e
 
@@ -158,6 +158,7 @@ module _ (s before after : List ℕ) (r : CheckReply) (c : CheckReplied (checkRe
               );
           enough = demand .enough;
           bounded = demand .bounded;
+          decimals = decimal-exact;
         }
 
   -- the text of a refusal, and the output that it leaves

@@ -7,16 +7,19 @@
 --   checkNumber, CheckReturned  an answer as one number, and what the C export promises
 -- Assumes nothing.
 use Prim.Native.Nat.{ℕ, _+_, _*_, _≤_, _<_}
+use mathlib.Core.Bool.{true}
 use mathlib.Core.List.{List}
 use mathlib.Core.Logic.{_⊎_, _↔_}
 use mathlib.Core.Path.{_≡_}
 use lib.ListN.{length, take}
+use Rattle.text.specs.Fields.{isNumber, valueOf}
 use Rattle.semantics.specs.Strategy.{Final}
 use Rattle.semantics.specs.Overlaps.{Overlap, overlaps}
 use Rattle.semantics.specs.Verdict.{verdict, confluent, unjoined}
 use Rattle.semantics.specs.Claims.{OneOutcome, OneOutcomeByAppearance, Bounded, Counterexample}
 use Rattle.syntax.specs.Answers.{refused, accepted}
 use Rattle.syntax.specs.Programs.{Reading, readProgram}
+use Rattle.listing.specs.Listing.{decimal}
 use Rattle.replies.specs.Replies.{Reply, refusal, listing, checkListing, checkReply, outputAfter}
 use Rattle.replies.specs.Claims.{verdictReply}
 use Rattle.roketuma.specs.declared.TextName.the-variants.{S}
@@ -54,8 +57,9 @@ pub record Told (s : List ℕ) (r : CheckReply) : Type 0 where
 -- demand 3 of the answer to a text that reads as p. Where the listing fits, the program is passed or failed, and it is passed
 -- exactly when each goal over its symbols, of any length, has one outcome over all lists of events. A pass leaves the line with
 -- the number of its overlaps. A fail leaves an overlap of the program, its goal and two ends of finished derivations of this
--- goal, which are not equal; so not each goal has one outcome. For one outcome of all goals it is enough that those as document 01 has them have one. No
--- derivation fires more often than its goal's weight
+-- goal, which are not equal; so not each goal has one outcome. For one outcome of all goals it is enough that those as document
+-- 01 has them have one. No derivation fires more often than its goal's weight. A number is shown in digits without a leading
+-- zero, whose value it is
 pub record CheckedAs (p : Reading) (before after : List ℕ) (r : CheckReply) : Type 1 where
   pub decided : length (checkListing p) ≤ length before → ((n : ℕ) × (r ≡ Confluent n)) ⊎ ((n : ℕ) × (r ≡ Unjoined n))
   pub exact : length (checkListing p) ≤ length before → ((n : ℕ) × (r ≡ Confluent n)) ↔ OneOutcome (p .program)
@@ -68,13 +72,14 @@ pub record CheckedAs (p : Reading) (before after : List ℕ) (r : CheckReply) : 
       × Counterexample (p .program) o one two × (OneOutcome (p .program) → ⊥)
   pub enough : OneOutcomeByAppearance (p .program) → OneOutcome (p .program)
   pub bounded : Bounded (p .program)
+  pub decimals : (n : ℕ) → (isNumber (decimal n) ≡ true) × (valueOf (decimal n) ≡ n)
 
 -- a refusal of the program's text
 unfoldable pub ofProgram : ℕ → ℕ → CheckReply
 ofProgram number line = Refused (record { number = number; text = S; line = line })
 
--- demand 3 of the answer to any text s, and of the bytes that it leaves: a text that meets one of document 01's numbers
--- 1 to 9 is refused under it, with its line, and no other is; number 11 is the answer exactly where the text reads and the listing does
+-- demand 3 of the answer to any text s, and of the bytes that it leaves: a text that meets one of document 01's numbers 1 to 9 is
+-- refused under it, with its line, and no other is; number 11 is the answer exactly where the text reads and the listing does
 -- not fit; a refusal names the program's text and leaves the output untouched; and every text that reads is checked
 pub record Demand3Of (s before after : List ℕ) (r : CheckReply) : Type 1 where
   pub numbers : (number line : ℕ) → readProgram s ≡ refused number line → (1 ≤ number) × (number ≤ 9)
