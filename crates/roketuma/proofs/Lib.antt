@@ -4,3 +4,4 @@ pub mod ReadyLaws
 pub mod ReadingLaws
 pub mod PrintLaws
 pub mod CheckLaws
+pub mod Numbers
