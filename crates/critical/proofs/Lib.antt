@@ -15,4 +15,5 @@ pub mod OverlapLaws
 pub mod StandLaws
 pub mod StepLaws
 pub mod TableLaws
+pub mod VerdictLaws
 pub mod JudgeLaws

@@ -44,7 +44,7 @@ leaves-few (suc (suc (suc (suc (suc m))))) h = absurd (omega arith)
 abbrev pub lent : List ℕ → ℕ → List ℕ
 lent rules i = take (64 * i + 64 - 64 * i) (drop (64 * i) rules)
 
-lent-row : (rules : List ℕ) (i : ℕ) → lent rules i ≡ rowOf rules i
+pub lent-row : (rules : List ℕ) (i : ℕ) → lent rules i ≡ rowOf rules i
 lent-row rules i =
     let e : 64 * i + 64 - 64 * i ≡ 64 = omega arith in
     ap (λ k. take k (drop (64 * i) rules)) e

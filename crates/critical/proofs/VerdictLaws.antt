@@ -1,0 +1,221 @@
+-- The verdict on a program, from its table: one law for each step of the code.
+--   unjoined-member, walked-stopped, walked-confluent     what the walk over all rules says of the verdict
+--   remake-…                  the goal of the overlap that was met, made again
+--   run-…                     both sides run to their ends
+--   show-…                    the overlap that is shown
+--   verdict-…                 the answer
+-- Assumes nothing.
+use Prim.Native.Nat.{ℕ, suc, _+_, _-_, _*_, _≤_, _<_}
+use native.Mathlib.Omega.{arith}
+use mathlib.Core.Bool.{Bool, true, false, cond, not, _&&_}
+use mathlib.Core.List.{List, [], _∷_, _++_}
+use mathlib.Core.Option.{Option, none, some}
+use mathlib.Core.Path.{_≡_, refl, sym, ap, subst, subst₂, _∙_}
+use lib.Dec.{eqb}
+use lib.ListN.{length, take, drop, getD, length-append}
+use lib.Seq.{length-take-le, take-append-le}
+use Rattle.text.specs.Lists.{every}
+use Rattle.text.proofs.Bools.{and-true}
+use Rattle.semantics.specs.Terms.{Program}
+use Rattle.semantics.specs.Strategy.{Final as End}
+use Rattle.semantics.specs.Overlaps.{isOneToOne, isPairing, Overlap, overlapOf, secondPositions, overlaps, firstEnd, secondEnd}
+use Rattle.semantics.specs.Verdict.{Verdict, confluent, unjoined, isJoinable, judge, verdict}
+use Rattle.semantics.proofs.Configurations.{Or, inl, inr, Member, first, later}
+use Rattle.semantics.proofs.Options.{decide, true-false, none-some}
+use Rattle.semantics.proofs.Indices.{some-equal}
+use Rattle.semantics.proofs.Enumeration.{overlap-parts, pairings-member, overlaps-member}
+use Rattle.tables.specs.Cells.{cellConstraints}
+use Rattle.tables.specs.Rows.{ruleOfRow, ruleOf, rowOf}
+use Rattle.sides.specs.Sides.{cellGoal}
+use Rattle.judging.specs.declared.Peak.{Peak}
+use Rattle.critical.specs.declared.walking.Reply.{Reply}
+use Rattle.critical.specs.Overlapped.{Partners, OverlapOf}
+use Rattle.critical.specs.Walks.{Holds, ruleAt, Checkable, PairAt, AllWalked}
+use Rattle.critical.specs.Verdicts.{Stopped, Shows, Remade}
+use Rattle.critical.proofs.JudgeLaws.{judged-confluent, judged-unjoined}
+use Rattle.critical.proofs.StandLaws.{pair-few, overlap-judged, overlap-stands}
+use Rattle.critical.proofs.TableLaws.{lent, lent-row}
+
+-- whether a verdict shows an overlap
+unfoldable isUnjoined : Verdict → Bool
+isUnjoined (confluent n) = false
+isUnjoined (unjoined o a b) = true
+
+-- the overlap that a verdict shows is one of those that were judged
+unjoined-member : (p : Program) (n : ℕ) (os : List Overlap) {o : Overlap} {a b : End} → judge p n os ≡ unjoined o a b → Member o os
+unfolding judge isUnjoined
+unjoined-member p n [] e = true-false (ap isUnjoined e) refl
+unjoined-member p n (x ∷ os) {o} {a} {b} e = go (isJoinable p x) e (unjoined-member p (suc n) os)
+  where
+    same : {y : Overlap} {c d : End} → unjoined y c d ≡ unjoined o a b → y ≡ o
+    same e = cc
+
+    go :
+        (j : Bool) → cond j (judge p (suc n) os) (unjoined x (firstEnd p x) (secondEnd p x)) ≡ unjoined o a b
+        → (judge p (suc n) os ≡ unjoined o a b → Member o os) → Member o (x ∷ os)
+    go true h more = later (more h)
+    go false h more = subst (λ y. Member y (x ∷ os)) (same h) first
+
+module _ (rules : List ℕ) (n : ℕ) (stopped : Bool) (k i j : ℕ) (partners : List ℕ)
+    (w : AllWalked rules n stopped k i j partners) where
+  -- the walk has met no overlap that does not join
+  pub walked-confluent : stopped ≡ false → (p : Program) → Holds p rules n → verdict p ≡ confluent k
+  walked-confluent e p h = judged-confluent p k _ (rw e at (w .judged p h))
+
+-- it has met one
+pub walked-stopped :
+    (rules : List ℕ) (n : ℕ) (met : Reply) (goal : List ℕ) → Checkable rules n
+    → AllWalked rules n (met .stopped) (met .count) (met .first) (met .second) (met .partners) → met .stopped ≡ true
+    → length goal ≡ 40 → Stopped rules n goal met
+walked-stopped rules n met goal check w e size =
+    let m = w .met e in
+    record {
+      check = check;
+      first = omega (arith, m .first, m .second);
+      second = m .second;
+      partners-size = m .partners-size;
+      below = m .below;
+      decided = λ p h. judged-unjoined p (met .count) _ (rw e at (w .judged p h));
+      goal-size = size;
+    }
+
+module _ (rules : List ℕ) (n : ℕ) (met : Reply) (start : List ℕ) (s : Stopped rules n start met) where
+  -- as many heads as the rules have
+  abbrev a : ℕ
+  a = getD (rowOf rules (met .first)) 3 0
+
+  abbrev b : ℕ
+  b = getD (rowOf rules (met .second)) 3 0
+
+  abbrev ds : List ℕ
+  ds = take a (met .partners)
+
+  abbrev pair : PairAt rules n (met .first) (met .second) a b
+  pair = record { check = s .check; first = s .first; second = s .second; first-count = refl; second-count = refl }
+
+  -- a program that the table holds
+  abbrev held : Holds (s .check .program) rules n
+  held = record { names = s .check .names; same = s .check .whole; well-formed = s .check .well-formed }
+
+  -- its partners are a pairing
+  pairs : isPairing ds ≡ true
+  unfolding verdict
+  pairs =
+      let p = s .check .program in
+      let one = ruleAt (s .check .names) rules (met .first) in
+      let two = ruleAt (s .check .names) rules (met .second) in
+      let (o, e, d) = s .decided p held in
+      let listed = overlaps-member p (unjoined-member p 0 (overlaps p) d) in
+      ap (λ l. isPairing l) (sym (ap (λ x. x .partners) (overlap-parts one two ds e .made)))
+      ∙ pairings-member _ _ (o .partners) (listed .paired) .pairs
+
+  one-to-one : isOneToOne ds ≡ true
+  unfolding isPairing
+  one-to-one = and-true (isOneToOne ds) (not (every (eqb 0) ds)) pairs .0
+
+  some-joined : every (eqb 0) ds ≡ false
+  unfolding isPairing
+  some-joined = opposite (every (eqb 0) ds) (and-true (isOneToOne ds) (not (every (eqb 0) ds)) pairs .1)
+    where
+      opposite : (x : Bool) → not x ≡ true → x ≡ false
+      opposite true h = true-false h refl
+      opposite false h = refl
+
+  -- what making the overlap again asks
+  pub remake-partners :
+      Partners (met .partners) (getD (lent rules (met .first)) 3 0) (getD (lent rules (met .second)) 3 0)
+  remake-partners =
+      rw (lent-row rules (met .first), lent-row rules (met .second)) (record {
+        each = λ h l. s .below .each h (omega (arith, l, pair-few rules n (met .first) (met .second) a b pair .0));
+      })
+
+  module _ (unify : Bool) (made : List ℕ) (count variables : ℕ)
+      (g : OverlapOf (rowOf rules (met .first)) (rowOf rules (met .second)) (met .partners) unify made count variables)
+      (rest′ : List ℕ) (size : length made ≡ 5 * (a + b)) where
+    -- the goal's cells, in front of all
+    abbrev goal : List ℕ
+    goal = take (5 * count) (made ++ rest′)
+
+    -- the overlap in a program that the table holds
+    abbrev overlap : List ℕ → Overlap
+    overlap names =
+        record {
+          first = ruleAt names rules (met .first);
+          second = ruleAt names rules (met .second);
+          partners = ds;
+          goal = record { variables = variables; constraints = cellConstraints goal };
+        }
+
+    front : goal ≡ take (5 * count) made
+    front = take-append-le (5 * count) made rest′ (omega (arith, size, g .within))
+
+    -- it is what was made, if its heads unify
+    made-of :
+        (names : List ℕ)
+        → overlapOf (ruleAt names rules (met .first)) (ruleAt names rules (met .second)) ds ≡ cond unify (some (overlap names)) none
+    unfolding ruleAt ruleOf ruleOfRow
+    made-of names =
+        g .same (ruleAt names rules (met .first)) (ruleAt names rules (met .second)) refl refl one-to-one
+        ∙ ap (λ l. cond unify (some (record {
+          first = ruleAt names rules (met .first);
+          second = ruleAt names rules (met .second);
+          partners = ds;
+          goal = record { variables = variables; constraints = cellConstraints l };
+        })) none) (sym front)
+
+    -- and they do
+    unifies : unify ≡ true
+    unifies =
+        let (o, e, d) = s .decided (s .check .program) held in
+        go unify (overlap (s .check .names)) (sym (made-of (s .check .names)) ∙ e)
+      where
+        go : (x : Bool) (u : Overlap) {o : Overlap} → cond x (some u) none ≡ some o → x ≡ true
+        go true u h = refl
+        go false u h = none-some refl h
+
+    is-made :
+        (names : List ℕ)
+        → overlapOf (ruleAt names rules (met .first)) (ruleAt names rules (met .second)) ds ≡ some (overlap names)
+    is-made names = made-of names ∙ ap (λ x. cond x (some (overlap names)) none) unifies
+
+    -- the goal made again, and the overlap that its cells stand for
+    pub remake-made :
+        (m c : ℕ) (positions : List ℕ) → m ≡ a → c ≡ b → take c positions ≡ secondPositions 1 m c (take m (met .partners))
+        → length positions ≡ 4
+        → Remade rules n met (made ++ rest′) (record {
+          rules = n;
+          first = met .first;
+          second = met .second;
+          positions = positions;
+          count = count;
+          variables = variables;
+        })
+    unfolding cellGoal
+    remake-made m c positions em ec places four =
+        let stated : take b positions ≡ secondPositions 1 a b ds =
+        subst₂ (λ x y. take y positions ≡ secondPositions 1 x y (take x (met .partners))) em ec places in
+        record {
+          first = s .first;
+          second = s .second;
+          few = g .few;
+          overlapping =
+              overlap-judged rules n (met .first) (met .second) a b pair ds goal variables positions count four
+              (is-made (s .check .names)) (rw front (g .low))
+              (length-take-le (5 * count) (made ++ rest′) (omega (arith, length-append made rest′, size, g .within)))
+              (g .fewer unifies some-joined) (g .variables-few);
+          shows = λ p h.
+              let (o, e, d) = s .decided p h in
+              let same : o ≡ overlap (h .names) = sym (some-equal (sym (is-made (h .names)) ∙ e)) in (
+                o,
+                record {
+                  decided = d;
+                  first = ap (λ x. x .first) same;
+                  second = ap (λ x. x .second) same;
+                  partners-same = ap (λ x. x .partners) same;
+                  stands =
+                      overlap-stands rules n (met .first) (met .second) a b pair ds goal variables positions stated p h o
+                      (ap (λ x. x .first) same) (ap (λ x. x .second) same) (ap (λ x. x .partners) same)
+                      (ap (λ x. x .goal) same);
+                },
+              );
+        }
