@@ -51,21 +51,21 @@ lent-row rules i =
 
 module _ (rules : List ℕ) (n i j : ℕ) (k : Checkable rules n) (hi : i < n) (hj : j < n) (m b : ℕ)
     (em : m ≡ getD (lent rules i) 3 0) (eb : b ≡ getD (lent rules j) 3 0) where
-  first-heads : m ≡ getD (rowOf rules i) 3 0
+  pub first-heads : m ≡ getD (rowOf rules i) 3 0
   first-heads = em ∙ ap (λ l. getD l 3 0) (lent-row rules i)
 
-  second-heads : b ≡ getD (rowOf rules j) 3 0
+  pub second-heads : b ≡ getD (rowOf rules j) 3 0
   second-heads = eb ∙ ap (λ l. getD l 3 0) (lent-row rules j)
 
   pair : PairAt rules n i j m b
   pair = record { check = k; first = hi; second = hj; first-count = first-heads; second-count = second-heads }
 
-  few : (m ≤ 4) × (b ≤ 4)
-  few =
+  pub lent-few : (m ≤ 4) × (b ≤ 4)
+  lent-few =
       (omega (arith, first-heads, k .rows i hi .given .heads-few), omega (arith, second-heads, k .rows j hj .given .heads-few))
 
   pub pair-room : 5 * (m + b) ≤ 40
-  pair-room = omega (arith, few .0, few .1)
+  pair-room = omega (arith, lent-few .0, lent-few .1)
 
   module _ (start : List ℕ) (forty : length start ≡ 40) where
     pub pair-lent : 5 * (m + b) ≡ length (take (5 * (m + b)) start)
@@ -105,7 +105,7 @@ module _ (rules : List ℕ) (n i j : ℕ) (k : Checkable rules n) (hi : i < n) (
           cells-size =
               length-append laid (drop (5 * (m + b)) start)
               ∙ omega (arith, length-drop (5 * (m + b)) start, s, pair-lent, pair-room);
-          room = omega (arith, leaves-few m (few .0));
+          room = omega (arith, leaves-few m (lent-few .0));
         }
 
   -- as many heads as the program's rule has
@@ -129,7 +129,7 @@ module _ (rules : List ℕ) (n i j : ℕ) (k : Checkable rules n) (hi : i < n) (
             ∙ ap (λ x. rest one two (take x (replicate 4 0)) m) (sym none) in
             subst (λ x. Judged p count (overlapsOf one two) stopped after (overlapOf one two (take x partners))) first-heads
             (subst (λ l. Judged p count l stopped after (overlapOf one two (take m partners))) (sym all) (w .judged p h));
-        few = omega (arith, w .few, leaves-few m (few .0));
+        few = omega (arith, w .few, leaves-few m (lent-few .0));
         partners-size = w .partners-size;
         below = subst (Partners partners 4) second-heads (w .below);
       }

@@ -12,8 +12,8 @@ use mathlib.Core.List.{List, [], _∷_, _++_}
 use mathlib.Core.Option.{Option, none, some}
 use mathlib.Core.Path.{_≡_, refl, sym, ap, subst, subst₂, _∙_}
 use lib.Dec.{eqb}
-use lib.ListN.{length, take, drop, getD, length-append}
-use lib.Seq.{length-take-le, take-append-le}
+use lib.ListN.{length, take, drop, getD, length-append, length-drop}
+use lib.Seq.{length-take-le, take-append-le, take-at, drop-at}
 use Rattle.text.specs.Lists.{every}
 use Rattle.text.proofs.Bools.{and-true}
 use Rattle.semantics.specs.Terms.{Program}
@@ -26,15 +26,17 @@ use Rattle.semantics.proofs.Indices.{some-equal}
 use Rattle.semantics.proofs.Enumeration.{overlap-parts, pairings-member, overlaps-member}
 use Rattle.tables.specs.Cells.{cellConstraints}
 use Rattle.tables.specs.Rows.{ruleOfRow, ruleOf, rowOf}
-use Rattle.sides.specs.Sides.{cellGoal}
+use Rattle.engine.specs.declared.derivation.Final.{Final}
+use Rattle.sides.specs.Sides.{cellGoal, Sidable, Sided}
+use Rattle.judging.proofs.EndLaws.{first-asks, second-asks, first-sided, second-sided}
 use Rattle.judging.specs.declared.Peak.{Peak}
 use Rattle.critical.specs.declared.walking.Reply.{Reply}
 use Rattle.critical.specs.Overlapped.{Partners, OverlapOf}
 use Rattle.critical.specs.Walks.{Holds, ruleAt, Checkable, PairAt, AllWalked}
-use Rattle.critical.specs.Verdicts.{Stopped, Shows, Remade}
+use Rattle.critical.specs.Verdicts.{Stopped, Shows, Remade, Runs, BothRun}
 use Rattle.critical.proofs.JudgeLaws.{judged-confluent, judged-unjoined}
 use Rattle.critical.proofs.StandLaws.{pair-few, overlap-judged, overlap-stands}
-use Rattle.critical.proofs.TableLaws.{lent, lent-row}
+use Rattle.critical.proofs.TableLaws.{lent, lent-row, first-heads, second-heads, pair-lent}
 
 -- whether a verdict shows an overlap
 unfoldable isUnjoined : Verdict → Bool
@@ -218,4 +220,92 @@ module _ (rules : List ℕ) (n : ℕ) (met : Reply) (start : List ℕ) (s : Stop
                       (ap (λ x. x .goal) same);
                 },
               );
+        }
+
+  -- the same, as the code counts and lends
+  pub remake-lent :
+      (m c : ℕ) → m ≡ getD (lent rules (met .first)) 3 0 → c ≡ getD (lent rules (met .second)) 3 0
+      → (unify : Bool) (made : List ℕ) (count variables : ℕ)
+      → OverlapOf (lent rules (met .first)) (lent rules (met .second)) (met .partners) unify made count variables
+      → (rest′ : List ℕ) → length made ≡ length (take (5 * (m + c)) start) → (positions : List ℕ)
+      → take c positions ≡ secondPositions 1 m c (take m (met .partners)) → length positions ≡ 4
+      → Remade rules n met (made ++ rest′) (record {
+        rules = n;
+        first = met .first;
+        second = met .second;
+        positions = positions;
+        count = count;
+        variables = variables;
+      })
+  remake-lent m c em ec unify made count variables g rest′ size positions places four =
+      let i = met .first in
+      let j = met .second in
+      let one : m ≡ a = first-heads rules n i j (s .check) (s .first) (s .second) m c em ec in
+      let two : c ≡ b = second-heads rules n i j (s .check) (s .first) (s .second) m c em ec in
+      remake-made unify made count variables
+      (subst₂ (λ x y. OverlapOf x y (met .partners) unify made count variables) (lent-row rules i) (lent-row rules j) g) rest′
+      (size ∙ sym (pair-lent rules n i j (s .check) (s .first) (s .second) m c em ec start (s .goal-size))
+      ∙ λ t. 5 * (one t + two t)) m c positions one two places four
+
+module _ (rules : List ℕ) (peak : Peak) (goal bounds one two : List ℕ) (r : Runs rules peak goal bounds one two) where
+  abbrev v : ℕ
+  v = peak .variables
+
+  -- cells are lent for what the goal's variables become: on the first side
+  pub run-bound : v ≡ length (take v bounds)
+  run-bound = sym (length-take-le v bounds (omega (arith, r .overlapping .variables, r .bounds-size)))
+
+  -- what the first side asks
+  pub run-first :
+      Sidable rules (peak .rules) (peak .first) (0 ∷ 1 ∷ 2 ∷ 3 ∷ []) goal (peak .count) (length (take v bounds)) one
+  run-first = first-asks _ _ _ _ _ _ _ _ (r .overlapping) (length (take v bounds)) one (sym run-bound) (r .room .first)
+
+  module _ (f : List ℕ) (ef : length f ≡ length (take v bounds)) where
+    -- the bounds after the first side, and the part of them that is lent to the second
+    abbrev between : List ℕ
+    between = f ++ drop v bounds
+
+    abbrev part : List ℕ
+    part = take (v + v - v) (drop v between)
+
+    between-front : take v between ≡ f
+    between-front = take-at f (drop v bounds) v (ef ∙ sym run-bound)
+
+    part-size : length part ≡ v
+    part-size =
+        let k : v + v - v ≡ v = omega arith in
+        length-take-le (v + v - v) (drop v between)
+        (omega (arith, length-drop v between, length-append f (drop v bounds), length-drop v bounds, ef, run-bound,
+        r .overlapping .variables, r .bounds-size)) ∙ k
+
+    -- what the second side asks
+    pub run-second : Sidable rules (peak .rules) (peak .second) (peak .positions) goal (peak .count) (length part) two
+    run-second = second-asks _ _ _ _ _ _ _ _ (r .overlapping) (length part) two part-size (r .room .second)
+
+    -- both ends
+    pub run-ends :
+        (one′ : List ℕ) (e : Final) → length one′ ≡ length one
+        → Sided rules (peak .rules) (peak .first) (0 ∷ 1 ∷ 2 ∷ 3 ∷ []) goal (length (take v bounds)) f one′ (e .alive) (e .count)
+        (e .next) (e .firings)
+        → (g two′ : List ℕ) (d : Final) → length g ≡ length part → length two′ ≡ length two
+        → Sided rules (peak .rules) (peak .second) (peak .positions) goal (length part) g two′ (d .alive) (d .count) (d .next)
+        (d .firings)
+        → (rest′ : List ℕ) → BothRun rules peak goal (take v between ++ (g ++ rest′)) one′ two′ (record { first = e; second = d })
+    run-ends one′ e eo s g two′ d eg et t rest′ =
+        let size : length (take v between) ≡ v = ap length between-front ∙ ef ∙ sym run-bound in
+        let front : take v (take v between ++ (g ++ rest′)) ≡ f =
+        take-at (take v between) (g ++ rest′) v size ∙ between-front in
+        let behind : take v (drop v (take v between ++ (g ++ rest′))) ≡ g =
+        ap (take v) (drop-at (take v between) (g ++ rest′) v size) ∙ take-at g rest′ v (eg ∙ part-size) in
+        let s′ : Sided rules (peak .rules) (peak .first) (0 ∷ 1 ∷ 2 ∷ 3 ∷ []) goal v f one′ (e .alive) (e .count) (e .next)
+        (e .firings) = rw (← run-bound) at s in
+        let t′ : Sided rules (peak .rules) (peak .second) (peak .positions) goal v g two′ (d .alive) (d .count) (d .next)
+        (d .firings) = rw part-size at t in
+        record {
+          first =
+              rw front
+              (first-sided _ _ _ _ _ _ _ _ (r .overlapping) f one′ _ _ _ _ (omega (arith, r .room .first, eo)) s′);
+          second =
+              rw behind
+              (second-sided _ _ _ _ _ _ _ _ (r .overlapping) g two′ _ _ _ _ (omega (arith, r .room .second, et)) t′);
         }
