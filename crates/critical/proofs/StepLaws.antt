@@ -7,25 +7,25 @@ use native.Mathlib.Omega.{arith}
 use native.Mathlib.Numerals.{add-one}
 use mathlib.Core.Bool.{Bool, true, false}
 use mathlib.Core.List.{List, [], _∷_, _++_, map}
-use mathlib.Core.Option.{Option, none, some}
+use mathlib.Core.Option.{none, some}
 use mathlib.Core.Path.{_≡_, refl, sym, ap, subst, _∙_}
 use lib.Dec.{eqb}
-use lib.ListN.{length, take, drop, getD, getElem?, set, length-map, length-append, length-drop, length-set}
-use lib.Seq.{length-take-le, take-suc-set, take-append-le, take-at, getD-take, getD-set-same, getD-set-other}
+use lib.ListN.{length, take, drop, getD, set, length-append, length-drop, length-set}
+use lib.Seq.{length-take-le, take-suc-set, take-append-le, take-at, getD-set-same, getD-set-other}
 use Rattle.text.specs.Lists.{every}
-use Rattle.semantics.specs.Terms.{Constraint, Program, mapTerms, isGoalOf}
-use Rattle.semantics.specs.Overlaps.{apart, Numbered, Overlap, overlapOf, secondPositions}
+use Rattle.semantics.specs.Terms.{Constraint, Program, mapTerms}
+use Rattle.semantics.specs.Overlaps.{apart, overlapOf, secondPositions}
 use Rattle.semantics.proofs.Configurations.{Or, inl, inr}
 use Rattle.semantics.proofs.Options.{decide, true-false, eqb-equal, equal-eqb}
 use Rattle.tables.specs.Cells.{cellConstraints, isLow}
-use Rattle.tables.specs.Rows.{ruleOfRow, ruleOf, rulesOf, rowOf}
+use Rattle.tables.specs.Rows.{ruleOfRow, ruleOf}
 use Rattle.sides.specs.Sides.{cellGoal}
 use Rattle.judging.specs.Judging.{Stands, Overlapping, Joins}
 use Rattle.critical.specs.Joins.{joinNext, paired, goalFrom}
 use Rattle.critical.specs.Cells.{joinedOf, Partner}
-use Rattle.critical.specs.Overlapped.{Node, Whole, Finished, Partners}
+use Rattle.critical.specs.Overlapped.{Node, Whole, Finished}
 use Rattle.critical.specs.Rests.{rest, Judged}
-use Rattle.critical.specs.Walks.{Holds, ruleAt, Checkable, PairAt, firstHeads, secondHeads, Walkable, leaves, Walked}
+use Rattle.critical.specs.Walks.{Holds, ruleAt, firstHeads, secondHeads, Walkable, leaves, Walked}
 use Rattle.critical.specs.Walks.{Room}
 use Rattle.critical.proofs.PairedLaws.{paired-overlap}
 use Rattle.critical.proofs.JudgeLaws.{judged-none, judged-joins, judged-parts}
@@ -303,12 +303,6 @@ module _ (rules : List ℕ) (n i j a b left : ℕ) (partners cells : List ℕ) (
         within = omega arith;
       }
 
-  -- as many heads as the program's rules have
-  program-heads : (names : List ℕ) → length (ruleAt names rules j .rule .heads) ≡ b
-  unfolding ruleAt ruleOf ruleOfRow secondHeads
-  program-heads names =
-      sym (length-map (ruleOfRow [] (rowOf rules j) .heads) (mapTerms apart)) ∙ second-is
-
   module _ (s d : ℕ) (v : Steps rules n i j a b left partners count s d) where
     -- no partner is left
     pub step-end : b < d → Walked rules n i j a b left chosen count false s partners
@@ -318,7 +312,7 @@ module _ (rules : List ℕ) (n i j a b left : ℕ) (partners cells : List ℕ) (
               let one = ruleAt (q .names) rules i in
               let two = ruleAt (q .names) rules j in
               subst (λ k. Judged p count (rest one two chosen k) false s (overlapOf one two (take a partners))) back
-              (walking-end one two p count chosen (left - 1) s d (v .walking p q) (omega (arith, program-heads (q .names)))
+              (walking-end one two p count chosen (left - 1) s d (v .walking p q) (omega (arith, second-heads rules n i j a b (w .pair) (q .names)))
               (overlapOf one two (take a partners)));
           few =
               let most = times-leaves d (left - 1) (omega (arith, v .within, few .1)) in
@@ -342,7 +336,7 @@ module _ (rules : List ℕ) (n i j a b left : ℕ) (partners cells : List ℕ) (
       program-cut names h = h
 
       partner-there : (names : List ℕ) → d ≤ length (ruleAt names rules j .rule .heads)
-      partner-there names = omega (arith, program-heads names)
+      partner-there names = omega (arith, second-heads rules n i j a b (w .pair) names)
 
       before-last : length chosen < length hs
       before-last = omega (arith, chosen-count, first-is, here)

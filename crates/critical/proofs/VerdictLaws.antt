@@ -5,11 +5,11 @@
 --   show-…                    the overlap that is shown
 --   verdict-…                 the answer
 -- Assumes nothing.
-use Prim.Native.Nat.{ℕ, suc, _+_, _-_, _*_, _≤_, _<_}
+use Prim.Native.Nat.{ℕ, suc, _+_, _-_, _*_}
 use native.Mathlib.Omega.{arith}
-use mathlib.Core.Bool.{Bool, true, false, cond, not, _&&_}
+use mathlib.Core.Bool.{Bool, true, false, cond, not}
 use mathlib.Core.List.{List, [], _∷_, _++_}
-use mathlib.Core.Option.{Option, none, some}
+use mathlib.Core.Option.{none, some}
 use mathlib.Core.Path.{_≡_, refl, sym, ap, subst, subst₂, _∙_}
 use lib.Dec.{eqb}
 use lib.ListN.{length, take, drop, getD, length-append, length-drop}
@@ -20,8 +20,8 @@ use Rattle.semantics.specs.Terms.{Program}
 use Rattle.semantics.specs.Strategy.{Final as End}
 use Rattle.semantics.specs.Overlaps.{isOneToOne, isPairing, Overlap, overlapOf, secondPositions, overlaps, firstEnd, secondEnd}
 use Rattle.semantics.specs.Verdict.{Verdict, confluent, unjoined, isJoinable, judge, verdict}
-use Rattle.semantics.proofs.Configurations.{Or, inl, inr, Member, first, later}
-use Rattle.semantics.proofs.Options.{decide, true-false, none-some}
+use Rattle.semantics.proofs.Configurations.{Member, first, later}
+use Rattle.semantics.proofs.Options.{true-false, none-some}
 use Rattle.semantics.proofs.Indices.{some-equal}
 use Rattle.semantics.proofs.Enumeration.{overlap-parts, pairings-member, overlaps-member}
 use Rattle.tables.specs.Cells.{cellConstraints}
@@ -30,13 +30,18 @@ use Rattle.engine.specs.declared.derivation.Final.{Final}
 use Rattle.sides.specs.Sides.{cellGoal, Sidable, Sided}
 use Rattle.judging.proofs.EndLaws.{first-asks, second-asks, first-sided, second-sided}
 use Rattle.judging.specs.declared.Peak.{Peak}
+use Rattle.judging.specs.declared.Ends.{Ends}
+use Rattle.judging.specs.Judging.{EndOf}
+use Rattle.judging.proofs.JoinLaws.{live-room}
 use Rattle.critical.specs.declared.walking.Reply.{Reply}
+use Rattle.critical.specs.declared.deciding.Shown.{Shown}
 use Rattle.critical.specs.Overlapped.{Partners, OverlapOf}
 use Rattle.critical.specs.Walks.{Holds, ruleAt, Checkable, PairAt, AllWalked}
-use Rattle.critical.specs.Verdicts.{Stopped, Shows, Remade, Runs, BothRun}
+use Rattle.critical.specs.Verdicts.{Deciding, Stopped, Remade, Runs, BothRun, EndIn, UnjoinedIn, VerdictIn}
 use Rattle.critical.proofs.JudgeLaws.{judged-confluent, judged-unjoined}
 use Rattle.critical.proofs.StandLaws.{pair-few, overlap-judged, overlap-stands}
-use Rattle.critical.proofs.TableLaws.{lent, lent-row, first-heads, second-heads, pair-lent}
+use Rattle.critical.proofs.StepLaws.{room-kept}
+use Rattle.critical.proofs.TableLaws.{lent, lent-row, lent-first, lent-second, pair-lent}
 
 -- whether a verdict shows an overlap
 unfoldable isUnjoined : Verdict → Bool
@@ -240,8 +245,8 @@ module _ (rules : List ℕ) (n : ℕ) (met : Reply) (start : List ℕ) (s : Stop
   remake-lent m c em ec unify made count variables g rest′ size positions places four =
       let i = met .first in
       let j = met .second in
-      let one : m ≡ a = first-heads rules n i j (s .check) (s .first) (s .second) m c em ec in
-      let two : c ≡ b = second-heads rules n i j (s .check) (s .first) (s .second) m c em ec in
+      let one : m ≡ a = lent-first rules n i j (s .check) (s .first) (s .second) m c em ec in
+      let two : c ≡ b = lent-second rules n i j (s .check) (s .first) (s .second) m c em ec in
       remake-made unify made count variables
       (subst₂ (λ x y. OverlapOf x y (met .partners) unify made count variables) (lent-row rules i) (lent-row rules j) g) rest′
       (size ∙ sym (pair-lent rules n i j (s .check) (s .first) (s .second) m c em ec start (s .goal-size))
@@ -275,8 +280,16 @@ module _ (rules : List ℕ) (peak : Peak) (goal bounds one two : List ℕ) (r : 
     part-size =
         let k : v + v - v ≡ v = omega arith in
         length-take-le (v + v - v) (drop v between)
-        (omega (arith, length-drop v between, length-append f (drop v bounds), length-drop v bounds, ef, run-bound,
-        r .overlapping .variables, r .bounds-size)) ∙ k
+        (omega (
+          arith,
+          length-drop v between,
+          length-append f (drop v bounds),
+          length-drop v bounds,
+          ef,
+          run-bound,
+          r .overlapping .variables,
+          r .bounds-size,
+        )) ∙ k
 
     -- what the second side asks
     pub run-second : Sidable rules (peak .rules) (peak .second) (peak .positions) goal (peak .count) (length part) two
@@ -309,3 +322,87 @@ module _ (rules : List ℕ) (peak : Peak) (goal bounds one two : List ℕ) (r : 
               rw behind
               (second-sided _ _ _ _ _ _ _ _ (r .overlapping) g two′ _ _ _ _ (omega (arith, r .room .second, et)) t′);
         }
+
+-- what is known of an end of an overlap
+end-known :
+    {end : Program → Overlap → End} {rules : List ℕ} {n i j : ℕ} {positions : List ℕ} {v : ℕ} {goal : List ℕ} (e : Final)
+    (bound cells : List ℕ) → EndOf end rules n i j positions v goal (e .alive) (e .count) (e .next) (e .firings) bound cells
+    → EndIn e bound cells
+end-known e bound cells t =
+    record {
+      within = λ y. live-room (e .count) bound cells (t .live y);
+      live = t .live;
+      next-few = t .next-few;
+      numbered = t .numbered;
+      counted = t .counted;
+    }
+
+-- the overlap that was met is shown
+pub show-shown :
+    (rules : List ℕ) (n : ℕ) (met : Reply) (goal bounds one two : List ℕ) (peak : Peak) (ends : Ends)
+    → Remade rules n met goal peak → BothRun rules peak (take (5 * peak .count) goal) bounds one two ends → Checkable rules n
+    → length (met .partners) ≡ 4 → (heads : ℕ) → heads ≡ getD (lent rules (peak .first)) 3 0
+    → UnjoinedIn rules n goal bounds one two (record {
+      first = peak .first;
+      second = peak .second;
+      heads = heads;
+      partners = met .partners;
+      count = peak .count;
+      variables = peak .variables;
+      one = ends .first;
+      two = ends .second;
+    })
+show-shown rules n met goal bounds one two peak ends r t check four heads e =
+    let v = peak .variables in
+    let row : heads ≡ getD (rowOf rules (peak .first)) 3 0 = e ∙ ap (λ l. getD l 3 0) (lent-row rules (peak .first)) in
+    record {
+      first = r .first;
+      second = r .second;
+      heads = row;
+      heads-few = omega (arith, row, check .rows (peak .first) (r .first) .given .heads-few);
+      partners-size = four;
+      count-few = r .few;
+      variables-few = r .overlapping .variables;
+      first-end = end-known (ends .first) (take v bounds) one (t .first);
+      second-end = end-known (ends .second) (take v (drop v bounds)) two (t .second);
+      shown = λ p h.
+          let (o, w) = r .shows p h in (
+            o,
+            record {
+              decided =
+                  w .decided
+                  ∙ λ k. unjoined o (sym (t .first .same p (h .names) o (w .stands)) k)
+                  (sym (t .second .same p (h .names) o (w .stands)) k);
+              first = w .first;
+              second = w .second;
+              partners-same = w .partners-same ∙ ap (λ x. take x (met .partners)) (sym row);
+              goal-same = w .stands .same-goal;
+            },
+          );
+    }
+
+-- what deciding asks, after the walk
+pub verdict-kept :
+    (rules : List ℕ) (n : ℕ) (goal bounds one two one′ two′ : List ℕ) → Deciding rules n goal bounds one two
+    → length one′ ≡ length one → length two′ ≡ length two → Deciding rules n goal bounds one′ two′
+verdict-kept rules n goal bounds one two one′ two′ d e f =
+    record {
+      check = d .check;
+      few = d .few;
+      room = room-kept (d .room) e f;
+      goal-size = d .goal-size;
+      bounds-size = d .bounds-size;
+    }
+
+-- the answer: an overlap that does not join, or none
+pub verdict-shown :
+    (rules : List ℕ) (n : ℕ) (goal bounds one two : List ℕ) (s : Shown) → UnjoinedIn rules n goal bounds one two s
+    → VerdictIn rules n goal bounds one two (record { confluent = false; overlaps = 0; shown = s })
+verdict-shown rules n goal bounds one two s u = record { passes = λ e. true-false e refl; shows = λ e. u }
+
+pub verdict-passed :
+    (rules : List ℕ) (n : ℕ) (stopped : Bool) (k i j : ℕ) (partners : List ℕ) → AllWalked rules n stopped k i j partners
+    → stopped ≡ false → (goal bounds one two : List ℕ) (s : Shown)
+    → VerdictIn rules n goal bounds one two (record { confluent = true; overlaps = k; shown = s })
+verdict-passed rules n stopped k i j partners w e goal bounds one two s =
+    record { passes = λ t. walked-confluent rules n stopped k i j partners w e; shows = λ t. true-false refl t }

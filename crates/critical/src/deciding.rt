@@ -12,9 +12,6 @@ use tables::layout::HEADS_CELL;
 use tables::layout::ROW_SIZE;
 use tables::wide;
 ghost use Prim.Native.Nat.{_*_};
-ghost use lib.ListN.{take, drop};
-ghost use Rattle.semantics.specs.Overlaps.{firstEnd, secondEnd};
-ghost use Rattle.tables.specs.Layout.{constraintSize};
 ghost use Rattle.critical.specs.Verdicts.{Deciding, Stopped, Remade, Runs, BothRun, UnjoinedIn, VerdictIn};
 
 // An overlap that does not join: the numbers of its rules, how many heads the first has, the partner of each of these (from 1,
@@ -85,8 +82,26 @@ pub fn run_sides(
     let v = peak.variables;
     let w = v + v;
     let positions = peak.positions;
-    let first = side(rules, n, peak.first, [0, 1, 2, 3], goal, m, &mut bounds[..v], one);
-    let second = side(rules, n, peak.second, positions, goal, m, &mut bounds[v..w], two);
+    let first = side(
+        rules,
+        n,
+        peak.first,
+        [0, 1, 2, 3],
+        goal,
+        m,
+        &mut bounds[..v],
+        one,
+    );
+    let second = side(
+        rules,
+        n,
+        peak.second,
+        positions,
+        goal,
+        m,
+        &mut bounds[v..w],
+        two,
+    );
     Ends { first, second }
 }
 
