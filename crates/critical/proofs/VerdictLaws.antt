@@ -49,7 +49,8 @@ isUnjoined (confluent n) = false
 isUnjoined (unjoined o a b) = true
 
 -- the overlap that a verdict shows is one of those that were judged
-unjoined-member : (p : Program) (n : ℕ) (os : List Overlap) {o : Overlap} {a b : End} → judge p n os ≡ unjoined o a b → Member o os
+unjoined-member :
+    (p : Program) (n : ℕ) (os : List Overlap) {o : Overlap} {a b : End} → judge p n os ≡ unjoined o a b → Member o os
 unfolding judge isUnjoined
 unjoined-member p n [] e = true-false (ap isUnjoined e) refl
 unjoined-member p n (x ∷ os) {o} {a} {b} e = go (isJoinable p x) e (unjoined-member p (suc n) os)
@@ -159,7 +160,8 @@ module _ (rules : List ℕ) (n : ℕ) (met : Reply) (start : List ℕ) (s : Stop
     -- it is what was made, if its heads unify
     made-of :
         (names : List ℕ)
-        → overlapOf (ruleAt names rules (met .first)) (ruleAt names rules (met .second)) ds ≡ cond unify (some (overlap names)) none
+        → overlapOf (ruleAt names rules (met .first)) (ruleAt names rules (met .second)) ds
+        ≡ cond unify (some (overlap names)) none
     unfolding ruleAt ruleOf ruleOfRow
     made-of names =
         g .same (ruleAt names rules (met .first)) (ruleAt names rules (met .second)) refl refl one-to-one
