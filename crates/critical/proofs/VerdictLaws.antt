@@ -39,6 +39,7 @@ use Rattle.critical.specs.Overlapped.{Partners, OverlapOf}
 use Rattle.critical.specs.Walks.{Holds, ruleAt, Checkable, PairAt, AllWalked}
 use Rattle.critical.specs.Verdicts.{Deciding, Stopped, Remade, Runs, BothRun, EndIn, UnjoinedIn, VerdictIn}
 use Rattle.critical.proofs.JudgeLaws.{judged-confluent, judged-unjoined}
+use Rattle.critical.proofs.ShareLaws.{pairing-joins}
 use Rattle.critical.proofs.StandLaws.{pair-few, overlap-judged, overlap-stands}
 use Rattle.critical.proofs.StepLaws.{room-kept}
 use Rattle.critical.proofs.TableLaws.{lent, lent-row, lent-first, lent-second, pair-lent}
@@ -122,12 +123,7 @@ module _ (rules : List ℕ) (n : ℕ) (met : Reply) (start : List ℕ) (s : Stop
   one-to-one = and-true (isOneToOne ds) (not (every (eqb 0) ds)) pairs .0
 
   some-joined : every (eqb 0) ds ≡ false
-  unfolding isPairing
-  some-joined = opposite (every (eqb 0) ds) (and-true (isOneToOne ds) (not (every (eqb 0) ds)) pairs .1)
-    where
-      opposite : (x : Bool) → not x ≡ true → x ≡ false
-      opposite true h = true-false h refl
-      opposite false h = refl
+  some-joined = pairing-joins ds pairs
 
   -- what making the overlap again asks
   pub remake-partners :
