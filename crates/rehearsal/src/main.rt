@@ -1,23 +1,23 @@
 // `rehearsal`: prints the reply to each input that an argument names, behind a line with its name.
-// An input whose name begins with r is a program and a goal, as `sheetrun` gets them; any other is a program, over which the empty
-// goal is run. Then it puts each of the 256 bytes at each place of a program and of a goal, and prints the number that each meets.
+// An input whose name begins with r is a program and a goal, as `sheetrun` gets them; any other is a program, as `sheetcheck` gets
+// it. Then it puts each of the 256 bytes at each place of a program and of a goal, and prints the number that each meets.
 mod sweep;
 
-use roketuma::put_reply;
+use roketuma::put_check;
 use roketuma::put_run;
 use sweep::swept;
 
-// Writes what is printed on an input that may have a goal.
-fn answer(input: &[u8]) {
+// Writes what `sheetrun` prints on an input.
+fn answer_run(input: &[u8]) {
     let mut out = [0u8; 32768];
     let n = put_run(input, &mut out);
     io::write_all(1, &out[..n]);
 }
 
-// Writes what is printed on a program with the empty goal.
-fn answer_program(program: &[u8]) {
+// Writes what `sheetcheck` prints on an input.
+fn answer_check(input: &[u8]) {
     let mut out = [0u8; 32768];
-    let n = put_reply(program, b"", &mut out);
+    let n = put_check(input, &mut out);
     io::write_all(1, &out[..n]);
 }
 
@@ -32,9 +32,9 @@ fn rehearse(path: &[u8], with_goal: bool) {
     let n = io::read_full(fd, &mut input);
     libc::close(fd);
     if with_goal {
-        answer(&input[..n])
+        answer_run(&input[..n])
     } else {
-        answer_program(&input[..n])
+        answer_check(&input[..n])
     }
 }
 
