@@ -6,18 +6,23 @@ mod sweep;
 use roketuma::put_check;
 use roketuma::put_run;
 use sweep::swept;
+ghost use Rattle.roketuma.specs.Answers.{Printed};
+ghost use Rattle.rehearsal.specs.Answered.{answerBytes};
 
-// Writes what `sheetrun` prints on an input.
-fn answer_run(input: &[u8]) {
-    let mut out = [0u8; 32768];
-    let n = put_run(input, &mut out);
-    io::write_all(1, &out[..n]);
+// What `sheetrun` prints on an input, or `sheetcheck`, into the front of an output; answers how many bytes.
+fn put_answer(input: &[u8], with_goal: bool, out: &mut [u8; 32768]) -> usize
+    ensures { λ r. ⌜ Printed (answerBytes «with_goal» (now (input .entry))) (now (out .entry)) (now (out .exit)) r ⌝ }
+{
+    if with_goal {
+        return put_run(input, out);
+    }
+    put_check(input, out)
 }
 
-// Writes what `sheetcheck` prints on an input.
-fn answer_check(input: &[u8]) {
+// Writes what is printed on an input.
+fn answer(input: &[u8], with_goal: bool) {
     let mut out = [0u8; 32768];
-    let n = put_check(input, &mut out);
+    let n = put_answer(input, with_goal, &mut out);
     io::write_all(1, &out[..n]);
 }
 
@@ -31,11 +36,7 @@ fn rehearse(path: &[u8], with_goal: bool) {
     let mut input = [0u8; 40000];
     let n = io::read_full(fd, &mut input);
     libc::close(fd);
-    if with_goal {
-        answer_run(&input[..n])
-    } else {
-        answer_check(&input[..n])
-    }
+    answer(&input[..n], with_goal)
 }
 
 // The reply to the input that argument i names.
