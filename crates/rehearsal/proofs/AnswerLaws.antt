@@ -10,7 +10,8 @@ use Rattle.roketuma.specs.Answers.{Printed}
 use Rattle.rehearsal.specs.Answered.{answerBytes}
 
 module _ (withGoal : Bool) (input : List ℕ) {before after : List ℕ} {count : ℕ} where
-  pub run-answered : withGoal ≡ true → Printed (sheetrun input) before after count → Printed (answerBytes withGoal input) before after count
+  pub run-answered : withGoal ≡ true → Printed (sheetrun input) before after count
+      → Printed (answerBytes withGoal input) before after count
   unfolding answerBytes
   run-answered e h = rw e h
 
