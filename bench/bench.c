@@ -1,7 +1,7 @@
 /* Nanoseconds for each call of the library, in a thread with a stack of 256 KB.
    bench check FOLDER NAME...: checks of FOLDER/NAME. bench run FOLDER NAME...: runs of FOLDER/NAME.goal over FOLDER/NAME.sheet.
-   `reading` is the same call with a last line that is refused, so that the texts are read and nothing more. Each figure is the least of
-   up to ROUNDS, each over some 10 ms of calls or one call; after SECONDS no further round is started. */
+   `reading` is the same call with a last line that is refused, so that the texts are read and nothing more. Each figure is the least
+   of up to ROUNDS, each over some 10 ms of calls or one call; after SECONDS no further round is started. */
 #include "roketuma.h"
 #include <pthread.h>
 #include <stdio.h>
@@ -75,7 +75,7 @@ static void first_line(uint64_t r, const uint8_t *output, char *line, size_t roo
     if (roketuma_is_refusal(r))
         snprintf(line, room, "REFUSED,%u,%c,%u", roketuma_number(r), roketuma_text(r), roketuma_line(r));
     else
-        snprintf(line, room, "%.*s", (int)((const uint8_t *)memchr(output, '\n', roketuma_length(r)) - output), (const char *)output);
+        snprintf(line, room, "%.*s", (int)strcspn((const char *)output, "\n"), (const char *)output);
 }
 
 static void *work(void *unused)

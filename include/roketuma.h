@@ -1,12 +1,13 @@
 /* Roketuma: checks Constraint Handling Rules programs for confluence, and runs goals over them. The static library is
    target/staticlib/libroketuma.a, which `rt staticlib roketuma` writes; what a call does is proved, see README.md. x86-64 Linux.
 
-   In every call any bytes of any length may be handed in. Each pointer must be valid for its length, and not null; the output must
-   overlap no text. A call uses no heap and keeps nothing between calls.
+   In every call any bytes of any length may be handed in. Each pointer must be valid for its length, and not null; the output
+   must overlap no text. A call uses no heap and keeps nothing between calls.
 
    A call returns one number, of which the functions below take the parts. It says the length of the listing, which is then in the
-   front of the output, the bytes behind it being as they were; or a refusal, with document 01's number (1 to 11), the text ('S' for
-   the program's, 'G' for the goal's) and the line counted from 1 (0 where no line is meant), every byte of the output being as it was. */
+   front of the output, the bytes behind it being as they were; or a refusal, with document 01's number (1 to 11), the text ('S'
+   for the program's, 'G' for the goal's) and the line counted from 1 (0 where no line is meant), every byte of the output being
+   as it was. */
 #ifndef ROKETUMA_H
 #define ROKETUMA_H
 
@@ -18,9 +19,9 @@
 extern "C" {
 #endif
 
-/* Checks the program for confluence: whether each goal over its symbols, of any length, has one outcome, in whatever order constraints
-   enter and rules fire. The listing is that of a pass, with the number of overlaps, or an unjoined overlap: a goal with two finished
-   derivations whose ends are not equal.
+/* Checks the program for confluence: whether each goal over its symbols, of any length, has one outcome, in whatever order
+   constraints enter and rules fire. The listing is that of a pass, with the number of overlaps, or an unjoined overlap: a goal
+   with two finished derivations whose ends are not equal.
 
    Returns the length of a pass's listing; 2^31 more than the length of an unjoined overlap's; or a refusal, from 2^32 on:
    2^32 * number + 2^16 * text + line. */

@@ -1,5 +1,6 @@
-/* Calls both functions of the library with guard bytes around every buffer, on listings and refusals, and in every room from 0 bytes to
-   one more than the listing has. Prints what each call returned; ends with 1 where a byte or an answer is not as it must be. */
+/* Calls both functions of the library with guard bytes around every buffer, on listings and refusals, and in every room from
+   0 bytes to one more than the listing has. Prints what each call returned; ends with 1 where a byte or an answer is not as it must
+   be. */
 #include "roketuma.h"
 #include <stdio.h>
 #include <string.h>
@@ -63,7 +64,7 @@ static void show(const char *what, uint64_t r)
         printf("%s: %u bytes%s\n", what, (unsigned)roketuma_length(r), roketuma_is_overlap(r) ? ", an overlap" : "");
 }
 
-/* The same call in every room: where the listing does not fit it is number 11, otherwise the answer and the listing of the large room. */
+/* The same call in every room: number 11 where the listing does not fit, otherwise the answer and the listing of the large room. */
 static void every_room(const char *what, struct text program, const struct text *goal)
 {
     static uint8_t listing[ROOM];
@@ -87,8 +88,8 @@ int main(void)
 {
     static char many[TEXT_ROOM];
     memset(many, 'x', sizeof many);
-    struct text leq = TEXT(LEQ_HEAD "R,refl\nH,leq,X,X\n" LEQ_TAIL), none = TEXT(""), goal = TEXT("G,leq,A,B\nG,leq,B,A\nG,leq,A,c\n");
-    struct text long_text = { many, 16385 }, fails = TEXT("G,leq,a,b\nG,leq,b,a\n"), unknown = TEXT("G,p\n");
+    struct text leq = TEXT(LEQ_HEAD "R,refl\nH,leq,X,X\n" LEQ_TAIL), none = TEXT(""), long_text = { many, 16385 };
+    struct text goal = TEXT("G,leq,A,B\nG,leq,B,A\nG,leq,A,c\n"), fails = TEXT("G,leq,a,b\nG,leq,b,a\n"), unknown = TEXT("G,p\n");
     every_room("a run", leq, &goal);
     every_room("a failed run", leq, &fails);
     every_room("a run, both empty", none, &none);
