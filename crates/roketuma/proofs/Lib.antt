@@ -4,3 +4,4 @@ pub mod ReadyLaws
 pub mod ReadingLaws
 pub mod PrintLaws
 pub mod CheckableLaws
+pub mod OverlapVocabulary
