@@ -1,5 +1,6 @@
 -- Laws of the answers and of the stages of a run and of a check. Assumes nothing.
 pub mod ReplyLaws
+pub mod KnownLaws
 pub mod ReadyLaws
 pub mod ReadingLaws
 pub mod PrintLaws
