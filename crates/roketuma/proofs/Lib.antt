@@ -6,3 +6,4 @@ pub mod ReadingLaws
 pub mod PrintLaws
 pub mod CheckableLaws
 pub mod OverlapVocabulary
+pub mod CheckLaws

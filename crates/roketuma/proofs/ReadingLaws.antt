@@ -193,9 +193,9 @@ module _ {program names places symbols rules : List ℕ} {c : Counts} (r : GoalR
       unfolding programTable goalReadingOf
       named =
           let of-program : TermedProgram (r .p) =
-          reads-accepted TermedProgram (readProgram program) (program-termed program) (r .first .read) in
+          reads-accepted 9 TermedProgram (readProgram program) (program-termed program) (r .first .read) in
           let of-goal : TermedGoal (r .p .constants) (goalReadingOf names′ cells letters found) =
-          reads-accepted (TermedGoal (r .p .constants)) (readGoal (r .p .program .symbols) (r .p .constants) goal)
+          reads-accepted 10 (TermedGoal (r .p .constants)) (readGoal (r .p .program .symbols) (r .p .constants) goal)
           (goal-termed (r .p .program .symbols) (r .p .constants) goal) read in
           known-some names′ symbols (c .symbols) (found .constants)
           (subst (λ (q : Program). All (λ (s : Symbol). Termed (s .name)) (q .symbols)) same-program (of-program .symbols))
