@@ -6,4 +6,5 @@ pub mod ReadingLaws
 pub mod PrintLaws
 pub mod CheckableLaws
 pub mod OverlapVocabulary
+pub mod OutcomeLaws
 pub mod CheckLaws
