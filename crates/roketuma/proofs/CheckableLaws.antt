@@ -64,7 +64,7 @@ symbol-light (also h more) zero = h .light
 symbol-light (also h more) (suc k) = symbol-light more k
 
 module _ {program names symbols rules : List ℕ} {k n : ℕ} {p : Reading} (r : ProgramReady program names symbols rules k n p) where
-  same-rules : p .program .rules ≡ rulesOf names rules n
+  pub same-rules : p .program .rules ≡ rulesOf names rules n
   unfolding programTable
   same-rules = ap (λ (q : Program). q .rules) (r .holds)
 
@@ -122,5 +122,5 @@ module _ {program names symbols rules : List ℕ} {k n : ℕ} {p : Reading} (r :
       }
 
   -- this table holds it
-  pub held : Holds (p .program) rules n
+  abbrev pub held : Holds (p .program) rules n
   held = record { names = names; same = same-rules; well-formed = read-wellFormed program (r .read) }

@@ -8,3 +8,4 @@ pub mod CheckableLaws
 pub mod OverlapVocabulary
 pub mod OutcomeLaws
 pub mod CheckLaws
+pub mod CheckingLaws
