@@ -11,16 +11,16 @@ use mathlib.Core.Bool.{Bool, true, false}
 use mathlib.Core.List.{List, [], _∷_, _++_, append-assoc, append-nil}
 use mathlib.Core.Option.{Option, some}
 use mathlib.Core.Path.{_≡_, refl, sym, ap, _∙_}
-use lib.ListN.{length, drop, getElem?, drop-of-length-le, length-append}
+use lib.ListN.{length, drop, getElem?, drop-of-length-le}
 use Rattle.text.specs.Lists.{gather, tabled}
 use Rattle.text.proofs.Laws.{tabled-length}
 use Rattle.semantics.specs.Terms.{Rule, Program}
 use Rattle.semantics.specs.Overlaps.{Numbered, Overlap, numberedFrom, overlapsOf, overlapsAmong, overlaps, firstEnd, secondEnd}
 use Rattle.semantics.specs.Verdict.{confluent, unjoined, isJoinable, judge, verdict}
 use Rattle.semantics.proofs.Configurations.{Or, inl, inr}
-use Rattle.semantics.proofs.Options.{true-false, none-some}
+use Rattle.semantics.proofs.Options.{true-false}
 use Rattle.semantics.proofs.Enumeration.{numbered-at}
-use Rattle.semantics.proofs.Indices.{le-or-lt, some-equal}
+use Rattle.semantics.proofs.Indices.{le-or-lt}
 use Rattle.critical.specs.Rests.{Judged}
 use Rattle.critical.proofs.JoinLaws.{drop-at-element, at-left, at-right}
 

@@ -12,6 +12,8 @@ pub mod GoalLaws
 pub mod WalkLaws
 pub mod NodeLaws
 pub mod OverlapLaws
+pub mod StandLaws
 pub mod StepLaws
 pub mod TableLaws
+pub mod VerdictLaws
 pub mod JudgeLaws

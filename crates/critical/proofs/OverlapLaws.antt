@@ -9,6 +9,7 @@ use mathlib.Core.Bool.{Bool, true, false}
 use mathlib.Core.List.{List, [], _∷_, _++_, map}
 use mathlib.Core.Option.{none, some}
 use mathlib.Core.Path.{_≡_, refl, sym, ap, subst, _∙_}
+use lib.Dec.{eqb}
 use lib.ListN.{length, take, drop, getD, length-map}
 use lib.Seq.{length-take-le, take-suc, take-add}
 use Rattle.text.specs.Lists.{every}
@@ -20,7 +21,7 @@ use Rattle.tables.specs.Rows.{ruleOfRow}
 use Rattle.critical.specs.Joins.{joinNext, paired, goalFrom}
 use Rattle.critical.specs.Cells.{joinedOf, Partner, RulePair, headsOf}
 use Rattle.critical.specs.Overlapped.{Node, Whole, Finished, Partners, AllJoined, OverlapOf}
-use Rattle.critical.proofs.WithinLaws.{within-low, next-within}
+use Rattle.critical.proofs.WithinLaws.{within-low, next-within, finished-fewer}
 use Rattle.critical.proofs.PairedLaws.{paired-cut, paired-overlap, paired-clash}
 use Rattle.critical.proofs.NodeLaws.{heads-count, node-start, node-whole, node-next, node-cut}
 
@@ -160,7 +161,16 @@ module _ (first second start partners : List ℕ) (pair : RulePair first second 
   module _ (r : Bool) (cells′ : List ℕ) (all : AllJoined cells m n partners r cells′) where
     -- the heads do not unify
     pub overlap-none : r ≡ false → OverlapOf first second partners false cells′ 0 0
-    overlap-none t = record { same = same; few = omega arith }
+    unfolding cellConstraints
+    overlap-none t =
+        record {
+          same = same;
+          few = omega arith;
+          within = omega arith;
+          fewer = λ h. true-false h refl;
+          variables-few = omega arith;
+          low = refl;
+        }
       where
         same :
             (i j : Numbered) → i .rule .heads ≡ ruleOfRow [] first .heads → j .rule .heads ≡ ruleOfRow [] second .heads
@@ -182,8 +192,8 @@ module _ (first second start partners : List ℕ) (pair : RulePair first second 
       -- they do
       pub overlap-made :
           (made : List ℕ) (count variables : ℕ) → Finished cells′ m n partners made count variables
-          → OverlapOf first second partners true made count variables
-      overlap-made made count variables f =
+          → Partners partners (getD first 3 0) (getD second 3 0) → OverlapOf first second partners true made count variables
+      overlap-made made count variables f b =
           record {
             same = λ i j a b o.
                 let ds = take (getD first 3 0) partners in
@@ -196,4 +206,11 @@ module _ (first second start partners : List ℕ) (pair : RulePair first second 
                 paired-overlap i j ds (cellConstraints cells′) e
                 ∙ ap (λ k. some (record { first = i; second = j; partners = ds; goal = k })) g;
             few = omega (arith, f .few, overlap-finish .first-few, overlap-finish .second-few);
+            within = omega (arith, f .few, em, en);
+            fewer = λ h z.
+                let less = finished-fewer cells′ m n partners made count variables overlap-finish (overlap-whole b .1) f
+                (ap (λ k. every (eqb 0) (take k partners)) em ∙ z) in
+                omega (arith, less, em, en);
+            variables-few = f .variables-few;
+            low = f .low;
           }

@@ -7,74 +7,39 @@ use native.Mathlib.Omega.{arith}
 use native.Mathlib.Numerals.{add-one}
 use mathlib.Core.Bool.{Bool, true, false}
 use mathlib.Core.List.{List, [], _∷_, _++_, map}
-use mathlib.Core.Option.{Option, none, some}
+use mathlib.Core.Option.{none, some}
 use mathlib.Core.Path.{_≡_, refl, sym, ap, subst, _∙_}
 use lib.Dec.{eqb}
-use lib.ListN.{length, take, drop, getD, getElem?, set, length-map, length-append, length-drop, length-set}
-use lib.Seq.{length-take-le, take-suc-set, take-append-le, take-at, getD-take, getD-set-same, getD-set-other}
+use lib.ListN.{length, take, drop, getD, set, length-append, length-drop, length-set}
+use lib.Seq.{length-take-le, take-suc-set, take-append-le, take-at, getD-set-same, getD-set-other}
 use Rattle.text.specs.Lists.{every}
-use Rattle.semantics.specs.Terms.{Constraint, Program, mapTerms, isGoalOf}
-use Rattle.semantics.specs.Overlaps.{apart, Numbered, Overlap, overlapOf, secondPositions}
+use Rattle.semantics.specs.Terms.{Constraint, Program, mapTerms}
+use Rattle.semantics.specs.Overlaps.{apart, overlapOf, secondPositions}
 use Rattle.semantics.proofs.Configurations.{Or, inl, inr}
 use Rattle.semantics.proofs.Options.{decide, true-false, eqb-equal, equal-eqb}
 use Rattle.tables.specs.Cells.{cellConstraints, isLow}
-use Rattle.tables.specs.Rows.{ruleOfRow, ruleOf, rulesOf, rowOf}
-use Rattle.semantics.proofs.Enumeration.{overlap-parts}
-use Rattle.semantics.proofs.OverlapGoals.{overlap-goal, wellFormed-heads}
-use Rattle.engine.specs.Runs.{weightBy, Runnable}
-use Rattle.engine.proofs.RunLaws.{length-constraints}
+use Rattle.tables.specs.Rows.{ruleOfRow, ruleOf}
 use Rattle.sides.specs.Sides.{cellGoal}
 use Rattle.judging.specs.Judging.{Stands, Overlapping, Joins}
 use Rattle.critical.specs.Joins.{joinNext, paired, goalFrom}
 use Rattle.critical.specs.Cells.{joinedOf, Partner}
-use Rattle.critical.specs.Overlapped.{Node, Whole, Finished, Partners}
+use Rattle.critical.specs.Overlapped.{Node, Whole, Finished}
 use Rattle.critical.specs.Rests.{rest, Judged}
-use Rattle.critical.specs.Walks.{Holds, ruleAt, Checkable, PairAt, firstHeads, secondHeads, Walkable, leaves, Walked}
+use Rattle.critical.specs.Walks.{Holds, ruleAt, firstHeads, secondHeads, Walkable, leaves, Walked}
 use Rattle.critical.specs.Walks.{Room}
 use Rattle.critical.proofs.PairedLaws.{paired-overlap}
-use Rattle.critical.proofs.JudgeLaws.{tabled-element, judged-none, judged-joins, judged-parts}
-use Rattle.critical.proofs.WithinLaws.{unjoined-fewer}
-use Rattle.critical.proofs.NodeLaws.{heads-count, node-whole, node-partner, node-next, node-cut}
+use Rattle.critical.proofs.JudgeLaws.{judged-none, judged-joins, judged-parts}
+use Rattle.critical.proofs.WithinLaws.{finished-fewer}
+use Rattle.critical.proofs.NodeLaws.{node-whole, node-partner, node-next, node-cut}
+use Rattle.critical.proofs.StandLaws.{first-count, second-count, pair-few, first-heads, second-heads, overlap-judged}
+use Rattle.critical.proofs.StandLaws.{overlap-stands}
 use Rattle.critical.proofs.WalkLaws.{overlapBy, leaf-none, leaf-overlap}
 use Rattle.critical.proofs.WalkLaws.{Walking, walking-start, walking-end, walking-cut, walking-next, walking-stop}
-
--- a rule of a program that a table holds
-rule-at :
-    (names rules : List ℕ) (n : ℕ) (p : Program) → p .rules ≡ rulesOf names rules n → (k : ℕ) → k < n
-    → getElem? (p .rules) k ≡ some (ruleOf names rules k)
-unfolding rulesOf
-rule-at names rules n p e k l = ap (λ rs. getElem? rs k) e ∙ tabled-element (ruleOf names rules) n k l
 
 -- room stays room
 pub room-kept :
     {one two one′ two′ : List ℕ} → Room one two → length one′ ≡ length one → length two′ ≡ length two → Room one′ two′
 room-kept r e f = record { first = omega (arith, r .first); second = omega (arith, r .second) }
-
--- constraints of at most 64 each
-weight-most : (w : ℕ → ℕ) → ((k : ℕ) → w k ≤ 64) → (cs : List Constraint) → weightBy w cs ≤ 64 * length cs
-unfolding weightBy
-weight-most w l [] = omega arith
-weight-most w l (c ∷ cs) =
-    let more = weight-most w l cs in
-    omega (arith, l (c .symbol), more)
-
-module _ (rules : List ℕ) (n i j a b : ℕ) (q : PairAt rules n i j a b) where
-  -- how many heads the rules have
-  pub first-count : length (firstHeads rules i) ≡ a
-  unfolding firstHeads
-  first-count = heads-count (rowOf rules i) (q .check .rows i (q .first)) ∙ sym (q .first-count)
-
-  pub second-count : length (secondHeads rules j) ≡ b
-  unfolding secondHeads
-  second-count =
-      length-map (ruleOfRow [] (rowOf rules j) .heads) (mapTerms apart)
-      ∙ heads-count (rowOf rules j) (q .check .rows j (q .second)) ∙ sym (q .second-count)
-
-  pub pair-few : (a ≤ 4) × (b ≤ 4)
-  pair-few = (
-    omega (arith, q .first-count, q .check .rows i (q .first) .given .heads-few),
-    omega (arith, q .second-count, q .check .rows j (q .second) .given .heads-few),
-  )
 
 module _ (rules : List ℕ) (n i j a b : ℕ) (partners cells : List ℕ) (count : ℕ)
     (w : Walkable rules n i j a b 0 partners cells count) where
@@ -135,22 +100,13 @@ module _ (rules : List ℕ) (n i j a b : ℕ) (partners cells : List ℕ) (count
     some-joined : every (eqb 0) ds ≡ false
     some-joined = sym e ∙ t
 
-    first-heads : (names : List ℕ) → length (ruleAt names rules i .rule .heads) ≡ a
-    unfolding ruleAt ruleOf ruleOfRow firstHeads
-    first-heads names = first-count rules n i j a b (w .pair)
-
-    second-heads : (names : List ℕ) → length (ruleAt names rules j .rule .heads) ≡ b
-    unfolding ruleAt ruleOf ruleOfRow secondHeads
-    second-heads names =
-        sym (length-map (ruleOfRow [] (rowOf rules j) .heads) (mapTerms apart)) ∙ second-count rules n i j a b (w .pair)
-
     -- its goal
     goal-is :
         (names rest′ : List ℕ)
         → goalFrom (length (ruleAt names rules i .rule .heads)) ds (cellConstraints front)
         ≡ record { variables = variables; constraints = cellConstraints (take (5 * k) (made ++ rest′)) }
     goal-is names rest′ =
-        ap (λ m. goalFrom m ds (cellConstraints front)) (first-heads names) ∙ f .goal
+        ap (λ m. goalFrom m ds (cellConstraints front)) (first-heads rules n i j a b (w .pair) names) ∙ f .goal
         ∙ ap (λ l. record { variables = variables; constraints = cellConstraints l })
         (sym (take-append-le (5 * k) made rest′ (omega (arith, f .few, leaf-lent))))
 
@@ -181,91 +137,32 @@ module _ (rules : List ℕ) (n i j a b : ℕ) (partners cells : List ℕ) (count
     leaf-goal rest′ = sym (length-take-le (5 * k) (made ++ rest′) (leaf-share rest′))
 
     -- at least one head of the second rule is joined
-    fewer : k + 1 ≤ a + b
+    fewer : k < a + b
     fewer =
-        let cs = cellConstraints front in
-        let all : length (drop a cs) ≡ b =
-        length-drop a cs ∙ omega (arith, length-constraints (a + b) front (sym leaf-lent)) in
-        let count : length ds ≡ a =
-        length-take-le a partners (omega (arith, pair-few rules n i j a b (w .pair) .0, w .partners-size)) in
-        let less = unjoined-fewer (drop a cs) ds (λ h l.
         let few = pair-few rules n i j a b (w .pair) in
-        let is = getD-take a partners h 0 (omega (arith, count)) in
-        let low = w .below .each h (omega (arith, few .0, count)) in
-        omega (arith, is, low, all)) some-joined in
-        omega (arith, f .left, less, all)
-
-    -- the strategy comes to an end from it
-    runs : (rest′ : List ℕ) → Runnable rules n (cellConstraints (take (5 * k) (made ++ rest′)))
-    runs rest′ =
-        let check = w .pair .check in
-        let few = pair-few rules n i j a b (w .pair) in
-        let same = take-append-le (5 * k) made rest′ (omega (arith, f .few, leaf-lent)) in
-        record {
-          table = record { size = check .size; rows = λ x l. check .rows x l .given };
-          low = ap (λ l. every isLow (cellConstraints l)) same ∙ f .low;
-          weigh = check .weigh;
-          positive = check .positive;
-          lowers = check .lowers;
-          light =
-              let most = weight-most (check .weigh) (check .light) (cellConstraints (take (5 * k) (made ++ rest′))) in
-              let many = length-constraints k (take (5 * k) (made ++ rest′))
-              (length-take-le (5 * k) (made ++ rest′) (leaf-share rest′)) in
-              omega (arith, most, many, fewer, few .0, few .1);
-        }
-
-    -- it is a goal of the program
-    is-goal : (rest′ : List ℕ) → isGoalOf (w .pair .check .program) (cellGoal variables (take (5 * k) (made ++ rest′))) ≡ true
-    unfolding cellGoal ruleAt
-    is-goal rest′ =
-        let check = w .pair .check in
-        let p = check .program in
-        let is = overlap-is (check .names) rest′ in
-        overlap-goal (overlap-parts (ruleAt (check .names) rules i) (ruleAt (check .names) rules j) ds is) p
-        (wellFormed-heads p i (check .well-formed) (rule-at (check .names) rules n p (check .whole) i (w .pair .first)) .0)
-        (wellFormed-heads p j (check .well-formed) (rule-at (check .names) rules n p (check .whole) j (w .pair .second)) .0)
+        finished-fewer front a b partners made k variables leaf-whole
+        (record { each = λ h l. w .below .each h (omega (arith, few .0)) }) f some-joined
 
     module _ (positions : List ℕ) (four : length positions ≡ 4) (places : take b positions ≡ secondPositions 1 a b ds)
         (rest′ : List ℕ) where
       -- what judging it asks
       pub leaf-judged : Overlapping rules n i j positions k variables (take (5 * k) (made ++ rest′))
       leaf-judged =
-          record {
-            program = w .pair .check .program;
-            names = w .pair .check .names;
-            whole = w .pair .check .whole;
-            well-formed = w .pair .check .well-formed;
-            few-symbols = w .pair .check .few-symbols;
-            is-goal = is-goal rest′;
-            runs = runs rest′;
-            first = w .pair .first;
-            second = w .pair .second;
-            positions-size = four;
-            goal-size = length-take-le (5 * k) (made ++ rest′) (leaf-share rest′);
-            variables =
-                let few = pair-few rules n i j a b (w .pair) in
-                omega (arith, f .variables-few, fewer, few .0, few .1);
-          }
+          let same = take-append-le (5 * k) made rest′ (omega (arith, f .few, leaf-lent)) in
+          overlap-judged rules n i j a b (w .pair) ds (take (5 * k) (made ++ rest′)) variables positions k four
+          (overlap-is (w .pair .check .names) rest′) (ap (λ l. every isLow (cellConstraints l)) same ∙ f .low)
+          (length-take-le (5 * k) (made ++ rest′) (leaf-share rest′)) fewer (f .variables-few)
 
       -- the overlap that is judged
       stands :
           (p : Program) (h : Holds p rules n)
           → Stands p (h .names) rules n i j positions variables (take (5 * k) (made ++ rest′))
           (overlapBy (ruleAt (h .names) rules i) (ruleAt (h .names) rules j) ds (cellConstraints front))
-      unfolding ruleAt cellGoal
+      unfolding cellGoal
       stands p h =
-          record {
-            whole = h .same;
-            well-formed = h .well-formed;
-            same-goal = goal-is (h .names) rest′;
-            first = refl;
-            second = refl;
-            places =
-                ap (λ x. take x positions) (sym (w .pair .second-count)) ∙ places
-                ∙ ap (λ x. secondPositions 1 x b ds) (sym (first-heads (h .names)))
-                ∙ ap (λ x. secondPositions 1 (length (ruleAt (h .names) rules i .rule .heads)) x ds)
-                (sym (second-heads (h .names)));
-          }
+          overlap-stands rules n i j a b (w .pair) ds (take (5 * k) (made ++ rest′)) variables positions places p h
+          (overlapBy (ruleAt (h .names) rules i) (ruleAt (h .names) rules j) ds (cellConstraints front)) refl refl refl
+          (goal-is (h .names) rest′)
 
       module _ (g : Bool) (o : Joins rules n i j positions variables (take (5 * k) (made ++ rest′)) g) where
         -- it joins
@@ -406,12 +303,6 @@ module _ (rules : List ℕ) (n i j a b left : ℕ) (partners cells : List ℕ) (
         within = omega arith;
       }
 
-  -- as many heads as the program's rules have
-  program-heads : (names : List ℕ) → length (ruleAt names rules j .rule .heads) ≡ b
-  unfolding ruleAt ruleOf ruleOfRow secondHeads
-  program-heads names =
-      sym (length-map (ruleOfRow [] (rowOf rules j) .heads) (mapTerms apart)) ∙ second-is
-
   module _ (s d : ℕ) (v : Steps rules n i j a b left partners count s d) where
     -- no partner is left
     pub step-end : b < d → Walked rules n i j a b left chosen count false s partners
@@ -421,7 +312,7 @@ module _ (rules : List ℕ) (n i j a b left : ℕ) (partners cells : List ℕ) (
               let one = ruleAt (q .names) rules i in
               let two = ruleAt (q .names) rules j in
               subst (λ k. Judged p count (rest one two chosen k) false s (overlapOf one two (take a partners))) back
-              (walking-end one two p count chosen (left - 1) s d (v .walking p q) (omega (arith, program-heads (q .names)))
+              (walking-end one two p count chosen (left - 1) s d (v .walking p q) (omega (arith, second-heads rules n i j a b (w .pair) (q .names)))
               (overlapOf one two (take a partners)));
           few =
               let most = times-leaves d (left - 1) (omega (arith, v .within, few .1)) in
@@ -445,7 +336,7 @@ module _ (rules : List ℕ) (n i j a b left : ℕ) (partners cells : List ℕ) (
       program-cut names h = h
 
       partner-there : (names : List ℕ) → d ≤ length (ruleAt names rules j .rule .heads)
-      partner-there names = omega (arith, program-heads names)
+      partner-there names = omega (arith, second-heads rules n i j a b (w .pair) names)
 
       before-last : length chosen < length hs
       before-last = omega (arith, chosen-count, first-is, here)

@@ -1,4 +1,5 @@
 -- The walk over the rule pairs of a table.
+--   lent, lent-…         rows of rules, as the code lends them, and how many heads they have
 --   pair-…               two rules: all pairings of their heads
 --   Row, row-…           a rule with itself and those behind it
 --   Table, table-…       all rules
@@ -7,28 +8,29 @@ use Prim.Native.Nat.{ℕ, zero, suc, _+_, _-_, _*_, _≤_, _<_}
 use native.Mathlib.Omega.{arith}
 use native.Mathlib.Numerals.{add-one}
 use mathlib.Core.Bool.{Bool, true, false}
-use mathlib.Core.List.{List, [], _∷_, _++_, map, append-assoc, append-nil}
-use mathlib.Core.Option.{Option, some}
+use mathlib.Core.List.{List, [], _++_, append-assoc}
+use mathlib.Core.Option.{some}
 use mathlib.Core.Path.{_≡_, refl, sym, ap, subst, _∙_}
 use lib.ListN.{length, take, drop, getD, getElem?, replicate, length-append, length-drop}
 use lib.Seq.{length-take-le, take-at}
-use Rattle.text.specs.Lists.{gather, tabled}
+use Rattle.text.specs.Lists.{gather}
 use Rattle.text.proofs.Laws.{tabled-length}
 use Rattle.semantics.specs.Terms.{Program}
-use Rattle.semantics.specs.Overlaps.{Numbered, Overlap, overlapOf, numberedFrom, overlapsOf, overlapsAmong, overlaps}
+use Rattle.semantics.specs.Overlaps.{Overlap, overlapOf, numberedFrom, overlapsOf, overlapsAmong, overlaps}
 use Rattle.semantics.specs.Verdict.{judge}
 use Rattle.semantics.proofs.Options.{true-false}
 use Rattle.tables.specs.Cells.{cellConstraints}
 use Rattle.tables.specs.Rows.{ruleOfRow, ruleOf, rulesOf, rowOf}
 use Rattle.critical.specs.Cells.{RulePair, headsOf}
-use Rattle.critical.specs.Overlapped.{Node, Partners}
+use Rattle.critical.specs.Overlapped.{Partners}
 use Rattle.critical.specs.Rests.{rest, Judged}
 use Rattle.critical.specs.Walks.{Holds, ruleAt, Checkable, PairAt, firstHeads, secondHeads, leaves, Walkable, Walked}
-use Rattle.critical.specs.Walks.{allRules, PairWalked, Met, RowWalked, AllWalked}
+use Rattle.critical.specs.Walks.{allRules, PairWalked, RowWalked, AllWalked}
 use Rattle.critical.proofs.RestLaws.{rest-all}
 use Rattle.critical.proofs.JudgeLaws.{second-next, second-end, first-next, first-end, numbered-length, numbered-rule}
 use Rattle.critical.proofs.LayLaws.{zeros}
-use Rattle.critical.proofs.NodeLaws.{heads-count, node-start}
+use Rattle.critical.proofs.NodeLaws.{node-start}
+use Rattle.critical.proofs.StandLaws.{pair-few, first-heads}
 
 -- at most 625 pairings of four heads
 leaves-few : (m : ℕ) → m ≤ 4 → leaves m ≤ 625
@@ -44,28 +46,28 @@ leaves-few (suc (suc (suc (suc (suc m))))) h = absurd (omega arith)
 abbrev pub lent : List ℕ → ℕ → List ℕ
 lent rules i = take (64 * i + 64 - 64 * i) (drop (64 * i) rules)
 
-lent-row : (rules : List ℕ) (i : ℕ) → lent rules i ≡ rowOf rules i
+pub lent-row : (rules : List ℕ) (i : ℕ) → lent rules i ≡ rowOf rules i
 lent-row rules i =
     let e : 64 * i + 64 - 64 * i ≡ 64 = omega arith in
     ap (λ k. take k (drop (64 * i) rules)) e
 
 module _ (rules : List ℕ) (n i j : ℕ) (k : Checkable rules n) (hi : i < n) (hj : j < n) (m b : ℕ)
     (em : m ≡ getD (lent rules i) 3 0) (eb : b ≡ getD (lent rules j) 3 0) where
-  first-heads : m ≡ getD (rowOf rules i) 3 0
-  first-heads = em ∙ ap (λ l. getD l 3 0) (lent-row rules i)
+  -- how many heads they have
+  pub lent-first : m ≡ getD (rowOf rules i) 3 0
+  lent-first = em ∙ ap (λ l. getD l 3 0) (lent-row rules i)
 
-  second-heads : b ≡ getD (rowOf rules j) 3 0
-  second-heads = eb ∙ ap (λ l. getD l 3 0) (lent-row rules j)
+  pub lent-second : b ≡ getD (rowOf rules j) 3 0
+  lent-second = eb ∙ ap (λ l. getD l 3 0) (lent-row rules j)
 
   pair : PairAt rules n i j m b
-  pair = record { check = k; first = hi; second = hj; first-count = first-heads; second-count = second-heads }
+  pair = record { check = k; first = hi; second = hj; first-count = lent-first; second-count = lent-second }
 
-  few : (m ≤ 4) × (b ≤ 4)
-  few =
-      (omega (arith, first-heads, k .rows i hi .given .heads-few), omega (arith, second-heads, k .rows j hj .given .heads-few))
+  pub lent-few : (m ≤ 4) × (b ≤ 4)
+  lent-few = pair-few rules n i j m b pair
 
   pub pair-room : 5 * (m + b) ≤ 40
-  pair-room = omega (arith, few .0, few .1)
+  pair-room = omega (arith, lent-few .0, lent-few .1)
 
   module _ (start : List ℕ) (forty : length start ≡ 40) where
     pub pair-lent : 5 * (m + b) ≡ length (take (5 * (m + b)) start)
@@ -105,13 +107,8 @@ module _ (rules : List ℕ) (n i j : ℕ) (k : Checkable rules n) (hi : i < n) (
           cells-size =
               length-append laid (drop (5 * (m + b)) start)
               ∙ omega (arith, length-drop (5 * (m + b)) start, s, pair-lent, pair-room);
-          room = omega (arith, leaves-few m (few .0));
+          room = omega (arith, leaves-few m (lent-few .0));
         }
-
-  -- as many heads as the program's rule has
-  program-heads : (names : List ℕ) → length (ruleAt names rules i .rule .heads) ≡ m
-  unfolding ruleAt ruleOf ruleOfRow
-  program-heads names = heads-count (rowOf rules i) (k .rows i hi) ∙ sym first-heads
 
   -- all pairings are judged
   pub pair-walked :
@@ -125,13 +122,13 @@ module _ (rules : List ℕ) (n i j : ℕ) (k : Checkable rules n) (hi : i < n) (
             let two = ruleAt (h .names) rules j in
             let none : m - m ≡ 0 = omega arith in
             let all : overlapsOf one two ≡ rest one two (take (m - m) (replicate 4 0)) m =
-            rest-all one two ∙ ap (rest one two []) (program-heads (h .names))
+            rest-all one two ∙ ap (rest one two []) (first-heads rules n i j m b pair (h .names))
             ∙ ap (λ x. rest one two (take x (replicate 4 0)) m) (sym none) in
-            subst (λ x. Judged p count (overlapsOf one two) stopped after (overlapOf one two (take x partners))) first-heads
+            subst (λ x. Judged p count (overlapsOf one two) stopped after (overlapOf one two (take x partners))) lent-first
             (subst (λ l. Judged p count l stopped after (overlapOf one two (take m partners))) (sym all) (w .judged p h));
-        few = omega (arith, w .few, leaves-few m (few .0));
+        few = omega (arith, w .few, leaves-few m (lent-few .0));
         partners-size = w .partners-size;
-        below = subst (Partners partners 4) second-heads (w .below);
+        below = subst (Partners partners 4) lent-second (w .below);
       }
 
 -- the rules of a program with their numbers: how many, and each

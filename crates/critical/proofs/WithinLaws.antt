@@ -3,15 +3,17 @@
 --   unjoined-within    those heads of which the goal is made
 --   rows-few           how many there are at most
 --   unjoined-fewer     fewer heads are left where one is joined
+--   finished-fewer     and so the goal has fewer constraints
 -- Assumes nothing.
 use Prim.Native.Nat.{ℕ, zero, suc, _+_, _-_, _*_, _≤_, _<_}
 use native.Mathlib.Omega.{arith}
 use mathlib.Core.Bool.{Bool, true, false, cond, _&&_}
 use mathlib.Core.List.{List, [], _∷_, _++_, map}
-use mathlib.Core.Option.{Option, none, some}
+use mathlib.Core.Option.{some}
 use mathlib.Core.Path.{_≡_, refl, sym, ap, subst, _∙_}
 use lib.Dec.{eqb}
-use lib.ListN.{length, take, drop, getD, getElem?, length-append}
+use lib.ListN.{length, take, drop, getD, getElem?, length-append, length-drop}
+use lib.Seq.{length-take-le, getD-take}
 use Rattle.text.specs.Lists.{bind, every, has}
 use Rattle.semantics.specs.Terms.{Term, con, var, Constraint, Equation, mapTerms, isBelow}
 use Rattle.semantics.specs.Solving.{solve}
@@ -26,7 +28,9 @@ use Rattle.semantics.proofs.SolveLaws.{solve-keeps}
 use Rattle.tables.specs.Cells.{cellTerm, cellTerms, cellConstraints, isLow}
 use Rattle.tables.specs.Numbers.{isWithin}
 use Rattle.engine.proofs.RuleLaws.{every-append}
+use Rattle.engine.proofs.RunLaws.{length-constraints}
 use Rattle.critical.specs.Joins.{joined, joinNext}
+use Rattle.critical.specs.Overlapped.{Whole, Finished, Partners}
 
 -- a test that all elements pass: one of them, the first ones, the others
 element-passes :
@@ -235,3 +239,17 @@ unjoined-fewer gs ds f h =
     let (x, a, b) = some-partner ds h in
     let most = has-below x (length gs) ds f a in
     unjoined-less 1 x gs ds a (omega arith) (omega (arith, most))
+
+-- a goal has fewer constraints than the rules have heads where a head has a partner
+pub finished-fewer :
+    (cells : List ℕ) (m n : ℕ) (partners made : List ℕ) (k v : ℕ) → Whole cells m n partners → Partners partners m n
+    → Finished cells m n partners made k v → every (eqb 0) (take m partners) ≡ false → k < m + n
+finished-fewer cells m n partners made k v w b f h =
+    let cs = cellConstraints cells in
+    let all : length (drop m cs) ≡ n = length-drop m cs ∙ omega (arith, length-constraints (m + n) cells (w .size)) in
+    let count : length (take m partners) ≡ m = length-take-le m partners (omega (arith, w .first-few, w .partners-size)) in
+    let less = unjoined-fewer (drop m cs) (take m partners) (λ x l.
+    let is = getD-take m partners x 0 (omega (arith, count)) in
+    let low = b .each x (omega (arith, count)) in
+    omega (arith, is, low, all)) h in
+    omega (arith, f .left, less, all)

@@ -4,3 +4,4 @@ pub mod Cells
 pub mod Overlapped
 pub mod Rests
 pub mod Walks
+pub mod Verdicts

@@ -9,6 +9,7 @@ use mathlib.Core.Bool.{Bool, true, false, cond}
 use mathlib.Core.List.{List, []}
 use mathlib.Core.Option.{none, some}
 use mathlib.Core.Path.{_≡_}
+use lib.Dec.{eqb}
 use lib.ListN.{length, take, drop, getD}
 use Rattle.text.specs.Lists.{every}
 use Rattle.semantics.specs.Terms.{Constraint}
@@ -64,7 +65,7 @@ pub record AllJoined (cells : List ℕ) (m n : ℕ) (partners : List ℕ) (unify
   pub size : length cells′ ≡ length cells
 
 -- the overlap of two rules by partners that join heads one to one: there is none, or this is it, whatever the rules' names and
--- numbers are
+-- numbers are; where a head has a partner, its goal has fewer constraints than the rules have heads
 pub record OverlapOf (first second partners : List ℕ) (unify : Bool) (cells : List ℕ) (count variables : ℕ) : Type 0 where
   pub same :
       (i j : Numbered) → i .rule .heads ≡ ruleOfRow [] first .heads → j .rule .heads ≡ ruleOfRow [] second .heads
@@ -78,3 +79,9 @@ pub record OverlapOf (first second partners : List ℕ) (unify : Bool) (cells : 
         goal = record { variables = variables; constraints = cellConstraints (take (constraintSize * count) cells) };
       })) none
   pub few : count ≤ 8
+  pub within : count ≤ getD first headsCell 0 + getD second headsCell 0
+  pub fewer :
+      unify ≡ true → every (eqb 0) (take (getD first headsCell 0) partners) ≡ false
+      → count < getD first headsCell 0 + getD second headsCell 0
+  pub variables-few : variables ≤ 4 * count
+  pub low : every isLow (cellConstraints (take (constraintSize * count) cells)) ≡ true

@@ -9,14 +9,12 @@
 use Prim.Native.Nat.{ℕ, zero, suc, _+_, _-_, _*_, _≤_, _<_}
 use mathlib.Core.Bool.{Bool, true}
 use mathlib.Core.List.{List, [], map}
-use mathlib.Core.Option.{some}
 use mathlib.Core.Path.{_≡_}
 use lib.ListN.{length, take, drop, getD}
 use Rattle.text.specs.Lists.{gather}
 use Rattle.semantics.specs.Terms.{Constraint, Program, mapTerms, isWellFormed}
-use Rattle.semantics.specs.Overlaps.{apart, Numbered, Overlap, overlapOf, numberedFrom, overlapsOf, overlaps}
+use Rattle.semantics.specs.Overlaps.{apart, Numbered, overlapOf, numberedFrom, overlapsOf, overlaps}
 use Rattle.tables.specs.Layout.{constraintSize, rowSize, headsCell}
-use Rattle.tables.specs.Cells.{cellConstraints}
 use Rattle.tables.specs.Rows.{ruleOfRow, ruleOf, rulesOf, rowOf}
 use Rattle.engine.specs.Runs.{Lowers}
 use Rattle.critical.specs.Cells.{RuleRow}

@@ -1,9 +1,11 @@
 -- The two sides of an overlap, in cells: their own firings, and their ends.
 --   lent-kept                          cells remain lent
+--   first-asks, second-asks            what a side asks
 --   first-begins, second-begins        what their own firings ask
 --   both-begun                         and promise
 --   first-follows, second-follows      what following asks
---   first-ends, second-ends            and promises
+--   first-sided, second-sided          the end of a whole side
+--   first-ends, second-ends            what following promises
 -- Assumes nothing.
 use Prim.Native.Nat.{ℕ, _+_, _*_, _≤_, _<_}
 use native.Mathlib.Omega.{arith}
@@ -15,6 +17,7 @@ use lib.Seq.{length-take-le}
 use borrow.Author.Tests.{lt-ltb, ltb-true}
 use Rattle.text.specs.Lists.{every}
 use Rattle.semantics.specs.Terms.{Term, con, var, Constraint, Equation, Symbol, Rule, Program, isDeclared, isBelow, alphabet}
+use Rattle.semantics.specs.Strategy.{Final}
 use Rattle.semantics.specs.Overlaps.{Overlap, firstEnd, secondEnd}
 use Rattle.text.proofs.Bools.{and-true}
 use Rattle.semantics.proofs.Configurations.{All, none, also, TermBelow}
@@ -23,7 +26,7 @@ use Rattle.semantics.proofs.Multisets.{all-mono}
 use Rattle.semantics.proofs.Options.{below-isBelow}
 use Rattle.semantics.proofs.Vocabulary.{TermOver, ConstraintOver, RuleOver, Spoken}
 use Rattle.tables.specs.Cells.{cellTerm, cellConstraints, isLow}
-use Rattle.tables.specs.Numbers.{isWithin}
+use Rattle.tables.specs.Numbers.{isWithin, Renumberable}
 use Rattle.sides.specs.Sides.{Sidable, Beginnable, Begun, Followable, Followed, Sided}
 use Rattle.sides.proofs.SideLaws.{side-few, side-follows}
 use Rattle.sides.proofs.EndLaws.{first-side, second-side, side-lives}
@@ -94,7 +97,7 @@ lent-kept rules n i j positions m v goal bound₁ cells₁ bound₂ cells₂ b�
 module _ (rules : List ℕ) (n i j : ℕ) (positions : List ℕ) (m v : ℕ) (goal : List ℕ)
     (o : Overlapping rules n i j positions m v goal) where
   -- what the sides ask
-  first-asks :
+  pub first-asks :
       (w : ℕ) (one : List ℕ) → w ≡ v → 2590 ≤ length one → Sidable rules n i (0 ∷ 1 ∷ 2 ∷ 3 ∷ []) goal m w one
   first-asks w one e s =
       record {
@@ -106,7 +109,7 @@ module _ (rules : List ℕ) (n i j : ℕ) (positions : List ℕ) (m v : ℕ) (go
         space = s;
       }
 
-  second-asks : (w : ℕ) (two : List ℕ) → w ≡ v → 2590 ≤ length two → Sidable rules n j positions goal m w two
+  pub second-asks : (w : ℕ) (two : List ℕ) → w ≡ v → 2590 ≤ length two → Sidable rules n j positions goal m w two
   second-asks w two e s =
       record {
         rule = o .second;
@@ -157,24 +160,83 @@ module _ (rules : List ℕ) (n i j : ℕ) (positions : List ℕ) (m v : ℕ) (go
     fired-few : firings ≤ 512
     fired-few = omega (arith, t .bounded (o .runs .weigh) (o .runs .lowers), o .runs .light)
 
-    -- an end that lives can be compared
-    live-end : alive ≡ true → LiveEnd (take (5 * count) c) count b
-    unfolding alphabet
-    live-end y =
-        let s : Spoken (o .program .symbols) Any v (v + 26 * firings) next (map cellTerm b)
-        (cellConstraints (take (5 * count) c)) =
+    -- where the end lives, what its constraints and variables are
+    live-spoken :
+        alive ≡ true
+        → Spoken (o .program .symbols) Any v (v + alphabet * firings) next (map cellTerm b) (cellConstraints (take (5 * count) c))
+    live-spoken y =
         side-lives (o .program) (o .names) rules n (o .whole) (o .well-formed) k ps goal v b c alive count next firings t Any
-        (o .is-goal) (rules-any (o .program .rules)) (constraints-any (cellConstraints goal)) l y in
-        let few : next ≤ 13340 = omega (arith, s .numbered, fired-few, o .variables) in
-        let below : (u : Term) → TermBelow next u → TermBelow 13340 u = below-mono next 13340 few in
+        (o .is-goal) (rules-any (o .program .rules)) (constraints-any (cellConstraints goal)) l y
+
+    live-next : alive ≡ true → next ≤ 13340
+    unfolding alphabet
+    live-next y = omega (arith, live-spoken y .numbered, fired-few, o .variables)
+
+    live-size : alive ≡ true → length (take (5 * count) c) ≡ 5 * count
+    live-size y = length-take-le (5 * count) c (omega (arith, t .few y))
+
+    live-bound : alive ≡ true → length b ≤ 28
+    live-bound y = omega (arith, length-map b cellTerm, live-spoken y .size, o .variables)
+
+    -- its variables lie below every number from the next on
+    live-within : (u : ℕ) → next ≤ u → alive ≡ true → every (isWithin u) (cellConstraints (take (5 * count) c)) ≡ true
+    live-within u h y =
+        let s = live-spoken y in
+        all-every (isWithin u) (within-all (o .program .symbols) u (o .few-symbols) (s .declared)
+        (all-mono (λ d g. all-mono (below-mono next u h) g) (s .scoped .constraints)))
+
+    live-below : (u : ℕ) → next ≤ u → alive ≡ true → every (isBelow u) (map cellTerm b) ≡ true
+    live-below u h y =
+        all-every (isBelow u) (all-mono (λ x g. below-isBelow u x (below-mono next u h x g)) (live-spoken y .scoped .bound))
+
+    -- it can be compared
+    live-end : alive ≡ true → LiveEnd (take (5 * count) c) count b
+    live-end y =
         record {
-          size = length-take-le (5 * count) c (omega (arith, t .few y));
+          size = live-size y;
           few = t .few y;
-          bound-few = omega (arith, length-map b cellTerm, s .size, o .variables);
-          within = all-every (isWithin 13340) (within-all (o .program .symbols) 13340 (o .few-symbols) (s .declared)
-              (all-mono (λ d h. all-mono below h) (s .scoped .constraints)));
-          bound-within = all-every (isBelow 13340) (all-mono (λ u h. below-isBelow 13340 u (below u h)) (s .scoped .bound));
+          bound-few = live-bound y;
+          within = live-within 13340 (live-next y) y;
+          bound-within = live-below 13340 (live-next y) y;
         }
+
+    -- its variables can be numbered anew
+    live-numbered : alive ≡ true → Renumberable next b (take (5 * count) c)
+    live-numbered y =
+        record {
+          bound-within = live-below next (omega arith) y;
+          within = live-within next (omega arith) y;
+          few = omega (arith, live-size y, t .few y, live-bound y);
+        }
+
+    -- an end in cells that is one of the overlap's
+    end-of :
+        (end : Program → Overlap → Final)
+        → ((p : Program) (names : List ℕ) (x : Overlap) → Stands p names rules n i j positions v goal x
+        → endIn alive count next firings b c ≡ end p x)
+        → EndOf end rules n i j positions v goal alive count next firings b c
+    end-of end e =
+        record { same = e; live = live-end; next-few = live-next; numbered = live-numbered; counted = fired-few }
+
+  module _ (b c : List ℕ) (alive : Bool) (count next firings : ℕ) (room : 2590 ≤ length c) where
+    -- the end of the first rule's side, and of the second's
+    pub first-sided :
+        Sided rules n i (0 ∷ 1 ∷ 2 ∷ 3 ∷ []) goal v b c alive count next firings
+        → EndOf firstEnd rules n i j positions v goal alive count next firings b c
+    unfolding endIn
+    first-sided s =
+        end-of i (0 ∷ 1 ∷ 2 ∷ 3 ∷ []) b c alive count next firings (o .first) room s firstEnd (λ p names x h.
+        first-side p names rules n (h .whole) (h .well-formed) i (0 ∷ 1 ∷ 2 ∷ 3 ∷ []) goal v b c alive count next firings
+        s x (h .same-goal) (h .first) (o .runs .table .rows i (o .first)) refl)
+
+    pub second-sided :
+        Sided rules n j positions goal v b c alive count next firings
+        → EndOf secondEnd rules n i j positions v goal alive count next firings b c
+    unfolding endIn
+    second-sided s =
+        end-of j positions b c alive count next firings (o .second) room s secondEnd (λ p names x h.
+        second-side p names rules n (h .whole) (h .well-formed) j positions goal v b c alive count next firings s x
+        (h .same-goal) (h .second) (h .places))
 
   -- and promises
   module _ (w : ℕ) (bound cells : List ℕ) (fired lives : Bool) (held : ℕ) (b c : List ℕ) (alive : Bool) (count next firings : ℕ)
@@ -183,29 +245,12 @@ module _ (rules : List ℕ) (n i j : ℕ) (positions : List ℕ) (m v : ℕ) (go
     pub first-ends :
         Begun rules i (0 ∷ 1 ∷ 2 ∷ 3 ∷ []) goal m v bound cells fired lives held
         → EndOf firstEnd rules n i j positions v goal alive count next firings b c
-    unfolding endIn
     first-ends begun =
-        let s : Sided rules n i (0 ∷ 1 ∷ 2 ∷ 3 ∷ []) goal v b c alive count next firings =
-        rw e at (t .ended i (0 ∷ 1 ∷ 2 ∷ 3 ∷ []) goal (o .first) (rw e begun)) in
-        record {
-          same = λ p names x h.
-              first-side p names rules n (h .whole) (h .well-formed) i (0 ∷ 1 ∷ 2 ∷ 3 ∷ []) goal v b c alive count next firings
-              s x (h .same-goal) (h .first) (o .runs .table .rows i (o .first)) refl;
-          live = live-end i (0 ∷ 1 ∷ 2 ∷ 3 ∷ []) b c alive count next firings (o .first) room s;
-          counted = fired-few i (0 ∷ 1 ∷ 2 ∷ 3 ∷ []) b c alive count next firings (o .first) room s;
-        }
+        first-sided b c alive count next firings room
+        (rw e at (t .ended i (0 ∷ 1 ∷ 2 ∷ 3 ∷ []) goal (o .first) (rw e begun)))
 
     pub second-ends :
         Begun rules j positions goal m v bound cells fired lives held
         → EndOf secondEnd rules n i j positions v goal alive count next firings b c
-    unfolding endIn
     second-ends begun =
-        let s : Sided rules n j positions goal v b c alive count next firings =
-        rw e at (t .ended j positions goal (o .second) (rw e begun)) in
-        record {
-          same = λ p names x h.
-              second-side p names rules n (h .whole) (h .well-formed) j positions goal v b c alive count next firings s x
-              (h .same-goal) (h .second) (h .places);
-          live = live-end j positions b c alive count next firings (o .second) room s;
-          counted = fired-few j positions b c alive count next firings (o .second) room s;
-        }
+        second-sided b c alive count next firings room (rw e at (t .ended j positions goal (o .second) (rw e begun)))

@@ -7,7 +7,7 @@
 --   endIn, LiveEnd, EndOf     an end in cells
 --   Joins                     what judging promises
 -- Assumes nothing.
-use Prim.Native.Nat.{ℕ, _+_, _*_, _≤_, _<_}
+use Prim.Native.Nat.{ℕ, _*_, _≤_, _<_}
 use mathlib.Core.Bool.{Bool, true}
 use mathlib.Core.List.{List, [], _∷_, map}
 use mathlib.Core.Path.{_≡_}
@@ -19,7 +19,7 @@ use Rattle.semantics.specs.Overlaps.{Overlap, secondPositions}
 use Rattle.semantics.specs.Verdict.{isJoinable}
 use Rattle.tables.specs.Layout.{constraintSize}
 use Rattle.tables.specs.Cells.{cellTerm, cellConstraints, stateOf}
-use Rattle.tables.specs.Numbers.{isWithin}
+use Rattle.tables.specs.Numbers.{isWithin, Renumberable}
 use Rattle.tables.specs.Rows.{ruleOf, rulesOf, rowOf}
 use Rattle.engine.specs.Runs.{Runnable}
 use Rattle.engine.specs.Stated.{statedAt}
@@ -105,13 +105,15 @@ pub record LiveEnd (cells : List ℕ) (n : ℕ) (bound : List ℕ) : Type 0 wher
   pub within : every (isWithin mostVariables) (cellConstraints cells) ≡ true
   pub bound-within : every (isBelow mostVariables) (map cellTerm bound) ≡ true
 
--- one of the two ends of an overlap, in cells
+-- one of the two ends of an overlap, in cells; where it lives, its variables can be numbered anew
 pub record EndOf (end : Program → Overlap → Final) (rules : List ℕ) (n i j : ℕ) (positions : List ℕ) (v : ℕ) (goal : List ℕ)
     (alive : Bool) (count next firings : ℕ) (bound cells : List ℕ) : Type 0 where
   pub same :
       (p : Program) (names : List ℕ) (o : Overlap) → Stands p names rules n i j positions v goal o
       → endIn alive count next firings bound cells ≡ end p o
   pub live : alive ≡ true → LiveEnd (take (constraintSize * count) cells) count bound
+  pub next-few : alive ≡ true → next ≤ mostVariables
+  pub numbered : alive ≡ true → Renumberable next bound (take (constraintSize * count) cells)
   pub counted : firings ≤ 512
 
 -- whether the overlap joins

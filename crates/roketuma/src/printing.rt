@@ -3,7 +3,7 @@
 use crate::RunReply;
 use crate::TextName;
 use crate::running::run;
-use listing::lines::put_head;
+use listing::putting::put_head;
 use listing::writing::copy;
 use listing::writing::put_decimal;
 use text::split_goal;

@@ -8,7 +8,8 @@ use lib.ListN.{length}
 use borrow.Author.Needs.{needs}
 use borrow.Fn.Kinds.{In}
 use borrow.Fn.PlainCycle.{Measures, is, falls, and}
-use Rattle.critical.proofs.StepLaws.{Steps, room-kept, pair-few, leaf-start, leaf-walked, step-room, step-lent}
+use Rattle.critical.proofs.StandLaws.{pair-few}
+use Rattle.critical.proofs.StepLaws.{Steps, room-kept, leaf-start, leaf-walked, step-room, step-lent}
 use Rattle.critical.proofs.StepLaws.{step-partner, step-start}
 use Rattle.critical.proofs.StepLaws.{step-cut, step-next, step-stop, step-on, step-end}
 use Rattle.critical.proofs.walking.walk.Reads as walk

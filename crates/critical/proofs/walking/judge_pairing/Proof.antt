@@ -1,7 +1,8 @@
 -- `judge_pairing` meets its contract: partners that join no head are no pairing, others are an overlap, which is judged.
 -- Assumes nothing.
 use native.Mathlib.Omega.{arith}
-use Rattle.critical.proofs.StepLaws.{pair-few, leaf-count, leaf-room, leaf-lent, leaf-nothing, leaf-whole}
+use Rattle.critical.proofs.StandLaws.{pair-few}
+use Rattle.critical.proofs.StepLaws.{leaf-count, leaf-room, leaf-lent, leaf-nothing, leaf-whole}
 use Rattle.critical.proofs.StepLaws.{leaf-used, leaf-share, leaf-goal, leaf-judged, leaf-joins, leaf-parts}
 use borrow.Author.Needs.{needs}
 use Rattle.critical.proofs.walking.judge_pairing.Statement.{statement}

@@ -1,9 +1,9 @@
--- `listing::lines::put_row` meets its contract: its letter, a comma, its name and its terms. Assumes nothing.
+-- `listing::putting::put_row` meets its contract: its letter, a comma, its name and its terms. Assumes nothing.
 use borrow.Author.Needs.{needs}
 use native.Mathlib.Omega.{arith}
 use Rattle.listing.proofs.LineLaws.{line-count, line-comma, line-name, line-fields, line-wrote, used-within}
-use Rattle.listing.proofs.lines.put_row.Statement.{statement}
-use Rattle.listing.proofs.lines.put_row.Tie as tie
+use Rattle.listing.proofs.putting.put_row.Statement.{statement}
+use Rattle.listing.proofs.putting.put_row.Tie as tie
 
 put-byte-requires : tie.Need-put-byte-requires
 put-byte-requires c κs = search line-count

@@ -1,4 +1,4 @@
--- `listing::lines::put_bounds` meets its contract: the lines before i are written. Assumes nothing.
+-- `listing::putting::put_bounds` meets its contract: the lines before i are written. Assumes nothing.
 use borrow.Author.Needs.{needs}
 use mathlib.Core.List.{List, map}
 use Prim.Native.Nat.{ℕ, _≤_, _-_}
@@ -10,8 +10,8 @@ use Rattle.tables.specs.Names.{nameIn}
 use Rattle.listing.specs.Listing.{numberedAs, variableName, boundLines}
 use Rattle.listing.proofs.WriteLaws.{Writing, writing-start, count-front}
 use Rattle.listing.proofs.LineLaws.{boundsFrom, bound-count, bounds-next, bounds-wrote}
-use Rattle.listing.proofs.lines.put_bounds.Statement.{statement}
-use Rattle.listing.proofs.lines.put_bounds.Tie as tie
+use Rattle.listing.proofs.putting.put_bounds.Statement.{statement}
+use Rattle.listing.proofs.putting.put_bounds.Tie as tie
 
 abbrev Inv-loop : tie.InvT-loop
 Inv-loop out₀ at program goal places letters bound end₀ i₀ out end i =

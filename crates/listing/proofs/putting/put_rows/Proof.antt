@@ -1,4 +1,4 @@
--- `listing::lines::put_rows` meets its contract: the lines before i are written. Assumes nothing.
+-- `listing::putting::put_rows` meets its contract: the lines before i are written. Assumes nothing.
 use borrow.Author.Needs.{needs}
 use mathlib.Core.List.{List, [], _∷_}
 use Prim.Native.Nat.{ℕ, _≤_, _*_, _-_}
@@ -9,8 +9,8 @@ use Rattle.tables.specs.Names.{nameIn}
 use Rattle.listing.specs.Listing.{constraintLines, numberedAs}
 use Rattle.listing.proofs.WriteLaws.{Writing, writing-start, count-front}
 use Rattle.listing.proofs.LineLaws.{rowsFrom, cut-size, row-count, rows-next, rows-wrote}
-use Rattle.listing.proofs.lines.put_rows.Statement.{statement}
-use Rattle.listing.proofs.lines.put_rows.Tie as tie
+use Rattle.listing.proofs.putting.put_rows.Statement.{statement}
+use Rattle.listing.proofs.putting.put_rows.Tie as tie
 
 abbrev Inv-loop : tie.InvT-loop
 Inv-loop out₀ at program goal places mark cells end₀ i₀ out end i =

@@ -1,8 +1,8 @@
--- `listing::lines::put_head` meets its contract. Assumes nothing.
+-- `listing::putting::put_head` meets its contract. Assumes nothing.
 use borrow.Author.Needs.{needs}
 use Rattle.listing.proofs.WriteLaws.{wrote-then, count-first, count-next}
-use Rattle.listing.proofs.lines.put_head.Statement.{statement}
-use Rattle.listing.proofs.lines.put_head.Tie as tie
+use Rattle.listing.proofs.putting.put_head.Statement.{statement}
+use Rattle.listing.proofs.putting.put_head.Tie as tie
 
 copy-requires : tie.Need-copy-requires
 copy-requires c κs = count-first _ (c .before .before .before .pre)

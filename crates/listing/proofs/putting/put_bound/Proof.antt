@@ -1,8 +1,8 @@
--- `listing::lines::put_bound` meets its contract: its front, a comma, what it became and the line feed. Assumes nothing.
+-- `listing::putting::put_bound` meets its contract: its front, a comma, what it became and the line feed. Assumes nothing.
 use borrow.Author.Needs.{needs}
 use Rattle.listing.proofs.LineLaws.{bound-front, bound-comma, bound-cell, bound-feed, bound-wrote}
-use Rattle.listing.proofs.lines.put_bound.Statement.{statement}
-use Rattle.listing.proofs.lines.put_bound.Tie as tie
+use Rattle.listing.proofs.putting.put_bound.Statement.{statement}
+use Rattle.listing.proofs.putting.put_bound.Tie as tie
 
 put-variable-requires : tie.Need-put-variable-requires
 put-variable-requires c κs =

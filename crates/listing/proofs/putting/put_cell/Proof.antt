@@ -1,8 +1,8 @@
--- `listing::lines::put_cell` meets its contract: a constant by its name, a variable by its number. Assumes nothing.
+-- `listing::putting::put_cell` meets its contract: a constant by its name, a variable by its number. Assumes nothing.
 use borrow.Author.Needs.{needs}
 use Rattle.listing.proofs.LineLaws.{name-count, name-wrote, letter-count, number-count, number-wrote}
-use Rattle.listing.proofs.lines.put_cell.Statement.{statement}
-use Rattle.listing.proofs.lines.put_cell.Tie as tie
+use Rattle.listing.proofs.putting.put_cell.Statement.{statement}
+use Rattle.listing.proofs.putting.put_cell.Tie as tie
 
 wide-requires : tie.Need-wide-requires
 wide-requires c κs = search needs

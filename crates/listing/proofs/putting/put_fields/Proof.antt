@@ -1,4 +1,4 @@
--- `listing::lines::put_fields` meets its contract: the fields before i are written. Assumes nothing.
+-- `listing::putting::put_fields` meets its contract: the fields before i are written. Assumes nothing.
 use borrow.Author.Needs.{needs}
 use mathlib.Core.List.{List, map}
 use Prim.Native.Nat.{ℕ, _≤_, _-_}
@@ -9,8 +9,8 @@ use Rattle.listing.specs.Listing.{fieldsBehind}
 use Rattle.listing.specs.Ends.{cellShown}
 use Rattle.listing.proofs.WriteLaws.{Writing, writing-start}
 use Rattle.listing.proofs.LineLaws.{fieldsFrom, comma-count, field-count, fields-next, feed-count, fields-wrote}
-use Rattle.listing.proofs.lines.put_fields.Statement.{statement}
-use Rattle.listing.proofs.lines.put_fields.Tie as tie
+use Rattle.listing.proofs.putting.put_fields.Statement.{statement}
+use Rattle.listing.proofs.putting.put_fields.Tie as tie
 
 abbrev Inv-loop : tie.InvT-loop
 Inv-loop out₀ at program goal places letter cells end₀ i₀ out end i =

@@ -1,9 +1,9 @@
--- `listing::lines::put_variable` meets its contract. Assumes nothing.
+-- `listing::putting::put_variable` meets its contract. Assumes nothing.
 use borrow.Author.Needs.{needs}
 use Rattle.listing.proofs.LineLaws.{front-count, lettered-count, lettered-wrote}
 use Rattle.listing.proofs.LineLaws.{unlettered-count, unlettered-next, unlettered-wrote}
-use Rattle.listing.proofs.lines.put_variable.Statement.{statement}
-use Rattle.listing.proofs.lines.put_variable.Tie as tie
+use Rattle.listing.proofs.putting.put_variable.Statement.{statement}
+use Rattle.listing.proofs.putting.put_variable.Tie as tie
 
 slice-aggregate-copy : tie.Need-slice-aggregate-copy
 slice-aggregate-copy c = search needs
