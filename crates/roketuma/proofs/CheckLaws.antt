@@ -11,9 +11,8 @@ use mathlib.Core.Logic.{_⊎_, inl, inr, ⊎-elim}
 use mathlib.Core.Path.{_≡_, refl, sym, ap, _∙_}
 use lib.Dec.{ltb}
 use lib.ListN.{length, take}
-use borrow.Author.Tests.{ltb-true, ltb-false, lt-ltb}
-use Rattle.semantics.specs.Strategy.{Final}
-use Rattle.semantics.specs.Overlaps.{Overlap, overlaps}
+use borrow.Author.Tests.{ltb-true, lt-ltb}
+use Rattle.semantics.specs.Overlaps.{overlaps}
 use Rattle.semantics.specs.Verdict.{Verdict, verdict, confluent, unjoined}
 use Rattle.semantics.specs.Claims.{Demand3}
 use Rattle.semantics.proofs.Demand3.{verdict-exact}

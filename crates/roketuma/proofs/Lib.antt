@@ -9,3 +9,4 @@ pub mod OverlapVocabulary
 pub mod OutcomeLaws
 pub mod CheckLaws
 pub mod CheckingLaws
+pub mod Numbers

@@ -3,4 +3,5 @@ pub mod Answers
 pub mod Stages
 pub mod Outcomes
 pub mod Promises
+pub mod Numbers
 pub mod Checking

@@ -6,6 +6,7 @@ mod printing;
 mod running;
 
 pub use checking::check;
+pub use printing::put_check;
 pub use printing::put_refusal;
 pub use printing::put_reply;
 pub use printing::put_run;

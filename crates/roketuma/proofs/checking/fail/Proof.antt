@@ -1,60 +1,45 @@
+-- `roketuma::checking::fail` meets its contract: the overlap is listed, or number 11. Assumes nothing.
 use borrow.Author.Needs.{needs}
 use Rattle.roketuma.proofs.CheckingLaws.{overlap-short, overlap-written}
 use Rattle.roketuma.proofs.checking.fail.Statement.{statement}
 use Rattle.roketuma.proofs.checking.fail.Tie as tie
-use Rattle.roketuma.proofs.checking.fail.Reads as reads
-use Rattle.roketuma.proofs.checking.fail.Lts as lts
-use Rattle.listing.proofs.checks.list_overlap.Reads as list-overlap-reads
 
--- src/checking.rt:59:11
 list-overlap-requires : tie.Need-list-overlap-requires
 list-overlap-requires c κs = search needs
 
--- src/checking.rt:62:19
 enum-told : tie.Need-enum-told
 enum-told c = search needs
 
--- src/checking.rt:65:25
 enum-known-n : tie.Need-enum-known-n
 enum-known-n c = search needs
 
--- src/checking.rt:45:1
 same-length : tie.Need-same-length
 same-length c = search needs
 
--- src/checking.rt:45:1
 same-length-2 : tie.Need-same-length-2
 same-length-2 c = search needs
 
--- src/checking.rt:45:1
 same-length-3 : tie.Need-same-length-3
 same-length-3 c = search needs
 
--- src/checking.rt:45:1
 same-length-4 : tie.Need-same-length-4
 same-length-4 c = search needs
 
--- src/checking.rt:45:1
 returns : tie.Need-returns
 returns c = search overlap-short
 
--- src/checking.rt:45:1
 same-length-5 : tie.Need-same-length-5
 same-length-5 c = search needs
 
--- src/checking.rt:45:1
 same-length-6 : tie.Need-same-length-6
 same-length-6 c = search needs
 
--- src/checking.rt:45:1
 same-length-7 : tie.Need-same-length-7
 same-length-7 c = search needs
 
--- src/checking.rt:45:1
 same-length-8 : tie.Need-same-length-8
 same-length-8 c = search needs
 
--- src/checking.rt:45:1
 returns-2 : tie.Need-returns-2
 returns-2 c = search overlap-written
 
