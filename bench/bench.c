@@ -1,6 +1,7 @@
-/* Nanoseconds for each `run` call over the goals of a folder, in a thread with a stack of 256 KB.
-   bench FOLDER NAME...: FOLDER/NAME.sheet and FOLDER/NAME.goal. `reading` is the same two texts with a last goal line that is refused,
-   so that both are read and nothing is run. Each figure is the least of ROUNDS, each over some 20 ms of calls. */
+/* Nanoseconds for each call of the library, in a thread with a stack of 256 KB.
+   bench check FOLDER NAME...: checks of FOLDER/NAME. bench run FOLDER NAME...: runs of FOLDER/NAME.goal over FOLDER/NAME.sheet.
+   `reading` is the same call with a last line that is refused, so that the texts are read and nothing more. Each figure is the least
+   of up to ROUNDS, each over some 10 ms of calls or one call; after SECONDS no further round is started. */
 #include "roketuma.h"
 #include <pthread.h>
 #include <stdio.h>
@@ -8,10 +9,16 @@
 #include <string.h>
 #include <time.h>
 
-enum { ROUNDS = 15, STACK = 256 * 1024 };
-static int count;
+enum { ROUNDS = 15, SECONDS = 3, STACK = 256 * 1024, TEXT_ROOM = 20000 };
+static int count, checks;
 static char **names;
 static const char *folder;
+
+/* The texts of a call; the goal's is unused in a check. */
+struct texts {
+    uint8_t program[TEXT_ROOM], goal[TEXT_ROOM];
+    size_t program_len, goal_len;
+};
 
 static double now(void)
 {
@@ -20,29 +27,36 @@ static double now(void)
     return t.tv_sec * 1e9 + t.tv_nsec;
 }
 
-static size_t read_file(const char *name, const char *end, uint8_t *buffer, size_t room)
+static size_t read_file(const char *name, const char *end, uint8_t *buffer)
 {
     char path[4096];
-    snprintf(path, sizeof path, "%s/%s.%s", folder, name, end);
+    snprintf(path, sizeof path, "%s/%s%s", folder, name, end);
     FILE *file = fopen(path, "rb");
     if (!file) {
         perror(path);
         exit(1);
     }
-    size_t n = fread(buffer, 1, room, file);
+    size_t n = fread(buffer, 1, TEXT_ROOM - 2, file);
     fclose(file);
     return n;
 }
 
-/* Nanoseconds of one call. */
-static double measure(const uint8_t *program, size_t p, const uint8_t *goal, size_t g, uint8_t *output)
+static uint64_t call(const struct texts *t, uint8_t *output)
 {
-    double best = 1e18;
+    if (checks)
+        return roketuma_check(t->program, t->program_len, output, ROKETUMA_ROOM);
+    return roketuma_run(t->program, t->program_len, t->goal, t->goal_len, output, ROKETUMA_ROOM);
+}
+
+/* Nanoseconds of one call. */
+static double measure(const struct texts *t, uint8_t *output)
+{
+    double best = 1e18, began = now();
     long calls = 1;
-    for (int round = 0; round < ROUNDS;) {
+    for (int round = 0; round < ROUNDS && (round == 0 || now() - began < SECONDS * 1e9);) {
         double start = now();
         for (long i = 0; i < calls; i++)
-            roketuma_run(program, p, goal, g, output, ROKETUMA_ROOM);
+            call(t, output);
         double spent = now() - start;
         if (spent < 1e7) {
             calls *= 2;
@@ -55,24 +69,33 @@ static double measure(const uint8_t *program, size_t p, const uint8_t *goal, siz
     return best;
 }
 
+/* The first line of what is answered. */
+static void first_line(uint64_t r, const uint8_t *output, char *line, size_t room)
+{
+    if (roketuma_is_refusal(r))
+        snprintf(line, room, "REFUSED,%u,%c,%u", roketuma_number(r), roketuma_text(r), roketuma_line(r));
+    else
+        snprintf(line, room, "%.*s", (int)strcspn((const char *)output, "\n"), (const char *)output);
+}
+
 static void *work(void *unused)
 {
-    static uint8_t program[20000], goal[20000], output[ROKETUMA_ROOM];
+    static struct texts t;
+    static uint8_t output[ROKETUMA_ROOM];
     (void)unused;
-    printf("%-12s %10s %8s %14s %14s\n", "goal", "answer", "listing", "ns per run", "ns reading");
+    printf("%-15s %18s %8s %14s %14s\n", checks ? "program" : "goal", "answer", "listing", checks ? "ns per check" : "ns per run",
+           "ns reading");
     for (int i = 0; i < count; i++) {
-        size_t p = read_file(names[i], "sheet", program, sizeof program);
-        size_t g = read_file(names[i], "goal", goal, sizeof goal - 8);
-        uint64_t r = roketuma_run(program, p, goal, g, output, sizeof output);
+        t.program_len = read_file(names[i], checks ? "" : ".sheet", t.program);
+        t.goal_len = checks ? 0 : read_file(names[i], ".goal", t.goal);
+        uint64_t r = call(&t, output);
         char answer[32];
-        if (ROKETUMA_IS_REFUSAL(r))
-            snprintf(answer, sizeof answer, "R,%u,%c,%u", ROKETUMA_NUMBER(r), ROKETUMA_TEXT(r), ROKETUMA_LINE(r));
-        else
-            snprintf(answer, sizeof answer, "%.*s", (int)((uint8_t *)memchr(output, '\n', r) - output), (char *)output);
-        double run = measure(program, p, goal, g, output);
-        memcpy(goal + g, "X\n", 2);
-        double reading = measure(program, p, goal, g + 2, output);
-        printf("%-12s %10s %8u %14.0f %14.0f\n", names[i], answer, ROKETUMA_IS_REFUSAL(r) ? 0 : (unsigned)r, run, reading);
+        first_line(r, output, answer, sizeof answer);
+        double whole = measure(&t, output);
+        memcpy(checks ? t.program + t.program_len : t.goal + t.goal_len, "X\n", 2);
+        *(checks ? &t.program_len : &t.goal_len) += 2;
+        printf("%-15s %18s %8u %14.0f %14.0f\n", names[i], answer, (unsigned)roketuma_length(r), whole, measure(&t, output));
+        fflush(stdout);
     }
     return NULL;
 }
@@ -81,12 +104,13 @@ int main(int argc, char **argv)
 {
     pthread_t thread;
     pthread_attr_t attributes;
-    folder = argv[1];
-    names = argv + 2;
-    count = argc - 2;
+    checks = argc > 1 && !strcmp(argv[1], "check");
+    folder = argv[argc > 2 ? 2 : 0];
+    names = argv + 3;
+    count = argc - 3;
     pthread_attr_init(&attributes);
-    if (argc < 3 || pthread_attr_setstacksize(&attributes, STACK) || pthread_create(&thread, &attributes, work, NULL)) {
-        fprintf(stderr, "usage: bench FOLDER NAME...\n");
+    if (argc < 4 || pthread_attr_setstacksize(&attributes, STACK) || pthread_create(&thread, &attributes, work, NULL)) {
+        fprintf(stderr, "usage: bench check|run FOLDER NAME...\n");
         return 1;
     }
     return pthread_join(thread, NULL);

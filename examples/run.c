@@ -25,9 +25,9 @@ int main(int argc, char **argv)
     size_t p = read_file(argv[1], program, sizeof program);
     size_t g = read_file(argv[2], goal, sizeof goal);
     uint64_t r = roketuma_run(program, p, goal, g, output, sizeof output);
-    if (ROKETUMA_IS_REFUSAL(r))
-        printf("REFUSED,%u,%c,%u\n", ROKETUMA_NUMBER(r), ROKETUMA_TEXT(r), ROKETUMA_LINE(r));
+    if (roketuma_is_refusal(r))
+        printf("REFUSED,%u,%c,%u\n", roketuma_number(r), roketuma_text(r), roketuma_line(r));
     else
-        fwrite(output, 1, r, stdout);
+        fwrite(output, 1, roketuma_length(r), stdout);
     return 0;
 }

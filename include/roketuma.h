@@ -1,8 +1,17 @@
-/* Roketuma: runs goals over Constraint Handling Rules programs. The static library is target/staticlib/libroketuma.a, which
-   `rt staticlib roketuma` writes; what a call does is proved, see README.md. x86-64 Linux. */
+/* Roketuma: checks Constraint Handling Rules programs for confluence, and runs goals over them. The static library is
+   target/staticlib/libroketuma.a, which `rt staticlib roketuma` writes; what a call does is proved, see README.md. x86-64 Linux.
+
+   In every call any bytes of any length may be handed in. Each pointer must be valid for its length, and not null; the output
+   must overlap no text. A call uses no heap and keeps nothing between calls.
+
+   A call returns one number, of which the functions below take the parts. It says the length of the listing, which is then in the
+   front of the output, the bytes behind it being as they were; or a refusal, with document 01's number (1 to 11), the text ('S'
+   for the program's, 'G' for the goal's) and the line counted from 1 (0 where no line is meant), every byte of the output being
+   as it was. */
 #ifndef ROKETUMA_H
 #define ROKETUMA_H
 
+#include <stdbool.h>
 #include <stddef.h>
 #include <stdint.h>
 
@@ -10,24 +19,60 @@
 extern "C" {
 #endif
 
-/* Runs the goal over the program and writes the listing to the front of the output.
-   Any bytes of any length may be handed in. Each pointer must be valid for its length, and not null; the output must overlap
-   neither text.
+/* Checks the program for confluence: whether each goal over its symbols, of any length, has one outcome, in whatever order
+   constraints enter and rules fire. The listing is that of a pass, with the number of overlaps, or an unjoined overlap: a goal
+   with two finished derivations whose ends are not equal.
 
-   Returns the length of the listing, at most output_len; the bytes of the output behind it are as they were.
-   Or, from 2^32 on, a refusal: 2^32 * number + 2^16 * text + line, with document 01's number (1 to 11), the text as a byte
-   ('S' or 'G') and the line counted from 1 (0 where no line is meant); every byte of the output is then as it was. */
+   Returns the length of a pass's listing; 2^31 more than the length of an unjoined overlap's; or a refusal, from 2^32 on:
+   2^32 * number + 2^16 * text + line. */
+uint64_t roketuma_check(const uint8_t *program, size_t program_len, uint8_t *output, size_t output_len);
+
+/* Runs the goal over the program. Returns the length of the listing, below 2^31, or a refusal as above. */
 uint64_t roketuma_run(const uint8_t *program, size_t program_len, const uint8_t *goal, size_t goal_len,
                       uint8_t *output, size_t output_len);
 
-/* Room for every listing of a run. */
+/* Room for every listing. */
 #define ROKETUMA_ROOM 32768
 
-/* The parts of a returned number. */
-#define ROKETUMA_IS_REFUSAL(r) ((r) >> 32 != 0)
-#define ROKETUMA_NUMBER(r) ((unsigned)((r) >> 32))
-#define ROKETUMA_TEXT(r) ((char)((r) >> 16 & 0xff))
-#define ROKETUMA_LINE(r) ((unsigned)((r) & 0xffff))
+/* Whether a text was refused. */
+static inline bool roketuma_is_refusal(uint64_t r)
+{
+    return r >> 32 != 0;
+}
+
+/* Whether a check shows an unjoined overlap: the program is not confluent. */
+static inline bool roketuma_is_overlap(uint64_t r)
+{
+    return r >> 31 == 1;
+}
+
+/* Whether a check passes the program: it is confluent. */
+static inline bool roketuma_is_pass(uint64_t r)
+{
+    return r >> 31 == 0;
+}
+
+/* The length of the listing; 0 for a refusal. */
+static inline size_t roketuma_length(uint64_t r)
+{
+    return roketuma_is_refusal(r) ? 0 : (size_t)(r & 0x7fffffff);
+}
+
+/* A refusal's number, its text and its line. */
+static inline unsigned roketuma_number(uint64_t r)
+{
+    return (unsigned)(r >> 32);
+}
+
+static inline char roketuma_text(uint64_t r)
+{
+    return (char)(r >> 16 & 0xff);
+}
+
+static inline unsigned roketuma_line(uint64_t r)
+{
+    return (unsigned)(r & 0xffff);
+}
 
 #ifdef __cplusplus
 }

@@ -1,9 +1,9 @@
 // The end of a run: its variables numbered, and its lines at the front of the part of the output that is lent.
 use crate::End;
-use crate::lines::Mark;
-use crate::lines::put_bounds;
-use crate::lines::put_head;
-use crate::lines::put_rows;
+use crate::putting::Mark;
+use crate::putting::put_bounds;
+use crate::putting::put_head;
+use crate::putting::put_rows;
 use tables::numbering::renumber;
 ghost use Prim.Native.Nat.{_<_};
 ghost use lib.ListN.{length};

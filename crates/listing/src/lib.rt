@@ -2,7 +2,7 @@
 // Each function equals the definition that its contract names, through the decodings of `tables`.
 pub mod checks;
 pub mod ends;
-pub mod lines;
+pub mod putting;
 pub mod writing;
 
 use ends::number_end;

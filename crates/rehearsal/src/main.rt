@@ -1,23 +1,28 @@
 // `rehearsal`: prints the reply to each input that an argument names, behind a line with its name.
-// An input whose name begins with r is a program and a goal, as `sheetrun` gets them; any other is a program, over which the empty
-// goal is run. Then it puts each of the 256 bytes at each place of a program and of a goal, and prints the number that each meets.
+// An input whose name begins with r is a program and a goal, as `sheetrun` gets them; any other is a program, as `sheetcheck` gets
+// it. Then it puts each of the 256 bytes at each place of a program and of a goal, and prints the number that each meets.
 mod sweep;
 
-use roketuma::put_reply;
+use roketuma::put_check;
 use roketuma::put_run;
 use sweep::swept;
+ghost use Rattle.roketuma.specs.Answers.{Printed};
+ghost use Rattle.rehearsal.specs.Answered.{answerBytes};
 
-// Writes what is printed on an input that may have a goal.
-fn answer(input: &[u8]) {
-    let mut out = [0u8; 32768];
-    let n = put_run(input, &mut out);
-    io::write_all(1, &out[..n]);
+// What `sheetrun` prints on an input, or `sheetcheck`, into the front of an output; answers how many bytes.
+fn put_answer(input: &[u8], with_goal: bool, out: &mut [u8; 32768]) -> usize
+    ensures { λ r. ⌜ Printed (answerBytes «with_goal» (now (input .entry))) (now (out .entry)) (now (out .exit)) r ⌝ }
+{
+    if with_goal {
+        return put_run(input, out);
+    }
+    put_check(input, out)
 }
 
-// Writes what is printed on a program with the empty goal.
-fn answer_program(program: &[u8]) {
+// Writes what is printed on an input.
+fn answer(input: &[u8], with_goal: bool) {
     let mut out = [0u8; 32768];
-    let n = put_reply(program, b"", &mut out);
+    let n = put_answer(input, with_goal, &mut out);
     io::write_all(1, &out[..n]);
 }
 
@@ -31,11 +36,7 @@ fn rehearse(path: &[u8], with_goal: bool) {
     let mut input = [0u8; 40000];
     let n = io::read_full(fd, &mut input);
     libc::close(fd);
-    if with_goal {
-        answer(&input[..n])
-    } else {
-        answer_program(&input[..n])
-    }
+    answer(&input[..n], with_goal)
 }
 
 // The reply to the input that argument i names.

@@ -14,7 +14,7 @@ use lib.ListN.{length, take}
 use borrow.Author.Tests.{ltb-true, lt-ltb}
 use Rattle.semantics.specs.Overlaps.{overlaps}
 use Rattle.semantics.specs.Verdict.{Verdict, verdict, confluent, unjoined}
-use Rattle.semantics.specs.Claims.{OneOutcome, Demand3}
+use Rattle.semantics.specs.Claims.{Demand3}
 use Rattle.semantics.proofs.Demand3.{verdict-exact}
 use Rattle.syntax.specs.Answers.{Answer, refused, accepted}
 use Rattle.syntax.specs.Programs.{Reading, readProgram}
@@ -26,12 +26,14 @@ use Rattle.replies.specs.Claims.{verdictReply}
 use Rattle.replies.proofs.Demand3.{check-listed, verdict-one}
 use Rattle.replies.proofs.LineNumbers.{program-number}
 use Rattle.roketuma.specs.Answers.{textMeant}
+use Rattle.roketuma.specs.Outcomes.{OneOutcome}
 use Rattle.roketuma.specs.Promises.{checkMeant, CheckReplied, Told, CheckedAs, ofProgram, Demand3Of}
 use Rattle.roketuma.specs.declared.TextName.{TextName}
 use Rattle.roketuma.specs.declared.TextName.the-variants.{S, G}
 use Rattle.roketuma.specs.declared.Refusal.{Refusal}
 use Rattle.roketuma.specs.declared.CheckReply.{CheckReply}
 use Rattle.roketuma.specs.declared.CheckReply.the-variants.{Refused, Confluent, Unjoined}
+use Rattle.roketuma.proofs.OutcomeLaws.{outcome-claim, appearance-claim, counterexample-claim}
 
 -- an answer that means a refusal of the program's text
 pub refusal-answer :
@@ -122,13 +124,13 @@ module _ (s before after : List ℕ) (r : CheckReply) (c : CheckReplied (checkRe
     no-outcome : (n : ℕ) → r ≡ Unjoined n → OneOutcome (p .program) → ⊥
     no-outcome n h one =
         let (o, a, b, v) = told .fail p e n h in
-        verdict-one (demand .exact .1 one .1) v
+        verdict-one (demand .exact .1 (outcome-claim (p .program) .0 one) .1) v
 
     decided : length (checkListing p) ≤ length before → ((n : ℕ) × (r ≡ Confluent n)) ⊎ ((n : ℕ) × (r ≡ Unjoined n))
     decided fits = listing-answer (checkListing p) after r (c .meant ∙ check-listed s (length before) p e fits)
 
     one-outcome : (n : ℕ) → r ≡ Confluent n → OneOutcome (p .program)
-    one-outcome n h = demand .exact .0 (told .pass p e n h)
+    one-outcome n h = outcome-claim (p .program) .1 (demand .exact .0 (told .pass p e n h))
 
     -- demand 3 of the answer to a text that reads
     checked-as : CheckedAs p before after r
@@ -152,10 +154,11 @@ module _ (s before after : List ℕ) (r : CheckReply) (c : CheckReplied (checkRe
                 one,
                 two,
                 listed-verdict p e n (meant-by (Unjoined n) h) (unjoined o one two) v,
-                demand .shown o one two v,
+                counterexample-claim (p .program) o one two (demand .shown o one two v),
                 no-outcome n h,
               );
-          enough = demand .enough;
+          enough = λ h.
+              outcome-claim (p .program) .1 (demand .enough (appearance-claim (p .program) .0 h));
           bounded = demand .bounded;
           decimals = decimal-exact;
         }

@@ -5,6 +5,7 @@
 --   check-number-decodes         the number of `roketuma_check` (the main law for checks)
 --   check-answer-decodes         the number of an answer of a check decodes to it
 --   run-number-one, check-number-one   one number, one answer
+--   check-few                    an answer of a check lists less than 2^31 bytes
 -- Assumes nothing.
 use Prim.Native.Nat.{ℕ, _+_, _-_, _*_, _/_, _%_, _≤_, _<_}
 use native.Mathlib.Omega.{arith}
@@ -127,3 +128,16 @@ pub check-number-one :
     → CheckReplied (checkReply s′ (length before′)) before′ after′ b → checkNumber a ≡ checkNumber b → a ≡ b
 check-number-one s before after s′ before′ after′ a b c d e =
     sym (check-answer-decodes s before after a c) ∙ (ap checkRead e ∙ check-answer-decodes s′ before′ after′ b d)
+
+-- an answer of a check lists less than 2^31 bytes
+pub check-few :
+    (s : List ℕ) {before after : List ℕ} {r : CheckReply} → CheckReplied (checkReply s (length before)) before after r
+    → listedBytes r < 2147483648
+unfolding checkMeant listedBytes
+check-few s {before} {after} {r} c =
+    go r (subst Within (sym (c .meant)) (check-within s (length before))) (c .counted)
+  where
+    go : (q : CheckReply) → Within (checkMeant q after) → listedBytes q ≤ length after → listedBytes q < 2147483648
+    go (Refused f) w h = omega arith
+    go (Confluent n) w h = omega (arith, length-take-le n after h)
+    go (Unjoined n) w h = omega (arith, length-take-le n after h)

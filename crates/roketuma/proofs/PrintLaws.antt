@@ -4,10 +4,12 @@
 --   refusal-program, refusal-goal       it is what is printed of the refusal
 --   reply-refused, reply-listed         what is printed of a reply, by its answer
 --   listing-printed, refusal-printed    the same of a run's reply
+--   check-listed, check-turned          the same of a check's reply
 --   printed-within, printed-front       what is printed lies inside the output
 --   front-length, parts-printed         the parts of an input
 -- Assumes nothing.
 use mathlib.Core.Path.{_≡_, refl, sym, ap, subst, _∙_}
+use mathlib.Core.Logic.{_⊎_, inl, inr}
 use mathlib.Core.Bool.{Bool, true, false}
 use mathlib.Core.List.{List, [], _∷_, _++_, append-assoc}
 use Prim.Native.Nat.{ℕ, _+_, _-_, _/_, _%_, _≤_, _<_}
@@ -18,19 +20,23 @@ use lib.Seq.{take-all, length-take-le}
 use borrow.Author.Tests.{ltb-true, ltb-false}
 use Rattle.text.specs.Bytes.{ascii}
 use Rattle.text.specs.Lines.{Parts, parted}
+use Rattle.text.specs.Lists.{overlaid}
 use Rattle.text.specs.Cursors.{partsAt}
 use Rattle.listing.specs.Listing.{decimal, fieldsBehind, lineOf}
 use Rattle.listing.specs.Writing.{laid, Countable, Writes}
 use Rattle.listing.proofs.Decimals.{decimal-low, decimal-high, decimal-few}
 use Rattle.listing.proofs.WriteLaws.{partFrom, partBack, wrote-then, wrote-behind}
-use Rattle.replies.specs.Replies.{programText, goalText, Reply, refusal, listing, runReply, outputAfter}
-use Rattle.replies.specs.Replies.{textLetter, printed, ample, sheetrun}
+use Rattle.replies.specs.Replies.{programText, goalText, Reply, refusal, listing, runReply, checkReply, outputAfter}
+use Rattle.replies.specs.Replies.{textLetter, printed, ample, sheetrun, sheetcheck}
 use Rattle.roketuma.specs.Answers.{textMeant, replyMeant, answerOf, Replied, refusalBytes, Printed}
 use Rattle.roketuma.specs.declared.TextName.{TextName}
 use Rattle.roketuma.specs.declared.TextName.the-variants.{S, G}
 use Rattle.roketuma.specs.declared.Refusal.{Refusal}
 use Rattle.roketuma.specs.declared.RunReply.{RunReply}
 use Rattle.roketuma.specs.declared.RunReply.the-variants.{Refused, Listed}
+use Rattle.roketuma.specs.declared.CheckReply.{CheckReply}
+use Rattle.roketuma.specs.declared.CheckReply.the-variants as check-reply
+use Rattle.roketuma.specs.Promises.{checkMeant, listedBytes, CheckReplied}
 
 -- a number has at most two digits more than its tenth
 pub decimal-tenth : (n : ℕ) → length (decimal n) ≤ n / 10 + 2
@@ -182,6 +188,41 @@ module _ (program goal : List ℕ) {o a : List ℕ} {r : RunReply} (replied : Re
     -- a listing
     pub listing-printed : (n : ℕ) → r ≡ Listed n → Printed (printed (runReply program goal ample)) o a n
     listing-printed n e = reply-listed n (runReply program goal ample) (rw e at in-ample)
+
+-- the reply of a check into such an output
+module _ (input : List ℕ) {o a : List ℕ} {r : CheckReply} (replied : CheckReplied (checkReply input (length o)) o a r)
+    (lent : length o ≡ 32768)
+  where
+    check-ample : CheckReplied (checkReply input ample) o a r
+    unfolding ample
+    check-ample = subst (λ (n : ℕ). CheckReplied (checkReply input n) o a r) lent replied
+
+    -- a refusal, d being the output when its line is put there
+    pub check-turned : (x : Refusal) (d : List ℕ) (n : ℕ) → r ≡ check-reply.Refused x
+        → Printed (printed (refusal (x .number) (textMeant (x .text)) (x .line))) a d n → Printed (sheetcheck input) o d n
+    unfolding sheetcheck checkMeant outputAfter
+    check-turned x d n e w =
+        let meant : refusal (x .number) (textMeant (x .text)) (x .line) ≡ checkReply input ample =
+        sym (ap (λ (q : CheckReply). checkMeant q a) e) ∙ check-ample .meant in
+        let same : a ≡ o = check-ample .output ∙ ap (λ (q : Reply). outputAfter q o) (sym meant) in
+        subst (λ (q : Reply). Printed (printed q) o d n) meant
+        (subst (λ (l : List ℕ). Printed (printed (refusal (x .number) (textMeant (x .text)) (x .line))) l d n) same w)
+
+    -- a listing
+    listed-check : (n : ℕ) → checkMeant r a ≡ listing (take n a) → n ≤ length a → Printed (sheetcheck input) o a n
+    unfolding sheetcheck outputAfter printed
+    listed-check n e h =
+        let is : listing (take n a) ≡ checkReply input ample = sym e ∙ check-ample .meant in
+        let left : a ≡ overlaid (take n a) o = check-ample .output ∙ ap (λ (q : Reply). outputAfter q o) (sym is) in
+        subst (λ (q : Reply). Printed (printed q) o a n) is
+        (record { output = left; counted = sym (length-take-le n a h) })
+
+    pub check-listed : (n : ℕ) → (r ≡ check-reply.Confluent n) ⊎ (r ≡ check-reply.Unjoined n) → Printed (sheetcheck input) o a n
+    unfolding checkMeant listedBytes
+    check-listed n (inl e) = listed-check n (ap (λ (q : CheckReply). checkMeant q a) e)
+        (omega (arith, replied .counted, ap listedBytes e))
+    check-listed n (inr e) = listed-check n (ap (λ (q : CheckReply). checkMeant q a) e)
+        (omega (arith, replied .counted, ap listedBytes e))
 
 -- the length of a front
 pub front-length : (n : ℕ) (l : List ℕ) → n ≤ length l → n ≡ length (take n l)

@@ -46,6 +46,7 @@ use Rattle.roketuma.specs.Stages.{programTable, isKnown, ProgramReady, G
 use Rattle.roketuma.specs.declared.Sizes.{Sizes}
 use Rattle.roketuma.specs.declared.TextName.the-variants.{S, G}
 use Rattle.roketuma.specs.declared.RunReply.the-variants.{Refused}
+use Rattle.roketuma.proofs.KnownLaws.{known-some}
 use Rattle.roketuma.proofs.ReadyLaws.{few-symbols}
 use Rattle.roketuma.proofs.ReplyLaws.{refused-program, refused-goal}
 
@@ -87,12 +88,6 @@ module _ {program names places names′ places′ symbols′ rules′ : List ℕ
         places-size = r .room .places-size;
         symbols-size = r .room .symbols-size;
       }
-
--- a name with some bytes has a key
-key-some : (k : ℕ) → 0 < length (spell k) → 0 < k
-unfolding spell spellFrom
-key-some zero h = absurd (omega arith)
-key-some (suc k) h = omega arith
 
 -- tables whose symbols and rules have the same names hold the same program
 outside-symbols : (names names′ symbols : List ℕ) (k : ℕ) → Outside names names′ → k ≤ 32
@@ -193,48 +188,18 @@ module _ {program names places symbols rules : List ℕ} {c : Counts} (r : GoalR
             rules = outside-rules names names′ rules (c .rules) (g .outside) i;
           })
 
-      symbol-some : (i : ℕ) → i < c .symbols → TermedProgram (r .p) → 0 < length (spell (getD names′ i 0))
-      unfolding programTable symbolsOf symbolOf nameOf
-      symbol-some i h t =
-          let all : All (λ (s : Symbol). Termed (s .name)) (tabled (symbolOf names′ symbols) (c .symbols)) =
-          subst (λ (q : Program). All (λ (s : Symbol). Termed (s .name)) (q .symbols)) same-program (t .symbols) in
-          let at = all-at noSymbol i all (omega (arith, tabled-length (symbolOf names′ symbols) (c .symbols))) in
-          let termed : Termed (symbolOf names′ symbols i .name) = subst (λ (s : Symbol). Termed (s .name))
-          (tabled-at (symbolOf names′ symbols) (c .symbols) i noSymbol h) at in
-          term-some (symbolOf names′ symbols i .name) termed
-
-      constant-some : (j : ℕ) → j < found .constants → TermedProgram (r .p)
-          → 0 < length (spell (getD names′ (firstConstant + j) 0))
-      unfolding goalReadingOf constantsOf nameOf
-      constant-some j h t =
-          let name : ℕ → List ℕ = λ i. nameOf names′ (firstConstant + i) in
+      -- what is named has a key
+      named : (i : ℕ) → isKnown (c .symbols) (found .constants) i ≡ true → 0 < getD names′ i 0
+      unfolding programTable goalReadingOf
+      named =
+          let of-program : TermedProgram (r .p) =
+          reads-accepted 9 TermedProgram (readProgram program) (program-termed program) (r .first .read) in
           let of-goal : TermedGoal (r .p .constants) (goalReadingOf names′ cells letters found) =
           reads-accepted 10 (TermedGoal (r .p .constants)) (readGoal (r .p .program .symbols) (r .p .constants) goal)
           (goal-termed (r .p .program .symbols) (r .p .constants) goal) read in
-          let all : All Termed (tabled name (found .constants)) = of-goal .constants (t .constants) in
-          let at = all-at [] j all (omega (arith, tabled-length name (found .constants))) in
-          let termed : Termed (name j) = subst Termed (tabled-at name (found .constants) j [] h) at in
-          term-some (name j) termed
-
-      -- what is named has a key
-      named : (i : ℕ) → isKnown (c .symbols) (found .constants) i ≡ true → 0 < getD names′ i 0
-      unfolding isKnown
-      named i k = go (ltb i (c .symbols)) refl k
-        where
-          program-terms : TermedProgram (r .p)
-          program-terms = reads-accepted 9 TermedProgram (readProgram program) (program-termed program) (r .first .read)
-
-          go : (b : Bool) → ltb i (c .symbols) ≡ b
-              → (b || (leb firstConstant i && ltb i (firstConstant + found .constants))) ≡ true → 0 < getD names′ i 0
-          go true e t = key-some (getD names′ i 0) (symbol-some i (ltb-true i (c .symbols) e) program-terms)
-          go false e t =
-              let (l, m) = and-true (leb firstConstant i) (ltb i (firstConstant + found .constants)) t in
-              let least : firstConstant ≤ i = leb-true firstConstant i l in
-              let most : i < firstConstant + found .constants = ltb-true i (firstConstant + found .constants) m in
-              let back : firstConstant + (i - firstConstant) ≡ i = omega arith in
-              key-some (getD names′ i 0)
-              (subst (λ (j : ℕ). 0 < length (spell (getD names′ j 0))) back
-              (constant-some (i - firstConstant) (omega arith) program-terms))
+          known-some names′ symbols (c .symbols) (found .constants)
+          (subst (λ (q : Program). All (λ (s : Symbol). Termed (s .name)) (q .symbols)) same-program (of-program .symbols))
+          (of-goal .constants (of-program .constants))
 
       -- a goal as read
       pub goal-ready :

@@ -23,6 +23,7 @@ use Rattle.text.proofs.Bools.{and-true}
 use Rattle.semantics.proofs.Configurations.{All, also, TermBelow}
 use Rattle.semantics.proofs.Configurations as C
 use Rattle.semantics.proofs.Multisets.{all-mono}
+use Rattle.semantics.proofs.Listings.{all-every}
 use Rattle.semantics.proofs.Vocabulary.{TermOver, ConstraintOver, RuleOver, Spoken, SpokenState, run-spoken}
 use Rattle.syntax.specs.Answers.{accepted}
 use Rattle.syntax.specs.Forms.{firstConstant}
@@ -41,13 +42,14 @@ use Rattle.engine.specs.declared.derivation.Final.{Final as FinalCells}
 use Rattle.engine.proofs.GoalLaws.{isUsed, programOf, AsRead, goal-starts, goal-runs}
 use Rattle.listing.specs.Listing.{Naming, namingOf, variableName, stateListing, endListing}
 use Rattle.listing.specs.Ends.{endBytes, Listable}
-use Rattle.listing.proofs.NamingLaws.{usesIn, usesOf, usesOnly, boundIn, state-named, symbol-named, constant-named, variable-named}
+use Rattle.listing.proofs.NamingLaws.{usesOnly, boundIn, state-named, variable-named}
 use Rattle.replies.specs.Replies.{goalText, replyOf, fitted, runListing, runReply}
 use Rattle.replies.proofs.Elements.{all-at}
 use Rattle.roketuma.specs.Answers.{Replied}
 use Rattle.roketuma.specs.Stages.{programTable, isKnown, ProgramReady, Ready, Entered, finalBytes, FinalListable}
 use Rattle.roketuma.specs.declared.RunReply.{RunReply}
 use Rattle.roketuma.specs.declared.Sizes.{Sizes}
+use Rattle.roketuma.proofs.KnownLaws.{state-known, known-named}
 
 -- a constant with a number is not 0
 over-used : (k : ℕ) (t : Term) → TermOver (ConstantOf k) t → isUsed t ≡ true
@@ -55,17 +57,12 @@ unfolding isUsed
 over-used k (con c) o = le-leb 1 c (omega (arith, o .0))
 over-used k (var x) o = refl
 
--- what holds of all elements, as a test
-all-test : {A : Type 0} (t : A → Bool) {l : List A} → All (λ (x : A). t x ≡ true) l → every t l ≡ true
-all-test t C.none = refl
-all-test t (also h more) = rw (h, all-test t more)
-
 module _ {program names symbols rules : List ℕ} {k n : ℕ} {p : Reading} (r : ProgramReady program names symbols rules k n p) where
   -- what reading says of the tables
   abbrev small : ReadSmall p
   small = read-small program (r .read)
 
-  symbols-count : length (p .program .symbols) ≡ k
+  pub symbols-count : length (p .program .symbols) ≡ k
   unfolding programTable symbolsOf
   symbols-count = ap (λ (q : Program). length (q .symbols)) (r .holds) ∙ tabled-length (symbolOf names symbols) k
 
@@ -105,7 +102,7 @@ module _ {program names symbols rules : List ℕ} {k n : ℕ} {p : Reading} (r :
       → every (λ (e : Equation). isUsed (e .left) && isUsed (e .right)) (ruleOfRow [] (rowOf rules i) .equations) ≡ true
   unfolding ruleOf ruleOfRow
   used i h =
-      all-test (λ (e : Equation). isUsed (e .left) && isUsed (e .right))
+      all-every (λ (e : Equation). isUsed (e .left) && isUsed (e .right))
       (all-mono (λ e o. rw (
         over-used (length (p .constants)) (e .left) (o .0),
         over-used (length (p .constants)) (e .right) (o .1),
@@ -144,37 +141,6 @@ unfolding isBelow
 below-test n (con c) h = refl
 below-test n (var x) h = lt-ltb x n h
 
-module _ (k c : ℕ) where
-  over-known : (t : Term) → TermOver (ConstantOf c) t → usesIn (isKnown k c) t ≡ true
-  unfolding usesIn isKnown
-  over-known (con a) (l, h) =
-      go (ltb a k) (rw (le-leb firstConstant a l, lt-ltb a (firstConstant + c) h))
-    where
-      go : (b : Bool) → (leb firstConstant a && ltb a (firstConstant + c)) ≡ true
-          → (b || (leb firstConstant a && ltb a (firstConstant + c))) ≡ true
-      go true e = refl
-      go false e = e
-  over-known (var x) h = refl
-
-  declared-known : (symbols : List Symbol) (d : Constraint) → length symbols ≡ k → isDeclared symbols d ≡ true
-      → isKnown k c (d .symbol) ≡ true
-  unfolding isDeclared isKnown
-  declared-known symbols d size h =
-      let low : ltb (d .symbol) k ≡ true = rw size at (and-true (ltb (d .symbol) (length symbols)) _ h .0) in
-      rw low
-
-  rows-known : (symbols : List Symbol) (cs : List Constraint) → length symbols ≡ k
-      → All (λ d. isDeclared symbols d ≡ true) cs → All (ConstraintOver (ConstantOf c)) cs
-      → every (usesOf (isKnown k c)) cs ≡ true
-  unfolding usesOf
-  rows-known symbols [] size ds os = refl
-  rows-known symbols (d ∷ cs) size (also h ds) (also o os) =
-      rw (
-        declared-known symbols d size h,
-        all-test (usesIn (isKnown k c)) (all-mono over-known o),
-        rows-known symbols cs size ds os,
-      )
-
 -- constraints of few symbols, below a number
 rows-within : (n : ℕ) (symbols : List Symbol) (cs : List Constraint) → length symbols ≤ 32
     → All (λ d. isDeclared symbols d ≡ true) cs → All (λ d. All (TermBelow n) (d .terms)) cs → every (isWithin n) cs ≡ true
@@ -185,7 +151,7 @@ rows-within n symbols (d ∷ cs) few (also h ds) (also b bs) =
     (and-true (ltb (d .symbol) (length symbols)) _ h .0) in
     rw (
       lt-ltb (d .symbol) firstVariable (omega arith),
-      all-test (isBelow n) (all-mono (below-test n) b),
+      all-every (isBelow n) (all-mono (below-test n) b),
       rows-within n symbols cs few ds bs,
     )
 
@@ -271,31 +237,12 @@ module _ {program goal places rules letters cells : List ℕ} {z : Sizes} (r : R
   -- the names of the tables are those of the texts
   same-names : (i : ℕ) → isKnown (r .k) (r .c) i ≡ true
       → nameIn program goal places i ≡ namingOf (r .p .program .symbols) (r .g .constants) i
-  unfolding isKnown programTable
+  unfolding programTable
   same-names i h =
-      sym (ap (λ (ss : List Symbol). namingOf ss (r .g .constants) i) (ap (λ (q : Program). q .symbols) (r .first .holds))
-      ∙ ap (λ (cs : List (List ℕ)). namingOf (symbolsOf (r .names) (r .symbols) (r .k)) cs i) (r .spelled)
-      ∙ sym (go (ltb i (r .k)) refl h))
-    where
-      few : r .c ≤ 64
-      few = omega (arith, count-constants, goal-read .few-constants)
-
-      go : (b : Bool) → ltb i (r .k) ≡ b → (b || (leb firstConstant i && ltb i (firstConstant + r .c))) ≡ true
-          → nameIn program goal places i
-          ≡ namingOf (symbolsOf (r .names) (r .symbols) (r .k)) (constantsOf (r .names) (r .c)) i
-      go true e t =
-          let low : i < r .k = ltb-true i (r .k) e in
-          symbol-named program goal (r .names) places (r .symbols) (r .k) (r .c) (r .placed) i low
-          (omega (arith, few-symbols (r .first))) (omega (arith, few-symbols (r .first))) (r .named i h)
-      go false e t =
-          let (l, m) = and-true (leb firstConstant i) (ltb i (firstConstant + r .c)) t in
-          let least : firstConstant ≤ i = leb-true firstConstant i l in
-          let most : i < firstConstant + r .c = ltb-true i (firstConstant + r .c) m in
-          let back : firstConstant + (i - firstConstant) ≡ i = omega arith in
-          subst (λ (j : ℕ). nameIn program goal places j
-          ≡ namingOf (symbolsOf (r .names) (r .symbols) (r .k)) (constantsOf (r .names) (r .c)) j) back
-          (constant-named program goal (r .names) places (r .symbols) (r .k) (r .c) (r .placed) (i - firstConstant)
-          (omega arith) (omega (arith, few)) (subst (λ (j : ℕ). 0 < getD (r .names) j 0) (sym back) (r .named i h)))
+      known-named program goal (r .names) places (r .placed) (r .symbols) (r .k) (r .c) (few-symbols (r .first))
+      (omega (arith, count-constants, goal-read .few-constants)) (r .named) i h
+      ∙ sym (ap (λ (ss : List Symbol). namingOf ss (r .g .constants) i) (ap (λ (q : Program). q .symbols) (r .first .holds))
+      ∙ ap (λ (cs : List (List ℕ)). namingOf (symbolsOf (r .names) (r .symbols) (r .k)) cs i) (r .spelled))
 
   -- the names of the goal's variables
   same-letters : (i : ℕ) → i < length letters → variableName letters i ≡ getD (r .g .letters) i []
@@ -307,17 +254,13 @@ module _ {program goal places rules letters cells : List ℕ} {z : Sizes} (r : R
   final-uses : (s : State) (f : ℕ)
       → SpokenState (r .p .program .symbols) vocabulary (r .g .goal .variables) f s
       → (usesOnly (isKnown (r .k) (r .c)) s ≡ true) × (boundIn s ≤ length letters)
-  unfolding usesOnly boundIn
-  final-uses failed f t = (refl, omega arith)
-  final-uses (live next b cs) f t =
-      let over : All (TermOver (ConstantOf (r .c))) b = rw count-constants at (t .bound) in
-      let rows : All (ConstraintOver (ConstantOf (r .c))) cs = rw count-constants at (t .constraints) in (
-        rw (
-          all-test (usesIn (isKnown (r .k) (r .c))) (all-mono (over-known (r .k) (r .c)) over),
-          rows-known (r .k) (r .c) (r .p .program .symbols) cs (symbols-count (r .first)) (t .declared) rows,
-        ),
-        omega (arith, t .size, variables),
-      )
+  unfolding boundIn
+  final-uses failed f t = (state-known (r .k) (r .c) (r .p .program .symbols) (r .g .goal .variables) f failed (symbols-count (r .first)) tt, omega arith)
+  final-uses (live next b cs) f t = (
+    state-known (r .k) (r .c) (r .p .program .symbols) (r .g .goal .variables) f (live next b cs) (symbols-count (r .first))
+        (rw count-constants at t),
+    omega (arith, t .size, variables),
+  )
 
   -- the listing of the end, by the names of the tables
   pub final-listed :
@@ -366,7 +309,7 @@ module _ {program goal places rules letters cells : List ℕ} {z : Sizes} (r : R
           count-few = λ y. omega (arith, e .ended .few y, room);
           next-few = λ y. let s = lives y in omega (arith, s .numbered, variables, few-variables, few-firings);
           within = λ y. let s = lives y in record {
-            bound-within = all-test (isBelow (f .next)) (all-mono (below-test (f .next)) (s .scoped .bound));
+            bound-within = all-every (isBelow (f .next)) (all-mono (below-test (f .next)) (s .scoped .bound));
             within = rows-within (f .next) (r .p .program .symbols) (cellConstraints (take (5 * f .count) cells′))
                 (omega (arith, few-symbols (r .first), symbols-count (r .first))) (s .declared) (s .scoped .constraints);
             few = omega (

@@ -1,5 +1,7 @@
--- What the public functions' answers mean, and what the stages of a run ask. Assumes nothing.
+-- What the public functions' answers mean, and what the stages of a run and of a check ask. Assumes nothing.
 pub mod Answers
 pub mod Stages
+pub mod Outcomes
 pub mod Promises
 pub mod Numbers
+pub mod Checking

@@ -16,7 +16,7 @@ use Rattle.text.specs.Fields.{isNumber, valueOf}
 use Rattle.semantics.specs.Strategy.{Final}
 use Rattle.semantics.specs.Overlaps.{Overlap, overlaps}
 use Rattle.semantics.specs.Verdict.{verdict, confluent, unjoined}
-use Rattle.semantics.specs.Claims.{OneOutcome, OneOutcomeByAppearance, Bounded, Counterexample}
+use Rattle.semantics.specs.Claims.{Bounded}
 use Rattle.syntax.specs.Answers.{refused, accepted}
 use Rattle.syntax.specs.Programs.{Reading, readProgram}
 use Rattle.listing.specs.Listing.{decimal}
@@ -27,6 +27,7 @@ use Rattle.roketuma.specs.declared.Refusal.{Refusal}
 use Rattle.roketuma.specs.declared.CheckReply.{CheckReply}
 use Rattle.roketuma.specs.declared.CheckReply.the-variants.{Refused, Confluent, Unjoined}
 use Rattle.roketuma.specs.Answers.{textMeant, nameByte}
+use Rattle.roketuma.specs.Outcomes.{OneOutcome, OneOutcomeByAppearance, Counterexample}
 
 -- an answer as a reply: a refusal's number, text and line; or the listing that the output holds
 unfoldable pub checkMeant : CheckReply → List ℕ → Reply
@@ -60,7 +61,7 @@ pub record Told (s : List ℕ) (r : CheckReply) : Type 0 where
 -- goal, which are not equal; so not each goal has one outcome. For one outcome of all goals it is enough that those as document
 -- 01 has them have one. No derivation fires more often than its goal's weight. A number is shown in digits without a leading
 -- zero, whose value it is
-pub record CheckedAs (p : Reading) (before after : List ℕ) (r : CheckReply) : Type 1 where
+pub record CheckedAs (p : Reading) (before after : List ℕ) (r : CheckReply) : Type 0 where
   pub decided : length (checkListing p) ≤ length before → ((n : ℕ) × (r ≡ Confluent n)) ⊎ ((n : ℕ) × (r ≡ Unjoined n))
   pub exact : length (checkListing p) ≤ length before → ((n : ℕ) × (r ≡ Confluent n)) ↔ OneOutcome (p .program)
   pub passed :
@@ -81,7 +82,7 @@ ofProgram number line = Refused (record { number = number; text = S; line = line
 -- demand 3 of the answer to any text s, and of the bytes that it leaves: a text that meets one of document 01's numbers 1 to 9 is
 -- refused under it, with its line, and no other is; number 11 is the answer exactly where the text reads and the listing does
 -- not fit; a refusal names the program's text and leaves the output untouched; and every text that reads is checked
-pub record Demand3Of (s before after : List ℕ) (r : CheckReply) : Type 1 where
+pub record Demand3Of (s before after : List ℕ) (r : CheckReply) : Type 0 where
   pub numbers : (number line : ℕ) → readProgram s ≡ refused number line → (1 ≤ number) × (number ≤ 9)
   pub turned : (number line : ℕ) → number < 11 → (readProgram s ≡ refused number line) ↔ (r ≡ ofProgram number line)
   pub eleven :
@@ -97,7 +98,7 @@ checkNumber (Confluent n) = n
 checkNumber (Unjoined n) = 2147483648 + n
 
 -- the number of an answer of which all this holds
-pub record CheckReturned (s before after : List ℕ) (r : ℕ) : Type 1 where
+pub record CheckReturned (s before after : List ℕ) (r : ℕ) : Type 0 where
   pub answer : CheckReply
   pub number : r ≡ checkNumber answer
   pub replied : CheckReplied (checkReply s (length before)) before after answer

@@ -1,9 +1,12 @@
 // The two replies, from bytes to bytes: the public functions, thin over the readers, the engine and the listing.
 // Their promises are the definitions of specs/Replies.antt, through specs/Answers.antt.
+mod checking;
 mod exported;
 mod printing;
 mod running;
 
+pub use checking::check;
+pub use printing::put_check;
 pub use printing::put_refusal;
 pub use printing::put_reply;
 pub use printing::put_run;

@@ -1,9 +1,11 @@
 // What the programs print, as bytes in a lent output: the reply to an input, and a refusal.
 // The programs do no more than write them.
+use crate::CheckReply;
 use crate::RunReply;
 use crate::TextName;
+use crate::checking::check;
 use crate::running::run;
-use listing::lines::put_head;
+use listing::putting::put_head;
 use listing::writing::copy;
 use listing::writing::put_decimal;
 use text::split_goal;
@@ -13,7 +15,7 @@ ghost use Prim.Native.Nat.{_≤_, _<_};
 ghost use lib.ListN.{length};
 ghost use Rattle.text.specs.Bytes.{ascii};
 ghost use Rattle.listing.specs.Listing.{decimal};
-ghost use Rattle.replies.specs.Replies.{refusal, printed, runReply, ample, sheetrun};
+ghost use Rattle.replies.specs.Replies.{refusal, printed, runReply, ample, sheetrun, sheetcheck};
 ghost use Rattle.roketuma.specs.Answers.{textMeant, refusalBytes, Printed};
 
 // The line of a refusal, from the bytes `,S,` or `,G,` that name its text: the number behind the word, the line behind both.
@@ -58,4 +60,18 @@ pub fn put_run(input: &[u8], out: &mut [u8; 32768]) -> usize
     let end = split.end;
     let start = split.start;
     put_reply(&input[..end], &input[start..], out)
+}
+
+// All that `sheetcheck` prints on an input, into the front of an output; answers how many bytes.
+pub fn put_check(input: &[u8], out: &mut [u8; 32768]) -> usize
+    ensures { λ r. ⌜ Printed (sheetcheck (now (input .entry))) (now (out .entry)) (now (out .exit)) r ⌝ }
+{
+    match check(input, out) {
+        CheckReply::Refused(refusal) => {
+            let text = refusal.text;
+            put_refusal(out, refusal.number, text, refusal.line)
+        }
+        CheckReply::Confluent(n) => n,
+        CheckReply::Unjoined(n) => n,
+    }
 }

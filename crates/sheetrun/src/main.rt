@@ -1,5 +1,5 @@
 // `sheetrun`: runs the goal over the program that standard input holds, and prints the listing or the refusal.
-// 40,000 bytes decide every longer input (`prefix-decides`, crates/roketuma/proofs/Prefix.antt).
+// 40,000 bytes decide every longer input (`prefix-decides`, crates/replies/proofs/Prefix.antt).
 
 // Writes what is printed on an input.
 fn answer(input: &[u8]) {

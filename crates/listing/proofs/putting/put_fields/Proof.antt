@@ -1,0 +1,81 @@
+-- `listing::putting::put_fields` meets its contract: the fields before i are written. Assumes nothing.
+use borrow.Author.Needs.{needs}
+use mathlib.Core.List.{List, map}
+use Prim.Native.Nat.{ℕ, _≤_, _-_}
+use native.Mathlib.Omega.{arith}
+use lib.ListN.{length, drop}
+use Rattle.tables.specs.Names.{nameIn}
+use Rattle.listing.specs.Listing.{fieldsBehind}
+use Rattle.listing.specs.Ends.{cellShown}
+use Rattle.listing.proofs.WriteLaws.{Writing, writing-start}
+use Rattle.listing.proofs.LineLaws.{fieldsFrom, comma-count, field-count, fields-next, feed-count, fields-wrote}
+use Rattle.listing.proofs.putting.put_fields.Statement.{statement}
+use Rattle.listing.proofs.putting.put_fields.Tie as tie
+
+abbrev Inv-loop : tie.InvT-loop
+Inv-loop out₀ at program goal places letter cells end₀ i₀ out end i =
+    let field = cellShown (nameIn program goal places) letter in
+    (i ≤ length cells) × Writing (fieldsBehind (map field cells)) at out₀ out end (fieldsFrom field cells i)
+
+abbrev μ-loop : tie.MeasureT-loop
+μ-loop out₀ at program goal places letter cells end₀ i₀ out end i = length cells - i
+
+loop-holds : tie.Need-loop-holds Inv-loop μ-loop
+loop-holds c = (omega arith, writing-start _ _ _)
+
+put-byte-requires : tie.Need-put-byte-requires Inv-loop μ-loop
+put-byte-requires c κs = search comma-count
+
+mul-put-cell : tie.Need-mul-put-cell Inv-loop μ-loop
+mul-put-cell c = search needs
+
+shared-slice-read-put-cell : tie.Need-shared-slice-read-put-cell Inv-loop μ-loop
+shared-slice-read-put-cell c = search needs
+
+put-cell-requires : tie.Need-put-cell-requires Inv-loop μ-loop
+put-cell-requires c κs =
+    let at-byte = c .before .before .before .before in
+    let at-test = at-byte .before .before in
+    let at-loop = at-test .before in
+    field-count _ _ _ (at-loop .loop .inv .1) (at-test .loop-test .taken)
+    (at-loop .before .before .before .before .before .before .pre) (at-byte .put-byte .ensures)
+
+add-i : tie.Need-add-i Inv-loop μ-loop
+add-i c = search needs
+
+loop-less : tie.Need-loop-less Inv-loop μ-loop
+loop-less c = search needs
+
+loop-again : tie.Need-loop-again Inv-loop μ-loop
+loop-again c = (omega arith, search fields-next)
+
+put-byte-requires-2 : tie.Need-put-byte-requires-2 Inv-loop μ-loop
+put-byte-requires-2 c κs =
+    let at-test = c .before in
+    let at-loop = at-test .before in
+    let start = at-loop .before .before .before .before .before .before in
+    feed-count _ _ _ (at-loop .loop .inv .1) (at-test .loop-test .left) (start .pre)
+
+same-length : tie.Need-same-length Inv-loop μ-loop
+same-length c = search needs
+
+returns : tie.Need-returns Inv-loop μ-loop
+returns c = search fields-wrote
+
+pub put-fields-spec : {M : Type 1} → statement M
+put-fields-spec =
+    tie.close
+    (tie.spec
+    Inv-loop
+    μ-loop
+    loop-holds
+    put-byte-requires
+    mul-put-cell
+    shared-slice-read-put-cell
+    put-cell-requires
+    add-i
+    loop-less
+    loop-again
+    put-byte-requires-2
+    same-length
+    returns)

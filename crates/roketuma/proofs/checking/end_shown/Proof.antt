@@ -1,0 +1,17 @@
+-- `roketuma::checking::end_shown` meets its contract: a live end with its next variable, and a failed one without. Assumes nothing.
+use borrow.Author.Needs.{needs}
+use Rattle.roketuma.proofs.CheckingLaws.{end-live, end-failed}
+use Rattle.roketuma.proofs.checking.end_shown.Statement.{statement}
+use Rattle.roketuma.proofs.checking.end_shown.Tie as tie
+
+wide-requires : tie.Need-wide-requires
+wide-requires c κs = search needs
+
+returns : tie.Need-returns
+returns c = search end-live
+
+returns-2 : tie.Need-returns-2
+returns-2 c = search end-failed
+
+pub end-shown-spec : {M : Type 1} → statement M
+end-shown-spec = tie.close (tie.spec wide-requires returns returns-2)

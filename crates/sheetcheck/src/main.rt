@@ -1,0 +1,15 @@
+// `sheetcheck`: checks the program that standard input holds for confluence, and prints the pass, an unjoined overlap or the refusal.
+// 40,000 bytes decide every longer input (`check-prefix-decides`, crates/replies/proofs/Prefix.antt).
+
+// Writes what is printed on an input.
+fn answer(input: &[u8]) {
+    let mut out = [0u8; 32768];
+    let n = roketuma::put_check(input, &mut out);
+    io::write_all(1, &out[..n]);
+}
+
+fn main() {
+    let mut input = [0u8; 40000];
+    let n = io::read_full(0, &mut input);
+    answer(&input[..n])
+}

@@ -1,0 +1,112 @@
+/* Calls both functions of the library with guard bytes around every buffer, on listings and refusals, and in every room from
+   0 bytes to one more than the listing has. Prints what each call returned; ends with 1 where a byte or an answer is not as it must
+   be. */
+#include "roketuma.h"
+#include <stdio.h>
+#include <string.h>
+
+enum { GUARD = 64, TEXT_ROOM = 20000, ROOM = 1024 };
+static int faults;
+
+/* A text, and a text between guards. */
+struct text {
+    const char *bytes;
+    size_t length;
+};
+
+struct lent {
+    uint8_t bytes[GUARD + TEXT_ROOM + GUARD];
+};
+
+/* The output of the last call, between guards. */
+static uint8_t output[GUARD + ROOM + GUARD];
+
+static void lend(struct lent *l, const struct text *text)
+{
+    memset(l->bytes, 0xa5, sizeof l->bytes);
+    if (text)
+        memcpy(l->bytes + GUARD, text->bytes, text->length);
+}
+
+static void fault(const char *what, const char *why)
+{
+    printf("%s: %s\n", what, why);
+    faults++;
+}
+
+/* One call, a check where there is no goal: both texts must stay as they were, and the output outside the listing too. */
+static uint64_t call(const char *what, struct text program, const struct text *goal, size_t room)
+{
+    static struct lent a, b, before_a, before_b;
+    static uint8_t before[GUARD + ROOM + GUARD];
+    lend(&a, &program);
+    lend(&b, goal);
+    before_a = a;
+    before_b = b;
+    memset(output, 0x5a, sizeof output);
+    memcpy(before, output, sizeof output);
+    uint64_t r = goal ? roketuma_run(a.bytes + GUARD, program.length, b.bytes + GUARD, goal->length, output + GUARD, room)
+                      : roketuma_check(a.bytes + GUARD, program.length, output + GUARD, room);
+    size_t written = roketuma_length(r);
+    if (memcmp(&a, &before_a, sizeof a) || memcmp(&b, &before_b, sizeof b) || written > room
+        || memcmp(output, before, GUARD) || memcmp(output + GUARD + written, before + GUARD + written, ROOM - written + GUARD))
+        fault(what, "a byte changed that must not");
+    if (roketuma_is_pass(r) + roketuma_is_overlap(r) + roketuma_is_refusal(r) != 1)
+        fault(what, "an answer that is not one of three");
+    return r;
+}
+
+static void show(const char *what, uint64_t r)
+{
+    if (roketuma_is_refusal(r))
+        printf("%s: refused %u %c %u\n", what, roketuma_number(r), roketuma_text(r), roketuma_line(r));
+    else
+        printf("%s: %u bytes%s\n", what, (unsigned)roketuma_length(r), roketuma_is_overlap(r) ? ", an overlap" : "");
+}
+
+/* The same call in every room: number 11 where the listing does not fit, otherwise the answer and the listing of the large room. */
+static void every_room(const char *what, struct text program, const struct text *goal)
+{
+    static uint8_t listing[ROOM];
+    uint64_t whole = call(what, program, goal, ROOM);
+    uint64_t short_room = ((uint64_t)11 << 32) + ((uint64_t)(goal ? 'G' : 'S') << 16);
+    size_t length = roketuma_length(whole), last = roketuma_is_refusal(whole) ? GUARD : length + 1;
+    memcpy(listing, output + GUARD, length);
+    show(what, whole);
+    for (size_t room = 0; room <= last; room++) {
+        uint64_t r = call(what, program, goal, room);
+        if (r != (room < length ? short_room : whole) || memcmp(listing, output + GUARD, roketuma_length(r)))
+            fault(what, "another answer in another room");
+    }
+}
+
+#define TEXT(s) ((struct text){ s, sizeof s - 1 })
+#define LEQ_HEAD "K,leq,2,1\n"
+#define LEQ_TAIL "R,anti\nH,leq,X,Y\nH,leq,Y,X\nE,X,Y\nR,idem\nH,leq,X,Y\nH,leq,X,Y\nB,leq,X,Y\n"
+
+int main(void)
+{
+    static char many[TEXT_ROOM];
+    memset(many, 'x', sizeof many);
+    struct text leq = TEXT(LEQ_HEAD "R,refl\nH,leq,X,X\n" LEQ_TAIL), none = TEXT(""), long_text = { many, 16385 };
+    struct text goal = TEXT("G,leq,A,B\nG,leq,B,A\nG,leq,A,c\n"), fails = TEXT("G,leq,a,b\nG,leq,b,a\n"), unknown = TEXT("G,p\n");
+    every_room("a run", leq, &goal);
+    every_room("a failed run", leq, &fails);
+    every_room("a run, both empty", none, &none);
+    every_room("a run, no line feed", TEXT("K,p,0,1"), &none);
+    every_room("a run, 16,385 bytes", long_text, &none);
+    every_room("a run, a goal of 16,385 bytes", leq, &long_text);
+    every_room("a run, an undeclared symbol", leq, &unknown);
+    every_room("a run, a rule without a head", TEXT("K,p,0,1\nR,r\nE,a,a\n"), &none);
+    every_room("a pass", leq, NULL);
+    every_room("a pass, empty", none, NULL);
+    every_room("an overlap", TEXT(LEQ_HEAD LEQ_TAIL), NULL);
+    every_room("an overlap, one end failed", TEXT("K,p,0,1\nR,one\nH,p\nE,a,b\nR,two\nH,p\n"), NULL);
+    every_room("a check, no line feed", TEXT("K,p,0,1"), NULL);
+    every_room("a check, 16,385 bytes", long_text, NULL);
+    every_room("a check, an undeclared symbol", TEXT("K,p,0,1\nR,r\nH,q\n"), NULL);
+    every_room("a check, a rule without a head", TEXT("K,p,0,1\nR,r\nE,a,a\n"), NULL);
+    every_room("a check, heads no heavier than the body", TEXT("K,p,0,1\nR,r\nH,p\nB,p\n"), NULL);
+    every_room("a check, a goal's line", TEXT(LEQ_HEAD "G,leq,A,B\n"), NULL);
+    return faults != 0;
+}
