@@ -25,16 +25,17 @@ use Rattle.semantics.proofs.Comparison.{sameState-complete}
 use Rattle.tables.specs.Cells.{cellTerm, cellConstraints}
 use Rattle.tables.specs.Cells.{isLow}
 use Rattle.tables.proofs.CellLaws.{le-or-lt, every-first, every-rest}
-use Rattle.comparison.specs.Rows.{rowOf}
-use Rattle.comparison.specs.Renamings.{Below, TermsBelow}
-use Rattle.comparison.specs.Comparing.{endOf, Side, Alike, Comparable}
-use Rattle.comparison.specs.Classes.{Colourable, Classified}
+use Rattle.colours.specs.Rows.{rowOf}
+use Rattle.colours.specs.Bounds.{Below, TermsBelow}
+use Rattle.colours.specs.Ends.{endOf}
+use Rattle.comparison.specs.Comparing.{Side, Alike, Comparable}
+use Rattle.colours.specs.Classes.{Colourable, Classified}
 use Rattle.comparison.specs.Settlements.{Found}
-use Rattle.comparison.specs.Numbering.{Renames, Numbering, Renumbered}
-use Rattle.comparison.specs.Order.{Reordered}
-use Rattle.comparison.proofs.RowLaws.{pointwise-at, rows-pointwise, row-at, constraints-count}
-use Rattle.comparison.proofs.AgreeLaws.{prefix-agree}
-use Rattle.comparison.proofs.ClassLaws.{same-iff}
+use Rattle.colours.specs.Numbering.{Renames, Numbering, Renumbered}
+use Rattle.colours.specs.Order.{Reordered}
+use Rattle.colours.proofs.RowLaws.{pointwise-at, rows-pointwise, row-at, constraints-count}
+use Rattle.colours.proofs.AgreeLaws.{prefix-agree}
+use Rattle.colours.proofs.ClassLaws.{same-iff}
 
 -- the cells before i are the same
 pub record Matching (a b : List ℕ) (i : ℕ) : Type 0 where

@@ -23,7 +23,7 @@ use Rattle.tables.specs.Cells.{rowConstraint}
 use Rattle.tables.proofs.CellLaws.{either, constraints-at}
 use Rattle.comparison.specs.Renamings.{Graph, Marks, Rows, RowsLinked, cleared}
 use Rattle.comparison.specs.Placements.{attempted, placed, Placing, Tried}
-use Rattle.comparison.proofs.RowLaws.{terms-row, terms-drop}
+use Rattle.colours.proofs.RowLaws.{terms-row, terms-drop}
 
 -- no mark is set
 pub marks-none : (m n : ℕ) → Marks (take m (replicate n false)) []

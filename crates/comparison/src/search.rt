@@ -1,17 +1,18 @@
 // The comparison step by step: what is decided without a search comes first.
-use crate::classes::classify;
-use crate::order::arrange_by;
 use crate::pairing::pair_bound;
 use crate::placing::place;
 use crate::settling::settles;
+use colours::classes::classify;
+use colours::order::arrange_by;
 ghost use mathlib.Core.Path.{_≡_};
 ghost use Prim.Native.Nat.{_*_, _≤_};
 ghost use lib.ListN.{length};
 ghost use Rattle.semantics.specs.Variants.{sameState};
-ghost use Rattle.comparison.specs.Renamings.{TermsBelow};
-ghost use Rattle.comparison.specs.Comparing.{endOf, Alike};
-ghost use Rattle.comparison.specs.Classes.{Colourable};
-ghost use Rattle.comparison.specs.Order.{Reordered};
+ghost use Rattle.colours.specs.Bounds.{TermsBelow};
+ghost use Rattle.colours.specs.Ends.{endOf};
+ghost use Rattle.comparison.specs.Comparing.{Alike};
+ghost use Rattle.colours.specs.Classes.{Colourable};
+ghost use Rattle.colours.specs.Order.{Reordered};
 
 // Room for all cells: constants, 28 goal variables, and as many more as 512 constraints have cells.
 const ROOM: usize = 2844;

@@ -9,7 +9,7 @@ use Rattle.comparison.proofs.search.decide.Statement.{statement}
 use Rattle.comparison.proofs.search.decide.Tie as tie
 use Rattle.comparison.proofs.search.decide.Reads as reads
 use Rattle.comparison.proofs.search.decide.Lts as lts
-use Rattle.comparison.proofs.classes.classify.Reads as classify-reads
+use Rattle.colours.proofs.classes.classify.Reads as classify-reads
 use Rattle.comparison.proofs.search.arrange.Reads as arrange-reads
 use Rattle.comparison.proofs.search.search.Reads as search-reads
 use Rattle.comparison.proofs.settling.settles.Reads as settles-reads
