@@ -1,5 +1,7 @@
 // The constraints of one state in an order in which each shares variables with those before it, where one does: the search then
 // goes on next to what is placed already. Which order is taken says nothing of the answer.
+use std::num::wrapping_add_u16;
+use std::num::wrapping_sub_u16;
 use tables::wide;
 ghost use mathlib.Core.Path.{_≡_};
 ghost use Prim.Native.Nat.{_+_, _*_, _≤_, _<_};
@@ -10,64 +12,114 @@ ghost use Rattle.colours.specs.Order.{Ordering, Swapped, Reordered};
 // From this cell on, cells are variables.
 const VARIABLES: u16 = 256;
 
-// 1 for true.
-pub fn one(b: bool) -> usize
-    ensures { λ r. ⌜ r ≤ 1 ⌝ }
-{
-    if b { 1 } else { 0 }
-}
-
-// How many columns of constraint i hold a variable that was seen.
-pub fn count_seen(cells: &[u16], i: usize, seen: &[bool]) -> usize
-    requires { ⌜ TermsBelow (length (now seen)) (now cells) × (5 * i + 5 ≤ length (now cells)) ⌝ }
-    ensures { λ r. ⌜ r ≤ 4 ⌝ }
+// Counts the terms of constraint i, by cells.
+pub fn tally(cells: &[u16], i: usize, counts: &mut [u16])
+    requires { ⌜ TermsBelow (length (now counts)) (now cells) × (5 * i + 5 ≤ length (now cells)) ⌝ }
+    ensures { λ _. ⌜ length (now (counts .exit)) ≡ length (now (counts .entry)) ⌝ }
 {
     let p = 5 * i + 1;
-    let mut count = 0;
     let mut j = 0;
     while j < 4 {
         let x = wide(cells[p + j]);
-        count += one(seen[x]);
+        counts[x] = wrapping_add_u16(counts[x], 1);
         j += 1;
     }
-    count
 }
 
-// The first constraint from k on with at least `least` such columns; n where none has.
-pub fn first_with(cells: &[u16], k: usize, n: usize, least: usize, seen: &[bool]) -> usize
-    requires { ⌜ Ordering (now cells) k n (length (now seen)) ⌝ }
-    ensures { λ r. ⌜ (k ≤ r) × (r ≤ n) ⌝ }
+// Counts the terms of all constraints.
+pub fn tally_all(cells: &[u16], n: usize, counts: &mut [u16])
+    requires { ⌜ TermsBelow (length (now counts)) (now cells) × (length (now cells) ≡ 5 * n) ⌝ }
+    ensures { λ _. ⌜ length (now (counts .exit)) ≡ length (now (counts .entry)) ⌝ }
 {
-    let mut i = k;
+    let mut i = 0;
     while i < n {
-        if count_seen(cells, i, seen) >= least {
-            return i;
-        }
+        tally(cells, i, counts);
         i += 1;
     }
-    n
 }
 
-// The constraint from k on with the most such columns, k where none has any.
-pub fn choose_next(cells: &[u16], k: usize, n: usize, seen: &[bool]) -> usize
-    requires { ⌜ Ordering (now cells) k n (length (now seen)) × (k < n) ⌝ }
+// Whether all variables of constraint i were seen.
+fn is_seen(cells: &[u16], i: usize, seen: &[bool]) -> bool
+    requires { ⌜ TermsBelow (length (now seen)) (now cells) × (5 * i + 5 ≤ length (now cells)) ⌝ }
+{
+    let p = 5 * i + 1;
+    let mut j = 0;
+    while j < 4 {
+        let c = cells[p + j];
+        let x = wide(c);
+        if c >= VARIABLES {
+            if !seen[x] {
+                return false;
+            }
+        }
+        j += 1;
+    }
+    true
+}
+
+// The smaller of a number and the count of a variable that was seen.
+fn smaller(least: u16, c: u16, seen: &[bool], counts: &[u16]) -> u16
+    requires { ⌜ (c < length (now seen)) × (length (now counts) ≡ length (now seen)) ⌝ }
+{
+    let x = wide(c);
+    if !seen[x] {
+        return least;
+    }
+    if counts[x] < least { counts[x] } else { least }
+}
+
+// The least count of a variable of constraint i that was seen; 65535 where none was.
+fn least_count(cells: &[u16], i: usize, seen: &[bool], counts: &[u16]) -> u16
+    requires { ⌜ TermsBelow (length (now seen)) (now cells) × (5 * i + 5 ≤ length (now cells))
+        × (length (now counts) ≡ length (now seen)) ⌝ }
+{
+    let p = 5 * i + 1;
+    let mut least = 65535;
+    let mut j = 0;
+    while j < 4 {
+        least = smaller(least, cells[p + j], seen, counts);
+        j += 1;
+    }
+    least
+}
+
+// How many partners constraint i may have, once the seen variables have theirs: none are sought where all were seen.
+fn rank(cells: &[u16], i: usize, seen: &[bool], counts: &[u16]) -> u16
+    requires { ⌜ TermsBelow (length (now seen)) (now cells) × (5 * i + 5 ≤ length (now cells))
+        × (length (now counts) ≡ length (now seen)) ⌝ }
+{
+    if is_seen(cells, i, seen) {
+        return 0;
+    }
+    least_count(cells, i, seen, counts)
+}
+
+// The first constraint from k on with the least rank.
+pub fn choose_next(cells: &[u16], k: usize, n: usize, seen: &[bool], counts: &[u16]) -> usize
+    requires { ⌜ Ordering (now cells) k n (length (now seen)) × (k < n) × (length (now counts) ≡ length (now seen)) ⌝ }
     ensures { λ r. ⌜ (k ≤ r) × (r < n) ⌝ }
 {
-    let mut least = 4;
-    while least > 0 {
-        let i = first_with(cells, k, n, least, seen);
-        if i < n {
-            return i;
+    let mut best = k;
+    let mut least = 65535;
+    let mut i = k;
+    while i < n {
+        let at = i;
+        let r = rank(cells, at, seen, counts);
+        i += 1;
+        if r < least {
+            least = r;
+            best = at;
         }
-        least -= 1;
     }
-    k
+    best
 }
 
-// The variables of constraint i are seen.
-pub fn see(cells: &[u16], i: usize, seen: &mut [bool])
-    requires { ⌜ TermsBelow (length (now seen)) (now cells) × (5 * i + 5 ≤ length (now cells)) ⌝ }
-    ensures { λ _. ⌜ length (now (seen .exit)) ≡ length (now (seen .entry)) ⌝ }
+// The variables of constraint i are seen, and it is counted no more.
+pub fn see(cells: &[u16], i: usize, seen: &mut [bool], counts: &mut [u16])
+    requires { ⌜ TermsBelow (length (now seen)) (now cells) × (5 * i + 5 ≤ length (now cells))
+        × (length (now counts) ≡ length (now seen)) ⌝ }
+    ensures { λ _. ⌜ (length (now (seen .exit)) ≡ length (now (seen .entry)))
+        × (length (now (counts .exit)) ≡ length (now (counts .entry))) ⌝ }
 {
     let p = 5 * i + 1;
     let mut j = 0;
@@ -75,6 +127,7 @@ pub fn see(cells: &[u16], i: usize, seen: &mut [bool])
         let c = cells[p + j];
         let x = wide(c);
         seen[x] = c >= VARIABLES;
+        counts[x] = wrapping_sub_u16(counts[x], 1);
         j += 1;
     }
 }
@@ -96,16 +149,17 @@ pub fn swap_rows(cells: &mut [u16], i: usize, j: usize)
     }
 }
 
-// All constraints, in lent marks.
-pub fn arrange_by(cells: &mut [u16], n: usize, seen: &mut [bool])
-    requires { ⌜ Ordering (now cells) 0 n (length (now seen)) ⌝ }
+// All constraints, in lent marks and counts.
+pub fn arrange_by(cells: &mut [u16], n: usize, seen: &mut [bool], counts: &mut [u16])
+    requires { ⌜ Ordering (now cells) 0 n (length (now seen)) × (length (now counts) ≡ length (now seen)) ⌝ }
     ensures { λ _. ⌜ Reordered (now (cells .entry)) (now (cells .exit)) ⌝ }
 {
+    tally_all(cells, n, counts);
     let mut k = 0;
     while k < n {
-        let i = choose_next(cells, k, n, seen);
+        let i = choose_next(cells, k, n, seen, counts);
         swap_rows(cells, k, i);
-        see(cells, k, seen);
+        see(cells, k, seen, counts);
         k += 1;
     }
 }

@@ -1,21 +1,23 @@
--- `see` meets its contract: each term has its mark.
+-- `see` meets its contract: each term has its mark and its count.
 -- Assumes nothing.
 use borrow.Author.Needs.{needs}
 use native.Mathlib.Omega.{arith}
 use Prim.Native.Nat.{_-_, _≤_}
-use mathlib.Core.Path.{_≡_, refl}
+use mathlib.Core.Path.{_≡_, refl, _∙_}
 use lib.ListN.{length, length-set}
 use Rattle.colours.proofs.OrderLaws.{term-room}
 use Rattle.colours.proofs.order.see.Statement.{statement}
 use Rattle.colours.proofs.order.see.Tie as tie
 use Rattle.colours.proofs.order.see.Reads as reads
 use Rattle.colours.proofs.order.see.Lts as lts
+use Rattle.std.proofs.num.wrapping_sub_u16.Reads as wrapping-sub-u16-reads
+use Rattle.tables.proofs.wide.Reads as wide-reads
 
 abbrev Inv-loop : tie.InvT-loop
-Inv-loop cells i seen₀ p j₀ seen j = (j ≤ 4) × (length seen ≡ length seen₀)
+Inv-loop cells i seen₀ counts₀ p j₀ seen counts j = (j ≤ 4) × (length seen ≡ length seen₀) × (length counts ≡ length counts₀)
 
 abbrev μ-loop : tie.MeasureT-loop
-μ-loop cells i seen₀ p j₀ seen j = 4 - j
+μ-loop cells i seen₀ counts₀ p j₀ seen counts j = 4 - j
 
 mul-p : tie.Need-mul-p Inv-loop μ-loop
 mul-p c = omega arith
@@ -24,7 +26,7 @@ add-p : tie.Need-add-p Inv-loop μ-loop
 add-p c = omega arith
 
 loop-holds : tie.Need-loop-holds Inv-loop μ-loop
-loop-holds c = (omega arith, refl)
+loop-holds c = (omega arith, refl, refl)
 
 add-c : tie.Need-add-c Inv-loop μ-loop
 add-c c = omega arith
@@ -39,13 +41,22 @@ wide-requires : tie.Need-wide-requires Inv-loop μ-loop
 wide-requires c κs = search needs
 
 slice-write-seen : tie.Need-slice-write-seen Inv-loop μ-loop
-slice-write-seen c =
-    let loop′ = (c .before .before .before .loop) in
-    let args′ = (c .before .before .before .before .before .before .args) in
-    let pre′ = (c .before .before .before .before .before .before .pre) in
-    let loop-test′ = (c .before .before .loop-test) in
-    let wide′ = (c .wide) in
-    rw (loop′ .inv .1) (term-room _ _ (args′ .i) (loop′ .j) _ (pre′ .0) (loop-test′ .taken) (wide′ .ensures .0))
+slice-write-seen c = omega (arith, term-room _ _ ((c .before .before .before .before .before .before .before .args) .i) ((c .before .before .before .loop) .j) _ ((c .before .before .before .before .before .before .before .pre) .0) ((c .before .before .loop-test) .taken) ((c .wide) .ensures .0), (c .before .before .before .loop) .inv .1)
+
+mul-wrapping-sub-u16 : tie.Need-mul-wrapping-sub-u16 Inv-loop μ-loop
+mul-wrapping-sub-u16 c = omega (arith, term-room _ _ ((c .before .before .before .before .before .before .before .args) .i) ((c .before .before .before .loop) .j) _ ((c .before .before .before .before .before .before .before .pre) .0) ((c .before .before .loop-test) .taken) ((c .wide) .ensures .0), (c .before .before .before .loop) .inv .2, (c .before .before .before .before .before .before .before .pre) .2)
+
+slice-read-wrapping-sub-u16 : tie.Need-slice-read-wrapping-sub-u16 Inv-loop μ-loop
+slice-read-wrapping-sub-u16 c = omega (arith, term-room _ _ ((c .before .before .before .before .before .before .before .before .args) .i) ((c .before .before .before .before .loop) .j) _ ((c .before .before .before .before .before .before .before .before .pre) .0) ((c .before .before .before .loop-test) .taken) ((c .before .wide) .ensures .0), (c .before .before .before .before .loop) .inv .2, (c .before .before .before .before .before .before .before .before .pre) .2)
+
+wrapping-sub-u16-requires : tie.Need-wrapping-sub-u16-requires Inv-loop μ-loop
+wrapping-sub-u16-requires c κs = search needs
+
+mul-counts : tie.Need-mul-counts Inv-loop μ-loop
+mul-counts c = omega (arith, term-room _ _ ((c .before .before .before .before .before .before .before .before .before .args) .i) ((c .before .before .before .before .before .loop) .j) _ ((c .before .before .before .before .before .before .before .before .before .pre) .0) ((c .before .before .before .before .loop-test) .taken) ((c .before .before .wide) .ensures .0), (c .before .before .before .before .before .loop) .inv .2, (c .before .before .before .before .before .before .before .before .before .pre) .2)
+
+slice-write-counts : tie.Need-slice-write-counts Inv-loop μ-loop
+slice-write-counts c = omega (arith, term-room _ _ ((c .before .before .before .before .before .before .before .before .before .args) .i) ((c .before .before .before .before .before .loop) .j) _ ((c .before .before .before .before .before .before .before .before .before .pre) .0) ((c .before .before .before .before .loop-test) .taken) ((c .before .before .wide) .ensures .0), (c .before .before .before .before .before .loop) .inv .2, (c .before .before .before .before .before .before .before .before .before .pre) .2)
 
 add-j : tie.Need-add-j Inv-loop μ-loop
 add-j c = omega arith
@@ -54,19 +65,16 @@ loop-less : tie.Need-loop-less Inv-loop μ-loop
 loop-less c = omega arith
 
 loop-again : tie.Need-loop-again Inv-loop μ-loop
-loop-again c =
-    let loop′ = (c .before .before .before .loop) in
-    (omega arith, simp length-set (loop′ .inv .1))
+loop-again c = (omega arith, simp length-set ((c .before .before .before .before .before .loop) .inv .1), simp length-set ((c .before .before .before .before .before .loop) .inv .2))
 
 same-length : tie.Need-same-length Inv-loop μ-loop
-same-length c =
-    let loop′ = (c .before .loop) in
-    loop′ .inv .1
+same-length c = (c .before .loop) .inv .1
+
+same-length-2 : tie.Need-same-length-2 Inv-loop μ-loop
+same-length-2 c = (c .before .loop) .inv .2
 
 returns : tie.Need-returns Inv-loop μ-loop
-returns c =
-    let loop′ = (c .before .loop) in
-    loop′ .inv .1
+returns c = ((c .before .loop) .inv .1, (c .before .loop) .inv .2)
 
 pub see-spec : {M : Type 1} → statement M
 see-spec =
@@ -82,8 +90,14 @@ see-spec =
     shared-slice-read-c
     wide-requires
     slice-write-seen
+    mul-wrapping-sub-u16
+    slice-read-wrapping-sub-u16
+    wrapping-sub-u16-requires
+    mul-counts
+    slice-write-counts
     add-j
     loop-less
     loop-again
     same-length
+    same-length-2
     returns)
