@@ -33,6 +33,7 @@ use Rattle.colours.specs.Classes.{Colourable, Classified}
 use Rattle.comparison.specs.Settlements.{Found}
 use Rattle.colours.specs.Numbering.{Renames, Numbering, Renumbered}
 use Rattle.colours.specs.Order.{Reordered}
+use Rattle.comparison.proofs.NarrowLaws.{colourable-more, colourable-after}
 use Rattle.colours.proofs.RowLaws.{pointwise-at, rows-pointwise, row-at, constraints-count}
 use Rattle.colours.proofs.AgreeLaws.{prefix-agree}
 use Rattle.colours.proofs.ClassLaws.{same-iff}
@@ -135,25 +136,6 @@ module _ (n : ℕ) (cells bound out bound′ : List ℕ) (next : ℕ) (s : lengt
         bound-below = record { below = λ i. omega (arith, r .bound-below i) };
       }
 
--- terms that have places in a table have them in a larger one
-terms-more : (m k : ℕ) (cells : List ℕ) → m ≤ k → TermsBelow m cells → TermsBelow k cells
-terms-more m k cells h b = record { below = λ i j l. omega (arith, b .below i j l) }
-
-pub colourable-more : (cells bound : List ℕ) (size n : ℕ) → Colourable cells bound size n → Colourable cells bound 2844 n
-colourable-more cells bound size n c =
-    record {
-      count = c .count;
-      room = omega arith;
-      terms = terms-more size 2844 cells (c .room) (c .terms);
-      bound-below = record { below = λ i. omega (arith, c .bound-below .below i, c .room) };
-    }
-
-pub colourable-after :
-    (cells bound cells′ : List ℕ) (size n : ℕ) → Colourable cells bound size n → length cells′ ≡ length cells
-    → ((m : ℕ) → TermsBelow m cells → TermsBelow m cells′) → Colourable cells′ bound size n
-colourable-after cells bound cells′ size n c l t =
-    record { count = l ∙ c .count; room = c .room; terms = t size (c .terms); bound-below = c .bound-below }
-
 -- states in the same order
 pub straight-same :
     (f a g b : List ℕ) → f ≡ g → a ≡ b → true ≡ sameState (endOf f a) (endOf g b)
@@ -194,22 +176,9 @@ module _ (f a g b : List ℕ) (size n : ℕ) (ca : Colourable a f size n) (cb : 
       pub decide-settled : (r : Bool) → Found r f a₂ g b₁ → r ≡ true → true ≡ sameState (endOf f a) (endOf g b)
       decide-settled r w e = sym (w .same e) ∙ so-far
 
-      module _ (r₂ : Bool) (a₃ b₃ : List ℕ) (k₂ : Classified r₂ f a₂ g b₁ a₃ b₃) where
-        -- the classes by what stands out differ
-        pub decide-deep : r₂ ≡ false → false ≡ sameState (endOf f a) (endOf g b)
-        decide-deep e = sym (k₂ .apart e) ∙ so-far
-
-        module _ (t₂ : r₂ ≡ true) (la₃ : length a₃ ≡ length a₂) (lb₃ : length b₃ ≡ length b₁) where
-          -- what the search asks
-          pub search-left : Colourable a₃ f 2844 n
-          search-left = colourable-more a₃ f size n (colourable-after a₂ f a₃ size n decide-left la₃ (k₂ .left t₂))
-
-          pub search-right : Colourable b₃ g 2844 n
-          search-right = colourable-more b₃ g size n (colourable-after b₁ g b₃ size n decide-right lb₃ (k₂ .right t₂))
-
-          -- and what it finds
-          pub decide-answer : (r : Bool) → r ≡ sameState (endOf f a₃) (endOf g b₃) → r ≡ sameState (endOf f a) (endOf g b)
-          decide-answer r e = e ∙ (k₂ .same t₂ ∙ so-far)
+      -- what finer classes find
+      pub decide-answer : (r : Bool) → r ≡ sameState (endOf f a₂) (endOf g b₁) → r ≡ sameState (endOf f a) (endOf g b)
+      decide-answer r e = e ∙ so-far
 
 module _ (a f ca₀ l₀ b g cb₀ r₀ : List ℕ) (p : Comparable a f ca₀ l₀ b g cb₀ r₀) where
   -- what numbering the second state asks

@@ -2,6 +2,7 @@
 // Placing a constraint and trying its partners call one another (`placing`). What that would take for ever over is decided
 // before:
 // states in the same order, and states that differ in what a renaming cannot change.
+pub mod narrowing;
 pub mod pairing;
 pub mod placing;
 pub mod search;
