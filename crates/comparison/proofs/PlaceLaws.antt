@@ -171,11 +171,11 @@ module _ (a b : List ℕ) (j : ℕ) (used : List Bool) (f g : List ℕ) (s : Pla
 
       module _ (t : fits ≡ true) (lf : length f′ ≡ length f) (lg : length g′ ≡ length g) where
         -- what placing the others asks
-        pub try-others : Placing (behind a) b (set used j true) f′ g′
-        try-others =
+        pub try-others : (v : Bool) → Placing (behind a) b (set used j v) f′ g′
+        try-others v =
             rw (behind-drop a)
             (record {
-              partners = rw (length-set used j true) (s .partners);
+              partners = rw (length-set used j v) (s .partners);
               left = rw lf (terms-drop (length f) a (s .left));
               right = rw lg (s .right);
             })
