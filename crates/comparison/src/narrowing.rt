@@ -4,6 +4,7 @@ use crate::search::search;
 use crate::settling::settles;
 use colours::classes::Depth;
 use colours::classes::classify;
+use std::num::wrapping_add_usize;
 ghost use mathlib.Core.Path.{_≡_};
 ghost use Prim.Native.Nat.{_≤_};
 ghost use lib.ListN.{length};
@@ -51,34 +52,30 @@ pub fn weigh(
     }
 }
 
-// Whether two states are equal, by constraints that stand out, for more and more rounds, and by a search at last. A ring of
-// constraints is told from a longer one by half as many rounds as it has constraints.
-pub fn deepen(
-    a: &mut [u16],
-    bound_a: &[u16],
-    b: &mut [u16],
-    bound_b: &[u16],
-    n: usize,
-    size: usize,
-) -> bool
-    requires { ⌜ Colourable (now a) (now «bound_a») size n × Colourable (now b) (now «bound_b») size n
-        × (length (now «bound_a») ≡ length (now «bound_b»)) × (n ≤ 512) ⌝ }
-    ensures { λ r. ⌜ r ≡ sameState (endOf (now («bound_a» .entry)) (now (a .entry)))
-        (endOf (now («bound_b» .entry)) (now (b .entry))) ⌝ }
-{
-    let mut rounds = 9;
-    while rounds < n {
-        let depth = Depth { rounds, deep: true };
-        let verdict = weigh(a, bound_a, b, bound_b, n, size, depth);
-        if verdict.decided {
-            return verdict.equal;
-        }
-        rounds = 4 * rounds;
+// The depth of a step: signatures after as many rounds as there are constraints, then constraints that stand out, for nine rounds and
+// for a quarter of the constraints more. A ring of constraints is told from a longer one by half as many rounds as it has, and
+// there is room for two such rings.
+fn depth_at(step: usize, n: usize) -> Depth {
+    if step == 0 {
+        return Depth {
+            rounds: n,
+            deep: false,
+        };
     }
-    search(a, bound_a, b, bound_b, n)
+    if step == 1 {
+        return Depth {
+            rounds: 9,
+            deep: true,
+        };
+    }
+    let quarter = n >> 2;
+    Depth {
+        rounds: wrapping_add_usize(quarter, 9),
+        deep: true,
+    }
 }
 
-// The same, by signatures after as many rounds as there are constraints first.
+// Whether two states are equal, by finer and finer classes, and by a search at last.
 pub fn narrow(
     a: &mut [u16],
     bound_a: &[u16],
@@ -92,13 +89,14 @@ pub fn narrow(
     ensures { λ r. ⌜ r ≡ sameState (endOf (now («bound_a» .entry)) (now (a .entry)))
         (endOf (now («bound_b» .entry)) (now (b .entry))) ⌝ }
 {
-    let depth = Depth {
-        rounds: n,
-        deep: false,
-    };
-    let verdict = weigh(a, bound_a, b, bound_b, n, size, depth);
-    if verdict.decided {
-        return verdict.equal;
+    let mut step = 0;
+    while step < 3 {
+        let depth = depth_at(step, n);
+        let verdict = weigh(a, bound_a, b, bound_b, n, size, depth);
+        if verdict.decided {
+            return verdict.equal;
+        }
+        step += 1;
     }
-    deepen(a, bound_a, b, bound_b, n, size)
+    search(a, bound_a, b, bound_b, n)
 }
