@@ -24,6 +24,7 @@ use Rattle.semantics.specs.Matching.{Assignment, matchConstraint}
 use Rattle.semantics.specs.Strategy.{Match, firstIn, find}
 use Rattle.semantics.specs.Firing.{without}
 use Rattle.semantics.proofs.Options.{none-some, cond-some-not, apart-eqb, equal-eqb, eqb-equal, true-false}
+use Rattle.semantics.proofs.Bools.{or-right}
 use Rattle.semantics.proofs.Search.{firstIn-none}
 use Rattle.engine.specs.Known.{Barren, hasSymbol, concerns}
 
@@ -249,21 +250,30 @@ appended-stands [] m q a s = inr (q, s)
 appended-stands (x ∷ l) m zero a s = inl s
 appended-stands (x ∷ l) m (suc q) a s = appended-stands l m q a s
 
+-- a constraint of a list has a symbol of it
+symbol-stands : (body : List Constraint) (i : ℕ) (c : Constraint) → getElem? body i ≡ some c → hasSymbol (c .symbol) body ≡ true
+unfolding hasSymbol
+symbol-stands [] i c s = none-some refl s
+symbol-stands (b ∷ body) zero c s = let same : b ≡ c = cc in rw (same, equal-eqb {m = c .symbol} refl)
+symbol-stands (b ∷ body) (suc i) c s = or-right (eqb (b .symbol) (c .symbol)) (hasSymbol (c .symbol) body) (symbol-stands body i c s)
+
 -- a constraint of a body that has no symbol of the heads
 strange-stands :
     (hs body : List Constraint) (i : ℕ) (c : Constraint) → concerns hs body ≡ false → getElem? body i ≡ some c
     → hasSymbol (c .symbol) hs ≡ false
-unfolding concerns
-strange-stands hs [] i c e s = none-some refl s
-strange-stands hs (b ∷ body) i c e s = go (strange-stands hs body) (hasSymbol (b .symbol) hs) refl e i s
+unfolding concerns hasSymbol
+strange-stands [] body i c e s = refl
+strange-stands (h ∷ hs) body i c e s = go (strange-stands hs body i c) (hasSymbol (h .symbol) body) refl e
   where
     go :
-        ((i : ℕ) (c : Constraint) → concerns hs body ≡ false → getElem? body i ≡ some c → hasSymbol (c .symbol) hs ≡ false)
-        → (t : Bool) → hasSymbol (b .symbol) hs ≡ t → (t || concerns hs body) ≡ false → (i : ℕ) → getElem? (b ∷ body) i ≡ some c
-        → hasSymbol (c .symbol) hs ≡ false
-    go more true f e i s = true-false refl e
-    go more false f e zero s = let same : b ≡ c = cc in rw (← same) f
-    go more false f e (suc i) s = more i c e s
+        (concerns hs body ≡ false → getElem? body i ≡ some c → hasSymbol (c .symbol) hs ≡ false)
+        → (t : Bool) → hasSymbol (h .symbol) body ≡ t → (t || concerns hs body) ≡ false
+        → (eqb (h .symbol) (c .symbol) || hasSymbol (c .symbol) hs) ≡ false
+    go more true f e = true-false refl e
+    go more false f e =
+        let apart : eqb (h .symbol) (c .symbol) ≡ false =
+        apart-eqb (λ (same : h .symbol ≡ c .symbol). true-false (symbol-stands body i c s) (rw same at f)) in
+        rw apart (more e s)
 
 module _ (hs cs : List Constraint) (ps : List ℕ) (body : List Constraint) (θ : Assignment) where
   -- heads that fit nowhere among the first k constraints fit nowhere among as many less those that a firing removes

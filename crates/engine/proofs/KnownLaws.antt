@@ -1,5 +1,5 @@
 -- What is known of rules, after a firing.
---   Scanning, Meeting        the loops of `has_symbol` and `concerned`
+--   Scanning, Meeting, Marking    the loops of `has_symbol`, `concerned` and `mark`
 --   lowered-…, Lowering      what `lowered` answers, and the loop of `lower`
 --   knows-start, knows-fired    nothing is known at the start, and what is known after a firing
 -- Assumes nothing.
@@ -7,15 +7,15 @@ use Prim.Native.Nat.{ℕ, zero, suc, _+_, _-_, _*_, _≤_, _<_, min}
 use native.Mathlib.Omega.{arith}
 use native.Mathlib.Numerals.{add-one}
 use mathlib.Core.Bool.{Bool, true, false, cond, _||_}
-use mathlib.Core.List.{List, [], _∷_, _++_, map}
+use mathlib.Core.List.{List, [], _∷_, _++_, map, append-nil}
 use mathlib.Core.Logic.{_⊎_, inl, inr, ⊎-elim}
 use mathlib.Core.Option.{none}
 use mathlib.Core.Path.{_≡_, refl, sym, ap, _∙_}
 use lib.Dec.{eqb, ltb}
 use lib.ListN.{length, getD, set, take, drop, replicate, length-drop, length-take, length-set}
-use lib.ListN.{List·getD-eq-default}
-use lib.Seq.{getD-take, getD-drop, take-all, length-take-le, getD-set-same, getD-set-other}
-use borrow.Author.Tests.{eq-eqb, ne-eqb, lt-ltb, le-ltb, ltb-true, ltb-false}
+use lib.ListN.{List·getD-eq-default, take-append-drop}
+use lib.Seq.{getD-take, getD-drop, take-all, length-take-le, getD-set-same, getD-set-other, take-add}
+use borrow.Author.Tests.{eq-eqb, ne-eqb, lt-ltb, le-ltb, ltb-true, ltb-false, eqb-true, eqb-false}
 use Rattle.text.specs.Lists.{has}
 use Rattle.semantics.specs.Terms.{Term, Constraint, mapTerms}
 use Rattle.semantics.specs.Matching.{unassigned}
@@ -28,9 +28,9 @@ use Rattle.engine.specs.Cells.{assigned}
 use Rattle.engine.specs.Positions.{Row, Table}
 use Rattle.engine.specs.States.{Fired}
 use Rattle.engine.specs.Runs.{storeOf}
-use Rattle.engine.specs.Known.{Barren, Knows, hasSymbol, concerns, loweredOf, Lowered, Keeps}
+use Rattle.engine.specs.Known.{Barren, Knows, hasSymbol, concerns, Marks, Clear, loweredOf, Lowered, Keeps}
 use Rattle.engine.proofs.BarrenLaws.{barren-fired, barren-strange}
-use Rattle.engine.proofs.GapLaws.{take-constraints, length-constraints}
+use Rattle.engine.proofs.GapLaws.{take-constraints, drop-constraints, length-constraints}
 use Rattle.engine.proofs.ChooseLaws.{lentRow, row-cells, noted-at, zeros-zero}
 use Rattle.engine.proofs.FiredLaws.{fired-plain}
 
@@ -76,33 +76,123 @@ module _ (s : ℕ) (cells : List ℕ) (i : ℕ) (w : Scanning s cells i) where
     pub scanning-next : (getD cells (5 * i) 0 ≡ s → ⊥) → Scanning s cells (i + 1)
     scanning-next e = rw (add-one i) (record { within = omega arith; same = rw (ne-eqb (getD cells (5 * i) 0) s e) at split })
 
--- the body from i on concerns the heads where all does
+-- the heads from i on are concerned where all are
 pub record Meeting (heads body : List ℕ) (i : ℕ) : Type 0 where
-  pub within : 5 * i ≤ length body
+  pub within : 5 * i ≤ length heads
   pub same :
-      concerns (cellConstraints heads) (cellConstraints (drop (5 * i) body)) ≡ concerns (cellConstraints heads)
+      concerns (cellConstraints (drop (5 * i) heads)) (cellConstraints body) ≡ concerns (cellConstraints heads)
       (cellConstraints body)
 
 pub meeting-start : (heads body : List ℕ) → Meeting heads body 0
 meeting-start heads body = record { within = omega arith; same = refl }
 
 module _ (heads body : List ℕ) (i : ℕ) (w : Meeting heads body i) where
-  pub meeting-end : length body < 5 * i + 5 → false ≡ concerns (cellConstraints heads) (cellConstraints body)
+  pub meeting-end : length heads < 5 * i + 5 → false ≡ concerns (cellConstraints heads) (cellConstraints body)
   unfolding concerns
-  meeting-end h = rw (constraints-short body i (omega arith)) at (w .same)
+  meeting-end h = rw (constraints-short heads i (omega arith)) at (w .same)
 
-  module _ (h : 5 * i + 5 ≤ length body) (r : Bool) (e : r ≡ hasSymbol (getD body (5 * i) 0) (cellConstraints heads)) where
-    split-body :
-        (r || concerns (cellConstraints heads) (cellConstraints (drop (5 * suc i) body))) ≡ concerns (cellConstraints heads)
+  module _ (h : 5 * i + 5 ≤ length heads) (r : Bool) (e : r ≡ hasSymbol (getD heads (5 * i) 0) (cellConstraints body)) where
+    split-heads :
+        (r || concerns (cellConstraints (drop (5 * suc i) heads)) (cellConstraints body)) ≡ concerns (cellConstraints heads)
         (cellConstraints body)
     unfolding concerns
-    split-body = rw (constraints-at body i h, row-symbol body i, ← e) at (w .same)
+    split-heads = rw (constraints-at heads i h, row-symbol heads i, ← e) at (w .same)
 
     pub meeting-found : r ≡ true → true ≡ concerns (cellConstraints heads) (cellConstraints body)
-    meeting-found z = rw z at split-body
+    meeting-found z = rw z at split-heads
 
     pub meeting-next : r ≡ false → Meeting heads body (i + 1)
-    meeting-next z = rw (add-one i) (record { within = omega arith; same = rw z at split-body })
+    meeting-next z = rw (add-one i) (record { within = omega arith; same = rw z at split-heads })
+
+-- a symbol among constraints with one more
+symbol-last :
+    (s : ℕ) (cs : List Constraint) (c : Constraint) → hasSymbol s (cs ++ (c ∷ [])) ≡ (eqb (c .symbol) s || hasSymbol s cs)
+unfolding hasSymbol
+symbol-last s [] c = refl
+symbol-last s (d ∷ cs) c = rw (symbol-last s cs c) (go (eqb (d .symbol) s) (eqb (c .symbol) s))
+  where
+    go : (a b : Bool) → (a || (b || hasSymbol s cs)) ≡ (b || (a || hasSymbol s cs))
+    go true true = refl
+    go true false = refl
+    go false true = refl
+    go false false = refl
+
+-- the first i constraints are marked
+pub record Marking (start body fresh : List ℕ) (i : ℕ) : Type 0 where
+  pub within : 5 * i ≤ length body
+  pub size : length fresh ≡ length start
+  pub marks : Marks fresh (take i (cellConstraints body))
+
+pub clear-start : (k : ℕ) → Clear (replicate k 0)
+clear-start k = record { clear = zeros-zero k }
+
+pub marking-start : (start body : List ℕ) → Clear start → Marking start body start 0
+unfolding hasSymbol
+marking-start start body z =
+    record { within = omega arith; size = refl; marks = record { marked = λ s l. z .clear s } }
+
+module _ (start body fresh : List ℕ) (i : ℕ) (w : Marking start body fresh i) where
+  pub marking-end : length body < 5 * i + 5 → Marks fresh (cellConstraints body)
+  marking-end h =
+      let all : drop i (cellConstraints body) ≡ [] = sym (drop-constraints i body) ∙ constraints-short body i (omega arith) in
+      let whole : take i (cellConstraints body) ≡ cellConstraints body =
+      sym (append-nil (take i (cellConstraints body))) ∙ (rw all at (take-append-drop i (cellConstraints body))) in
+      rw whole at (w .marks)
+
+  module _ (h : 5 * i + 5 ≤ length body) where
+    one-more :
+        take (suc i) (cellConstraints body) ≡ take i (cellConstraints body) ++ (rowConstraint (take 5 (drop (5 * i) body)) ∷ [])
+    one-more =
+        let split = take-add i 1 (cellConstraints body) in
+        let first : take 1 (drop i (cellConstraints body)) ≡ rowConstraint (take 5 (drop (5 * i) body)) ∷ [] =
+        ap (take 1) (sym (drop-constraints i body) ∙ constraints-at body i h) in
+        rw (← first, ← add-one i) split
+
+    more-marked : (s : ℕ) → hasSymbol s (take (suc i) (cellConstraints body))
+        ≡ (eqb (getD body (5 * i) 0) s || hasSymbol s (take i (cellConstraints body)))
+    more-marked s =
+        rw one-more (symbol-last s (take i (cellConstraints body)) (rowConstraint (take 5 (drop (5 * i) body)))
+        ∙ rw (row-symbol body i))
+
+    -- the table has no entry for it
+    pub marking-other : (x : ℕ) → x ≡ getD body (5 * i) 0 → length fresh ≤ x → Marking start body fresh (i + 1)
+    marking-other x z l =
+        rw (add-one i) (record {
+          within = omega arith;
+          size = w .size;
+          marks = record {
+            marked = λ s k. rw (more-marked s, ne-eqb (getD body (5 * i) 0) s (λ e. omega arith)) (w .marks .marked s k);
+          };
+        })
+
+    -- it is marked
+    pub marking-next :
+        (fresh′ : List ℕ) (x : ℕ) → x ≡ getD body (5 * i) 0 → x < length fresh → fresh′ ≡ set fresh x 1
+        → Marking start body fresh′ (i + 1)
+    marking-next fresh′ x z l g =
+        rw (add-one i, g, z) (record {
+          within = omega arith;
+          size = length-set fresh (getD body (5 * i) 0) 1 ∙ w .size;
+          marks = record {
+            marked = λ s k. rw (more-marked s) (⊎-elim
+                (λ t. let e : getD body (5 * i) 0 ≡ s = eqb-true (getD body (5 * i) 0) s t in
+                rw (t, ← e) (getD-set-same fresh (getD body (5 * i) 0) 1 0 (omega arith)))
+                (λ t. rw t (getD-set-other fresh (getD body (5 * i) 0) s 1 0
+                (λ e. eqb-false (getD body (5 * i) 0) s t (sym e))
+                ∙ w .marks .marked s (omega (arith, length-set fresh (getD body (5 * i) 0) 1))))
+                (either (eqb (getD body (5 * i) 0) s)));
+          };
+        })
+
+-- what an entry says
+pub marked-is :
+    (fresh : List ℕ) (cs : List Constraint) → Marks fresh cs → (s x : ℕ) → x ≡ s → x < length fresh
+    → eqb (getD fresh x 0) 1 ≡ hasSymbol s cs
+marked-is fresh cs given s x e l = rw e (go (hasSymbol s cs) (given .marked s (omega arith)))
+  where
+    go : (t : Bool) → getD fresh s 0 ≡ cond t 1 0 → eqb (getD fresh s 0) 1 ≡ t
+    go true e = eq-eqb (getD fresh s 0) 1 e
+    go false e = ne-eqb (getD fresh s 0) 1 (λ z. omega arith)
 
 module _ (other row : List ℕ) (m count v : ℕ) where
   -- nothing is known after equations
@@ -138,6 +228,19 @@ module _ (other row : List ℕ) (m count v : ℕ) where
       pub lowered-strange : c ≡ false → count + 1 ≡ loweredOf other row m count v
       unfolding loweredOf
       lowered-strange z = rw (plain, lt-ltb m v h, asked, z)
+
+-- the body's marks, as the code lends the body
+pub lowered-asks :
+    (row fresh : List ℕ) (b : ℕ) → Marks fresh (ruleOfRow [] row .body) → b ≡ getD row 4 0
+    → Marks fresh (cellConstraints (take (26 + 5 * b - 26) (drop 26 row)))
+unfolding ruleOfRow
+lowered-asks row fresh b given y = let l : 26 + 5 * b - 26 ≡ 5 * getD row 4 0 = omega arith in rw l given
+
+pub lowered-marks :
+    (row fresh : List ℕ) (b : ℕ) → Marks fresh (cellConstraints (take (26 + 5 * b - 26) (drop 26 row))) → b ≡ getD row 4 0
+    → Marks fresh (ruleOfRow [] row .body)
+unfolding ruleOfRow
+lowered-marks row fresh b given y = let l : 26 + 5 * b - 26 ≡ 5 * getD row 4 0 = omega arith in rw l at given
 
 -- where nothing was known, nothing is
 lowered-nothing : (other row : List ℕ) (m count : ℕ) → loweredOf other row m count 0 ≡ 0
@@ -189,9 +292,11 @@ module _ (rules : List ℕ) (n : ℕ) (row : List ℕ) (m count : ℕ) (start kn
 
 -- what `lowered` asks
 pub lowering-row :
-    (rules : List ℕ) (n i : ℕ) (row : List ℕ) (count : ℕ) → Table rules n → i < n → Row row → count ≤ 65000
-    → Row (lentRow rules i) × Row row × (count ≤ 65000)
-lowering-row rules n i row count given l r h = (rw (row-cells i) (given .rows i l), r, h)
+    (rules : List ℕ) (n i : ℕ) (row : List ℕ) (count : ℕ) (fresh : List ℕ) (b : ℕ) → Table rules n → i < n → Row row
+    → count ≤ 65000 → Marks fresh (cellConstraints (take (26 + 5 * b - 26) (drop 26 row))) → b ≡ getD row 4 0
+    → Row (lentRow rules i) × Row row × (count ≤ 65000) × Marks fresh (ruleOfRow [] row .body)
+lowering-row rules n i row count fresh b given l r h k e =
+    (rw (row-cells i) (given .rows i l), r, h, lowered-marks row fresh b k e)
 
 -- nothing is known at the start
 pub knows-start : (rules : List ℕ) (n k : ℕ) (cs : List Constraint) → Knows rules n (replicate k 0) cs
@@ -208,10 +313,15 @@ pub keeps-on :
 keeps-on rules n known cells f alive count k e = rw e at k
 
 -- terms do not concern
-symbol-mapped : (hs : List Constraint) (σ : Term → Term) (cs : List Constraint) → concerns hs (map (mapTerms σ) cs) ≡ concerns hs cs
-unfolding concerns mapTerms
-symbol-mapped hs σ [] = refl
-symbol-mapped hs σ (c ∷ cs) = ap (hasSymbol (c .symbol) hs ||_) (symbol-mapped hs σ cs)
+symbol-mapped : (s : ℕ) (σ : Term → Term) (cs : List Constraint) → hasSymbol s (map (mapTerms σ) cs) ≡ hasSymbol s cs
+unfolding hasSymbol mapTerms
+symbol-mapped s σ [] = refl
+symbol-mapped s σ (c ∷ cs) = ap (eqb (c .symbol) s ||_) (symbol-mapped s σ cs)
+
+concerns-mapped : (hs : List Constraint) (σ : Term → Term) (cs : List Constraint) → concerns hs (map (mapTerms σ) cs) ≡ concerns hs cs
+unfolding concerns
+concerns-mapped [] σ cs = refl
+concerns-mapped (h ∷ hs) σ cs = rw (symbol-mapped (h .symbol) σ cs, concerns-mapped hs σ cs)
 
 module _ (row ps b : List ℕ) (next : ℕ) (bound cells : List ℕ) (m : ℕ) (bound′ cells′ : List ℕ) (count : ℕ)
     (done : Fired row ps b next bound cells m bound′ cells′ true count) (given : Row row) (size : length ps ≡ 4)
@@ -253,7 +363,7 @@ module _ (row ps b : List ℕ) (next : ℕ) (bound cells : List ℕ) (m : ℕ) (
         → find hs (storeOf cells′ count) [] unassigned ≡ none
     all-kept c e =
         rw after (barren-strange hs (storeOf cells m) placed _ unassigned
-        (symbol-mapped hs (instance next (assigned b)) (ruleOfRow [] row .body) ∙ c) e)
+        (concerns-mapped hs (instance next (assigned b)) (ruleOfRow [] row .body) ∙ c) e)
 
   module _ (other : List ℕ) (v v′ : ℕ) (e : v′ ≡ loweredOf other row m count v)
       (known : Barren (ruleOfRow [] other .heads) (storeOf cells m) [] unassigned v) where

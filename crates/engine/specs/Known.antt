@@ -2,6 +2,7 @@
 --   Barren                   heads fit nowhere among the first constraints
 --   Knows                    the same for each rule, by a table of numbers
 --   hasSymbol, concerns      whether constraints of one list have a symbol of another's
+--   Marks, Clear             the symbols of constraints as a table
 --   loweredOf, Lowered       the table after a firing
 --   Keeps                    a firing keeps what is known
 -- Assumes nothing.
@@ -11,7 +12,7 @@ use mathlib.Core.List.{List, [], _∷_}
 use mathlib.Core.Option.{none}
 use mathlib.Core.Path.{_≡_}
 use lib.Dec.{eqb, ltb}
-use lib.ListN.{take, getD}
+use lib.ListN.{length, take, getD}
 use Rattle.semantics.specs.Terms.{Constraint}
 use Rattle.semantics.specs.Matching.{Assignment, unassigned}
 use Rattle.semantics.specs.Strategy.{find}
@@ -32,10 +33,18 @@ unfoldable pub hasSymbol : ℕ → List Constraint → Bool
 hasSymbol s [] = false
 hasSymbol s (h ∷ hs) = eqb (h .symbol) s || hasSymbol s hs
 
--- whether a constraint of the second list has the symbol of one of the first
+-- whether a constraint of the first list has a symbol of the second's
 unfoldable pub concerns : List Constraint → List Constraint → Bool
-concerns hs [] = false
-concerns hs (c ∷ cs) = hasSymbol (c .symbol) hs || concerns hs cs
+concerns [] cs = false
+concerns (h ∷ hs) cs = hasSymbol (h .symbol) cs || concerns hs cs
+
+-- a table of the symbols of constraints, as far as it goes: 1 at those that stand there, 0 at the others
+pub record Marks (fresh : List ℕ) (cs : List Constraint) : Type 0 where
+  pub marked : (s : ℕ) → s < length fresh → getD fresh s 0 ≡ cond (hasSymbol s cs) 1 0
+
+-- a table of zeros
+pub record Clear (fresh : List ℕ) : Type 0 where
+  pub clear : (s : ℕ) → getD fresh s 0 ≡ 0
 
 -- what is known of a rule after another fired that had v of m constraints, where count are left: nothing after equations; all
 -- where all was known and the body has no symbol of the rule's heads; else less by the heads that were removed

@@ -7,12 +7,14 @@ use tables::layout::FIRST_HEAD;
 use tables::layout::HEADS_CELL;
 use tables::layout::ROW_SIZE;
 use tables::wide;
+ghost use mathlib.Core.List.{[]};
 ghost use mathlib.Core.Path.{_≡_};
 ghost use Prim.Native.Nat.{_≤_, _-_};
 ghost use lib.ListN.{length, set, getD};
 ghost use Rattle.tables.specs.Cells.{cellConstraints};
+ghost use Rattle.tables.specs.Rows.{ruleOfRow};
 ghost use Rattle.engine.specs.Positions.{Row, Table};
-ghost use Rattle.engine.specs.Known.{hasSymbol, concerns, loweredOf, Lowered};
+ghost use Rattle.engine.specs.Known.{hasSymbol, concerns, Marks, Clear, loweredOf, Lowered};
 
 // What is known of rule i; nothing behind the table's end.
 pub fn known_at(known: &[usize], i: usize) -> usize
@@ -44,13 +46,41 @@ pub fn has_symbol(symbol: u16, cells: &[u16]) -> bool
     false
 }
 
-// Whether a constraint of a body has the symbol of a head.
-pub fn concerned(heads: &[u16], body: &[u16]) -> bool
-    ensures { λ r. ⌜ r ≡ concerns (cellConstraints (now (heads .entry))) (cellConstraints (now (body .entry))) ⌝ }
+// Marks the symbols of a body in a table of zeros, as far as it goes.
+pub fn mark(body: &[u16], fresh: &mut [u8])
+    requires { ⌜ Clear (now fresh) ⌝ }
+    ensures { λ _. ⌜ Marks (now (fresh .exit)) (cellConstraints (now (body .entry))) ⌝ }
 {
     let mut i = 0;
     while CONSTRAINT_SIZE * i + CONSTRAINT_SIZE <= body.len() {
-        if has_symbol(body[CONSTRAINT_SIZE * i], heads) {
+        let symbol = wide(body[CONSTRAINT_SIZE * i]);
+        i += 1;
+        if symbol < fresh.len() {
+            fresh[symbol] = 1;
+        }
+    }
+}
+
+// Whether a body has a constraint of the symbol: a look at the table of its marks, or at the body where the table ends before.
+pub fn is_fresh(symbol: u16, fresh: &[u8], body: &[u16]) -> bool
+    requires { ⌜ Marks (now fresh) (cellConstraints (now body)) ⌝ }
+    ensures { λ r. ⌜ r ≡ hasSymbol symbol (cellConstraints (now (body .entry))) ⌝ }
+{
+    let s = wide(symbol);
+    if s < fresh.len() {
+        return fresh[s] == 1;
+    }
+    has_symbol(symbol, body)
+}
+
+// Whether a body has the symbol of a head.
+pub fn concerned(heads: &[u16], fresh: &[u8], body: &[u16]) -> bool
+    requires { ⌜ Marks (now fresh) (cellConstraints (now body)) ⌝ }
+    ensures { λ r. ⌜ r ≡ concerns (cellConstraints (now (heads .entry))) (cellConstraints (now (body .entry))) ⌝ }
+{
+    let mut i = 0;
+    while CONSTRAINT_SIZE * i + CONSTRAINT_SIZE <= heads.len() {
+        if is_fresh(heads[CONSTRAINT_SIZE * i], fresh, body) {
             return true;
         }
         i += 1;
@@ -65,9 +95,16 @@ pub fn less(from: usize, n: usize) -> usize
     if from < n { 0 } else { from - n }
 }
 
-// What is known of a rule after another one fired among m constraints, where count are left.
-pub fn lowered(other: &[u16], row: &[u16], m: usize, count: usize, from: usize) -> usize
-    requires { ⌜ Row (now other) × Row (now row) × (count ≤ 65000) ⌝ }
+// What is known of a rule after another one fired among m constraints, where count are left; the symbols of its body are marked.
+pub fn lowered(
+    other: &[u16],
+    row: &[u16],
+    fresh: &[u8],
+    m: usize,
+    count: usize,
+    from: usize,
+) -> usize
+    requires { ⌜ Row (now other) × Row (now row) × (count ≤ 65000) × Marks (now fresh) (ruleOfRow [] (now row) .body) ⌝ }
     ensures { λ r. ⌜ r ≡ loweredOf (now (other .entry)) (now (row .entry)) m count from ⌝ }
 {
     if 0 < row[EQUATIONS_CELL] {
@@ -77,7 +114,7 @@ pub fn lowered(other: &[u16], row: &[u16], m: usize, count: usize, from: usize) 
     if m < from {
         let e = FIRST_HEAD + CONSTRAINT_SIZE * wide(other[HEADS_CELL]);
         let d = FIRST_BODY + CONSTRAINT_SIZE * wide(row[BODY_CELL]);
-        if concerned(&other[FIRST_HEAD..e], &row[FIRST_BODY..d]) {
+        if concerned(&other[FIRST_HEAD..e], fresh, &row[FIRST_BODY..d]) {
             return less(m, n);
         }
         return count + 1;
@@ -90,11 +127,14 @@ pub fn lower(rules: &[u16], n: usize, row: &[u16], known: &mut [usize], m: usize
     requires { ⌜ Table (now rules) n × Row (now row) × (count ≤ 65000) ⌝ }
     ensures { λ _. ⌜ Lowered (now (rules .entry)) n (now (row .entry)) m count (now (known .entry)) (now (known .exit)) ⌝ }
 {
+    let d = FIRST_BODY + CONSTRAINT_SIZE * wide(row[BODY_CELL]);
+    let mut fresh = [0u8; 64];
+    mark(&row[FIRST_BODY..d], &mut fresh);
     let mut i = 0;
     while i < n {
         let a = ROW_SIZE * i;
         let e = a + ROW_SIZE;
-        let from = lowered(&rules[a..e], row, m, count, known_at(known, i));
+        let from = lowered(&rules[a..e], row, &fresh, m, count, known_at(known, i));
         note(known, i, from);
         i += 1;
     }

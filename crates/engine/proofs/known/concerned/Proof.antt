@@ -1,4 +1,4 @@
--- `concerned` meets its contract: the body from i on concerns the heads where all does.
+-- `concerned` meets its contract: the heads from i on are concerned where all are.
 -- Assumes nothing.
 use borrow.Author.Needs.{needs}
 use Prim.Native.Nat.{_-_}
@@ -7,13 +7,12 @@ use lib.ListN.{length}
 use Rattle.engine.proofs.KnownLaws.{Meeting, meeting-start, meeting-found, meeting-next, meeting-end}
 use Rattle.engine.proofs.known.concerned.Statement.{statement}
 use Rattle.engine.proofs.known.concerned.Tie as tie
-use Rattle.engine.proofs.known.has_symbol.Reads as has-symbol-reads
 
 abbrev Inv-loop : tie.InvT-loop
-Inv-loop heads body i₀ i = Meeting heads body i
+Inv-loop heads fresh body i₀ i = Meeting heads body i
 
 abbrev μ-loop : tie.MeasureT-loop
-μ-loop heads body i₀ i = length body - i
+μ-loop heads fresh body i₀ i = length heads - i
 
 loop-holds : tie.Need-loop-holds Inv-loop μ-loop
 loop-holds c = meeting-start _ _
@@ -24,17 +23,17 @@ mul-loop c = omega arith
 add-loop : tie.Need-add-loop Inv-loop μ-loop
 add-loop c = omega arith
 
-mul-has-symbol : tie.Need-mul-has-symbol Inv-loop μ-loop
-mul-has-symbol c = omega arith
+mul-is-fresh : tie.Need-mul-is-fresh Inv-loop μ-loop
+mul-is-fresh c = omega arith
 
-mul-has-symbol-2 : tie.Need-mul-has-symbol-2 Inv-loop μ-loop
-mul-has-symbol-2 c = omega arith
+mul-is-fresh-2 : tie.Need-mul-is-fresh-2 Inv-loop μ-loop
+mul-is-fresh-2 c = omega arith
 
-shared-slice-read-has-symbol : tie.Need-shared-slice-read-has-symbol Inv-loop μ-loop
-shared-slice-read-has-symbol c = omega arith
+shared-slice-read-is-fresh : tie.Need-shared-slice-read-is-fresh Inv-loop μ-loop
+shared-slice-read-is-fresh c = omega arith
 
-has-symbol-requires : tie.Need-has-symbol-requires Inv-loop μ-loop
-has-symbol-requires c κs = search needs
+is-fresh-requires : tie.Need-is-fresh-requires Inv-loop μ-loop
+is-fresh-requires c κs = search needs
 
 returns : tie.Need-returns Inv-loop μ-loop
 returns c = search meeting-found
@@ -60,10 +59,10 @@ concerned-spec =
     loop-holds
     mul-loop
     add-loop
-    mul-has-symbol
-    mul-has-symbol-2
-    shared-slice-read-has-symbol
-    has-symbol-requires
+    mul-is-fresh
+    mul-is-fresh-2
+    shared-slice-read-is-fresh
+    is-fresh-requires
     returns
     add-i
     loop-less

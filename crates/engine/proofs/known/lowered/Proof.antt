@@ -1,6 +1,6 @@
 -- `lowered` meets its contract.
 -- Assumes nothing.
-use Rattle.engine.proofs.KnownLaws.{lowered-equated, lowered-part, lowered-concerned, lowered-strange}
+use Rattle.engine.proofs.KnownLaws.{lowered-equated, lowered-part, lowered-concerned, lowered-strange, lowered-asks}
 use borrow.Author.Needs.{needs}
 use Rattle.engine.proofs.known.lowered.Statement.{statement}
 use Rattle.engine.proofs.known.lowered.Tie as tie
@@ -60,7 +60,7 @@ part-concerned-end-2 : tie.Need-part-concerned-end-2
 part-concerned-end-2 c = search needs
 
 concerned-requires : tie.Need-concerned-requires
-concerned-requires c κs = search needs
+concerned-requires c κs = lowered-asks _ _ _ ((c .before .before .before .before .before .before .before .before .before .before .before .before .before .before .pre) .3) ((c .before .before .wide3) .ensures .0)
 
 less-requires : tie.Need-less-requires
 less-requires c κs = search needs
