@@ -332,7 +332,7 @@ check-few program p reads = go (verdict (p .program)) refl
     small = read-small program reads
 
     short : ShortProgram p
-    short = reads-accepted ShortProgram (readProgram program) (program-short program) reads
+    short = reads-accepted 9 ShortProgram (readProgram program) (program-short program) reads
 
     heads : All (λ r. length (r .heads) ≤ 4) (p .program .rules)
     heads = all-mono (λ r h. h .heads-few) (small .rules)
@@ -378,7 +378,9 @@ check-answered program = go (readProgram program) refl
     go :
         (a : Answer Reading) → readProgram program ≡ a
         → Answered (replyOf programText a (λ p. fitted programText ample (checkListing p)))
-    go (refused n l) k = refusedBy n programText l (reads-refused ShortProgram (readProgram program) (program-short program) k)
+    go (refused n l) k =
+        refusedBy n programText l
+        (omega (arith, reads-refused 9 ShortProgram (readProgram program) (program-short program) k .most))
     go (accepted p) k =
         subst Answered (sym (fitted-listed programText ample (checkListing p) (check-fits program p k)))
         (listed (checkListing p) (check-begins p))

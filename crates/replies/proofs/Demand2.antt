@@ -14,6 +14,7 @@ use Rattle.syntax.proofs.GoalVocabulary.{goal-small}
 use Rattle.syntax.proofs.Vocabulary.{read-small}
 use Rattle.replies.specs.Replies.{listing, replyOf, goalText, runListing, runReply}
 use Rattle.replies.specs.Claims.{Demand2On}
+use Rattle.replies.proofs.Appearance.{goal-by-appearance}
 use Rattle.replies.proofs.Demand3.{fitted-listed}
 
 -- a listing of a run that fits is the reply
@@ -36,6 +37,7 @@ run-published s r e =
           λ t room g f l.
           record {
             goal = goal-small r t (read-small s e .few-constants) f .is-goal;
+            appearance = goal-by-appearance (r .program .symbols) (r .constants) t f;
             end = run (r .program) (g .goal);
             reply = run-listed s t room r g e f l;
             runs = published .runs .goals (g .goal);

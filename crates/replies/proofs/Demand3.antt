@@ -53,7 +53,7 @@ unfolding verdictReply verdictListing lineOf textOpened firstByte
 fail-no-pass r o one two n e = let z : _≡_ {A = ℕ} 85 67 = ap firstByte e in omega arith
 
 -- one verdict is not two
-verdict-one {ℓ} : {A : Type ℓ} {v : Verdict} {n : ℕ} {o : Overlap} {one two : Final} → v ≡ confluent n → v ≡ unjoined o one two
+pub verdict-one {ℓ} : {A : Type ℓ} {v : Verdict} {n : ℕ} {o : Overlap} {one two : Final} → v ≡ confluent n → v ≡ unjoined o one two
     → A
 verdict-one e f = absurd (let z : _≡_ {A = ℕ} 0 1 = cc in omega arith)
 

@@ -1,6 +1,7 @@
 -- Demands 2 and 3 on bytes, the starred cases, and what the programs print. Assumes nothing.
 pub mod Opened
 pub mod Starred
+pub mod Appearance
 pub mod Demand2
 pub mod Demand3
 pub mod Instances

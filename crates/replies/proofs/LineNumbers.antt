@@ -1,5 +1,6 @@
 -- What of a reply has to fit into the number that a C export returns: a refusal's line is one of the text's, at most 16,384,
 -- and a listing has at most 25,101 bytes.
+--   program-number                a refusal of a program's text is by a number from 1 to 9
 --   program-line, goal-line       a refusal's line
 --   Within                        a refusal by a number from 1 to 11 at a line below 2^16, or a listing of less than 2^31 bytes
 --   run-within, check-within      so is every reply, for an output of any room
@@ -22,14 +23,18 @@ use Rattle.replies.proofs.Room.{run-few}
 use Rattle.replies.proofs.CheckRoom.{check-few}
 
 -- a refusal of a program's text, and of a goal's
-program-turned : (s : List ℕ) {number line : ℕ} → readProgram s ≡ refused number line → Turned number line
-program-turned s e = reads-refused ShortProgram (readProgram s) (program-short s) e
+program-turned : (s : List ℕ) {number line : ℕ} → readProgram s ≡ refused number line → Turned 9 number line
+program-turned s e = reads-refused 9 ShortProgram (readProgram s) (program-short s) e
 
 goal-turned :
     (symbols : List Symbol) (constants : List (List ℕ)) (s : List ℕ) {number line : ℕ}
-    → readGoal symbols constants s ≡ refused number line → Turned number line
+    → readGoal symbols constants s ≡ refused number line → Turned 10 number line
 goal-turned symbols constants s e =
-    reads-refused (ShortGoal constants) (readGoal symbols constants s) (goal-short symbols constants s) e
+    reads-refused 10 (ShortGoal constants) (readGoal symbols constants s) (goal-short symbols constants s) e
+
+-- a program's is by a number from 1 to 9
+pub program-number : (s : List ℕ) {number line : ℕ} → readProgram s ≡ refused number line → (1 ≤ number) × (number ≤ 9)
+program-number s e = let t = program-turned s e in (t .least, t .most)
 
 -- its line is at most 16,384
 pub program-line : (s : List ℕ) {number line : ℕ} → readProgram s ≡ refused number line → line ≤ 16384
@@ -46,8 +51,9 @@ Within (refusal number text line) = (1 ≤ number) × (number ≤ 11) × (line <
 Within (listing bytes) = length bytes < 2147483648
 
 -- a refusal that reading may answer, and a listing or number 11
-turned-within : (number : ℕ) (text : Text) (line : ℕ) → Turned number line → Within (refusal number text line)
-turned-within number text line h = (h .least, omega (arith, h .most), omega (arith, h .within))
+turned-within :
+    (m number : ℕ) (text : Text) (line : ℕ) → m ≤ 10 → Turned m number line → Within (refusal number text line)
+turned-within m number text line few h = (h .least, omega (arith, h .most), omega (arith, h .within))
 
 fitted-within : (text : Text) (room : ℕ) (bytes : List ℕ) → length bytes ≤ 25101 → Within (fitted text room bytes)
 unfolding fitted
@@ -66,14 +72,15 @@ run-within program goal room = go (readProgram program) refl
         (p : Reading) → readProgram program ≡ accepted p → (a : Answer GoalReading)
         → readGoal (p .program .symbols) (p .constants) goal ≡ a
         → Within (replyOf goalText a (λ g. fitted goalText room (runListing p g)))
-    goals p k (refused n l) h = turned-within n goalText l (goal-turned (p .program .symbols) (p .constants) goal h)
+    goals p k (refused n l) h =
+        turned-within 10 n goalText l (omega arith) (goal-turned (p .program .symbols) (p .constants) goal h)
     goals p k (accepted g) h = fitted-within goalText room (runListing p g) (omega (arith, run-few program goal p g k h))
 
     go :
         (a : Answer Reading) → readProgram program ≡ a
         → Within (replyOf programText a (λ p. replyOf goalText (readGoal (p .program .symbols) (p .constants) goal)
         (λ g. fitted goalText room (runListing p g))))
-    go (refused n l) k = turned-within n programText l (program-turned program k)
+    go (refused n l) k = turned-within 9 n programText l (omega arith) (program-turned program k)
     go (accepted p) k = goals p k (readGoal (p .program .symbols) (p .constants) goal) refl
 
 -- every reply of a check
@@ -84,5 +91,5 @@ check-within program room = go (readProgram program) refl
     go :
         (a : Answer Reading) → readProgram program ≡ a
         → Within (replyOf programText a (λ p. fitted programText room (checkListing p)))
-    go (refused n l) k = turned-within n programText l (program-turned program k)
+    go (refused n l) k = turned-within 9 n programText l (omega arith) (program-turned program k)
     go (accepted p) k = fitted-within programText room (checkListing p) (check-few program p k)

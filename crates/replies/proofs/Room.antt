@@ -45,7 +45,7 @@ use Rattle.replies.specs.Replies.{Text, programText, goalText, Reply, re
 use Rattle.replies.specs.Replies.{runListing, runReply, printed, ample, sheetrun}
 use Rattle.replies.proofs.Elements.{all-at}
 use Rattle.replies.proofs.Demand3.{fitted-listed}
-use Rattle.replies.proofs.ShortNames.{Short, Turned, ShortProgram, ShortGoal, program-short, goal-short, reads-accepted}
+use Rattle.replies.proofs.ShortNames.{Short, ShortProgram, ShortGoal, program-short, goal-short, reads-accepted}
 use Rattle.replies.proofs.ShortNames.{TermedProgram, program-termed, reads-refused}
 
 -- ten times as many numbers have one digit more
@@ -312,10 +312,10 @@ run-few program goal p g reads reads-goal =
     let symbols = p .program .symbols in
     let small : ReadSmall p = read-small program reads in
     let of-goal : ReadGoal p g = goal-small p goal (small .few-constants) reads-goal in
-    let short : ShortProgram p = reads-accepted ShortProgram (readProgram program) (program-short program) reads in
-    let termed : TermedProgram p = reads-accepted TermedProgram (readProgram program) (program-termed program) reads in
+    let short : ShortProgram p = reads-accepted 9 ShortProgram (readProgram program) (program-short program) reads in
+    let termed : TermedProgram p = reads-accepted 9 TermedProgram (readProgram program) (program-termed program) reads in
     let short-goal : ShortGoal (p .constants) g =
-    reads-accepted (ShortGoal (p .constants)) (readGoal symbols (p .constants) goal) (goal-short symbols (p .constants) goal)
+    reads-accepted 10 (ShortGoal (p .constants)) (readGoal symbols (p .constants) goal) (goal-short symbols (p .constants) goal)
     reads-goal in
     let formed = read-wellFormed program reads in
     let spoken =
@@ -345,9 +345,9 @@ pub run-listed :
 unfolding runReply replyOf
 run-listed program goal p g e f = rw (e, f) (fitted-listed goalText ample (runListing p g) (run-fits program goal p g e f))
 
--- a reply that is not number 11: a refusal that reading may answer, or a listing that does not begin as a refusal does
+-- a reply that is not number 11: a refusal by at most number 10, or a listing that does not begin as a refusal does
 pub data Answered : Reply → Type 0 where
-  refusedBy : (number : ℕ) (text : Text) (line : ℕ) → Turned number line → Answered (refusal number text line)
+  refusedBy : (number : ℕ) (text : Text) (line : ℕ) → number ≤ 10 → Answered (refusal number text line)
   listed : (bytes : List ℕ) → (getD bytes 0 0 ≡ 82 → ⊥) → Answered (listing bytes)
 
 -- the first byte of the listing of an end
@@ -374,8 +374,8 @@ run-answered program goal = go (readProgram program) refl
         → Answered (replyOf goalText a (λ g. fitted goalText ample (runListing p g)))
     goals p k (refused n l) h =
         refusedBy n goalText l
-        (reads-refused (ShortGoal (p .constants)) (readGoal (p .program .symbols) (p .constants) goal)
-        (goal-short (p .program .symbols) (p .constants) goal) h)
+        (reads-refused 10 (ShortGoal (p .constants)) (readGoal (p .program .symbols) (p .constants) goal)
+        (goal-short (p .program .symbols) (p .constants) goal) h .most)
     goals p k (accepted g) h =
         subst Answered (sym (fitted-listed goalText ample (runListing p g) (run-fits program goal p g k h)))
         (listed (runListing p g) (run-begins p g))
@@ -384,7 +384,9 @@ run-answered program goal = go (readProgram program) refl
         (a : Answer Reading) → readProgram program ≡ a
         → Answered (replyOf programText a (λ p. replyOf goalText (readGoal (p .program .symbols) (p .constants) goal)
         (λ g. fitted goalText ample (runListing p g))))
-    go (refused n l) k = refusedBy n programText l (reads-refused ShortProgram (readProgram program) (program-short program) k)
+    go (refused n l) k =
+        refusedBy n programText l
+        (omega (arith, reads-refused 9 ShortProgram (readProgram program) (program-short program) k .most))
     go (accepted p) k = goals p k (readGoal (p .program .symbols) (p .constants) goal) refl
 
 -- the tenth byte of a printed refusal, by its number
@@ -405,7 +407,7 @@ pub eleven : (r : Reply) (text : Text) (line : ℕ) → Answered r → printed r
 unfolding printed lineOf fieldsBehind ascii decimal decimalFrom
 eleven r text line (refusedBy number t l h) e =
     let z : getD (printed (refusal number t l)) 9 0 ≡ 49 = ap (λ (s : List ℕ). getD s 9 0) e in
-    omega (arith, tenth-byte number t l (h .most))
+    omega (arith, tenth-byte number t l h)
 eleven r text line (listed bytes h) e = h (ap (λ (s : List ℕ). getD s 0 0) e)
 
 -- so `sheetrun` never prints it

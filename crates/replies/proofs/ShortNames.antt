@@ -1,4 +1,5 @@
--- What reading a text answers: a refusal by a number from 1 to 10 at a line of at most 16,384, or names of at most 8 bytes.
+-- What reading a text answers: a refusal by a number from 1 to 9, and a goal's to 10, at a line of at most 16,384; or names of at
+-- most 8 bytes.
 --   Short             at most 8 bytes
 --   Turned            a refusal that reading may answer
 --   Reads             what holds of an answer: of a refusal that it is such, or something of the value
@@ -129,34 +130,34 @@ line-terms fs fine =
     let faulty = not (between 2 6 (length fs)) || not (isName (fieldAt 1 fs)) in
     not-false (every isTerm (drop 2 fs)) (or-neither faulty (not (every isTerm (drop 2 fs))) fine .1)
 
--- a refusal that reading may answer
-pub record Turned (number line : ℕ) : Type 0 where
+-- a refusal that reading may answer, by a number of at most m
+pub record Turned (m number line : ℕ) : Type 0 where
   pub least : 1 ≤ number
-  pub most : number ≤ 10
+  pub most : number ≤ m
   pub within : line ≤ 16384
 
 -- what holds of an answer: of a refusal, that reading may answer it; or something of the value that is accepted
-abbrev pub Reads : {A : Type 0} → (A → Type 0) → Answer A → Type 0
-Reads P (refused number line) = Turned number line
-Reads P (accepted a) = P a
+abbrev pub Reads : {A : Type 0} → ℕ → (A → Type 0) → Answer A → Type 0
+Reads m P (refused number line) = Turned m number line
+Reads m P (accepted a) = P a
 
-turned : (number line : ℕ) → (leb 1 number && leb number 10) ≡ true → line ≤ 16384 → Turned number line
-turned number line h low =
-    let (least, most) = and-true (leb 1 number) (leb number 10) h in
-    record { least = leb-true 1 number least; most = leb-true number 10 most; within = low }
+turned : {m : ℕ} (number line : ℕ) → (leb 1 number && leb number m) ≡ true → line ≤ 16384 → Turned m number line
+turned {m} number line h low =
+    let (least, most) = and-true (leb 1 number) (leb number m) h in
+    record { least = leb-true 1 number least; most = leb-true number m most; within = low }
 
 reads-refuseIf :
-    {A : Type 0} (P : A → Type 0) (b : Bool) (number line : ℕ) (otherwise : Answer A)
-    → (leb 1 number && leb number 10) ≡ true → line ≤ 16384 → (b ≡ false → Reads P otherwise)
-    → Reads P (refuseIf b number line otherwise)
-reads-refuseIf P true number line otherwise q low h = turned number line q low
-reads-refuseIf P false number line otherwise q low h = h refl
+    {A : Type 0} (m : ℕ) (P : A → Type 0) (b : Bool) (number line : ℕ) (otherwise : Answer A)
+    → (leb 1 number && leb number m) ≡ true → line ≤ 16384 → (b ≡ false → Reads m P otherwise)
+    → Reads m P (refuseIf b number line otherwise)
+reads-refuseIf m P true number line otherwise q low h = turned number line q low
+reads-refuseIf m P false number line otherwise q low h = h refl
 
 reads-andThen :
-    {A B : Type 0} (P : A → Type 0) (R : B → Type 0) (r : Answer A) (next : A → Answer B) → Reads P r
-    → ((a : A) → P a → Reads R (next a)) → Reads R (andThen r next)
-reads-andThen P R (refused number line) next h k = h
-reads-andThen P R (accepted a) next h k = k a h
+    {A B : Type 0} (m : ℕ) (P : A → Type 0) (R : B → Type 0) (r : Answer A) (next : A → Answer B) → Reads m P r
+    → ((a : A) → P a → Reads m R (next a)) → Reads m R (andThen r next)
+reads-andThen m P R (refused number line) next h k = h
+reads-andThen m P R (accepted a) next h k = k a h
 
 -- a rule of a good name, whose R line is one that a refusal may have
 record TermedRule (r : RuleRead) : Type 0 where
@@ -193,24 +194,24 @@ change-termed f constants d k s all =
 
 -- each line, of a number of at most 16,384, keeps a draft so
 module _ (n : ℕ) (low : n ≤ 16384) where
-  symbol-reads : (fs : List (List ℕ)) (d : Draft) → TermedDraft d → Reads TermedDraft (readSymbol n fs d)
+  symbol-reads : (fs : List (List ℕ)) (d : Draft) → TermedDraft d → Reads 9 TermedDraft (readSymbol n fs d)
   unfolding readSymbol
   symbol-reads fs d s =
-      reads-refuseIf TermedDraft (isSymbolFaulty fs) 4 n _ refl low
-      λ fine. reads-refuseIf TermedDraft (isKnown (fieldAt 1 fs) (map (λ s. s .name) (d .symbols))) 5 n _ refl low
-      λ _. reads-refuseIf TermedDraft (leb maxSymbols (length (d .symbols))) 7 n _ refl low
+      reads-refuseIf 9 TermedDraft (isSymbolFaulty fs) 4 n _ refl low
+      λ fine. reads-refuseIf 9 TermedDraft (isKnown (fieldAt 1 fs) (map (λ s. s .name) (d .symbols))) 5 n _ refl low
+      λ _. reads-refuseIf 9 TermedDraft (leb maxSymbols (length (d .symbols))) 7 n _ refl low
       λ _. record {
         symbols = all-append (s .symbols) (also (symbol-named fs fine) C.none);
         rules = s .rules;
         constants = s .constants;
       }
 
-  rule-reads : (fs : List (List ℕ)) (d : Draft) → TermedDraft d → Reads TermedDraft (readRule n fs d)
+  rule-reads : (fs : List (List ℕ)) (d : Draft) → TermedDraft d → Reads 9 TermedDraft (readRule n fs d)
   unfolding readRule
   rule-reads fs d s =
-      reads-refuseIf TermedDraft (isRuleFaulty fs) 4 n _ refl low
-      λ fine. reads-refuseIf TermedDraft (isKnown (fieldAt 1 fs) (map (λ r. r .rule .name) (d .rules))) 5 n _ refl low
-      λ _. reads-refuseIf TermedDraft (leb maxRules (length (d .rules))) 7 n _ refl low
+      reads-refuseIf 9 TermedDraft (isRuleFaulty fs) 4 n _ refl low
+      λ fine. reads-refuseIf 9 TermedDraft (isKnown (fieldAt 1 fs) (map (λ r. r .rule .name) (d .rules))) 5 n _ refl low
+      λ _. reads-refuseIf 9 TermedDraft (leb maxRules (length (d .rules))) 7 n _ refl low
       λ _. record {
         symbols = s .symbols;
         rules = all-append (s .rules) (also (record { named = rule-named fs fine; within = low }) C.none);
@@ -225,36 +226,36 @@ module _ (n : ℕ) (low : n ≤ 16384) where
         constraint = constraintOf symbols variable (constantsAfter (drop 2 fs) constants) fs;
         constants = constantsAfter (drop 2 fs) constants;
       }))
-      → Reads P (constraintLine full symbols variable constants n fs)
+      → Reads 9 P (constraintLine full symbols variable constants n fs)
   unfolding constraintLine
   found-reads P full symbols variable constants fs k =
-      reads-refuseIf P (isConstraintFaulty fs) 4 n _ refl low
-      λ fine. reads-refuseIf P (isUndeclared symbols fs) 6 n _ refl low
-      λ _. reads-refuseIf P (full || ltb maxConstants (length (constantsAfter (drop 2 fs) constants))) 7 n _ refl low
+      reads-refuseIf 9 P (isConstraintFaulty fs) 4 n _ refl low
+      λ fine. reads-refuseIf 9 P (isUndeclared symbols fs) 6 n _ refl low
+      λ _. reads-refuseIf 9 P (full || ltb maxConstants (length (constantsAfter (drop 2 fs) constants))) 7 n _ refl low
       λ _. k (line-terms fs fine)
 
   constraint-reads :
       (count most : ℕ) (add : Constraint → Rule → Rule) (fs : List (List ℕ)) (d : Draft)
       → ((c : Constraint) (r : Rule) → add c r .name ≡ r .name) → TermedDraft d
-      → Reads TermedDraft (readConstraint count most add n fs d)
+      → Reads 9 TermedDraft (readConstraint count most add n fs d)
   unfolding readConstraint
   constraint-reads count most add fs d k s =
-      reads-andThen (λ found. All Termed (found .constants)) TermedDraft
+      reads-andThen 9 (λ found. All Termed (found .constants)) TermedDraft
       (constraintLine (leb most count) (d .symbols) letterNumber (d .constants) n fs) _
       (found-reads _ (leb most count) (d .symbols) letterNumber (d .constants) fs
       λ _. constants-termed (drop 2 fs) (d .constants) (s .constants))
       λ found h. change-termed (add (found .constraint)) (found .constants) d (k (found .constraint)) s h
 
-  equation-reads : (fs : List (List ℕ)) (d : Draft) → TermedDraft d → Reads TermedDraft (readEquation n fs d)
+  equation-reads : (fs : List (List ℕ)) (d : Draft) → TermedDraft d → Reads 9 TermedDraft (readEquation n fs d)
   unfolding readEquation withEquation
   equation-reads fs d s =
       let constants = constantsAfter (drop 1 fs) (d .constants) in
       let full = leb maxEquations (length (lastRule (d .rules) .equations)) in
-      reads-refuseIf TermedDraft (isEquationFaulty fs) 4 n _ refl low
-      λ _. reads-refuseIf TermedDraft (full || ltb maxConstants (length constants)) 7 n _ refl low
+      reads-refuseIf 9 TermedDraft (isEquationFaulty fs) 4 n _ refl low
+      λ _. reads-refuseIf 9 TermedDraft (full || ltb maxConstants (length constants)) 7 n _ refl low
       λ _. change-termed _ constants d (λ r. refl) s (constants-termed (drop 1 fs) (d .constants) (s .constants))
 
-  form-reads : (form : Form) (fs : List (List ℕ)) (d : Draft) → TermedDraft d → Reads TermedDraft (readForm form n fs d)
+  form-reads : (form : Form) (fs : List (List ℕ)) (d : Draft) → TermedDraft d → Reads 9 TermedDraft (readForm form n fs d)
   unfolding readForm withHead withBody
   form-reads symbolForm fs d s = symbol-reads fs d s
   form-reads ruleForm fs d s = rule-reads fs d s
@@ -270,37 +271,38 @@ module _ (n : ℕ) (low : n ≤ 16384) where
   unfolding inSection
   moved-termed section d s = record { symbols = s .symbols; rules = s .rules; constants = s .constants }
 
-  fields-read : (fs : List (List ℕ)) (d : Draft) → TermedDraft d → Reads TermedDraft (readFields n fs d)
+  fields-read : (fs : List (List ℕ)) (d : Draft) → TermedDraft d → Reads 9 TermedDraft (readFields n fs d)
   unfolding readFields
   fields-read fs d s = go (sectionAfter (formOf (fieldAt 0 fs)) (d .section))
     where
       go :
           (o : Option Section)
-          → Reads TermedDraft (onward o (refused 3 n) (λ section. readForm (formOf (fieldAt 0 fs)) n fs (inSection section d)))
+          → Reads 9 TermedDraft (onward o (refused 3 n) (λ section. readForm (formOf (fieldAt 0 fs)) n fs (inSection section d)))
       go none = turned 3 n refl low
       go (some section) = form-reads (formOf (fieldAt 0 fs)) fs (inSection section d) (moved-termed section d s)
 
-  line-reads : (l : Line) (d : Draft) → TermedDraft d → Reads TermedDraft (readLine n l d)
+  line-reads : (l : Line) (d : Draft) → TermedDraft d → Reads 9 TermedDraft (readLine n l d)
   unfolding readLine
   line-reads l d s =
-      reads-refuseIf TermedDraft (lineIsFaulty l) 2 n _ refl low λ _. fields-read (fields (l .bytes)) d s
+      reads-refuseIf 9 TermedDraft (lineIsFaulty l) 2 n _ refl low λ _. fields-read (fields (l .bytes)) d s
 
-lines-read : (n : ℕ) (d : Draft) (ls : List Line) → n + length ls ≤ 16385 → TermedDraft d → Reads TermedDraft (readLines n d ls)
+lines-read : (n : ℕ) (d : Draft) (ls : List Line) → n + length ls ≤ 16385 → TermedDraft d → Reads 9 TermedDraft (readLines n d ls)
 unfolding readLines
 lines-read n d [] h s = s
 lines-read n d (l ∷ ls) h s =
-    reads-andThen TermedDraft TermedDraft (readLine n l d) _ (line-reads n (omega arith) l d s)
+    reads-andThen 9 TermedDraft TermedDraft (readLine n l d) _ (line-reads n (omega arith) l d s)
     (λ e t. lines-read (suc n) e ls (omega arith) t)
 
 -- the rules, each at its R line
 rules-read :
     {A : Type 0} (P : A → Type 0) (symbols : List Symbol) (rs : List RuleRead) (otherwise : Answer A) → All TermedRule rs
-    → Reads P otherwise → Reads P (checkRules symbols rs otherwise)
+    → Reads 9 P otherwise → Reads 9 P (checkRules symbols rs otherwise)
 unfolding checkRules
 rules-read P symbols [] otherwise all h = h
 rules-read P symbols (r ∷ rs) otherwise (also s all) h =
-    reads-refuseIf P (eqb (length (r .rule .heads)) 0) 8 (r .line) _ refl (s .within)
-    λ _. reads-refuseIf P (leb (weight symbols (r .rule .heads)) (weight symbols (r .rule .body))) 9 (r .line) _ refl (s .within)
+    reads-refuseIf 9 P (eqb (length (r .rule .heads)) 0) 8 (r .line) _ refl (s .within)
+    λ _. reads-refuseIf 9 P (leb (weight symbols (r .rule .heads)) (weight symbols (r .rule .body))) 9 (r .line) _ refl
+    (s .within)
     λ _. rules-read P symbols rs otherwise all h
 
 -- a text has no more lines than bytes
@@ -317,11 +319,11 @@ lines-few (b ∷ s) = go (eqb b 10) (lines s) (lines-few s)
     go false (l ∷ ls) h = omega arith
 
 -- a program's text
-pub program-termed : (s : List ℕ) → Reads TermedProgram (readProgram s)
+pub program-termed : (s : List ℕ) → Reads 9 TermedProgram (readProgram s)
 unfolding readProgram blank
 program-termed s =
-    reads-refuseIf TermedProgram (ltb maxText (length s)) 1 0 _ refl (omega arith)
-    λ short. reads-andThen TermedDraft TermedProgram (readLines 1 blank (lines s)) _
+    reads-refuseIf 9 TermedProgram (ltb maxText (length s)) 1 0 _ refl (omega arith)
+    λ short. reads-andThen 9 TermedDraft TermedProgram (readLines 1 blank (lines s)) _
     (lines-read 1 blank (lines s) (omega (arith, lines-few s, ltb-false 16384 (length s) short))
     (record { symbols = C.none; rules = C.none; constants = C.none }))
     λ d t. rules-read TermedProgram (d .symbols) (d .rules) _ (t .rules)
@@ -343,7 +345,7 @@ record TermedFound (before fs : List (List ℕ)) (found : Found) : Type 0 where
 
 goal-line-reads :
     (before : List (List ℕ)) (symbols : List Symbol) (n : ℕ) (l : Line) (d : GoalDraft) → n ≤ 16384 → TermedGoalDraft before d
-    → Reads (TermedGoalDraft before) (readGoalLine symbols n l d)
+    → Reads 9 (TermedGoalDraft before) (readGoalLine symbols n l d)
 unfolding readGoalLine readGoalFields readConstraintOfGoal
 goal-line-reads before symbols n l d low s =
     let fs = fields (l .bytes) in
@@ -351,9 +353,9 @@ goal-line-reads before symbols n l d low s =
     let variable : List ℕ → ℕ = λ f. indexOf f letters in
     let full = leb maxGoal (length (d .constraints)) in
     let P = TermedGoalDraft before in
-    reads-refuseIf P (lineIsFaulty l) 2 n _ refl low
-    λ _. reads-refuseIf P (not (isGoalForm (formOf (fieldAt 0 fs)))) 3 n _ refl low
-    λ _. reads-andThen (TermedFound before fs) P (constraintLine full symbols variable (d .constants) n fs) _
+    reads-refuseIf 9 P (lineIsFaulty l) 2 n _ refl low
+    λ _. reads-refuseIf 9 P (not (isGoalForm (formOf (fieldAt 0 fs)))) 3 n _ refl low
+    λ _. reads-andThen 9 (TermedFound before fs) P (constraintLine full symbols variable (d .constants) n fs) _
     (found-reads n low _ full symbols variable (d .constants) fs
     λ terms. record { terms = terms; constants = λ h. constants-termed (drop 2 fs) (d .constants) (s .constants h) })
     λ found h. record {
@@ -363,51 +365,58 @@ goal-line-reads before symbols n l d low s =
 
 goal-lines-read :
     (before : List (List ℕ)) (symbols : List Symbol) (n : ℕ) (d : GoalDraft) (ls : List Line) → n + length ls ≤ 16385
-    → TermedGoalDraft before d → Reads (TermedGoalDraft before) (readGoalLines symbols n d ls)
+    → TermedGoalDraft before d → Reads 9 (TermedGoalDraft before) (readGoalLines symbols n d ls)
 unfolding readGoalLines
 goal-lines-read before symbols n d [] h s = s
 goal-lines-read before symbols n d (l ∷ ls) h s =
-    reads-andThen (TermedGoalDraft before) (TermedGoalDraft before) (readGoalLine symbols n l d) _
+    reads-andThen 9 (TermedGoalDraft before) (TermedGoalDraft before) (readGoalLine symbols n l d) _
     (goal-line-reads before symbols n l d (omega arith) s)
     (λ e t. goal-lines-read before symbols (suc n) e ls (omega arith) t)
+
+-- what holds by at most number 9 holds by at most number 10
+reads-ten : {A : Type 0} (P : A → Type 0) (r : Answer A) → Reads 9 P r → Reads 10 P r
+reads-ten P (refused number line) h = record { least = h .least; most = omega (arith, h .most); within = h .within }
+reads-ten P (accepted a) h = h
 
 -- a goal's text over symbols and constants
 pub goal-termed :
     (symbols : List Symbol) (constants : List (List ℕ)) (s : List ℕ)
-    → Reads (TermedGoal constants) (readGoal symbols constants s)
+    → Reads 10 (TermedGoal constants) (readGoal symbols constants s)
 unfolding readGoal
 goal-termed symbols constants s =
     let start : GoalDraft = record { constraints = []; letters = []; constants = constants } in
     let P = TermedGoal constants in
-    reads-refuseIf P (ltb maxText (length s)) 1 0 _ refl (omega arith)
-    λ short. reads-andThen (TermedGoalDraft constants) P (readGoalLines symbols 1 start (lines s)) _
+    reads-refuseIf 10 P (ltb maxText (length s)) 1 0 _ refl (omega arith)
+    λ short. reads-andThen 10 (TermedGoalDraft constants) P (readGoalLines symbols 1 start (lines s)) _
+    (reads-ten (TermedGoalDraft constants) (readGoalLines symbols 1 start (lines s))
     (goal-lines-read constants symbols 1 start (lines s) (omega (arith, lines-few s, ltb-false 16384 (length s) short))
-    (record { letters = C.none; constants = λ h. h }))
-    λ d t. reads-refuseIf P (ltb maxWeight (weight symbols (d .constraints))) 10 0 _ refl (omega arith)
+    (record { letters = C.none; constants = λ h. h })))
+    λ d t. reads-refuseIf 10 P (ltb maxWeight (weight symbols (d .constraints))) 10 0 _ refl (omega arith)
     λ _. record { letters = t .letters; constants = t .constants }
 
 -- what holds of the value, and of a refusal
-pub reads-accepted : {A : Type 0} (P : A → Type 0) (r : Answer A) {a : A} → Reads P r → r ≡ accepted a → P a
-reads-accepted P r h e = subst (Reads P) e h
+pub reads-accepted : {A : Type 0} (m : ℕ) (P : A → Type 0) (r : Answer A) {a : A} → Reads m P r → r ≡ accepted a → P a
+reads-accepted m P r h e = subst (Reads m P) e h
 
 pub reads-refused :
-    {A : Type 0} (P : A → Type 0) (r : Answer A) {number line : ℕ} → Reads P r → r ≡ refused number line → Turned number line
-reads-refused P r h e = subst (Reads P) e h
+    {A : Type 0} (m : ℕ) (P : A → Type 0) (r : Answer A) {number line : ℕ} → Reads m P r → r ≡ refused number line
+    → Turned m number line
+reads-refused m P r h e = subst (Reads m P) e h
 
 -- names and letters are short
 reads-mono :
-    {A : Type 0} (P Q : A → Type 0) → ((a : A) → P a → Q a) → (r : Answer A) → Reads P r → Reads Q r
-reads-mono P Q f (refused number line) h = h
-reads-mono P Q f (accepted a) h = f a h
+    {A : Type 0} (m : ℕ) (P Q : A → Type 0) → ((a : A) → P a → Q a) → (r : Answer A) → Reads m P r → Reads m Q r
+reads-mono m P Q f (refused number line) h = h
+reads-mono m P Q f (accepted a) h = f a h
 
 pub record ShortProgram (p : Reading) : Type 0 where
   pub symbols : All (λ s. Short (s .name)) (p .program .symbols)
   pub rules : All (λ r. Short (r .name)) (p .program .rules)
   pub constants : All Short (p .constants)
 
-pub program-short : (s : List ℕ) → Reads ShortProgram (readProgram s)
+pub program-short : (s : List ℕ) → Reads 9 ShortProgram (readProgram s)
 program-short s =
-    reads-mono TermedProgram ShortProgram
+    reads-mono 9 TermedProgram ShortProgram
     (λ p t. record {
       symbols = all-mono (λ y. term-short (y .name)) (t .symbols);
       rules = all-mono (λ y. term-short (y .name)) (t .rules);
@@ -421,9 +430,9 @@ pub record ShortGoal (before : List (List ℕ)) (g : GoalReading) : Type 0 where
 
 pub goal-short :
     (symbols : List Symbol) (constants : List (List ℕ)) (s : List ℕ)
-    → Reads (ShortGoal constants) (readGoal symbols constants s)
+    → Reads 10 (ShortGoal constants) (readGoal symbols constants s)
 goal-short symbols constants s =
-    reads-mono (TermedGoal constants) (ShortGoal constants)
+    reads-mono 10 (TermedGoal constants) (ShortGoal constants)
     (λ g t. record {
       letters = all-mono term-short (t .letters);
       constants = λ h. all-mono term-short (t .constants h);

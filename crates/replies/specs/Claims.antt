@@ -19,7 +19,7 @@ use Rattle.semantics.specs.Strategy.{Final}
 use Rattle.semantics.specs.Runs.{RunsTo}
 use Rattle.semantics.specs.Overlaps.{Overlap, overlaps}
 use Rattle.semantics.specs.Verdict.{Verdict, confluent, unjoined}
-use Rattle.semantics.specs.Claims.{OneOutcome, OneOutcomeByAppearance, Bounded, Counterexample}
+use Rattle.semantics.specs.Claims.{OneOutcome, ByAppearance, OneOutcomeByAppearance, Bounded, Counterexample}
 use Rattle.semantics.specs.Correspondence.{Demand2}
 use Rattle.syntax.specs.Answers.{accepted}
 use Rattle.syntax.specs.Programs.{Reading}
@@ -57,9 +57,10 @@ pub record Demand3On (s : List ℕ) (r : Reading) : Type 1 where
   pub decimals : (n : ℕ) → (isNumber (decimal n) ≡ true) × (valueOf (decimal n) ≡ n)
 
 -- the reply to a goal's text that reads as g, in a room that the listing fits: the listing of an end, and the run of the goal,
--- which is over the program's symbols, ends so
+-- which is over the program's symbols and counts its variables by first appearance, ends so
 pub record Ran (s t : List ℕ) (room : ℕ) (r : Reading) (g : GoalReading) : Type 0 where
   pub goal : isGoalOf (r .program) (g .goal) ≡ true
+  pub appearance : ByAppearance (g .goal)
   pub end : Final
   pub reply :
       runReply s t room

@@ -3,3 +3,5 @@ pub mod ReplyLaws
 pub mod ReadyLaws
 pub mod ReadingLaws
 pub mod PrintLaws
+pub mod CheckLaws
+pub mod Numbers

@@ -209,7 +209,7 @@ module _ {program names places symbols rules : List ℕ} {c : Counts} (r : GoalR
       constant-some j h t =
           let name : ℕ → List ℕ = λ i. nameOf names′ (firstConstant + i) in
           let of-goal : TermedGoal (r .p .constants) (goalReadingOf names′ cells letters found) =
-          reads-accepted (TermedGoal (r .p .constants)) (readGoal (r .p .program .symbols) (r .p .constants) goal)
+          reads-accepted 10 (TermedGoal (r .p .constants)) (readGoal (r .p .program .symbols) (r .p .constants) goal)
           (goal-termed (r .p .program .symbols) (r .p .constants) goal) read in
           let all : All Termed (tabled name (found .constants)) = of-goal .constants (t .constants) in
           let at = all-at [] j all (omega (arith, tabled-length name (found .constants))) in
@@ -222,7 +222,7 @@ module _ {program names places symbols rules : List ℕ} {c : Counts} (r : GoalR
       named i k = go (ltb i (c .symbols)) refl k
         where
           program-terms : TermedProgram (r .p)
-          program-terms = reads-accepted TermedProgram (readProgram program) (program-termed program) (r .first .read)
+          program-terms = reads-accepted 9 TermedProgram (readProgram program) (program-termed program) (r .first .read)
 
           go : (b : Bool) → ltb i (c .symbols) ≡ b
               → (b || (leb firstConstant i && ltb i (firstConstant + found .constants))) ≡ true → 0 < getD names′ i 0

@@ -2,3 +2,4 @@
 pub mod Answers
 pub mod Stages
 pub mod Promises
+pub mod Numbers
