@@ -5,3 +5,4 @@ pub mod ReadingLaws
 pub mod PrintLaws
 pub mod CheckLaws
 pub mod Numbers
+pub mod ReadLaws

@@ -3,3 +3,4 @@ pub mod Answers
 pub mod Stages
 pub mod Promises
 pub mod Numbers
+pub mod Readings

@@ -18,7 +18,7 @@ fn name_byte(text: TextName) -> u64
 }
 
 // An answer as one number.
-fn answer_number(reply: RunReply) -> u64
+pub fn answer_number(reply: RunReply) -> u64
     ensures { λ r. ⌜ r ≡ answerNumber reply ⌝ }
 {
     match reply {

@@ -2,11 +2,14 @@
 // Their promises are the definitions of specs/Replies.antt, through specs/Answers.antt.
 mod exported;
 mod printing;
+mod reading;
 mod running;
 
 pub use printing::put_refusal;
 pub use printing::put_reply;
 pub use printing::put_run;
+pub use reading::ReadReply;
+pub use reading::read;
 pub use running::run;
 
 // The letter of a text: S for a program's, G for a goal's.
