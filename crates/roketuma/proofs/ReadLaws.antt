@@ -1,10 +1,13 @@
 -- Reading two texts, and how it is tied to a run of them.
 --   program-unreadable, goal-unreadable    the judgement of a text that is refused
 --   goal-readable                          the judgement of a goal that is read
+--   program-tabled, tabled-used, tabled-room   a program's tables, for reading a goal
+--   program-goes-on                        where a program is read, the goal's judgement is that of both
+--   refused-number                         the number of a refusal is that of a run's
 --   read-refused, read-readable            a run's reply where the texts are refused, and where they are read
 --   read-exact                             reading refuses exactly where a run does by a number below 11 (the main law)
 --   read-numbers                           a refusal is by a number from 1 to 10, its line at most 16,384
---   read-number-decodes, read-number-zero  the number of `roketuma_read` decodes to its answer; 0 is for texts that read
+--   read-number-decodes                    the number of `roketuma_read` decodes to its answer
 -- Assumes nothing.
 use Prim.Native.Nat.{ℕ, _+_, _*_, _≤_, _<_}
 use native.Mathlib.Omega.{arith}
@@ -15,6 +18,7 @@ use mathlib.Core.Path.{_≡_, refl, sym, ap, subst, _∙_}
 use lib.Dec.{eqb, ltb}
 use lib.ListN.{length, take}
 use lib.Seq.{length-take-le}
+use borrow.Author.Tests.{ne-eqb}
 use Rattle.semantics.specs.Terms.{Symbol}
 use Rattle.syntax.specs.Answers.{Answer, refused, accepted}
 use Rattle.syntax.specs.Programs.{Reading, readProgram}
@@ -31,16 +35,17 @@ use Rattle.goals.specs.declared.GoalCounts.{GoalCounts}
 use Rattle.goals.specs.declared.GoalRead.{GoalRead}
 use Rattle.goals.specs.declared.GoalRead.the-variants as goal-read
 use Rattle.replies.specs.Replies.{Text, programText, goalText, Reply, refusal, listing, replyOf, fitted, runListing, runReply}
-use Rattle.replies.proofs.LineNumbers.{program-number, program-line, goal-line}
+use Rattle.replies.proofs.ShortNames.{Turned, Reads, ShortProgram, ShortGoal, program-short, goal-short}
 use Rattle.roketuma.specs.Answers.{textMeant, textByte, nameByte, answerNumber, replyNumber}
 use Rattle.roketuma.specs.Readings.{Judgement, readable, unreadable, judged, goalReply, readReply, readMeant}
-use Rattle.roketuma.specs.Readings.{judgementNumber, Tabled}
+use Rattle.roketuma.specs.Readings.{judgementNumber, readRead, Tabled}
 use Rattle.roketuma.specs.declared.TextName.{TextName}
 use Rattle.roketuma.specs.declared.TextName.the-variants.{S, G}
 use Rattle.roketuma.specs.declared.Refusal.{Refusal}
 use Rattle.roketuma.specs.declared.RunReply.the-variants.{Refused as RunRefused}
 use Rattle.roketuma.specs.declared.reading.ReadReply.{ReadReply}
 use Rattle.roketuma.specs.declared.reading.ReadReply.the-variants.{Refused, Readable}
+use Rattle.roketuma.proofs.Numbers.{refusal-read}
 
 module _ {program names places names′ places′ symbols′ rules′ : List ℕ} {reply : ProgramRead}
     (r : ProgramIn program names places names′ places′ symbols′ rules′ reply) where
@@ -219,3 +224,62 @@ read-exact program goal room number text line few =
         let b : t ≡ text = cc in
         let d : l ≡ line = cc in
         cc
+
+-- a refusal is by a number from 1 to 10, and its line is at most 16,384
+pub read-numbers :
+    (program goal : List ℕ) (number : ℕ) (text : Text) (line : ℕ) → readReply program goal ≡ unreadable number text line
+    → Turned 10 number line
+unfolding readReply goalReply judged
+read-numbers program goal number text line e = go (readProgram program) (program-short program) e
+  where
+    more : (n l : ℕ) → Turned 9 n l → Turned 10 n l
+    more n l t = record { least = t .least; most = omega (arith, t .most); within = t .within }
+
+    goals :
+        (p : Reading) (a : Answer GoalReading) → Reads 10 (ShortGoal (p .constants)) a
+        → judged goalText a (λ g. readable) ≡ unreadable number text line → Turned 10 number line
+    goals p (refused n l) t h =
+        let a : n ≡ number = cc in
+        let b : l ≡ line = cc in
+        rw (a, b) at t
+    goals p (accepted g) t h = absurd (let z : _≡_ {A = ℕ} 0 1 = cc in omega arith)
+
+    go :
+        (a : Answer Reading) → Reads 9 ShortProgram a
+        → judged programText a (λ p. goalReply (p .program .symbols) (p .constants) goal) ≡ unreadable number text line
+        → Turned 10 number line
+    go (refused n l) t h =
+        let a : n ≡ number = cc in
+        let b : l ≡ line = cc in
+        rw (a, b) at (more n l t)
+    go (accepted p) t h =
+        goals p (readGoal (p .program .symbols) (p .constants) goal) (goal-short (p .program .symbols) (p .constants) goal) h
+
+-- the answer of a refusal's number
+number-read :
+    (number line : ℕ) (t : TextName) → 1 ≤ number → line < 65536
+    → readRead (4294967296 * number + 65536 * nameByte t + line) ≡ Refused (record { number = number; text = t; line = line })
+unfolding readRead
+number-read number line t least few =
+    rw (ne-eqb (4294967296 * number + 65536 * nameByte t + line) 0 (λ e. omega (arith, e)))
+    (ap Refused (refusal-read number line t few))
+
+-- the answer that a judgement's number decodes to
+decoded :
+    (j : Judgement) → ((number : ℕ) (text : Text) (line : ℕ) → j ≡ unreadable number text line → Turned 10 number line)
+    → readMeant (readRead (judgementNumber j)) ≡ j
+unfolding readRead judgementNumber readMeant textMeant replyNumber textByte nameByte
+decoded readable t = refl
+decoded (unreadable number programText line) t =
+    let turned = t number programText line refl in
+    ap readMeant (number-read number line S (turned .least) (omega (arith, turned .within)))
+decoded (unreadable number goalText line) t =
+    let turned = t number goalText line refl in
+    ap readMeant (number-read number line G (turned .least) (omega (arith, turned .within)))
+
+-- the number of `roketuma_read` decodes to an answer of which holds what `read` promises
+pub read-number-decodes :
+    (program goal : List ℕ) (n : ℕ) → n ≡ judgementNumber (readReply program goal)
+    → readMeant (readRead n) ≡ readReply program goal
+read-number-decodes program goal n e =
+    ap (λ (m : ℕ). readMeant (readRead m)) e ∙ decoded (readReply program goal) (read-numbers program goal)
