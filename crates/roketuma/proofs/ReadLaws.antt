@@ -52,8 +52,8 @@ module _ {program names places names′ places′ symbols′ rules′ : List ℕ
   -- a program that is refused
   pub program-unreadable :
       (goal : List ℕ) (number line : ℕ) → reply ≡ program-read.Refused number line
-      → readMeant (Refused (record { number = number; text = S; line = line })) ≡ readReply program goal
-  unfolding programAnswer readMeant textMeant readReply judged
+      → unreadable number (textMeant S) line ≡ readReply program goal
+  unfolding programAnswer textMeant readReply judged
   program-unreadable goal number line h =
       ap (λ (a : Answer Reading). judged programText a (λ p. goalReply (p .program .symbols) (p .constants) goal))
       (sym (ap (programAnswer names′ symbols′ rules′) h) ∙ r .answers)
@@ -113,9 +113,9 @@ module _ {symbols names places : List ℕ} {c : Counts} (t : Tabled symbols name
     -- a goal that is refused
     pub goal-unreadable :
         (number line : ℕ) → reply ≡ goal-read.Refused number line
-        → readMeant (Refused (record { number = number; text = G; line = line }))
+        → unreadable number (textMeant G) line
         ≡ goalReply (symbolsOf names symbols (c .symbols)) (constantsOf names (c .constants)) goal
-    unfolding goalAnswer readMeant textMeant goalReply judged
+    unfolding goalAnswer textMeant goalReply judged
     goal-unreadable number line h =
         ap (λ (a : Answer GoalReading). judged goalText a (λ g. readable)) (sym (ap (goalAnswer names′ cells letters) h) ∙ answers)
 

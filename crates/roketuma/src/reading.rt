@@ -12,12 +12,20 @@ use programs::read_program;
 use tables::layout::SYMBOL_SIZE;
 ghost use mathlib.Core.Path.{_≡_};
 ghost use Rattle.tables.specs.Rows.{symbolsOf, constantsOf};
-ghost use Rattle.roketuma.specs.Readings.{Tabled, readMeant, goalReply, readReply, judgementNumber};
+ghost use Rattle.roketuma.specs.Answers.{textMeant};
+ghost use Rattle.roketuma.specs.Readings.{unreadable, Tabled, readMeant, goalReply, readReply, judgementNumber};
 
 // The answer of reading: a refusal, or that both texts can be read.
 pub enum ReadReply {
     Refused(Refusal),
     Readable,
+}
+
+// A refusal as the answer.
+fn refused(number: u8, text: TextName, line: u16) -> ReadReply
+    ensures { λ r. ⌜ readMeant r ≡ unreadable number (textMeant text) line ⌝ }
+{
+    ReadReply::Refused(Refusal { number, text, line })
 }
 
 // The answer to a goal's text, over the tables of a program as read.
@@ -38,11 +46,7 @@ fn judge_goal(goal: &[u8], symbols: &[u16], names: &mut [u64], places: &mut [u16
         &mut cells,
         &mut letters,
     ) {
-        GoalRead::Refused(number, line) => ReadReply::Refused(Refusal {
-            number,
-            text: TextName::G,
-            line,
-        }),
+        GoalRead::Refused(number, line) => refused(number, TextName::G, line),
         GoalRead::Accepted(_) => ReadReply::Readable,
     }
 }
@@ -56,11 +60,7 @@ pub fn read(program: &[u8], goal: &[u8]) -> ReadReply
     let mut symbols = [0; 128];
     let mut rules = [0; 2048];
     match read_program(program, &mut names, &mut places, &mut symbols, &mut rules) {
-        ProgramRead::Refused(number, line) => ReadReply::Refused(Refusal {
-            number,
-            text: TextName::S,
-            line,
-        }),
+        ProgramRead::Refused(number, line) => refused(number, TextName::S, line),
         ProgramRead::Accepted(counts) => judge_goal(goal, &symbols, &mut names, &mut places, counts),
     }
 }

@@ -1,6 +1,6 @@
 -- `roketuma::reading::judge_goal` meets its contract: the reader's answer is the judgement's. Assumes nothing.
 use native.Mathlib.Omega.{arith}
-use mathlib.Core.Path.{sym}
+use mathlib.Core.Path.{sym, _∙_}
 use lib.Seq.{length-take-le}
 use borrow.Author.Needs.{needs}
 use Rattle.roketuma.proofs.ReadLaws.{tabled-used, tabled-room, goal-unreadable, goal-readable}
@@ -20,11 +20,13 @@ read-goal-requires c κs =
 
 returns : tie.Need-returns
 returns c =
-    let at-read = c .before .before .before .before .before .before .before .before .before in
+    let at-number = c .before .before in
+    let at-read = at-number .before .before .before .before .before .before .before .before in
     let at-struct = at-read .before .before .before .before .before .before in
     let start = at-struct .before .before .before .before .before in
-    let number′ = c .before .number in
-    goal-unreadable (start .pre) (start .args .goal .now) (at-read .read-goal .ensures) (number′ .given .0 .0)
+    let number′ = at-number .number in
+    c .refused .ensures
+    ∙ goal-unreadable (start .pre) (start .args .goal .now) (at-read .read-goal .ensures) (number′ .given .0 .0)
     (number′ .given .0 .1 .0) (number′ .given .1)
 
 returns-2 : tie.Need-returns-2
@@ -39,4 +41,5 @@ judge-goal-spec =
     tie.close
     (tie.spec
     (λ c. search needs) slice-aggregate-read-goal (λ c. search needs) (λ c. search needs) read-goal-requires (λ c. search needs)
-    (λ c. search needs) (λ c. search needs) (λ c. search needs) returns (λ c. search needs) (λ c. search needs) returns-2)
+    (λ c κs. search needs) (λ c. search needs) (λ c. search needs) (λ c. search needs) returns (λ c. search needs)
+    (λ c. search needs) returns-2)

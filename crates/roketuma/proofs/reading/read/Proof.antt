@@ -1,5 +1,6 @@
 -- `roketuma::reading::read` meets its contract: the program is refused, or the goal's judgement is that of both.
 -- Assumes nothing.
+use mathlib.Core.Path.{_∙_}
 use borrow.Author.Needs.{needs}
 use Rattle.roketuma.proofs.ReadLaws.{program-unreadable, program-tabled, program-goes-on}
 use Rattle.roketuma.proofs.reading.read.Statement.{statement}
@@ -14,9 +15,11 @@ judge-goal-requires c κs =
 
 returns : tie.Need-returns
 returns c =
-    let at-read = c .before .before .before .before .before .before .before in
-    let number′ = c .before .number in
-    program-unreadable (at-read .read-program .ensures) _ (number′ .given .0 .0) (number′ .given .0 .1 .0) (number′ .given .1)
+    let at-number = c .before .before in
+    let at-read = at-number .before .before .before .before .before .before in
+    let number′ = at-number .number in
+    c .refused .ensures
+    ∙ program-unreadable (at-read .read-program .ensures) _ (number′ .given .0 .0) (number′ .given .0 .1 .0) (number′ .given .1)
 
 returns-2 : tie.Need-returns-2
 returns-2 c =
@@ -31,4 +34,5 @@ read-spec =
     tie.close
     (tie.spec
     (λ c. search needs) (λ c. search needs) (λ c. search needs) (λ c. search needs) (λ c κs. search needs) (λ c. search needs)
-    (λ c. search needs) (λ c. search needs) (λ c. search needs) (λ c. search needs) judge-goal-requires returns returns-2)
+    (λ c κs. search needs) (λ c. search needs) (λ c. search needs) (λ c. search needs) (λ c. search needs) judge-goal-requires
+    returns returns-2)
