@@ -256,12 +256,11 @@ module _ {program goal places rules letters cells : List ℕ} {z : Sizes} (r : R
       → (usesOnly (isKnown (r .k) (r .c)) s ≡ true) × (boundIn s ≤ length letters)
   unfolding boundIn
   final-uses failed f t = (state-known (r .k) (r .c) (r .p .program .symbols) (r .g .goal .variables) f failed (symbols-count (r .first)) tt, omega arith)
-  final-uses (live next b cs) f t =
-      (
-        state-known (r .k) (r .c) (r .p .program .symbols) (r .g .goal .variables) f (live next b cs) (symbols-count (r .first))
-            (rw count-constants at t),
-        omega (arith, t .size, variables),
-      )
+  final-uses (live next b cs) f t = (
+    state-known (r .k) (r .c) (r .p .program .symbols) (r .g .goal .variables) f (live next b cs) (symbols-count (r .first))
+        (rw count-constants at t),
+    omega (arith, t .size, variables),
+  )
 
   -- the listing of the end, by the names of the tables
   pub final-listed :
