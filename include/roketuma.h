@@ -20,7 +20,16 @@ extern "C" {
 uint64_t roketuma_run(const uint8_t *program, size_t program_len, const uint8_t *goal, size_t goal_len,
                       uint8_t *output, size_t output_len);
 
-/* Room for every listing of a run. */
+/* Checks the program for confluence and writes the listing to the front of the output. What holds of the arguments of
+   roketuma_run holds of these.
+
+   Returns the length of the listing of a pass (below 2^31); or 2^31 more than the length of the listing of an overlap that does
+   not join, with its goal and two unequal ends (below 2^32). In both cases the length is at most output_len, and the bytes of
+   the output behind the listing are as they were.
+   Or, from 2^32 on, a refusal as above, of the text 'S'; every byte of the output is then as it was. */
+uint64_t roketuma_check(const uint8_t *program, size_t program_len, uint8_t *output, size_t output_len);
+
+/* Room for every listing of a run, and of a check. */
 #define ROKETUMA_ROOM 32768
 
 /* The parts of a returned number. */
@@ -28,6 +37,10 @@ uint64_t roketuma_run(const uint8_t *program, size_t program_len, const uint8_t 
 #define ROKETUMA_NUMBER(r) ((unsigned)((r) >> 32))
 #define ROKETUMA_TEXT(r) ((char)((r) >> 16 & 0xff))
 #define ROKETUMA_LINE(r) ((unsigned)((r) & 0xffff))
+
+/* The parts of a number that roketuma_check returned and that is no refusal: whether the program passes, and the length. */
+#define ROKETUMA_IS_PASS(r) ((r) >> 31 == 0)
+#define ROKETUMA_LENGTH(r) ((size_t)((r) & 0x7fffffff))
 
 #ifdef __cplusplus
 }
