@@ -1,5 +1,6 @@
-/* Roketuma: runs goals over Constraint Handling Rules programs. The static library is target/staticlib/libroketuma.a, which
-   `rt staticlib roketuma` writes; what a call does is proved, see README.md. x86-64 Linux. */
+/* Roketuma: runs goals over Constraint Handling Rules programs, and checks programs for confluence. The static library is
+   target/staticlib/libroketuma.a, which `rt staticlib roketuma` writes; what a call does is proved, see README.md.
+   x86-64 Linux. */
 #ifndef ROKETUMA_H
 #define ROKETUMA_H
 
