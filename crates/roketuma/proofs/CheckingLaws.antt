@@ -4,7 +4,7 @@
 --   decidable, show-ready                       what deciding on a program as read asks, and showing an overlap of it
 --   pass-replies                                the listing of a pass is the reply
 --   cells-…, end-…, listed-within               the cells of an end that are listed, and the end as the listing has it
---   goal-within, bounds-within                  the cells of an unjoined overlap
+--   front-few                                   a front has at most as many cells as there are
 --   show-listable, show-replies                 it can be listed, and its listing is the reply
 --   check-refused, check-ready                  a program that is refused, and one that is read
 --   checked-demand                              demand 3 of an answer to a check
@@ -321,15 +321,11 @@ module _ (e : Final) (bound cells : List ℕ) (a : ℕ) (x : End) (cut : a ≡ l
       go false y q =
           rw y (record { few = omega arith; live = λ z. absurd (let w : _≡_ {A = ℕ} 0 1 = cc in omega arith) })
 
--- the goal of an unjoined overlap, and what its variables became, lie within their cells
-module _ {program places goal bounds one two : List ℕ} {s : Shown} (r : ShowReady program places goal bounds one two s) where
-  pub goal-within : 5 * s .count ≤ length goal
-  goal-within = omega (arith, r .unjoined-in .count-few, r .goal-size)
+-- a front has at most as many cells as there are
+pub front-few : (e : ℕ) (cells : List ℕ) {n : ℕ} → length cells ≡ n → length (take e cells) ≤ n
+front-few e cells size = omega (arith, length-take e cells)
 
-  pub bounds-within : s .variables + s .variables ≤ length bounds
-  bounds-within = omega (arith, r .unjoined-in .variables-few, r .bounds-size)
-
--- its listing, from the cells and ends as they are lent
+-- the listing of an unjoined overlap, from its cells and ends as they are lent
 module _ {program places goal bounds one two : List ℕ} {s : Shown} (r : ShowReady program places goal bounds one two s)
     {a b : ℕ} {x y : End} (first-cut : a ≡ listedCells (s .one)) (second-cut : b ≡ listedCells (s .two))
     (first-shown : x ≡ endShown (s .one)) (second-shown : y ≡ endShown (s .two))
@@ -361,8 +357,8 @@ module _ {program places goal bounds one two : List ℕ} {s : Shown} (r : ShowRe
         drop-take v (v + v) bounds (omega arith) ∙ ap (λ (k : ℕ). take k (drop v bounds)) e
 
     -- it can be listed
-    pub show-listable : OverlapListable (take (5 * s .count) goal) used (take a one) (take b two) listed
-    show-listable =
+    pub show-listable : {cells : List ℕ} → length cells ≤ 40 → OverlapListable cells used (take a one) (take b two) listed
+    show-listable few =
         let u = r .unjoined-in in
         record {
           shaped = record {
@@ -370,10 +366,9 @@ module _ {program places goal bounds one two : List ℕ} {s : Shown} (r : ShowRe
             second-few = omega (arith, u .second, few-rules (r .ready .first));
             heads-few = u .heads-few;
           };
-          goal-few =
-              omega (arith, length-take-le (5 * s .count) goal (goal-within r), u .count-few);
+          goal-few = omega (arith, few);
           within =
-              omega (arith, length-take-le (v + v) bounds (bounds-within r));
+              omega (arith, length-take-le (v + v) bounds (omega (arith, u .variables-few, r .bounds-size)));
           first-end = rw first-bound (end-listable (s .one) (take v bounds) one a x first-cut first-shown (u .first-end));
           second-end =
               rw second-bound (end-listable (s .two) (take v (drop v bounds)) two b y second-cut second-shown (u .second-end));

@@ -8,10 +8,10 @@ wide-requires : tie.Need-wide-requires
 wide-requires c κs = search needs
 
 returns : tie.Need-returns
-returns c = search end-live
+returns c = end-live (c .before .before .args .end) (c .wide .result) (c .before .if1 .taken) (c .wide .ensures .0)
 
 returns-2 : tie.Need-returns-2
-returns-2 c = search end-failed
+returns-2 c = end-failed (c .before .args .end) (c .if1 .left)
 
 pub end-shown-spec : {M : Type 1} → statement M
 end-shown-spec = tie.close (tie.spec wide-requires returns returns-2)

@@ -8,10 +8,10 @@ mul-result : tie.Need-mul-result
 mul-result c = omega (arith, c .before .before .pre (c .before .if1 .taken))
 
 returns : tie.Need-returns
-returns c = search cells-live
+returns c = cells-live (c .before .before .args .end) (c .before .if1 .taken)
 
 returns-2 : tie.Need-returns-2
-returns-2 c = search cells-failed
+returns-2 c = cells-failed (c .before .args .end) (c .if1 .left)
 
 pub listed-cells-spec : {M : Type 1} → statement M
 listed-cells-spec = tie.close (tie.spec mul-result returns returns-2)

@@ -17,13 +17,15 @@ same-length : tie.Need-same-length
 same-length c = search needs
 
 returns : tie.Need-returns
-returns c = search pass-short
+returns c = pass-short (c .before .before .before .before .list-pass .ensures) (c .enum-told .given .1)
 
 same-length-2 : tie.Need-same-length-2
 same-length-2 c = search needs
 
 returns-2 : tie.Need-returns-2
-returns-2 c = search pass-written
+returns-2 c =
+    let n′ = c .before .n .given in
+    pass-written (c .before .before .before .before .before .list-pass .ensures) (n′ .0 .0) (n′ .1)
 
 pub pass-spec : {M : Type 1} → statement M
 pass-spec =

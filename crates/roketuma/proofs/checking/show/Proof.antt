@@ -1,6 +1,7 @@
 -- `roketuma::checking::show` meets its contract: the used cells and both ends are handed to the listing. Assumes nothing.
+use native.Mathlib.Omega.{arith}
 use borrow.Author.Needs.{needs}
-use Rattle.roketuma.proofs.CheckingLaws.{cells-few, listed-within, goal-within, bounds-within, show-listable, show-replies}
+use Rattle.roketuma.proofs.CheckingLaws.{cells-few, listed-within, front-few, show-listable, show-replies}
 use Rattle.roketuma.proofs.PrintLaws.{front-length}
 use Rattle.roketuma.proofs.checking.show.Statement.{statement}
 use Rattle.roketuma.proofs.checking.show.Tie as tie
@@ -27,7 +28,8 @@ slice-aggregate-fail : tie.Need-slice-aggregate-fail
 slice-aggregate-fail c =
     let at-cells = c .before .before .before .before in
     let start = at-cells .before .before .before .before .before .before .before .before .before .before in
-    front-length _ _ (goal-within (start .pre))
+    let shown = start .pre .unjoined-in in
+    front-length _ _ (omega (arith, shown .count-few, shown .heads-few, start .pre .goal-size))
 
 slice-relend-prefix-fail : tie.Need-slice-relend-prefix-fail
 slice-relend-prefix-fail c = search needs
@@ -36,7 +38,7 @@ slice-aggregate-fail-2 : tie.Need-slice-aggregate-fail-2
 slice-aggregate-fail-2 c =
     let at-cells = c .before .before .before .before .before in
     let start = at-cells .before .before .before .before .before .before .before .before .before .before in
-    front-length _ _ (bounds-within (start .pre))
+    front-length _ _ (omega (arith, start .pre .unjoined-in .variables-few, start .pre .bounds-size))
 
 slice-relend-prefix-fail-2 : tie.Need-slice-relend-prefix-fail-2
 slice-relend-prefix-fail-2 c =
@@ -68,7 +70,7 @@ fail-requires c κs =
     let at-cells = at-end .before .before .before in
     let start = at-cells .before .before .before .before .before .before .before .before .before .before in
     show-listable (start .pre) (at-cells .before .listed-cells .ensures) (at-cells .listed-cells2 .ensures)
-    (at-end .before .end-shown .ensures) (at-end .end-shown2 .ensures)
+    (at-end .before .end-shown .ensures) (at-end .end-shown2 .ensures) (search (front-few, start .pre .goal-size))
 
 same-length : tie.Need-same-length
 same-length c = search needs
