@@ -23,7 +23,7 @@ use Rattle.tables.specs.Cells.{rowConstraint}
 use Rattle.tables.proofs.CellLaws.{either, constraints-at}
 use Rattle.comparison.specs.Renamings.{Graph, Marks, Rows, RowsLinked, cleared}
 use Rattle.comparison.specs.Placements.{attempted, placed, Placing, Tried}
-use Rattle.comparison.proofs.RowLaws.{terms-row, terms-drop}
+use Rattle.colours.proofs.RowLaws.{terms-row, terms-drop}
 
 -- no mark is set
 pub marks-none : (m n : ℕ) → Marks (take m (replicate n false)) []
@@ -171,11 +171,11 @@ module _ (a b : List ℕ) (j : ℕ) (used : List Bool) (f g : List ℕ) (s : Pla
 
       module _ (t : fits ≡ true) (lf : length f′ ≡ length f) (lg : length g′ ≡ length g) where
         -- what placing the others asks
-        pub try-others : Placing (behind a) b (set used j true) f′ g′
-        try-others =
+        pub try-others : (v : Bool) → Placing (behind a) b (set used j v) f′ g′
+        try-others v =
             rw (behind-drop a)
             (record {
-              partners = rw (length-set used j true) (s .partners);
+              partners = rw (length-set used j v) (s .partners);
               left = rw lf (terms-drop (length f) a (s .left));
               right = rw lg (s .right);
             })

@@ -19,12 +19,13 @@ use Rattle.semantics.proofs.Bools.{or-right}
 use Rattle.tables.specs.Cells.{cellTerm, cellConstraints}
 use Rattle.tables.specs.Cells.{rowConstraint}
 use Rattle.tables.proofs.CellLaws.{constraints-at}
-use Rattle.comparison.specs.Renamings.{Graph, Marks, Joined, TermsBelow, RowsLinked, cleared}
+use Rattle.comparison.specs.Renamings.{Graph, Marks, Joined, RowsLinked, cleared}
+use Rattle.colours.specs.Bounds.{TermsBelow}
 use Rattle.comparison.specs.Placements.{attempted, placed, Placing}
 use Rattle.comparison.specs.Settlements.{Settled, Kept, SettledAll, Found}
 use Rattle.comparison.proofs.PairLaws.{graph-empty}
 use Rattle.comparison.proofs.PlaceLaws.{lent, marks-more, marks-none, at-terms}
-use Rattle.comparison.proofs.RowLaws.{constraints-count}
+use Rattle.colours.proofs.RowLaws.{constraints-count}
 
 -- one partner that will do is enough
 tries-at :

@@ -1,24 +1,17 @@
 -- Two final states in cells, and what their comparison asks.
---   endOf       cells as a final state
 --   Side        one of the two states: its sizes, and room for its variables
 --   Alike       what comparing cells promises
 --   Comparable  two states of the same size, and room for their cells
 -- Assumes nothing.
 use Prim.Native.Nat.{ℕ, _*_, _≤_}
 use mathlib.Core.Bool.{Bool, true}
-use mathlib.Core.List.{List, map}
+use mathlib.Core.List.{List}
 use mathlib.Core.Path.{_≡_}
 use lib.ListN.{length}
 use Rattle.text.specs.Lists.{every}
-use Rattle.semantics.specs.Terms.{State, live}
-use Rattle.tables.specs.Cells.{cellTerm, cellConstraints}
+use Rattle.tables.specs.Cells.{cellConstraints}
 use Rattle.tables.specs.Cells.{isLow}
-use Rattle.comparison.specs.Renamings.{Below}
-
--- what the goal variables became and the constraints, as a final state. Which variable would come next is no part of what is
--- compared
-abbrev pub endOf : List ℕ → List ℕ → State
-endOf bound cells = live 0 (map cellTerm bound) (cellConstraints cells)
+use Rattle.colours.specs.Bounds.{Below}
 
 -- a state of n constraints, at most 512, whose symbols lie below the variables. Goal variables are at most 28, and each
 -- firing makes

@@ -3,9 +3,9 @@
 --   Joined                     a function on renamings, done on tables
 --   cleared                    a table with the partners of some columns forgotten
 --   Linked, RowsLinked         what pairing two terms and two constraints promises
---   Below, TermsBelow, Rows    cells below the length of a table
+--   Rows                       two constraints whose terms lie below the length of the tables
 -- Assumes nothing.
-use Prim.Native.Nat.{ℕ, _+_, _*_, _<_}
+use Prim.Native.Nat.{ℕ, _+_}
 use mathlib.Core.Bool.{Bool, true, false, cond, not, _&&_}
 use mathlib.Core.List.{List, [], _∷_}
 use mathlib.Core.Option.{Option, none, some}
@@ -15,6 +15,7 @@ use lib.ListN.{length, getD, set, drop}
 use Rattle.text.specs.Lists.{has}
 use Rattle.semantics.specs.Variants.{Pair, arePartners, arePaired, pairTerm, pairTerms}
 use Rattle.tables.specs.Cells.{cellTerm, cellTerms}
+use Rattle.colours.specs.Bounds.{Below}
 
 -- two tables that stand for a list of partners: the cell of a variable has its partner's cell, and 0 where it has none
 pub record Graph (forth back : List ℕ) (ps : List Pair) : Type 0 where
@@ -42,14 +43,6 @@ pub record Linked (x y : ℕ) (fits fresh : Bool) (forth back forth′ back′ :
   pub same : Joined fits (pairTerm (cellTerm x) (cellTerm y)) forth back forth′ back′
   pub forth-back : cond fresh (set forth′ x 0) forth′ ≡ forth
   pub back-back : cond fresh (set back′ y 0) back′ ≡ back
-
--- every cell lies below n
-pub record Below (n : ℕ) (cells : List ℕ) : Type 0 where
-  pub below : (i : ℕ) → getD cells i 0 < n
-
--- every term of a list of constraints, five cells to each, lies below n
-pub record TermsBelow (n : ℕ) (cells : List ℕ) : Type 0 where
-  pub below : (i j : ℕ) → j < 4 → getD cells (5 * i + (1 + j)) 0 < n
 
 -- two constraints of five cells, whose terms lie below the length of the tables
 pub record Rows (a b forth back : List ℕ) : Type 0 where

@@ -12,7 +12,7 @@ use lib.ListN.{drop}
 use Rattle.semantics.specs.Variants.{Pair, sameState}
 use Rattle.comparison.specs.Renamings.{Graph, Marks}
 use Rattle.comparison.specs.Placements.{placed}
-use Rattle.comparison.specs.Comparing.{endOf}
+use Rattle.colours.specs.Ends.{endOf}
 
 -- one constraint is placed: marks and tables stand for positions and a renaming under which the others answer for all
 pub record Settled (r : Bool) (a b : List ℕ) (used : List Bool) (forth back : List ℕ) (used′ : List Bool) (forth′ back′ : List ℕ)

@@ -2,26 +2,23 @@
 // Placing a constraint and trying its partners call one another (`placing`). What that would take for ever over is decided
 // before:
 // states in the same order, and states that differ in what a renaming cannot change.
-pub mod classes;
-pub mod colours;
-pub mod keys;
-pub mod numbering;
-pub mod order;
+pub mod narrowing;
 pub mod pairing;
 pub mod placing;
 pub mod search;
 pub mod settling;
 
-use crate::numbering::number_state;
 use crate::search::decide;
 use crate::search::same_cells;
+use colours::numbering::number_state;
 use tables::wide;
 ghost use mathlib.Core.Path.{_≡_};
 ghost use Prim.Native.Nat.{_*_, max};
 ghost use lib.ListN.{length};
 ghost use Rattle.semantics.specs.Variants.{sameState};
 ghost use Rattle.tables.specs.Cells.{cellConstraints};
-ghost use Rattle.comparison.specs.Comparing.{endOf, Side, Comparable};
+ghost use Rattle.colours.specs.Ends.{endOf};
+ghost use Rattle.comparison.specs.Comparing.{Side, Comparable};
 
 // The larger of two numbers.
 pub fn larger(x: u16, y: u16) -> usize

@@ -1,17 +1,20 @@
 // The comparison step by step: what is decided without a search comes first.
-use crate::classes::classify;
-use crate::order::arrange_by;
+use crate::narrowing::narrow;
 use crate::pairing::pair_bound;
 use crate::placing::place;
 use crate::settling::settles;
+use colours::classes::Depth;
+use colours::classes::classify;
+use colours::order::arrange_by;
 ghost use mathlib.Core.Path.{_≡_};
 ghost use Prim.Native.Nat.{_*_, _≤_};
 ghost use lib.ListN.{length};
 ghost use Rattle.semantics.specs.Variants.{sameState};
-ghost use Rattle.comparison.specs.Renamings.{TermsBelow};
-ghost use Rattle.comparison.specs.Comparing.{endOf, Alike};
-ghost use Rattle.comparison.specs.Classes.{Colourable};
-ghost use Rattle.comparison.specs.Order.{Reordered};
+ghost use Rattle.colours.specs.Bounds.{TermsBelow};
+ghost use Rattle.colours.specs.Ends.{endOf};
+ghost use Rattle.comparison.specs.Comparing.{Alike};
+ghost use Rattle.colours.specs.Classes.{Colourable};
+ghost use Rattle.colours.specs.Order.{Reordered};
 
 // Room for all cells: constants, 28 goal variables, and as many more as 512 constraints have cells.
 const ROOM: usize = 2844;
@@ -47,17 +50,18 @@ pub fn search(a: &[u16], bound_a: &[u16], b: &[u16], bound_b: &[u16], n: usize) 
     place(a, b, &mut used[..n], &mut forth, &mut back)
 }
 
-// The constraints of one state in an order in which each shares variables with those before it, where one does.
+// The constraints of one state in an order in which each has few partners, once those before it have theirs.
 pub fn arrange(cells: &mut [u16], n: usize)
     requires { ⌜ (length (now cells) ≡ 5 * n) × TermsBelow 2844 (now cells) ⌝ }
     ensures { λ _. ⌜ Reordered (now (cells .entry)) (now (cells .exit)) ⌝ }
 {
     let mut seen = [false; ROOM];
-    arrange_by(cells, n, &mut seen);
+    let mut counts = [0u16; ROOM];
+    arrange_by(cells, n, &mut seen, &mut counts);
 }
 
-// Whether two states are equal: classes by signatures, constraints placed without going back, classes by what stands out, and a
-// search in the same class.
+// Whether two states are equal: classes by signatures, constraints placed without going back, and finer classes where that is not
+// enough.
 pub fn decide(
     a: &mut [u16],
     bound_a: &[u16],
@@ -71,15 +75,16 @@ pub fn decide(
     ensures { λ r. ⌜ r ≡ sameState (endOf (now («bound_a» .entry)) (now (a .entry)))
         (endOf (now («bound_b» .entry)) (now (b .entry))) ⌝ }
 {
-    if !classify(a, bound_a, b, bound_b, n, size, false) {
+    let depth = Depth {
+        rounds: 3,
+        deep: false,
+    };
+    if !classify(a, bound_a, b, bound_b, n, size, depth) {
         return false;
     }
     arrange(a, n);
     if settles(a, bound_a, b, bound_b, n) {
         return true;
     }
-    if !classify(a, bound_a, b, bound_b, n, size, true) {
-        return false;
-    }
-    search(a, bound_a, b, bound_b, n)
+    narrow(a, bound_a, b, bound_b, n, size)
 }

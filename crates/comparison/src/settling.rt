@@ -8,7 +8,7 @@ ghost use Prim.Native.Nat.{_*_, _≤_, _<_};
 ghost use lib.ListN.{length};
 ghost use Rattle.comparison.specs.Placements.{Placing};
 ghost use Rattle.comparison.specs.Settlements.{Settled, Kept, Found, SettledAll};
-ghost use Rattle.comparison.specs.Classes.{Colourable};
+ghost use Rattle.colours.specs.Classes.{Colourable};
 
 // Room for all cells: constants, 28 goal variables, and as many more as 512 constraints have cells.
 const ROOM: usize = 2844;

@@ -12,6 +12,7 @@ pub mod GoalLaws
 pub mod WalkLaws
 pub mod NodeLaws
 pub mod OverlapLaws
+pub mod ShareLaws
 pub mod StandLaws
 pub mod StepLaws
 pub mod TableLaws

@@ -312,7 +312,8 @@ module _ (rules : List ℕ) (n i j a b left : ℕ) (partners cells : List ℕ) (
               let one = ruleAt (q .names) rules i in
               let two = ruleAt (q .names) rules j in
               subst (λ k. Judged p count (rest one two chosen k) false s (overlapOf one two (take a partners))) back
-              (walking-end one two p count chosen (left - 1) s d (v .walking p q) (omega (arith, second-heads rules n i j a b (w .pair) (q .names)))
+              (walking-end one two p count chosen (left - 1) s d (v .walking p q)
+              (omega (arith, second-heads rules n i j a b (w .pair) (q .names)))
               (overlapOf one two (take a partners)));
           few =
               let most = times-leaves d (left - 1) (omega (arith, v .within, few .1)) in

@@ -21,7 +21,7 @@ use Rattle.semantics.specs.Verdict.{judge}
 use Rattle.semantics.proofs.Options.{true-false}
 use Rattle.tables.specs.Cells.{cellConstraints}
 use Rattle.tables.specs.Rows.{ruleOfRow, ruleOf, rulesOf, rowOf}
-use Rattle.critical.specs.Cells.{RulePair, headsOf}
+use Rattle.critical.specs.Cells.{RuleRow, RulePair, headsOf}
 use Rattle.critical.specs.Overlapped.{Partners}
 use Rattle.critical.specs.Rests.{rest, Judged}
 use Rattle.critical.specs.Walks.{Holds, ruleAt, Checkable, PairAt, firstHeads, secondHeads, leaves, Walkable, Walked}
@@ -51,6 +51,10 @@ lent-row rules i =
     let e : 64 * i + 64 - 64 * i ≡ 64 = omega arith in
     ap (λ k. take k (drop (64 * i) rules)) e
 
+-- its heads can be joined
+pub lent-rule : (rules : List ℕ) (n i : ℕ) → Checkable rules n → i < n → RuleRow (lent rules i)
+lent-rule rules n i k h = rw (lent-row rules i) (k .rows i h)
+
 module _ (rules : List ℕ) (n i j : ℕ) (k : Checkable rules n) (hi : i < n) (hj : j < n) (m b : ℕ)
     (em : m ≡ getD (lent rules i) 3 0) (eb : b ≡ getD (lent rules j) 3 0) where
   -- how many heads they have
@@ -77,8 +81,8 @@ module _ (rules : List ℕ) (n i j : ℕ) (k : Checkable rules n) (hi : i < n) (
     pub pair-lays : RulePair (lent rules i) (lent rules j) (take (5 * (m + b)) start)
     pair-lays =
         record {
-          first-row = rw (lent-row rules i) (k .rows i hi);
-          second-row = rw (lent-row rules j) (k .rows j hj);
+          first-row = lent-rule rules n i k hi;
+          second-row = lent-rule rules n j k hj;
           size = sym pair-lent ∙ omega (arith, em, eb);
         }
 

@@ -39,6 +39,7 @@ use Rattle.critical.specs.Overlapped.{Partners, OverlapOf}
 use Rattle.critical.specs.Walks.{Holds, ruleAt, Checkable, PairAt, AllWalked}
 use Rattle.critical.specs.Verdicts.{Deciding, Stopped, Remade, Runs, BothRun, EndIn, UnjoinedIn, VerdictIn}
 use Rattle.critical.proofs.JudgeLaws.{judged-confluent, judged-unjoined}
+use Rattle.critical.proofs.ShareLaws.{pairing-joins}
 use Rattle.critical.proofs.StandLaws.{pair-few, overlap-judged, overlap-stands}
 use Rattle.critical.proofs.StepLaws.{room-kept}
 use Rattle.critical.proofs.TableLaws.{lent, lent-row, lent-first, lent-second, pair-lent}
@@ -49,7 +50,8 @@ isUnjoined (confluent n) = false
 isUnjoined (unjoined o a b) = true
 
 -- the overlap that a verdict shows is one of those that were judged
-unjoined-member : (p : Program) (n : ℕ) (os : List Overlap) {o : Overlap} {a b : End} → judge p n os ≡ unjoined o a b → Member o os
+unjoined-member :
+    (p : Program) (n : ℕ) (os : List Overlap) {o : Overlap} {a b : End} → judge p n os ≡ unjoined o a b → Member o os
 unfolding judge isUnjoined
 unjoined-member p n [] e = true-false (ap isUnjoined e) refl
 unjoined-member p n (x ∷ os) {o} {a} {b} e = go (isJoinable p x) e (unjoined-member p (suc n) os)
@@ -121,12 +123,7 @@ module _ (rules : List ℕ) (n : ℕ) (met : Reply) (start : List ℕ) (s : Stop
   one-to-one = and-true (isOneToOne ds) (not (every (eqb 0) ds)) pairs .0
 
   some-joined : every (eqb 0) ds ≡ false
-  unfolding isPairing
-  some-joined = opposite (every (eqb 0) ds) (and-true (isOneToOne ds) (not (every (eqb 0) ds)) pairs .1)
-    where
-      opposite : (x : Bool) → not x ≡ true → x ≡ false
-      opposite true h = true-false h refl
-      opposite false h = refl
+  some-joined = pairing-joins ds pairs
 
   -- what making the overlap again asks
   pub remake-partners :
@@ -159,7 +156,8 @@ module _ (rules : List ℕ) (n : ℕ) (met : Reply) (start : List ℕ) (s : Stop
     -- it is what was made, if its heads unify
     made-of :
         (names : List ℕ)
-        → overlapOf (ruleAt names rules (met .first)) (ruleAt names rules (met .second)) ds ≡ cond unify (some (overlap names)) none
+        → overlapOf (ruleAt names rules (met .first)) (ruleAt names rules (met .second)) ds
+        ≡ cond unify (some (overlap names)) none
     unfolding ruleAt ruleOf ruleOfRow
     made-of names =
         g .same (ruleAt names rules (met .first)) (ruleAt names rules (met .second)) refl refl one-to-one

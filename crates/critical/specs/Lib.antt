@@ -4,4 +4,5 @@ pub mod Cells
 pub mod Overlapped
 pub mod Rests
 pub mod Walks
+pub mod Shares
 pub mod Verdicts

@@ -4,4 +4,5 @@ pub mod finishing;
 pub mod joining;
 pub mod laying;
 pub mod overlapping;
+pub mod sharing;
 pub mod walking;

@@ -3,6 +3,7 @@ use crate::finishing::finish;
 use crate::finishing::second_positions;
 use crate::joining::join_partner;
 use crate::laying::lay_heads;
+use crate::sharing::share_symbol;
 use judging::Peak;
 use judging::joins;
 use tables::layout::CONSTRAINT_SIZE;
@@ -146,8 +147,8 @@ pub fn walk(
     }
 }
 
-// Judges all overlaps of rules i and j of a table of n.
-pub fn walk_pair(
+// Judges all overlaps of rules i and j of a table of n, pairing by pairing.
+pub fn walk_pairings(
     rules: &[u16],
     n: usize,
     i: usize,
@@ -179,6 +180,34 @@ pub fn walk_pair(
         n: partners,
     };
     walk(rules, pair, heads, [0; 4], cells, count, one, two)
+}
+
+// Judges all overlaps of rules i and j of a table of n. Rules without a common head symbol have none.
+pub fn walk_pair(
+    rules: &[u16],
+    n: usize,
+    i: usize,
+    j: usize,
+    count: usize,
+    one: &mut [u16],
+    two: &mut [u16],
+) -> Outcome
+    requires { ⌜ Checkable (now rules) n × (i < n) × (j < n) × (count + 625 ≤ 1000000000)
+        × Room (now one) (now two) ⌝ }
+    ensures { λ r. ⌜ PairWalked (now (rules .entry)) n i j count (r .stopped) (r .count) (r .partners) ⌝ }
+{
+    let a = ROW_SIZE * i;
+    let b = a + ROW_SIZE;
+    let c = ROW_SIZE * j;
+    let d = c + ROW_SIZE;
+    if share_symbol(&rules[a..b], &rules[c..d]) {
+        return walk_pairings(rules, n, i, j, count, one, two);
+    }
+    Outcome {
+        stopped: false,
+        count,
+        partners: [0; 4],
+    }
 }
 
 // Whether an overlap that does not join was met, its rules and its partners, and how many have joined.

@@ -6,9 +6,13 @@ use native.Mathlib.Numerals.{add-one}
 use mathlib.Core.Bool.{Bool, true, false}
 use mathlib.Core.List.{List, [], _∷_}
 use mathlib.Core.Logic.{⊎-elim}
-use mathlib.Core.Path.{_≡_, refl, fun-ext, _∙_}
-use lib.ListN.{length, getD, take, drop, replicate, length-append, length-drop, drop-of-length-le, List·getD-append}
-use lib.Seq.{drop-cons, length-take-le, getD-at}
+use mathlib.Core.Option.{none}
+use mathlib.Core.Path.{_≡_, refl, sym, fun-ext, _∙_}
+use lib.Dec.{eqb}
+use lib.ListN.{length, getD, set, take, drop, replicate, length-set, length-append, length-drop, drop-of-length-le}
+use lib.ListN.{List·getD-append, List·getD-eq-default}
+use lib.Seq.{drop-cons, length-take-le, getD-at, take-all, getD-set-same, getD-set-other}
+use borrow.Author.Tests.{eqb-true, eqb-false}
 use Rattle.text.specs.Lists.{orElse, tabled}
 use Rattle.semantics.specs.Matching.{unassigned}
 use Rattle.semantics.specs.Strategy.{find, chooseFrom, choose}
@@ -16,10 +20,12 @@ use Rattle.tables.specs.Cells.{cellConstraints}
 use Rattle.tables.specs.Rows.{ruleOfRow, ruleOf, rulesOf, rowOf}
 use Rattle.engine.specs.Cells.{assigned}
 use Rattle.engine.specs.Positions.{foundOf, Seeking, Located, Row, Table, choiceOf, Chosen}
-use Rattle.tables.proofs.CellLaws.{le-or-lt}
+use Rattle.engine.specs.Known.{Barren, Knows}
+use Rattle.tables.proofs.CellLaws.{either, le-or-lt}
+use Rattle.engine.proofs.GapLaws.{length-constraints}
 
 -- no cell of zeros is settled
-zeros-zero : (n x : ℕ) → _≡_ {A = ℕ} (getD (replicate n 0) x 0) 0
+pub zeros-zero : (n x : ℕ) → _≡_ {A = ℕ} (getD (replicate n 0) x 0) 0
 zeros-zero zero x = refl
 zeros-zero (suc n) zero = refl
 zeros-zero (suc n) (suc x) = zeros-zero n x
@@ -50,6 +56,14 @@ module _ (row cells : List ℕ) (m w : ℕ) (r : Row row) (k : length cells ≡ 
         letters = rw (heads-cells, none-placed) (r .heads);
       }
 
+  -- what is known of all heads
+  pub rule-barren :
+      (from : ℕ) → Barren (ruleOfRow [] row .heads) (cellConstraints cells) [] unassigned from
+      → Barren (cellConstraints (drop (5 * (w - w)) (take (6 + 5 * w - 6) (drop 6 row)))) (cellConstraints cells)
+      (take (w - w) (replicate 4 0)) (assigned (replicate 26 0)) from
+  unfolding ruleOfRow
+  rule-barren from b = rw (heads-cells, none-placed, zeros-unassigned) b
+
   -- what it answers
   pub rule-located :
       (f : Bool) (ps b : List ℕ)
@@ -76,6 +90,19 @@ getD-tabled f (suc n) i d h =
 drop-tabled : {A : Type 0} (f : ℕ → A) (n i : ℕ) → i < n → drop i (tabled f n) ≡ f i ∷ drop (suc i) (tabled f n)
 drop-tabled f n i h =
     drop-cons (tabled f n) i (f i) (omega (arith, length-tabled f n)) ∙ rw (getD-tabled f n i (f i) h)
+
+-- an entry of a table with one entry set, which may lie behind its end
+pub noted-at :
+    (known : List ℕ) (i v : ℕ) (P : ℕ → Type 0) (j : ℕ) → P (getD known j 0) → (i ≡ j → P v)
+    → (length known ≤ i → i ≡ j → P 0) → P (getD (set known i v) j 0)
+noted-at known i v P j old new none-there =
+    ⊎-elim
+    (λ t. let e : i ≡ j = eqb-true i j t in rw (← e) (⊎-elim
+    (λ h. rw (List·getD-eq-default (set known i v) 0 {n = i} (omega (arith, length-set known i v))) (none-there h e))
+    (λ h. rw (getD-set-same known i v 0 h) (new e))
+    (le-or-lt (length known) i)))
+    (λ t. rw (getD-set-other known i j v 0 (λ e. eqb-false i j t (sym e))) old)
+    (either (eqb i j))
 
 -- a rule's row as the code lends it
 abbrev pub lentRow : List ℕ → ℕ → List ℕ
@@ -111,9 +138,32 @@ module _ (rules : List ℕ) (n : ℕ) (cells : List ℕ) (m i : ℕ) (given : Ta
       }
 
   module _ (l : i < n) where
-    -- what the search for the rule asks
-    pub choosing-row : length cells ≡ 5 * m → Row (lentRow rules i) × (length cells ≡ 5 * m)
-    choosing-row k = (rw (row-cells i) (given .rows i l), k)
+    -- nothing fits where all is known
+    all-known : length cells ≡ 5 * m → (k : ℕ) → m < k → take k (cellConstraints cells) ≡ cellConstraints cells
+    all-known e k h = take-all k (cellConstraints cells) (omega (arith, length-constraints m cells e))
+
+    module _ (known : List ℕ) (ks : Knows rules n known (cellConstraints cells)) (from : ℕ) (z : from ≡ getD known i 0)
+        (size : length cells ≡ 5 * m) where
+      here : Barren (ruleOfRow [] (rowOf rules i) .heads) (cellConstraints cells) [] unassigned from
+      here = rw z (ks .barren i l)
+
+      -- what the search for the rule asks
+      pub choosing-row :
+          from ≤ m
+          → Row (lentRow rules i) × (length cells ≡ 5 * m)
+          × Barren (ruleOfRow [] (lentRow rules i) .heads) (cellConstraints cells) [] unassigned from × (from ≤ m)
+      choosing-row h = (rw (row-cells i) (given .rows i l), size, rw (row-cells i) here, h)
+
+      -- the rule is passed over
+      pub choosing-passed : m < from → Choosing rules n cells (i + 1)
+      unfolding rulesOf chooseFrom ruleOf ruleOfRow
+      choosing-passed k =
+          let nothing : find (ruleOfRow [] (rowOf rules i) .heads) (cellConstraints cells) [] unassigned ≡ none =
+          rw (all-known size from k) at (here .nowhere (omega arith)) in
+          rw (add-one i) (record {
+            within = l;
+            same = λ names. rw (drop-tabled (ruleOf names rules) n i l, nothing) at (w .same names);
+          })
 
     module _ (f : Bool) (ps b : List ℕ)
         (t : Located f (getD (lentRow rules i) 3 0) ps b
@@ -140,6 +190,24 @@ module _ (rules : List ℕ) (n : ℕ) (cells : List ℕ) (m i : ℕ) (given : Ta
       unfolding choiceOf foundOf
       choosing-next z = rw (add-one i) (record { within = l; same = λ names. rw z at (tried names) })
 
+      -- it is known now
+      pub choosing-noted :
+          f ≡ false → length cells ≡ 5 * m → (known known′ : List ℕ) → Knows rules n known (cellConstraints cells)
+          → known′ ≡ set known i (m + 1) → Knows rules n known′ (cellConstraints cells)
+      unfolding foundOf
+      choosing-noted z size known known′ ks e =
+          let nothing : find (ruleOfRow [] (rowOf rules i) .heads) (cellConstraints cells) [] unassigned ≡ none =
+          sym (rw (row-cells i, z) at (t .same)) in
+          rw e (record {
+            barren = λ j k.
+                noted-at known i (m + 1) (λ v. Barren (ruleOfRow [] (rowOf rules j) .heads) (cellConstraints cells) [] unassigned v)
+                j (ks .barren j k)
+                (λ s. record {
+                  nowhere = λ o. rw (← s, all-known size (m + 1) (omega arith)) nothing;
+                })
+                (λ a s. record { nowhere = λ (o : 1 ≤ 0). absurd (omega arith) });
+          })
+
       -- it does
       pub choosing-found : f ≡ true → Chosen rules n cells true i ps b
       unfolding choiceOf foundOf
@@ -151,3 +219,37 @@ module _ (rules : List ℕ) (n : ℕ) (cells : List ℕ) (m i : ℕ) (given : Ta
             positions-size = t .positions-size;
             bindings-size = t .bindings-size;
           }
+
+-- the loop of `choose`: the choice is among the rules from i on, and what is known is true
+pub record Noting (rules : List ℕ) (n : ℕ) (start cells known : List ℕ) (i : ℕ) : Type 0 where
+  pub choosing : Choosing rules n cells i
+  pub knows : Knows rules n known (cellConstraints cells)
+  pub size : length known ≡ length start
+
+pub noting-start :
+    (rules : List ℕ) (n : ℕ) (start cells : List ℕ) → Knows rules n start (cellConstraints cells) → Noting rules n start cells start 0
+noting-start rules n start cells ks = record { choosing = choosing-start rules n cells; knows = ks; size = refl }
+
+module _ (rules : List ℕ) (n : ℕ) (start cells known : List ℕ) (m i : ℕ) (given : Table rules n)
+    (w : Noting rules n start cells known i) (l : i < n) (e : length cells ≡ 5 * m) where
+  -- the rule does not fit, which is noted
+  pub noting-next :
+      (f : Bool) (ps b : List ℕ)
+      → Located f (getD (lentRow rules i) 3 0) ps b
+      (find (ruleOfRow [] (lentRow rules i) .heads) (cellConstraints cells) [] unassigned)
+      → f ≡ false → (known′ : List ℕ) → known′ ≡ set known i (m + 1) → Noting rules n start cells known′ (i + 1)
+  noting-next f ps b t z known′ g =
+      record {
+        choosing = choosing-next rules n cells m i given (w .choosing) l f ps b t z;
+        knows = choosing-noted rules n cells m i given (w .choosing) l f ps b t z e known known′ (w .knows) g;
+        size = rw g (length-set known i (m + 1)) ∙ w .size;
+      }
+
+  -- it is known not to fit
+  pub noting-passed : (from : ℕ) → from ≡ getD known i 0 → m < from → Noting rules n start cells known (i + 1)
+  noting-passed from z h =
+      record {
+        choosing = choosing-passed rules n cells m i given (w .choosing) l known (w .knows) from z e h;
+        knows = w .knows;
+        size = w .size;
+      }

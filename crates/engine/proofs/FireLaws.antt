@@ -84,41 +84,44 @@ module _ (next : ℕ) (bindings : List ℕ) (x : ℕ) where
     unfolding instanceCell
     instance-other l = rw (le-ltb x 256 h, ← e, le-ltb w 26 l)
 
--- j cells of a row are copied
-pub record Moving (from to : ℕ) (start cells : List ℕ) (j : ℕ) : Type 0 where
-  pub within : j ≤ 5
+-- j of n cells are copied to an earlier place
+pub record Moving (from to n : ℕ) (start cells : List ℕ) (j : ℕ) : Type 0 where
+  pub within : j ≤ n
   pub size : length cells ≡ length start
-  pub same : cells ≡ paste start (5 * to) (drop (5 * from) start) j
+  pub same : cells ≡ paste start to (drop from start) j
 
-pub moving-start : (from to : ℕ) (start : List ℕ) → Moving from to start start 0
-moving-start from to start =
-    record { within = omega arith; size = refl; same = paste-zero start (5 * to) (drop (5 * from) start) }
+pub moving-start : (from to n : ℕ) (start : List ℕ) → Moving from to n start start 0
+moving-start from to n start =
+    record { within = omega arith; size = refl; same = paste-zero start to (drop from start) }
 
-module _ (from to : ℕ) (start cells : List ℕ) (j : ℕ) (o : to ≤ from) (k : 5 * from + 5 ≤ length start)
-    (w : Moving from to start cells j) where
-  moving-read : j < 5 → getD cells (5 * from + j) 0 ≡ getD (drop (5 * from) start) j 0
+module _ (from to n : ℕ) (start cells : List ℕ) (j : ℕ) (o : to ≤ from) (k : from + n ≤ length start)
+    (w : Moving from to n start cells j) where
+  moving-read : j < n → getD cells (from + j) 0 ≡ getD (drop from start) j 0
   moving-read l =
-      let s : 5 * to + j + (5 * from - 5 * to) ≡ 5 * from + j = omega arith in
-      let below : drop (5 * to + j) cells ≡ drop (5 * to + j) start =
-      rw (w .same) (drop-paste start (5 * to) (drop (5 * from) start) j (omega arith)
-      (omega (arith, length-drop (5 * from) start))) in
-      rw (getD-drop (5 * from) start j 0)
-      (rw s at (sym (getD-drop (5 * to + j) cells (5 * from - 5 * to) 0) ∙ ap (λ (r : List ℕ). getD r
-      (5 * from - 5 * to) 0) below
-      ∙ getD-drop (5 * to + j) start (5 * from - 5 * to) 0))
+      let s : to + j + (from - to) ≡ from + j = omega arith in
+      let below : drop (to + j) cells ≡ drop (to + j) start =
+      rw (w .same) (drop-paste start to (drop from start) j (omega arith) (omega (arith, length-drop from start))) in
+      rw (getD-drop from start j 0)
+      (rw s at (sym (getD-drop (to + j) cells (from - to) 0) ∙ ap (λ (r : List ℕ). getD r (from - to) 0) below
+      ∙ getD-drop (to + j) start (from - to) 0))
 
-  pub moving-next : j < 5 → Moving from to start (set cells (5 * to + j) (getD cells (5 * from + j) 0)) (j + 1)
+  pub moving-next : j < n → Moving from to n start (set cells (to + j) (getD cells (from + j) 0)) (j + 1)
   moving-next l =
       rw (add-one j) (record {
         within = l;
-        size = length-set cells (5 * to + j) (getD cells (5 * from + j) 0) ∙ w .size;
+        size = length-set cells (to + j) (getD cells (from + j) 0) ∙ w .size;
         same = rw (moving-read l, w .same)
-            (paste-suc start (5 * to) (drop (5 * from) start) j 0 (omega arith) (omega (arith, length-drop (5 * from) start)));
+            (paste-suc start to (drop from start) j 0 (omega arith) (omega (arith, length-drop from start)));
       })
 
-  pub moving-end : 5 ≤ j → cells ≡ movedRow from to start
-  unfolding movedRow
-  moving-end l = let e : j ≡ 5 = omega (arith, w .within) in rw e at (w .same)
+  pub moving-end : n ≤ j → cells ≡ paste start to (drop from start) n
+  moving-end l = let e : j ≡ n = omega (arith, w .within) in rw e at (w .same)
+
+-- a row is copied
+pub moved-row :
+    (from to : ℕ) (start cells : List ℕ) → cells ≡ paste start (5 * to) (drop (5 * from) start) 5 → cells ≡ movedRow from to start
+unfolding movedRow
+moved-row from to start cells e = e
 
 -- constraints behind whole constraints
 pub constraints-append :
@@ -149,78 +152,3 @@ row-constraints (a ∷ b ∷ []) h = absurd (omega arith)
 row-constraints (a ∷ b ∷ c ∷ []) h = absurd (omega arith)
 row-constraints (a ∷ b ∷ c ∷ d ∷ []) h = absurd (omega arith)
 row-constraints (a ∷ b ∷ c ∷ d ∷ e ∷ l) h = refl
-
--- the first k constraints and those from p on that stay are all that stay
-pub record Removing (m : ℕ) (ps start cells : List ℕ) (p k : ℕ) : Type 0 where
-  pub within : p ≤ m
-  pub few : k ≤ p
-  pub start-size : length start ≡ 5 * m
-  pub size : length cells ≡ length start
-  pub same :
-      cellConstraints (take (5 * k) cells) ++ without p ps (cellConstraints (drop (5 * p) cells)) ≡ without 0 ps
-      (cellConstraints start)
-
-pub removing-start : (m : ℕ) (ps start : List ℕ) → length start ≡ 5 * m → Removing m ps start start 0 0
-unfolding cellConstraints
-removing-start m ps start e =
-    record { within = omega arith; few = omega arith; start-size = e; size = refl; same = refl }
-
-module _ (m : ℕ) (ps start cells : List ℕ) (p k : ℕ) (w : Removing m ps start cells p k) where
-  -- all have been looked at
-  pub removing-end : m ≤ p → Removed m ps start cells k
-  unfolding cellConstraints without
-  removing-end l =
-      record {
-        few = omega (arith, w .few, w .within);
-        same = rw (drop-of-length-le cells {i = 5 * p} (omega (arith, w .size, w .start-size)), append-nil) at (w .same);
-      }
-
-  module _ (l : p < m) where
-    this : Constraint
-    this = rowConstraint (take 5 (drop (5 * p) cells))
-
-    split :
-        cellConstraints (take (5 * k) cells) ++ without p ps (this ∷ cellConstraints (drop (5 * suc p) cells))
-        ≡ without 0 ps (cellConstraints start)
-    unfolding this
-    split = rw (constraints-at cells p (omega (arith, w .size, w .start-size))) at (w .same)
-
-    -- the constraint is removed
-    pub removing-chosen : true ≡ has p ps → Removing m ps start cells (p + 1) k
-    unfolding without
-    removing-chosen e =
-        rw (add-one p) (record {
-          within = l;
-          few = omega (arith, w .few);
-          start-size = w .start-size;
-          size = w .size;
-          same = rw (← e) at split;
-        })
-
-    -- what the copy asks
-    pub removing-room : (k ≤ p) × (5 * p + 5 ≤ length cells)
-    removing-room = (w .few, omega (arith, w .size, w .start-size))
-
-    -- it stays
-    pub removing-kept : (c : List ℕ) → c ≡ movedRow p k cells → false ≡ has p ps → Removing m ps start c (p + 1) (k + 1)
-    unfolding without movedRow this
-    removing-kept c g e =
-        let row : ℕ = 5 in
-        let fits : 5 * p + 5 ≤ length cells = omega (arith, w .size, w .start-size) in
-        let few : k ≤ p = w .few in
-        let tail : 5 ≤ length (drop (5 * p) cells) = omega (arith, length-drop (5 * p) cells) in
-        let n : 5 * k + 5 ≡ 5 * suc k = omega arith in
-        let front : take (5 * suc k) c ≡ take (5 * k) cells ++ take 5 (drop (5 * p) cells) =
-        rw (g, ← n) (take-paste cells (5 * k) (drop (5 * p) cells) 5 (omega arith) tail) in
-        let behind : drop (5 * suc p) c ≡ drop (5 * suc p) cells =
-        rw g (drop-moved (5 * k) (drop (5 * p) cells) cells (5 * suc p) (omega arith) (omega arith) tail) in
-        let heads : cellConstraints (take (5 * suc k) c) ≡ cellConstraints (take (5 * k) cells) ++ (this ∷ []) =
-        rw front (constraints-append k (take (5 * k) cells) (take 5 (drop (5 * p) cells))
-        (length-take-le (5 * k) cells (omega arith)) ∙ rw (row-constraints (drop (5 * p) cells) tail)) in
-        rw (add-one p, add-one k) (record {
-          within = l;
-          few = omega arith;
-          start-size = w .start-size;
-          size = rw g (length-paste cells (5 * k) (drop (5 * p) cells) 5 (omega arith) tail) ∙ w .size;
-          same = rw (heads, behind, append-assoc) (rw (← e) at split);
-        })

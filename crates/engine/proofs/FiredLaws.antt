@@ -23,6 +23,7 @@ use Rattle.engine.specs.Runs.{weightBy, storeOf}
 use Rattle.semantics.proofs.Removal.{without-none}
 use Rattle.tables.proofs.MapLaws.{low-kept}
 use Rattle.engine.proofs.RuleLaws.{every-append, low-without, low-body}
+use Rattle.engine.proofs.SolveLaws.{map-none}
 use Rattle.engine.proofs.WeightLaws.{weight-append, weight-map, match-lighter}
 
 -- the constraints of a state that lives after its equations
@@ -36,6 +37,12 @@ settled :
 unfolding settle
 settled none n k b b′ cells cs e = let z : _≡_ {A = ℕ} 0 1 = cc in absurd (omega arith)
 settled (some σ) n k b b′ cells cs e = record { solution = σ; same = cc }
+
+-- no equation changes nothing
+settled-plain :
+    (n k : ℕ) (b b′ : List Term) (cells cs : List Constraint)
+    → live n b cells ≡ live k b′ (map (mapTerms (λ t. t)) cs) → cells ≡ cs
+settled-plain n k b b′ cells cs e = let same : cells ≡ map (mapTerms (λ t. t)) cs = cc in same ∙ map-none cs
 
 module _ (row ps b : List ℕ) (next : ℕ) (bound cells : List ℕ) (m : ℕ) (bound′ cells′ : List ℕ) (alive : Bool) (count : ℕ)
     (done : Fired row ps b next bound cells m bound′ cells′ alive count) where
@@ -51,6 +58,17 @@ module _ (row ps b : List ℕ) (next : ℕ) (bound cells : List ℕ) (m : ℕ) (
       settled (solve (map (mapSides (instance next (assigned b))) (ruleOfRow [] row .equations)) (λ t. t))
       (next + 26) _ _ _ _ _
       (rw y at (done .same []))
+
+  -- a rule without equations leaves them as they are
+  pub fired-plain :
+      alive ≡ true → ruleOfRow [] row .equations ≡ []
+      → storeOf cells′ count
+      ≡ without 0 (take (getD row 3 0) ps) (storeOf cells m) ++ map (mapTerms (instance next (assigned b)))
+      (ruleOfRow [] row .body)
+  unfolding fired stateOf storeOf solve settle
+  fired-plain y e =
+      let same = rw (y, e) at (done .same []) in
+      settled-plain (next + 26) _ _ _ _ _ same
 
   module _ (w : ℕ → ℕ)
       (fits : matchAt (ruleOfRow [] row .heads) (take (getD row 3 0) ps) (storeOf cells m) [] unassigned ≡ some (assigned b))

@@ -2,13 +2,16 @@
 pub mod Opened
 pub mod MatchLaws
 pub mod OpposeLaws
+pub mod BarrenLaws
+pub mod FireLaws
+pub mod GapLaws
 pub mod SearchLaws
 pub mod ChooseLaws
 pub mod SolveLaws
-pub mod FireLaws
 pub mod RuleLaws
 pub mod WeightLaws
 pub mod FiredLaws
+pub mod KnownLaws
 pub mod StepLaws
 pub mod StatedLaws
 pub mod RunLaws

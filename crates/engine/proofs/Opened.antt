@@ -2,13 +2,14 @@
 -- Assumes nothing.
 use Prim.Native.Nat.{ℕ}
 use Rattle.engine.specs.Cells.{assigned, fitOf, opposed, mayTerms, mayFit, swap, clashes, merge}
-use Rattle.engine.specs.Cells.{instanceCell, movedRow}
+use Rattle.engine.specs.Cells.{instanceCell, movedRow, closedGap}
 use Rattle.engine.specs.Positions.{isLettered, foundOf, isSide, choiceOf}
 use Rattle.engine.specs.Runs.{weightBy, storeOf}
+use Rattle.engine.specs.Known.{hasSymbol, concerns, loweredOf}
 use Rattle.engine.specs.Stated.{matchRow, fireRow}
 
 -- a name to say on an `unfolding` line
 unfoldable pub opened : ℕ
-unfolding assigned fitOf opposed mayTerms mayFit swap clashes merge instanceCell movedRow
-    isLettered foundOf isSide choiceOf weightBy storeOf matchRow fireRow
+unfolding assigned fitOf opposed mayTerms mayFit swap clashes merge instanceCell movedRow closedGap
+    isLettered foundOf isSide choiceOf weightBy storeOf hasSymbol concerns loweredOf matchRow fireRow
 opened = 0

@@ -18,18 +18,8 @@ use Rattle.tables.specs.Rows.{rulesOf}
 use Rattle.engine.specs.Runs.{weightBy, Lowers, storeOf, Live, Stepped, Startable, Ended}
 use Rattle.engine.specs.Runs.{Continued}
 use Rattle.engine.proofs.StepLaws.{no-way}
+pub use Rattle.engine.proofs.GapLaws.{length-constraints}
 use Rattle.engine.proofs.WeightLaws.{weight-length}
-
--- as many constraints as five cells each
-pub length-constraints : (k : ℕ) (l : List ℕ) → length l ≡ 5 * k → length (cellConstraints l) ≡ k
-unfolding cellConstraints
-length-constraints k [] h = omega arith
-length-constraints k (a ∷ []) h = absurd (omega arith)
-length-constraints k (a ∷ b ∷ []) h = absurd (omega arith)
-length-constraints k (a ∷ b ∷ c ∷ []) h = absurd (omega arith)
-length-constraints k (a ∷ b ∷ c ∷ d ∷ []) h = absurd (omega arith)
-length-constraints k (a ∷ b ∷ c ∷ d ∷ e ∷ l) h =
-    let more : length (cellConstraints l) ≡ k - 1 = length-constraints (k - 1) l (omega arith) in omega arith
 
 -- no more constraints than weight
 pub count-weight :
@@ -113,7 +103,7 @@ module _ (rules : List ℕ) (n : ℕ) (bound cells : List ℕ) (m next : ℕ) wh
             rw z at (r .lighter (s .runs .weigh) (s .runs .lowers)) in
             omega (arith, s .runs .light)
 
-        few-now : count ≤ 512
+        pub few-now : count ≤ 512
         few-now =
             omega (
               arith,

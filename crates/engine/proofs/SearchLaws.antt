@@ -6,11 +6,12 @@ use native.Mathlib.Numerals.{add-one}
 use mathlib.Core.Bool.{Bool, true, false, cond, _||_}
 use mathlib.Core.List.{List, [], _∷_, _++_}
 use mathlib.Core.Option.{Option, none}
-use mathlib.Core.Path.{_≡_, refl, sym, _∙_}
-use lib.Dec.{eqb}
+use mathlib.Core.Logic.{⊎-elim}
+use mathlib.Core.Path.{_≡_, refl, sym, ap, _∙_}
+use lib.Dec.{eqb, ltb}
 use lib.ListN.{length, getD, set, take, drop, length-set, drop-of-length-le, length-drop}
 use lib.Seq.{drop-cons, getD-take, length-take-le, take-suc-set}
-use borrow.Author.Tests.{eq-eqb, ne-eqb}
+use borrow.Author.Tests.{eq-eqb, ne-eqb, eqb-true}
 use Rattle.text.specs.Lists.{bind, orElse, has, every}
 use Rattle.semantics.specs.Terms.{Constraint, isBelow, alphabet}
 use Rattle.semantics.specs.Matching.{Assignment, matchConstraint}
@@ -18,8 +19,17 @@ use Rattle.semantics.specs.Strategy.{Match, firstIn, find}
 use Rattle.tables.specs.Cells.{cellConstraints, rowConstraint}
 use Rattle.engine.specs.Cells.{assigned, fitOf, mayFit, Rows, Matched}
 use Rattle.engine.specs.Positions.{isLettered, foundOf, Seeking, Located}
+use Rattle.engine.specs.Known.{Barren}
 use Rattle.engine.proofs.OpposeLaws.{may-not}
-use Rattle.tables.proofs.CellLaws.{every-first, every-rest, constraints-at}
+use Rattle.engine.proofs.GapLaws.{drop-constraints}
+use Rattle.engine.proofs.BarrenLaws.{barren-last, barren-next}
+use Rattle.tables.proofs.CellLaws.{either, every-first, every-rest, constraints-at, element-row}
+
+-- what is known lies within
+pub since-few : (p from m since : ℕ) → from ≤ m → since ≡ cond (ltb p from) from 0 → since ≤ m
+since-few p from m since l e =
+    ⊎-elim (λ t. let k : since ≡ from = rw t at e in omega arith) (λ t. let k : since ≡ 0 = rw t at e in omega arith)
+    (either (ltb p from))
 
 -- the chosen positions from i on hold p where all of them do
 pub record Looking (chosen : List ℕ) (h p i : ℕ) : Type 0 where
@@ -154,9 +164,29 @@ module _ (n left : ℕ) where
           }
 
       -- the search tries the constraints one after the other
-      pub seek-start : Sought heads h cells m chosen bindings 0
+      seek-first : Sought heads h cells m chosen bindings 0
       unfolding find
-      seek-start = record { within = omega arith; same = rw heads-here }
+      seek-first = record { within = omega arith; same = rw heads-here }
+
+      -- for the last head, it starts behind the constraints among which it fits nowhere
+      module _ (from : ℕ) (known : Barren (cellConstraints (drop (5 * h) heads)) (cellConstraints cells) (take h chosen)
+          (assigned bindings) from) (few : from ≤ m) where
+        seek-last : left ≡ 1 → Sought heads h cells m chosen bindings from
+        unfolding cellConstraints
+        seek-last e =
+            let last : cellConstraints (drop (5 * suc h) heads) ≡ [] =
+            ap cellConstraints (drop-of-length-le heads {i = 5 * suc h} (omega (arith, s .heads-size, s .there))) in
+            record {
+              within = few;
+              same = rw (drop-constraints from cells, heads-here)
+                  (barren-last (headAt heads h) (cellConstraints cells) (take h chosen) (assigned bindings) from
+                  (cellConstraints (drop (5 * suc h) heads)) last (rw heads-here at known));
+            }
+
+        pub seek-start : (p : ℕ) → p ≡ cond (eqb left 1) from 0 → Sought heads h cells m chosen bindings p
+        seek-start p e =
+            ⊎-elim (λ t. let k : p ≡ from = rw t at e in rw k (seek-last (eqb-true left 1 t)))
+            (λ t. let k : p ≡ 0 = rw t at e in rw k seek-first) (either (eqb left 1))
 
       module _ (p : ℕ) (w : Sought heads h cells m chosen bindings p) where
         -- no position is left
@@ -226,6 +256,20 @@ module _ (n left : ℕ) where
             tried z =
                 fitting
                 ∙ rw (← t .same, z, take-suc-set chosen h p (omega (arith, s .chosen-size, s .few, below)))
+
+            -- what is known of the later heads
+            pub seek-since :
+                f ≡ true → (from : ℕ)
+                → Barren (cellConstraints (drop (5 * h) heads)) (cellConstraints cells) (take h chosen) (assigned bindings) from
+                → (since : ℕ) → since ≡ cond (ltb p from) from 0
+                → Barren (cellConstraints (drop (5 * (n - (left - 1))) heads)) (cellConstraints cells)
+                (take (n - (left - 1)) (set chosen h p)) (assigned b) since
+            unfolding fitOf
+            seek-since z from known since e =
+                rw (further, take-suc-set chosen h p (omega (arith, s .chosen-size, s .few, below)))
+                (barren-next (headAt heads h) (cellConstraints cells) (take h chosen) (assigned bindings) from
+                (cellConstraints (drop (5 * suc h) heads)) (rw heads-here at known) p this (assigned b)
+                (element-row cells p (omega (arith, s .cells-size))) (sym (rw z at (t .same))) since e)
 
             module _ (z : f ≡ true) (g : Bool) (ps b′ : List ℕ)
                 (later : Located g n ps b′ (answer heads (n - (left - 1)) cells (set chosen h p) b)) where

@@ -308,7 +308,7 @@ solving-start equations bound cells n s =
     }
 
 -- no term is replaced
-map-none : (cs : List Constraint) → map (mapTerms (λ t. t)) cs ≡ cs
+pub map-none : (cs : List Constraint) → map (mapTerms (λ t. t)) cs ≡ cs
 unfolding mapTerms
 map-none [] = refl
 map-none (c ∷ cs) = rw (map-id (c .terms), map-none cs)

@@ -18,8 +18,10 @@ use Rattle.engine.specs.Cells.{assigned}
 use Rattle.engine.specs.Positions.{foundOf, Row, Table, choiceOf, Chosen}
 use Rattle.engine.specs.States.{Fires, Fired}
 use Rattle.engine.specs.Runs.{storeOf, Live, Stepped}
+use Rattle.engine.specs.Known.{Knows, Lowered, Keeps}
 use Rattle.engine.proofs.ChooseLaws.{lentRow, row-cells}
 use Rattle.engine.proofs.FiredLaws.{fired-lighter, fired-low}
+use Rattle.engine.proofs.KnownLaws.{knows-fired}
 
 -- from nothing
 pub no-way : {A : Type 0} → false ≡ true → A
@@ -34,9 +36,15 @@ module _ (rules : List ℕ) (n : ℕ) (cells : List ℕ) (m next : ℕ) (s : Liv
   step-lent = sym (length-take-le (5 * m) cells (omega (arith, s .space)))
 
   -- the choice may be lent any first rules of the table
-  pub step-chooses : (k : ℕ) → k ≤ n → Table rules k × (length (take (5 * m) cells) ≡ 5 * m)
-  step-chooses k h =
-      (record { size = omega (arith, s .table .size); rows = λ i l. s .table .rows i (omega arith) }, sym step-lent)
+  pub step-chooses :
+      (known : List ℕ) → Knows rules n known (storeOf cells m) → (k : ℕ) → k ≤ n
+      → Table rules k × (length (take (5 * m) cells) ≡ 5 * m) × Knows rules k known (cellConstraints (take (5 * m) cells))
+  unfolding storeOf
+  step-chooses known ks k h = (
+    record { size = omega (arith, s .table .size); rows = λ i l. s .table .rows i (omega arith) },
+    sym step-lent,
+    record { barren = λ i l. ks .barren i (omega arith) },
+  )
 
   module _ (f : Bool) (i : ℕ) (ps b : List ℕ) (chosen : Chosen rules n (take (5 * m) cells) f i ps b) where
     -- no rule fits
@@ -50,6 +58,10 @@ module _ (rules : List ℕ) (n : ℕ) (cells : List ℕ) (m next : ℕ) (s : Liv
           low = λ y. no-way y;
           few = omega arith;
         }
+
+    -- and nothing is kept
+    pub step-keeps-none : (known cells′ : List ℕ) (alive : Bool) (count : ℕ) → Keeps rules n known cells′ false alive count
+    step-keeps-none known cells′ alive count = record { knows = λ y. no-way y }
 
     module _ (z : f ≡ true) where
       pub step-row : 64 * i + 64 ≤ length rules
@@ -81,6 +93,23 @@ module _ (rules : List ℕ) (n : ℕ) (cells : List ℕ) (m next : ℕ) (s : Liv
             matchAt (ruleOfRow [] row .heads) (take (getD row 3 0) ps) (storeOf cells m) [] unassigned ≡ some (assigned b)
         unfolding foundOf storeOf
         fits = find-sound (ruleOfRow [] row .heads) (cellConstraints (take (5 * m) cells)) _ (sym (chosen .fits z))
+
+        -- what lowering asks
+        pub step-lowers : m ≤ 512 → Table rules n × Row (lentRow rules i) × (count ≤ 65000)
+        step-lowers few = (s .table, rw (row-cells i) (s .table .rows i (chosen .within z)), omega (arith, done .few))
+
+        -- what is known then
+        pub step-keeps :
+            (known known′ : List ℕ) → Knows rules n known (cellConstraints (take (5 * m) cells))
+            → Lowered rules n (lentRow rules i) m count known known′ → Keeps rules n known′ cells′ true alive count
+        unfolding storeOf
+        step-keeps known known′ ks lowered =
+            record {
+              knows = λ x y.
+                  knows-fired row ps b next bound cells m bound′ cells′ count (rw y at done)
+                  (s .table .rows i (chosen .within z)) (chosen .positions-size) (omega (arith, s .space)) rules n known known′ ks
+                  (rw (row-cells i) at lowered);
+            }
 
         -- a rule has fired
         pub step-moves : Stepped rules n bound cells m next bound′ cells′ true alive count

@@ -4,6 +4,7 @@
 --   Matched              what a match promises
 --   swap, merge          a variable's cell replaced; the solution of an equation between cells
 --   instanceCell         a cell of a rule's body, in the state
+--   movedRow, closedGap  a constraint copied, and all behind a position moved one forward
 -- Assumes nothing.
 use Prim.Native.Nat.{ℕ, _+_, _-_, _*_}
 use mathlib.Core.Bool.{Bool, true, false, cond, not, _&&_}
@@ -82,3 +83,9 @@ instanceCell next bindings x =
 -- the cells with the constraint at one position written over that at another
 unfoldable pub movedRow : ℕ → ℕ → List ℕ → List ℕ
 movedRow from to cells = paste cells (constraintSize * to) (drop (constraintSize * from) cells) constraintSize
+
+-- the cells with those of k constraints behind a position moved one constraint forward
+unfoldable pub closedGap : ℕ → ℕ → List ℕ → List ℕ
+closedGap k p cells =
+    paste cells (constraintSize * p) (drop (constraintSize * p + constraintSize) cells)
+    (constraintSize * k - constraintSize - constraintSize * p)

@@ -3,4 +3,5 @@ pub mod Cells
 pub mod Positions
 pub mod States
 pub mod Runs
+pub mod Known
 pub mod Stated

@@ -1,16 +1,16 @@
 -- How the engine's state decodes, and what solving and firing promise.
 --   Merged, Solvable, Solved    one equation, and all of them
---   Removed, Appended           the constraints behind a firing
+--   Highest, Removed, Appended           the constraints behind a firing
 --   Equated, SolvedRule         a rule's equations
 --   Fires, Fired                a firing
 -- Assumes nothing.
-use Prim.Native.Nat.{ℕ, _+_, _*_, _≤_}
-use mathlib.Core.Bool.{Bool, true, cond, not}
+use Prim.Native.Nat.{ℕ, _+_, _-_, _*_, _≤_, _<_}
+use mathlib.Core.Bool.{Bool, true, false, cond, not}
 use mathlib.Core.List.{List, [], _++_, map}
 use mathlib.Core.Path.{_≡_}
 use lib.Dec.{leb}
 use lib.ListN.{length, take, getD}
-use Rattle.text.specs.Lists.{every}
+use Rattle.text.specs.Lists.{every, has}
 use Rattle.semantics.specs.Terms.{State, failed, live, mapTerms, mapSides}
 use Rattle.semantics.specs.Solving.{solve}
 use Rattle.semantics.specs.Firing.{without, instance, settle, fired}
@@ -38,6 +38,12 @@ pub record Solved (alive : Bool) (equations bound cells bound′ cells′ : List
   pub same :
       (next : ℕ) → stateOf alive next bound′ cells′
       ≡ settle (solve (cellEquations equations) (λ t. t)) next (map cellTerm bound) (cellConstraints cells)
+
+-- one more than the highest of the positions below p, or 0
+pub record Highest (ps : List ℕ) (p top : ℕ) : Type 0 where
+  pub below : top ≤ p
+  pub there : 0 < top → has (top - 1) ps ≡ true
+  pub free : (q : ℕ) → top ≤ q → q < p → has q ps ≡ false
 
 -- k constraints are left in front, those of m at none of the positions
 pub record Removed (m : ℕ) (ps cells cells′ : List ℕ) (k : ℕ) : Type 0 where

@@ -1,10 +1,12 @@
 // The derivation by the strategy: the lowest-numbered rule that fits fires at the smallest positions, until none fits.
 use crate::firing::fire;
+use crate::known::lower;
 use crate::search::choose;
 use tables::layout::CONSTRAINT_SIZE;
 use tables::layout::ROW_SIZE;
 ghost use Prim.Native.Nat.{_≤_};
-ghost use Rattle.engine.specs.Runs.{Live, Stepped, Startable, Ended, Continued};
+ghost use Rattle.engine.specs.Runs.{Live, Stepped, Startable, Ended, Continued, storeOf};
+ghost use Rattle.engine.specs.Known.{Knows, Keeps};
 
 // Whether a rule fired, whether the state lives on, and how many constraints it has then.
 pub struct Step {
@@ -17,17 +19,19 @@ pub struct Step {
 pub fn advance(
     rules: &[u16],
     n: usize,
+    known: &mut [usize],
     bound: &mut [u16],
     cells: &mut [u16],
     m: usize,
     next: u16,
 ) -> Step
-    requires { ⌜ Live (now rules) n (now cells) m next ⌝ }
+    requires { ⌜ Live (now rules) n (now cells) m next × Knows (now rules) n (now known) (storeOf (now cells) m) × (m ≤ 512) ⌝ }
     ensures { λ r. ⌜ Stepped (now (rules .entry)) n (now (bound .entry)) (now (cells .entry)) m next
-        (now (bound .exit)) (now (cells .exit)) (r .fired) (r .alive) (r .count) ⌝ }
+        (now (bound .exit)) (now (cells .exit)) (r .fired) (r .alive) (r .count)
+        × Keeps (now (rules .entry)) n (now (known .exit)) (now (cells .exit)) (r .fired) (r .alive) (r .count) ⌝ }
 {
     let e = CONSTRAINT_SIZE * m;
-    let choice = choose(rules, n, &cells[..e], m);
+    let choice = choose(rules, n, known, &cells[..e], m);
     if !choice.found {
         return Step {
             fired: false,
@@ -41,10 +45,13 @@ pub fn advance(
     let a = ROW_SIZE * number;
     let b = a + ROW_SIZE;
     let after = fire(&rules[a..b], positions, &bindings, next, bound, cells, m);
+    let alive = after.alive;
+    let count = after.count;
+    lower(rules, n, &rules[a..b], known, m, count);
     Step {
         fired: true,
-        alive: after.alive,
-        count: after.count,
+        alive,
+        count,
     }
 }
 
@@ -73,8 +80,9 @@ pub fn normalise(
     let mut count = m;
     let mut number = next;
     let mut firings = 0;
+    let mut known = [0usize; 32];
     while alive {
-        let step = advance(rules, n, bound, cells, count, number);
+        let step = advance(rules, n, &mut known, bound, cells, count, number);
         if !step.fired {
             return Final {
                 alive: true,

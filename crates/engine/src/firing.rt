@@ -1,5 +1,4 @@
 // Firing a rule at positions that fit: its constraints are removed, its body is appended, and its equations are solved.
-use crate::search::is_chosen;
 use crate::solving::solve;
 use tables::layout::BODY_CELL;
 use tables::layout::CONSTRAINT_SIZE;
@@ -11,12 +10,12 @@ use tables::layout::HEADS_CELL;
 use tables::wide;
 ghost use mathlib.Core.List.{map};
 ghost use mathlib.Core.Path.{_≡_};
-ghost use Prim.Native.Nat.{_+_, _*_, _≤_, min};
+ghost use Prim.Native.Nat.{_+_, _*_, _≤_, _<_, min};
 ghost use lib.ListN.{length, take};
 ghost use Rattle.tables.specs.Layout.{constraintSize};
-ghost use Rattle.engine.specs.Cells.{instanceCell, movedRow};
+ghost use Rattle.engine.specs.Cells.{instanceCell, movedRow, closedGap};
 ghost use Rattle.engine.specs.Positions.{Row};
-ghost use Rattle.engine.specs.States.{Removed, Appended, Equated, SolvedRule, Fires, Fired};
+ghost use Rattle.engine.specs.States.{Highest, Removed, Appended, Equated, SolvedRule, Fires, Fired};
 
 // A cell of a rule's body: what the rule's variable is bound to, or a new variable.
 pub fn instance(cell: u16, bindings: &[u16], next: u16) -> u16
@@ -63,20 +62,50 @@ pub fn move_row(cells: &mut [u16], from: usize, to: usize)
     }
 }
 
-// Removes the constraints at the first n positions, the rest in its order in front; answers how many are left.
+// Moves the constraints of k behind a position one forward, over the one there.
+pub fn close_gap(cells: &mut [u16], k: usize, p: usize)
+    requires { ⌜ (p < k) × (constraintSize * k ≤ length (now cells)) ⌝ }
+    ensures { λ _. ⌜ now (cells .exit) ≡ closedGap k p (now (cells .entry)) ⌝ }
+{
+    let e = CONSTRAINT_SIZE * k - CONSTRAINT_SIZE;
+    let mut i = CONSTRAINT_SIZE * p;
+    while i < e {
+        cells[i] = cells[i + CONSTRAINT_SIZE];
+        i += 1;
+    }
+}
+
+// One more than the highest of the first n positions that lie below p; 0 where none does.
+pub fn highest(positions: [usize; 4], n: usize, p: usize) -> usize
+    requires { ⌜ (n ≤ 4) × (length positions ≡ 4) ⌝ }
+    ensures { λ r. ⌜ Highest (take n positions) p r ⌝ }
+{
+    let mut top = 0;
+    let mut i = 0;
+    while i < n {
+        let q = positions[i];
+        i += 1;
+        if q < p {
+            if top <= q {
+                top = q + 1;
+            }
+        }
+    }
+    top
+}
+
+// Removes the constraints at the first n positions, the highest first, and closes each gap; answers how many are left.
 pub fn remove(cells: &mut [u16], m: usize, positions: [usize; 4], n: usize) -> usize
     requires { ⌜ (length (now cells) ≡ constraintSize * m) × (n ≤ 4) × (length positions ≡ 4) ⌝ }
     ensures { λ r. ⌜ Removed m (take n positions) (now (cells .entry)) (now (cells .exit)) r ⌝ }
 {
-    let mut p = 0;
-    let mut k = 0;
-    while p < m {
-        let q = p;
-        p += 1;
-        if !is_chosen(positions, n, q) {
-            move_row(cells, q, k);
-            k += 1;
-        }
+    let mut k = m;
+    let mut top = highest(positions, n, m);
+    while 0 < top {
+        let p = top - 1;
+        close_gap(cells, k, p);
+        k -= 1;
+        top = highest(positions, n, p);
     }
     k
 }

@@ -3,6 +3,7 @@
 pub mod derivation;
 pub mod entering;
 pub mod firing;
+pub mod known;
 pub mod matching;
 pub mod search;
 pub mod solving;

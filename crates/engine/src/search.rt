@@ -1,4 +1,6 @@
 // The search for positions head by head, and the choice of a rule.
+use crate::known::known_at;
+use crate::known::note;
 use crate::matching::Fit;
 use crate::matching::match_constraint;
 use crate::matching::may_fit;
@@ -12,6 +14,7 @@ ghost use mathlib.Core.List.{[]};
 ghost use mathlib.Core.Option.{none};
 ghost use mathlib.Core.Path.{_≡_};
 ghost use Prim.Native.Nat.{_≤_, _*_, _-_};
+ghost use lib.Dec.{eqb, ltb};
 ghost use lib.ListN.{length, take, drop, getD};
 ghost use Rattle.text.specs.Lists.{has};
 ghost use Rattle.semantics.specs.Matching.{matchConstraint, unassigned};
@@ -21,6 +24,7 @@ ghost use Rattle.tables.specs.Cells.{cellConstraints, rowConstraint};
 ghost use Rattle.tables.specs.Rows.{ruleOfRow};
 ghost use Rattle.engine.specs.Cells.{assigned, Rows, Matched};
 ghost use Rattle.engine.specs.Positions.{Seeking, Located, Row, Table, Chosen};
+ghost use Rattle.engine.specs.Known.{Barren, Knows};
 
 // Whether positions were found, with them and the bindings under which the heads fit there.
 pub struct Found {
@@ -67,6 +71,20 @@ pub fn fit_at(
     match_constraint(head, constraint, bindings)
 }
 
+// Where the search for a head starts: for the last one, behind the constraints among which nothing fits.
+pub fn start(left: usize, from: usize) -> usize
+    ensures { λ r. ⌜ r ≡ cond (eqb left 1) from 0 ⌝ }
+{
+    if left == 1 { from } else { 0 }
+}
+
+// What is known of the later heads where one is placed at p: still as much, if p lies within, or nothing.
+pub fn still(from: usize, p: usize) -> usize
+    ensures { λ r. ⌜ r ≡ cond (ltb p from) from 0 ⌝ }
+{
+    if p < from { from } else { 0 }
+}
+
 // Positions for the heads that are left, each over the positions still free: the first that lets the later heads fit too.
 pub fn find(
     heads: &[u16],
@@ -76,8 +94,11 @@ pub fn find(
     m: usize,
     chosen: [usize; 4],
     bindings: [u16; 26],
+    from: usize,
 ) -> Found
-    requires { ⌜ Seeking (now heads) n left (now cells) m chosen bindings ⌝ }
+    requires { ⌜ Seeking (now heads) n left (now cells) m chosen bindings
+        × Barren (cellConstraints (drop (constraintSize * (n - left)) (now heads))) (cellConstraints (now cells))
+        (take (n - left) chosen) (assigned bindings) from × (from ≤ m) ⌝ }
     ensures { λ r. ⌜ Located (r .found) n (r .positions) (r .bindings)
         (find (cellConstraints (drop (constraintSize * (n - left)) (now (heads .entry)))) (cellConstraints (now (cells .entry)))
         (take (n - left) chosen) (assigned bindings)) ⌝ }
@@ -93,7 +114,7 @@ pub fn find(
     let a = CONSTRAINT_SIZE * h;
     let e = a + CONSTRAINT_SIZE;
     let head = &heads[a..e];
-    let mut p = 0;
+    let mut p = start(left, from);
     while p < m {
         let q = p;
         let b = CONSTRAINT_SIZE * q;
@@ -105,7 +126,8 @@ pub fn find(
                 let mut more = chosen;
                 more[h] = q;
                 let settled = fit.bindings;
-                let found = find(heads, n, left - 1, cells, m, more, settled);
+                let since = still(from, q);
+                let found = find(heads, n, left - 1, cells, m, more, settled, since);
                 if found.found {
                     return found;
                 }
@@ -127,38 +149,46 @@ pub struct Choice {
     pub found: bool,
 }
 
-// Positions for all heads of a rule.
-pub fn find_rule(row: &[u16], cells: &[u16], m: usize) -> Found
-    requires { ⌜ Row (now row) × (length (now cells) ≡ constraintSize * m) ⌝ }
+// Positions for all heads of a rule, which fit nowhere among the first `from` constraints.
+pub fn find_rule(row: &[u16], cells: &[u16], m: usize, from: usize) -> Found
+    requires { ⌜ Row (now row) × (length (now cells) ≡ constraintSize * m)
+        × Barren (ruleOfRow [] (now row) .heads) (cellConstraints (now cells)) [] unassigned from × (from ≤ m) ⌝ }
     ensures { λ r. ⌜ Located (r .found) (getD (now (row .entry)) headsCell 0) (r .positions) (r .bindings)
         (find (ruleOfRow [] (now (row .entry)) .heads) (cellConstraints (now (cells .entry))) [] unassigned) ⌝ }
 {
     let n = wide(row[HEADS_CELL]);
     let e = FIRST_HEAD + CONSTRAINT_SIZE * n;
-    find(&row[FIRST_HEAD..e], n, n, cells, m, [0; 4], [0; 26])
+    find(&row[FIRST_HEAD..e], n, n, cells, m, [0; 4], [0; 26], from)
 }
 
-// The first rule that fits.
-pub fn choose(rules: &[u16], n: usize, cells: &[u16], m: usize) -> Choice
-    requires { ⌜ Table (now rules) n × (length (now cells) ≡ constraintSize * m) ⌝ }
-    ensures { λ r. ⌜ Chosen (now (rules .entry)) n (now (cells .entry)) (r .found) (r .number) (r .positions) (r .bindings) ⌝ }
+// The first rule that fits; what is known of the rules before it is noted.
+pub fn choose(rules: &[u16], n: usize, known: &mut [usize], cells: &[u16], m: usize) -> Choice
+    requires { ⌜ Table (now rules) n × (length (now cells) ≡ constraintSize * m)
+        × Knows (now rules) n (now known) (cellConstraints (now cells)) ⌝ }
+    ensures { λ r. ⌜ Chosen (now (rules .entry)) n (now (cells .entry)) (r .found) (r .number) (r .positions) (r .bindings)
+        × Knows (now (rules .entry)) n (now (known .exit)) (cellConstraints (now (cells .entry))) ⌝ }
 {
     let mut i = 0;
     while i < n {
-        let a = ROW_SIZE * i;
-        let e = a + ROW_SIZE;
-        let place = find_rule(&rules[a..e], cells, m);
-        if place.found {
-            let positions = place.positions;
-            let bindings = place.bindings;
-            return Choice {
-                found: true,
-                number: i,
-                positions,
-                bindings,
-            };
-        }
+        let q = i;
+        let from = known_at(known, q);
         i += 1;
+        if from <= m {
+            let a = ROW_SIZE * q;
+            let e = a + ROW_SIZE;
+            let place = find_rule(&rules[a..e], cells, m, from);
+            if place.found {
+                let positions = place.positions;
+                let bindings = place.bindings;
+                return Choice {
+                    found: true,
+                    number: q,
+                    positions,
+                    bindings,
+                };
+            }
+            note(known, q, m + 1);
+        }
     }
     Choice {
         found: false,

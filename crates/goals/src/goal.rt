@@ -8,10 +8,10 @@ use lines::constraints::read_constraint;
 use lines::forms::form_of;
 use lines::rows::write_cells;
 use lines::weights::weight_of;
+use reader::line_at;
 use tables::layout::CONSTRAINT_SIZE;
 use tables::layout::GOAL_PLACE;
 use text::fields::Fields;
-use text::fields::split;
 ghost use mathlib.Core.Path.{_≡_};
 ghost use mathlib.Core.List.{List};
 ghost use Prim.Native.Nat.{ℕ, _≤_};
@@ -105,7 +105,7 @@ fn goal_lines(
         constants: constants,
     };
     while at < goal.len() {
-        let f = split(&classes, goal, at);
+        let f = line_at(&classes, goal, at);
         if f.faulty {
             return GoalRead::Refused(2, number);
         }

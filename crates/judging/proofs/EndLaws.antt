@@ -1,7 +1,7 @@
 -- The two sides of an overlap, in cells: their own firings, and their ends.
 --   lent-kept                          cells remain lent
 --   first-asks, second-asks            what a side asks
---   first-begins, second-begins        what their own firings ask
+--   side-begins                        what a side's own firing asks
 --   both-begun                         and promise
 --   first-follows, second-follows      what following asks
 --   first-sided, second-sided          the end of a whole side
@@ -96,43 +96,38 @@ lent-kept rules n i j positions m v goal bound₁ cells₁ bound₂ cells₂ b�
 
 module _ (rules : List ℕ) (n i j : ℕ) (positions : List ℕ) (m v : ℕ) (goal : List ℕ)
     (o : Overlapping rules n i j positions m v goal) where
-  -- what the sides ask
-  pub first-asks :
-      (w : ℕ) (one : List ℕ) → w ≡ v → 2590 ≤ length one → Sidable rules n i (0 ∷ 1 ∷ 2 ∷ 3 ∷ []) goal m w one
-  first-asks w one e s =
+  -- what a side asks
+  side-asks :
+      (k : ℕ) (ps : List ℕ) → k < n → length ps ≡ 4 → (w : ℕ) (cells : List ℕ) → w ≡ v → 2590 ≤ length cells
+      → Sidable rules n k ps goal m w cells
+  side-asks k ps h l w cells e s =
       record {
-        rule = o .first;
-        positions-size = refl;
+        rule = h;
+        positions-size = l;
         goal-size = o .goal-size;
         runs = o .runs;
         variables = omega (arith, o .variables);
         space = s;
       }
 
+  pub first-asks :
+      (w : ℕ) (one : List ℕ) → w ≡ v → 2590 ≤ length one → Sidable rules n i (0 ∷ 1 ∷ 2 ∷ 3 ∷ []) goal m w one
+  first-asks = side-asks i (0 ∷ 1 ∷ 2 ∷ 3 ∷ []) (o .first) refl
+
   pub second-asks : (w : ℕ) (two : List ℕ) → w ≡ v → 2590 ≤ length two → Sidable rules n j positions goal m w two
-  second-asks w two e s =
-      record {
-        rule = o .second;
-        positions-size = o .positions-size;
-        goal-size = o .goal-size;
-        runs = o .runs;
-        variables = omega (arith, o .variables);
-        space = s;
-      }
+  second-asks = side-asks j positions (o .second) (o .positions-size)
 
   -- no more constraints than the weight
   pub goal-few : (one : List ℕ) → 2590 ≤ length one → m ≤ 512
   goal-few one room = side-few rules n i (0 ∷ 1 ∷ 2 ∷ 3 ∷ []) goal m v one (first-asks v one refl room)
 
-  -- what their own firings ask
-  pub first-begins :
-      (w : ℕ) (one : List ℕ) → w ≡ v → 2590 ≤ length one → Beginnable rules i (0 ∷ 1 ∷ 2 ∷ 3 ∷ []) goal m w one
-  first-begins w one e room = record { count = n; side = first-asks w one e room }
+  -- what a side's own firing asks
+  pub side-begins :
+      (k : ℕ) (ps : List ℕ) → k < n → length ps ≡ 4 → (w : ℕ) (cells : List ℕ) → w ≡ v → 2590 ≤ length cells
+      → Beginnable rules k ps goal m w cells
+  side-begins k ps h l w cells e room = record { count = n; side = side-asks k ps h l w cells e room }
 
-  pub second-begins : (w : ℕ) (two : List ℕ) → w ≡ v → 2590 ≤ length two → Beginnable rules j positions goal m w two
-  second-begins w two e room = record { count = n; side = second-asks w two e room }
-
-  -- and promise
+  -- and what both promise
   pub both-begun :
       (w u : ℕ) (fired₁ alive₁ : Bool) (count₁ : ℕ) (bound₁ cells₁ : List ℕ) (fired₂ alive₂ : Bool) (count₂ : ℕ)
       (bound₂ cells₂ : List ℕ) → w ≡ v → u ≡ v → Begun rules i (0 ∷ 1 ∷ 2 ∷ 3 ∷ []) goal m w bound₁ cells₁ fired₁ alive₁ count₁

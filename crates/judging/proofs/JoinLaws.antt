@@ -27,8 +27,9 @@ use Rattle.semantics.proofs.VariantLaws.{variant-refl}
 use Rattle.tables.specs.Cells.{cellTerm, cellConstraints, isLow, stateOf}
 use Rattle.tables.specs.Numbers.{isWithin}
 use Rattle.tables.proofs.CellLaws.{every-first, every-rest}
-use Rattle.comparison.specs.Comparing.{endOf, Side, Alike}
-use Rattle.comparison.proofs.RowLaws.{constraints-count}
+use Rattle.colours.specs.Ends.{endOf}
+use Rattle.colours.proofs.RowLaws.{constraints-count}
+use Rattle.comparison.specs.Comparing.{Side, Alike}
 use Rattle.judging.specs.Tidying.{Tidied}
 use Rattle.judging.specs.Judging.{Stands, endIn, LiveEnd, EndOf, Joins}
 use Rattle.judging.proofs.TidyLaws.{cell-below, tidied-below}

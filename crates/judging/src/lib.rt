@@ -14,7 +14,7 @@ ghost use Prim.Native.Nat.{_≤_};
 ghost use lib.ListN.{length};
 ghost use Rattle.semantics.specs.Overlaps.{firstEnd, secondEnd};
 ghost use Rattle.semantics.specs.Variants.{sameState};
-ghost use Rattle.comparison.specs.Comparing.{endOf};
+ghost use Rattle.colours.specs.Ends.{endOf};
 ghost use Rattle.judging.specs.Judging.{LiveEnd, Overlapping, Lent, BothBegun, Stepped, SameStep, EndOf, Joins};
 
 // An overlap of two rules of a table, by their numbers: how many rules the table has, where the second one's heads stand in the

@@ -13,10 +13,10 @@ use crate::rules::check_rules;
 use lines::LineForm;
 use lines::forms::form_of;
 use lines::forms::section_after;
+use reader::line_at;
 use tables::layout::ROW_SIZE;
 use tables::layout::SYMBOL_SIZE;
 use text::fields::Fields;
-use text::fields::split;
 ghost use mathlib.Core.Path.{_≡_};
 ghost use Prim.Native.Nat.{_≤_};
 ghost use lib.ListN.{length};
@@ -84,7 +84,7 @@ fn read_lines(
         constants: 0,
     };
     while at < text.len() {
-        let f = split(&classes, text, at);
+        let f = line_at(&classes, text, at);
         if f.faulty {
             return LinesRead::Refused(2, number);
         }

@@ -10,3 +10,4 @@ pub mod OutcomeLaws
 pub mod CheckLaws
 pub mod CheckingLaws
 pub mod Numbers
+pub mod ReadLaws

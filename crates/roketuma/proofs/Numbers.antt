@@ -28,7 +28,7 @@ use Rattle.roketuma.specs.declared.CheckReply.the-variants.{Refused, Con
 use Rattle.roketuma.proofs.ReplyLaws.{reply-number}
 
 -- the refusal read off its number
-refusal-read :
+pub refusal-read :
     (number line : ℕ) (t : TextName) → line < 65536
     → refusalRead (4294967296 * number + 65536 * nameByte t + line) ≡ record { number = number; text = t; line = line }
 unfolding refusalRead letterRead nameByte

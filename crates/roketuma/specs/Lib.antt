@@ -5,3 +5,4 @@ pub mod Outcomes
 pub mod Promises
 pub mod Numbers
 pub mod Checking
+pub mod Readings

@@ -33,7 +33,7 @@ fn refusal_number(refusal: Refusal) -> u64
 }
 
 // An answer as one number.
-fn answer_number(reply: RunReply) -> u64
+pub fn answer_number(reply: RunReply) -> u64
     ensures { λ r. ⌜ r ≡ answerNumber reply ⌝ }
 {
     match reply {

@@ -3,6 +3,7 @@
 mod checking;
 mod exported;
 mod printing;
+mod reading;
 mod running;
 
 pub use checking::check;
@@ -10,6 +11,8 @@ pub use printing::put_check;
 pub use printing::put_refusal;
 pub use printing::put_reply;
 pub use printing::put_run;
+pub use reading::ReadReply;
+pub use reading::read;
 pub use running::run;
 
 // The letter of a text: S for a program's, G for a goal's.

@@ -8,7 +8,7 @@ use Rattle.comparison.proofs.compare.Reads as reads
 use Rattle.comparison.proofs.compare.Lts as lts
 use Rattle.comparison.proofs.count.Reads as count-reads
 use Rattle.comparison.proofs.larger.Reads as larger-reads
-use Rattle.comparison.proofs.numbering.number_state.Reads as number-state-reads
+use Rattle.colours.proofs.numbering.number_state.Reads as number-state-reads
 use Rattle.comparison.proofs.search.decide.Reads as decide-reads
 use Rattle.comparison.proofs.search.same_cells.Reads as same-cells-reads
 

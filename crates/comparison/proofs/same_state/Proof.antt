@@ -5,7 +5,7 @@ use native.Mathlib.Omega.{arith}
 use Prim.Native.Nat.{_*_}
 use mathlib.Core.Path.{sym}
 use Rattle.comparison.proofs.SearchLaws.{count-apart, bound-count-apart}
-use Rattle.comparison.proofs.ClassLaws.{zeros-length}
+use Rattle.colours.proofs.ClassLaws.{zeros-length}
 use Rattle.comparison.proofs.DecideLaws.{comparable}
 use borrow.Author.Needs.{needs}
 use Rattle.comparison.proofs.same_state.Statement.{statement}

@@ -1,20 +1,26 @@
 -- `begin_both` meets its contract: each side fires.
 -- Assumes nothing.
-use Rattle.judging.proofs.EndLaws.{first-begins, second-begins, both-begun}
+use Rattle.judging.proofs.EndLaws.{side-begins, both-begun}
 use borrow.Author.Needs.{needs}
+use native.Mathlib.Omega.{arith}
+use mathlib.Core.Path.{refl}
 use Rattle.judging.proofs.begin_both.Statement.{statement}
 use Rattle.judging.proofs.begin_both.Tie as tie
 
 begin-requires : tie.Need-begin-requires
 begin-requires c κs =
     let start = c .before .before .before .before .before .before .before .before .before in
-    first-begins _ _ _ _ _ _ _ _ (start .pre .overlapping) _ _ (start .pre .first-bound) (start .pre .first-room)
+    let pre = start .pre .overlapping in
+    side-begins _ _ _ _ _ _ _ _ pre _ _ (omega (arith, pre .first, pre .second)) refl _ _ (start .pre .first-bound)
+    (start .pre .first-room)
 
 begin-requires-2 : tie.Need-begin-requires-2
 begin-requires-2 c κs =
     let at-positions = c .before .before .before .before .before .before .before .before .before in
     let start = at-positions .before .before .before .before .before .before .before in
-    second-begins _ _ _ _ _ _ _ _ (start .pre .overlapping) _ _ (start .pre .second-bound) (start .pre .second-room)
+    let pre = start .pre .overlapping in
+    side-begins _ _ _ _ _ _ _ _ pre _ _ (omega (arith, pre .first, pre .second)) (pre .positions-size) _ _
+    (start .pre .second-bound) (start .pre .second-room)
 
 same-length : tie.Need-same-length
 same-length c = search needs

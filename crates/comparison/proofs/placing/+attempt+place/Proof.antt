@@ -171,7 +171,7 @@ attempt-place-requires t c κs =
     let if3′ = (c .before .before .before .before .if3) in (
       omega (arith, pre′ .0, behind-length (p5 .args .a .now) (pre′ .1 .2)),
       try-others _ _ _ _ _ _ (pre′ .1 .0) (pre′ .1 .1) (pre′ .1 .2) (if1′ .left) (if2′ .left) _ _ _ _
-          (pair-rows′ .ensures) (not-false _ (if3′ .left)) (pair-rows′ .kept .1 .1 .0) (pair-rows′ .kept .1 .1 .1 .0),
+          (pair-rows′ .ensures) (not-false _ (if3′ .left)) (pair-rows′ .kept .1 .1 .0) (pair-rows′ .kept .1 .1 .1 .0) _,
     )
 
 attempt-same-length-3 : (t : ℕ) → attempt-lts.Need-same-length-3 (attempt-calls t) (attempt-at t) attempt.Post
@@ -182,7 +182,7 @@ attempt-same-length-3 t c =
     let p3 = p2 .before .before .before .before .before .before .before .before .before in
     let p4 = p3 .before .before .before .before .before .before .before .before .before in
     let args′ = p4 .args in
-    place′ .kept .1 .1 .0 ∙ length-set (args′ .used .now) (args′ .j) true
+    place′ .kept .1 .1 .0 ∙ length-set (args′ .used .now) (args′ .j) _
 
 attempt-same-length-4 : (t : ℕ) → attempt-lts.Need-same-length-4 (attempt-calls t) (attempt-at t) attempt.Post
 attempt-same-length-4 t c =
@@ -256,7 +256,7 @@ attempt-same-length-6 t c =
     let p4 = p3 .before .before .before .before .before .before .before .before .before in
     let p5 = p4 .before .before .before .before .before .before .before .before .before in
     let args′ = p5 .args in
-    simp length-set (place′ .kept .1 .1 .0 ∙ length-set (args′ .used .now) (args′ .j) true)
+    simp length-set (place′ .kept .1 .1 .0 ∙ length-set (args′ .used .now) (args′ .j) _)
 
 attempt-same-length-7 : (t : ℕ) → attempt-lts.Need-same-length-7 (attempt-calls t) (attempt-at t) attempt.Post
 attempt-same-length-7 t c =

@@ -16,7 +16,8 @@ show-requires c κs =
     let walked = c .before .before .before .before .before .before .before .before .before in
     let start = walked .before .before .before .before .before .before .before .before in (
       verdict-kept _ _ _ _ _ _ _ _ (start .pre) (walked .walk-all .kept .1 .1 .0) (walked .walk-all .kept .1 .1 .1 .0),
-      walked-stopped _ _ _ _ (start .pre .check) (walked .walk-all .ensures) (c .before .before .before .before .if1 .taken) (start .pre .goal-size),
+      walked-stopped _ _ _ _ (start .pre .check) (walked .walk-all .ensures) (c .before .before .before .before .if1 .taken)
+          (start .pre .goal-size),
     )
 
 same-length : tie.Need-same-length

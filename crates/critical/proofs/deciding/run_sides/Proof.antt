@@ -49,7 +49,8 @@ returns : tie.Need-returns
 returns c =
     let other = c .before .before .before .before in
     let own = other .before .before .before .before .before .before .before in
-    run-ends _ _ _ _ _ _ (own .before .before .before .before .before .before .before .before .before .pre) _ (own .side .kept .1 .1 .1 .1 .1 .1 .0) _ _ (own .side .kept .1 .1 .1 .1 .1 .1 .1 .0)
+    let start = own .before .before .before .before .before .before .before .before .before in
+    run-ends _ _ _ _ _ _ (start .pre) _ (own .side .kept .1 .1 .1 .1 .1 .1 .0) _ _ (own .side .kept .1 .1 .1 .1 .1 .1 .1 .0)
     (own .side .ensures) _ _ _ (other .side2 .kept .1 .1 .1 .1 .1 .1 .0) (other .side2 .kept .1 .1 .1 .1 .1 .1 .1 .0)
     (other .side2 .ensures) _
 

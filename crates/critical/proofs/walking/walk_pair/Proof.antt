@@ -1,14 +1,12 @@
--- `walk_pair` meets its contract: the heads of both rules laid, and the walk from no partner on.
+-- `walk_pair` meets its contract: where no head symbol is common, there is nothing to judge.
 -- Assumes nothing.
-use mathlib.Core.Path.{refl}
-use lib.ListN.{replicate}
-use Rattle.critical.proofs.TableLaws.{pair-room, pair-lent, pair-lays, pair-walkable, pair-walked}
+use Rattle.critical.proofs.ShareLaws.{pair-unshared}
+use Rattle.critical.proofs.TableLaws.{lent-rule}
 use borrow.Author.Needs.{needs}
 use Rattle.critical.proofs.walking.walk_pair.Statement.{statement}
 use Rattle.critical.proofs.walking.walk_pair.Tie as tie
-use Rattle.critical.proofs.laying.lay_heads.Reads as lay-heads-reads
-use Rattle.critical.proofs.walking.walk.Reads as walk-reads
-use Rattle.tables.proofs.wide.Reads as wide-reads
+use Rattle.critical.proofs.sharing.share_symbol.Reads as share-symbol-reads
+use Rattle.critical.proofs.walking.walk_pairings.Reads as walk-pairings-reads
 
 mul-a : tie.Need-mul-a
 mul-a c = search needs
@@ -22,78 +20,35 @@ mul-c c = search needs
 add-d : tie.Need-add-d
 add-d c = search needs
 
-mul-first : tie.Need-mul-first
-mul-first c = search needs
+mul-share-symbol : tie.Need-mul-share-symbol
+mul-share-symbol c = search needs
 
-sub-first : tie.Need-sub-first
-sub-first c = search needs
+sub-share-symbol : tie.Need-sub-share-symbol
+sub-share-symbol c = search needs
 
-part-first-start : tie.Need-part-first-start
-part-first-start c = search needs
+part-share-symbol-start : tie.Need-part-share-symbol-start
+part-share-symbol-start c = search needs
 
-part-first-end : tie.Need-part-first-end
-part-first-end c = search needs
+part-share-symbol-end : tie.Need-part-share-symbol-end
+part-share-symbol-end c = search needs
 
-mul-second : tie.Need-mul-second
-mul-second c = search needs
+mul-share-symbol-2 : tie.Need-mul-share-symbol-2
+mul-share-symbol-2 c = search needs
 
-sub-second : tie.Need-sub-second
-sub-second c = search needs
+sub-share-symbol-2 : tie.Need-sub-share-symbol-2
+sub-share-symbol-2 c = search needs
 
-part-second-start : tie.Need-part-second-start
-part-second-start c = search needs
+part-share-symbol-start-2 : tie.Need-part-share-symbol-start-2
+part-share-symbol-start-2 c = search needs
 
-part-second-end : tie.Need-part-second-end
-part-second-end c = search needs
+part-share-symbol-end-2 : tie.Need-part-share-symbol-end-2
+part-share-symbol-end-2 c = search needs
 
-shared-slice-read-wide : tie.Need-shared-slice-read-wide
-shared-slice-read-wide c = search needs
+share-symbol-requires : tie.Need-share-symbol-requires
+share-symbol-requires c κs = (search lent-rule, search lent-rule)
 
-wide-requires : tie.Need-wide-requires
-wide-requires c κs = search needs
-
-shared-slice-read-wide-2 : tie.Need-shared-slice-read-wide-2
-shared-slice-read-wide-2 c = search needs
-
-wide-requires-2 : tie.Need-wide-requires-2
-wide-requires-2 c κs = search needs
-
-add-e : tie.Need-add-e
-add-e c = search needs
-
-mul-e : tie.Need-mul-e
-mul-e c = search needs
-
-array-borrow-prefix-cells : tie.Need-array-borrow-prefix-cells
-array-borrow-prefix-cells c =
-    let counted = c in
-    let start = c .before .before .before .before .before .before .before .before .before in
-    pair-room _ _ _ _ (start .pre .0) (start .pre .1) (start .pre .2) _ _ (counted .before .before .wide .ensures .0)
-    (counted .wide2 .ensures .0)
-
-slice-aggregate-lay-heads : tie.Need-slice-aggregate-lay-heads
-slice-aggregate-lay-heads c =
-    let counted = c .before in
-    let start = counted .before .before .before .before .before .before .before .before .before in
-    pair-lent _ _ _ _ (start .pre .0) (start .pre .1) (start .pre .2) _ _ (counted .before .before .wide .ensures .0)
-    (counted .wide2 .ensures .0) (replicate 40 0) refl
-
-lay-heads-requires : tie.Need-lay-heads-requires
-lay-heads-requires c κs =
-    let counted = c .before in
-    let start = counted .before .before .before .before .before .before .before .before .before in
-    pair-lays _ _ _ _ (start .pre .0) (start .pre .1) (start .pre .2) _ _ (counted .before .before .wide .ensures .0)
-    (counted .wide2 .ensures .0) (replicate 40 0) refl
-
-walk-requires : tie.Need-walk-requires
-walk-requires c κs =
-    let counted = c .before .before .before .before .before in
-    let start = counted .before .before .before .before .before .before .before .before .before in (
-      pair-walkable _ _ _ _ (start .pre .0) (start .pre .1) (start .pre .2) _ _ (counted .before .before .wide .ensures .0)
-          (counted .wide2 .ensures .0) (replicate 40 0) refl _ _
-          (c .before .before .before .lay-heads .kept .1 .1 .0) (c .before .before .before .lay-heads .ensures) (start .pre .3),
-      start .pre .4,
-    )
+walk-pairings-requires : tie.Need-walk-pairings-requires
+walk-pairings-requires c κs = search needs
 
 same-length : tie.Need-same-length
 same-length c = search needs
@@ -102,11 +57,10 @@ same-length-2 : tie.Need-same-length-2
 same-length-2 c = search needs
 
 returns : tie.Need-returns
-returns c =
-    let counted = c .before .before .before .before .before .before .before .before .before .before in
-    let start = counted .before .before .before .before .before .before .before .before .before in
-    pair-walked _ _ _ _ (start .pre .0) (start .pre .1) (start .pre .2) _ _ (counted .before .before .wide .ensures .0)
-    (counted .wide2 .ensures .0) _ _ _ _ (c .before .before .before .before .walk .ensures)
+returns c = search needs
+
+returns-2 : tie.Need-returns-2
+returns-2 c = search pair-unshared
 
 pub walk-pair-spec : {M : Type 1} → statement M
 walk-pair-spec =
@@ -116,24 +70,17 @@ walk-pair-spec =
     add-b
     mul-c
     add-d
-    mul-first
-    sub-first
-    part-first-start
-    part-first-end
-    mul-second
-    sub-second
-    part-second-start
-    part-second-end
-    shared-slice-read-wide
-    wide-requires
-    shared-slice-read-wide-2
-    wide-requires-2
-    add-e
-    mul-e
-    array-borrow-prefix-cells
-    slice-aggregate-lay-heads
-    lay-heads-requires
-    walk-requires
+    mul-share-symbol
+    sub-share-symbol
+    part-share-symbol-start
+    part-share-symbol-end
+    mul-share-symbol-2
+    sub-share-symbol-2
+    part-share-symbol-start-2
+    part-share-symbol-end-2
+    share-symbol-requires
+    walk-pairings-requires
     same-length
     same-length-2
-    returns)
+    returns
+    returns-2)

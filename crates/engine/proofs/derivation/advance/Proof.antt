@@ -1,9 +1,10 @@
--- `advance` meets its contract: the choice, and its firing.
+-- `advance` meets its contract: the choice, its firing, and what is known then.
 -- Assumes nothing.
-use borrow.Author.Needs.{needs}
 use borrow.Author.Tests.{not-true, not-false}
 use native.Mathlib.Omega.{arith}
-use Rattle.engine.proofs.StepLaws.{step-lent, step-chooses, step-rests, step-row, step-fires, step-moves}
+use Rattle.engine.proofs.StepLaws.{step-lent, step-chooses, step-rests, step-keeps-none, step-row, step-fires, step-moves}
+use Rattle.engine.proofs.StepLaws.{step-lowers, step-keeps}
+use borrow.Author.Needs.{needs}
 use Rattle.engine.proofs.derivation.advance.Statement.{statement}
 use Rattle.engine.proofs.derivation.advance.Tie as tie
 
@@ -14,20 +15,25 @@ slice-reshare-prefix-choose : tie.Need-slice-reshare-prefix-choose
 slice-reshare-prefix-choose c = search needs
 
 slice-aggregate-choose : tie.Need-slice-aggregate-choose
-slice-aggregate-choose c = step-lent _ _ _ _ _ (c .before .before .before .before .pre)
+slice-aggregate-choose c = step-lent _ _ _ _ _ ((c .before .before .before .before .before .before .pre) .0)
 
 choose-requires : tie.Need-choose-requires
-choose-requires c κs = step-chooses _ _ _ _ _ (c .before .before .before .before .pre) _ (omega arith)
+choose-requires c κs = step-chooses _ _ _ _ _ ((c .before .before .before .before .before .before .pre) .0) _ ((c .before .before .before .before .before .before .pre) .1) _ (omega arith)
 
 same-length : tie.Need-same-length
 same-length c = search needs
 
-returns : tie.Need-returns
-returns c = search (needs, step-rests, not-true)
+same-length-2 : tie.Need-same-length-2
+same-length-2 c = search needs
 
--- the chosen rule's row lies in the table
+returns : tie.Need-returns
+returns c = (
+  step-rests _ _ _ _ _ ((c .before .before .before .before .before .before .before .before .before .before .before .pre) .0) _ _ _ _ ((c .before .before .before .before .choose) .ensures .0) _ (not-true _ ((c .if1) .taken)),
+  step-keeps-none _ _ _ _ _ ((c .before .before .before .before .before .before .before .before .before .before .before .pre) .0) _ _ _ _ ((c .before .before .before .before .choose) .ensures .0) _ _ _ _,
+)
+
 part-fire-end : tie.Need-part-fire-end
-part-fire-end c = search (needs, step-row, not-false)
+part-fire-end c = step-row _ _ _ _ _ ((c .before .before .before .before .before .before .before .before .before .before .before .before .before .pre) .0) _ _ _ _ ((c .before .before .before .before .before .before .choose) .ensures .0) (not-false _ ((c .before .before .if1) .left))
 
 mul-a : tie.Need-mul-a
 mul-a c = omega (arith, part-fire-end c)
@@ -48,16 +54,37 @@ slice-aggregate-fire : tie.Need-slice-aggregate-fire
 slice-aggregate-fire c = search needs
 
 fire-requires : tie.Need-fire-requires
-fire-requires c κs = search (needs, step-fires, not-false)
+fire-requires c κs = step-fires _ _ _ _ _ ((c .before .before .before .before .before .before .before .before .before .before .before .before .before .before .before .before .before .pre) .0) _ _ _ _ ((c .before .before .before .before .before .before .before .before .before .before .choose) .ensures .0) (not-false _ ((c .before .before .before .before .before .before .if1) .left))
 
-same-length-2 : tie.Need-same-length-2
-same-length-2 c = search needs
+part-lower-end : tie.Need-part-lower-end
+part-lower-end c = step-row _ _ _ _ _ ((c .before .before .before .before .before .before .before .before .before .before .before .before .before .before .before .before .before .before .before .before .before .before .pre) .0) _ _ _ _ ((c .before .before .before .before .before .before .before .before .before .before .before .before .before .before .before .choose) .ensures .0) (not-false _ ((c .before .before .before .before .before .before .before .before .before .before .before .if1) .left))
+
+mul-lower : tie.Need-mul-lower
+mul-lower c = omega (arith, part-lower-end c)
+
+sub-lower : tie.Need-sub-lower
+sub-lower c = search needs
+
+part-lower-start : tie.Need-part-lower-start
+part-lower-start c = search needs
+
+lower-requires : tie.Need-lower-requires
+lower-requires c κs = step-lowers _ _ _ _ _ ((c .before .before .before .before .before .before .before .before .before .before .before .before .before .before .before .before .before .before .before .before .before .before .before .before .pre) .0) _ _ _ _ ((c .before .before .before .before .before .before .before .before .before .before .before .before .before .before .before .before .before .choose) .ensures .0) (not-false _ ((c .before .before .before .before .before .before .before .before .before .before .before .before .before .if1) .left)) _ _ _ _ _ ((c .before .before .before .before .before .before .fire) .ensures) ((c .before .before .before .before .before .before .before .before .before .before .before .before .before .before .before .before .before .before .before .before .before .before .before .before .pre) .2)
 
 same-length-3 : tie.Need-same-length-3
 same-length-3 c = search needs
 
+same-length-4 : tie.Need-same-length-4
+same-length-4 c = search needs
+
+same-length-5 : tie.Need-same-length-5
+same-length-5 c = search needs
+
 returns-2 : tie.Need-returns-2
-returns-2 c = search (needs, step-moves, not-false)
+returns-2 c = (
+  step-moves _ _ _ _ _ ((c .before .before .before .before .before .before .before .before .before .before .before .before .before .before .before .before .before .before .before .before .before .before .before .before .before .before .before .pre) .0) _ _ _ _ ((c .before .before .before .before .before .before .before .before .before .before .before .before .before .before .before .before .before .before .before .before .choose) .ensures .0) (not-false _ ((c .before .before .before .before .before .before .before .before .before .before .before .before .before .before .before .before .if1) .left)) _ _ _ _ _ ((c .before .before .before .before .before .before .before .before .before .fire) .ensures),
+  step-keeps _ _ _ _ _ ((c .before .before .before .before .before .before .before .before .before .before .before .before .before .before .before .before .before .before .before .before .before .before .before .before .before .before .before .pre) .0) _ _ _ _ ((c .before .before .before .before .before .before .before .before .before .before .before .before .before .before .before .before .before .before .before .before .choose) .ensures .0) (not-false _ ((c .before .before .before .before .before .before .before .before .before .before .before .before .before .before .before .before .if1) .left)) _ _ _ _ _ ((c .before .before .before .before .before .before .before .before .before .fire) .ensures) _ _ ((c .before .before .before .before .before .before .before .before .before .before .before .before .before .before .before .before .before .before .before .before .choose) .ensures .1) ((c .before .before .lower) .ensures),
+)
 
 pub advance-spec : {M : Type 1} → statement M
 advance-spec =
@@ -68,6 +95,7 @@ advance-spec =
     slice-aggregate-choose
     choose-requires
     same-length
+    same-length-2
     returns
     mul-a
     add-b
@@ -77,6 +105,12 @@ advance-spec =
     part-fire-end
     slice-aggregate-fire
     fire-requires
-    same-length-2
+    mul-lower
+    sub-lower
+    part-lower-start
+    part-lower-end
+    lower-requires
     same-length-3
+    same-length-4
+    same-length-5
     returns-2)

@@ -1,26 +1,39 @@
 -- `normalise` meets its contract: the state so far has the end of the state at the start. A weighing bounds the firings.
 -- Assumes nothing.
-use Prim.Native.Nat.{_-_}
 use borrow.Author.Needs.{needs}
+use Prim.Native.Nat.{_-_}
 use borrow.Author.Tests.{not-true, not-false}
 use native.Mathlib.Omega.{arith}
+use mathlib.Core.Bool.{true}
+use mathlib.Core.Path.{_≡_, refl}
+use lib.ListN.{length}
+use Rattle.engine.specs.Known.{Keeps}
+use Rattle.engine.proofs.KnownLaws.{keeps-start, keeps-on}
 use Rattle.engine.proofs.RunLaws.{Running, running-start, running-failed, running-live, running-rests, running-less}
-use Rattle.engine.proofs.RunLaws.{running-next}
+use Rattle.engine.proofs.RunLaws.{running-next, few-now}
 use Rattle.engine.proofs.derivation.normalise.Statement.{statement}
 use Rattle.engine.proofs.derivation.normalise.Tie as tie
 
 abbrev Inv-loop : tie.InvT-loop
-Inv-loop rules n bound₀ cells₀ m next alive₀ count₀ number₀ firings₀ bound cells alive count number firings = Running rules n
-    bound₀ cells₀ m next bound cells alive count number firings
+Inv-loop rules n bound₀ cells₀ m next alive₀ count₀ number₀ firings₀ known₀ bound cells alive count number firings known =
+    Running rules n bound₀ cells₀ m next bound cells alive count number firings × Keeps rules n known cells true alive count × (length known ≡ 32)
 
 abbrev μ-loop : tie.MeasureT-loop
-μ-loop rules n bound₀ cells₀ m next alive₀ count₀ number₀ firings₀ bound cells alive count number firings = 512 - firings
+μ-loop rules n bound₀ cells₀ m next alive₀ count₀ number₀ firings₀ known₀ bound cells alive count number firings known =
+    512 - firings
 
 loop-holds : tie.Need-loop-holds Inv-loop μ-loop
-loop-holds c = running-start _ _ _ _ _ _ (c .before .before .before .pre)
+loop-holds c = (running-start _ _ _ _ _ _ ((c .before .before .before .pre)), keeps-start _ _ 32 _ _, refl)
+
+slice-aggregate-advance : tie.Need-slice-aggregate-advance Inv-loop μ-loop
+slice-aggregate-advance c = omega arith
 
 advance-requires : tie.Need-advance-requires Inv-loop μ-loop
-advance-requires c κs = search (needs, running-live)
+advance-requires c κs = (
+  running-live _ _ _ _ _ _ ((c .before .before .before .before .before .before .before .before .pre)) _ _ _ _ _ _ ((c .before .before .before .before .loop) .inv .0) ((c .before .before .before .loop-test) .taken),
+  (c .before .before .before .before .loop) .inv .1 .knows refl ((c .before .before .before .loop-test) .taken),
+  few-now _ _ _ _ _ _ ((c .before .before .before .before .before .before .before .before .pre)) _ _ _ _ _ _ ((c .before .before .before .before .loop) .inv .0) ((c .before .before .before .loop-test) .taken),
+)
 
 same-length : tie.Need-same-length Inv-loop μ-loop
 same-length c = omega arith
@@ -29,16 +42,10 @@ same-length-2 : tie.Need-same-length-2 Inv-loop μ-loop
 same-length-2 c = omega arith
 
 returns : tie.Need-returns Inv-loop μ-loop
-returns c =
-    let called = c .before .before .before .before .before .before in
-    let turn = called .before .before .before in
-    let start = turn .before .before .before .before .before in
-    running-rests _ _ _ _ _ _ (start .pre) _ _ _ _ _ _ (turn .before .loop .inv) (turn .loop-test .taken) _ _ _ _ _
-    (called .advance .ensures) (not-true _ (c .if1 .taken))
+returns c = running-rests _ _ _ _ _ _ ((c .before .before .before .before .before .before .before .before .before .before .before .before .before .before .before .before .pre)) _ _ _ _ _ _ ((c .before .before .before .before .before .before .before .before .before .before .before .before .loop) .inv .0) ((c .before .before .before .before .before .before .before .before .before .before .before .loop-test) .taken) _ _ _ _ _ ((c .before .before .before .before .before .before .before .advance) .ensures .0) (not-true _ ((c .if1) .taken))
 
--- a firing more stays below the weight's bound
 loop-less : tie.Need-loop-less Inv-loop μ-loop
-loop-less c = search (needs, running-less, not-false)
+loop-less c = running-less _ _ _ _ _ _ ((c .before .before .before .before .before .before .before .before .before .before .before .before .before .before .before .before .pre)) _ _ _ _ _ _ ((c .before .before .before .before .before .before .before .before .before .before .before .before .loop) .inv .0) ((c .before .before .before .before .before .before .before .before .before .before .before .loop-test) .taken) _ _ _ _ _ ((c .before .before .before .before .before .before .before .advance) .ensures .0) (not-false _ ((c .if1) .left))
 
 add-number : tie.Need-add-number Inv-loop μ-loop
 add-number c = omega (arith, loop-less c)
@@ -47,13 +54,17 @@ add-firings : tie.Need-add-firings Inv-loop μ-loop
 add-firings c = omega (arith, loop-less c)
 
 loop-again : tie.Need-loop-again Inv-loop μ-loop
-loop-again c = search (needs, running-next, not-false)
+loop-again c = (
+  running-next _ _ _ _ _ _ ((c .before .before .before .before .before .before .before .before .before .before .before .before .before .before .before .before .pre)) _ _ _ _ _ _ ((c .before .before .before .before .before .before .before .before .before .before .before .before .loop) .inv .0) ((c .before .before .before .before .before .before .before .before .before .before .before .loop-test) .taken) _ _ _ _ _ ((c .before .before .before .before .before .before .before .advance) .ensures .0) (not-false _ ((c .if1) .left)) (omega arith) (omega arith),
+  keeps-on _ _ _ _ _ _ _ ((c .before .before .before .before .before .before .before .advance) .ensures .1) (not-false _ ((c .if1) .left)),
+  search needs,
+)
 
 same-length-3 : tie.Need-same-length-3 Inv-loop μ-loop
-same-length-3 c = search needs
+same-length-3 c = omega arith
 
 same-length-4 : tie.Need-same-length-4 Inv-loop μ-loop
-same-length-4 c = search needs
+same-length-4 c = omega arith
 
 returns-2 : tie.Need-returns-2 Inv-loop μ-loop
 returns-2 c = search (needs, running-failed)
@@ -65,6 +76,7 @@ normalise-spec =
     Inv-loop
     μ-loop
     loop-holds
+    slice-aggregate-advance
     advance-requires
     same-length
     same-length-2

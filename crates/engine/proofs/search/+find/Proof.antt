@@ -7,12 +7,14 @@ use borrow.Author.Needs.{needs}
 use borrow.Fn.Kinds.{In}
 use borrow.Fn.PlainCycle.{Measures, is, falls, and}
 use Rattle.engine.proofs.SearchLaws.{Sought, seek-done, seek-start, seek-rows, seek-next, seek-found, seek-dead}
-use Rattle.engine.proofs.SearchLaws.{seek-misfit, seek-unfit, seek-none}
+use Rattle.engine.proofs.SearchLaws.{seek-misfit, seek-unfit, seek-none, seek-since, since-few}
 use Rattle.engine.proofs.search.find.Reads as find
 use Rattle.engine.proofs.search.find.Kinds as find-kinds
 use Rattle.engine.proofs.search.+find.Lts-find as lts
 use Rattle.engine.proofs.matching.may_fit.Reads as may-fit
 use Rattle.engine.proofs.search.fit_at.Reads as fit-at
+use Rattle.engine.proofs.search.start.Reads as start
+use Rattle.engine.proofs.search.still.Reads as still
 use Rattle.engine.proofs.search.+find.{statement}
 use Rattle.engine.proofs.search.+find.Tie.{close}
 
@@ -20,10 +22,10 @@ abbrev μ-find : Measures 2 find-kinds.ps ℕ
 μ-find κs a = a .1 .1 .0
 
 abbrev Inv : lts.InvT-loop
-Inv heads n left cells m chosen bindings h a e head p₀ p = Sought heads h cells m chosen bindings p
+Inv heads n left cells m chosen from bindings h a e head p₀ p = Sought heads h cells m chosen bindings p
 
 abbrev μ : lts.MeasureT-loop
-μ heads n left cells m chosen bindings h a e head p₀ p = m - p
+μ heads n left cells m chosen from bindings h a e head p₀ p = m - p
 
 -- what is asked of `find` with t heads left, and what it knows of the functions that it calls
 abbrev Pre : ℕ → In 2 find-kinds.ps
@@ -33,14 +35,28 @@ abbrev below : ℕ → In 2 find-kinds.ps
 below t = and 2 find-kinds.ps (falls 2 find-kinds.ps _<_ μ-find t) find.Pre
 
 abbrev calls : ℕ → lts.Claims
-calls t = (may-fit.Asked, may-fit.Learnt, fit-at.Asked, fit-at.Learnt, below t, find.Post)
+calls t = (
+  start.Asked,
+  start.Learnt,
+  may-fit.Asked,
+  may-fit.Learnt,
+  fit-at.Asked,
+  fit-at.Learnt,
+  still.Asked,
+  still.Learnt,
+  below t,
+  find.Post,
+)
 
 module _ (t : ℕ) where
   returns : lts.Need-returns (calls t) (Pre t) find.Post Inv μ
   returns c = search (needs, seek-done)
 
   loop-holds : lts.Need-loop-holds (calls t) (Pre t) find.Post Inv μ
-  loop-holds c = seek-start _ _ _ _ _ _ _ (c .before .before .before .before .pre .1) (c .before .if1 .left)
+  loop-holds c =
+      let start = c .before .before .before .before .before in
+      seek-start _ _ _ _ _ _ _ (start .pre .1 .0) (c .before .before .if1 .left) _ (start .pre .1 .1) (start .pre .1 .2) _
+      (c .start .ensures)
 
   may-fit-requires : lts.Need-may-fit-requires (calls t) (Pre t) find.Post Inv μ
   may-fit-requires c κs = search (needs, seek-rows)
@@ -49,13 +65,38 @@ module _ (t : ℕ) where
   fit-at-requires c κs = (search (needs, seek-rows), omega arith, search needs)
 
   find-requires : lts.Need-find-requires (calls t) (Pre t) find.Post Inv μ
-  find-requires c κs = (omega arith, search (needs, seek-next))
+  find-requires c κs =
+      let called = c .before .before .before in
+      let turn = called .before .before .before .before .before .before in
+      let start = turn .before .before .before .before .before .before .before in
+      let if1′ = turn .before .before .before .before .if1 in
+      (
+        omega arith,
+        (
+          seek-next _ _ _ _ _ _ _ (start .pre .1 .0) (if1′ .left) _ _ (called .fit-at .ensures .size),
+          seek-since _ _ _ _ _ _ _ (start .pre .1 .0) (if1′ .left) _ (turn .before .loop .inv) (turn .loop-test .taken) _ _
+              (called .fit-at .ensures) (c .before .before .if3 .taken) _ (start .pre .1 .1) _ (c .still .ensures),
+          since-few _ _ _ _ (start .pre .1 .2) (c .still .ensures),
+        ),
+      )
 
   returns-2 : lts.Need-returns-2 (calls t) (Pre t) find.Post Inv μ
-  returns-2 c = search (needs, seek-found)
+  returns-2 c =
+      let called = c .before .before .before .before .before in
+      let turn = called .before .before .before .before .before .before in
+      let start = turn .before .before .before .before .before .before .before in
+      seek-found _ _ _ _ _ _ _ (start .pre .1 .0) (turn .before .before .before .before .if1 .left) _ (turn .before .loop .inv)
+      (turn .loop-test .taken) _ _ (called .fit-at .ensures) (c .before .before .before .before .if3 .taken)
+      _ _ _ (c .before .find .ensures) (c .if4 .taken)
 
   loop-again : lts.Need-loop-again (calls t) (Pre t) find.Post Inv μ
-  loop-again c = search (needs, seek-dead)
+  loop-again c =
+      let called = c .before .before .before .before .before in
+      let turn = called .before .before .before .before .before .before in
+      let start = turn .before .before .before .before .before .before .before in
+      seek-dead _ _ _ _ _ _ _ (start .pre .1 .0) (turn .before .before .before .before .if1 .left) _ (turn .before .loop .inv)
+      (turn .loop-test .taken) _ _ (called .fit-at .ensures) (c .before .before .before .before .if3 .taken)
+      _ _ _ (c .before .find .ensures) (c .if4 .left)
 
   loop-again-2 : lts.Need-loop-again-2 (calls t) (Pre t) find.Post Inv μ
   loop-again-2 c = search (needs, seek-misfit)
@@ -73,14 +114,14 @@ pub +find-spec : {M : Type 1} → statement M
     -- h, a, e and the head's cells
     (λ c. omega arith) (λ c. omega arith) (λ c. omega arith) (λ c. omega arith)
     (λ c. omega arith) (λ c. omega arith) (λ c. omega arith)
-    (loop-holds t)
+    (λ c κs. tt) (loop-holds t)
     -- b, d, p and the constraint's cells
     (λ c. omega arith) (λ c. omega arith) (λ c. omega arith) (λ c. omega arith)
     (λ c. omega arith) (λ c. omega arith) (λ c. omega arith)
     (λ c. omega arith) (may-fit-requires t)
     (λ c. omega arith) (λ c. omega arith) (λ c. omega arith) (λ c. omega arith) (fit-at-requires t)
-    -- more and left - 1
-    (λ c. omega arith) (λ c. omega arith) (λ c. omega arith) (find-requires t)
+    -- more, since and left - 1
+    (λ c. omega arith) (λ c. omega arith) (λ c κs. tt) (λ c. omega arith) (find-requires t)
     (returns-2 t)
     (λ c. omega arith) (loop-again t)
     (λ c. omega arith) (loop-again-2 t)

@@ -1,27 +1,37 @@
--- `choose` meets its contract: the rules from i on give the choice among all of them.
+-- `choose` meets its contract: the rules from i on give the choice among all of them, and what is known stays true.
 -- Assumes nothing.
+use borrow.Author.Needs.{needs}
 use Prim.Native.Nat.{_-_}
 use native.Mathlib.Omega.{arith}
 use Rattle.engine.proofs.ChooseLaws.{
-  Choosing,
-  choosing-start,
+  Noting,
+  noting-start,
+  noting-next,
+  noting-passed,
   choosing-none,
   choosing-row,
-  choosing-next,
   choosing-found,
 }
 use Rattle.engine.proofs.search.choose.Statement.{statement}
 use Rattle.engine.proofs.search.choose.Tie as tie
+use Rattle.engine.proofs.known.known_at.Reads as known-at-reads
+use Rattle.engine.proofs.known.note.Reads as note-reads
 use Rattle.engine.proofs.search.find_rule.Reads as find-rule-reads
 
 abbrev Inv-loop : tie.InvT-loop
-Inv-loop rules n cells m i₀ i = Choosing rules n cells i
+Inv-loop rules n known₀ cells m i₀ known i = Noting rules n known₀ cells known i
 
 abbrev μ-loop : tie.MeasureT-loop
-μ-loop rules n cells m i₀ i = n - i
+μ-loop rules n known₀ cells m i₀ known i = n - i
 
 loop-holds : tie.Need-loop-holds Inv-loop μ-loop
-loop-holds c = choosing-start _ _ _
+loop-holds c = noting-start _ _ _ _ ((c .before .before .before .pre) .2)
+
+known-at-requires : tie.Need-known-at-requires Inv-loop μ-loop
+known-at-requires c κs = search needs
+
+add-i : tie.Need-add-i Inv-loop μ-loop
+add-i c = omega arith
 
 mul-a : tie.Need-mul-a Inv-loop μ-loop
 mul-a c = omega arith
@@ -42,45 +52,40 @@ part-find-rule-end : tie.Need-part-find-rule-end Inv-loop μ-loop
 part-find-rule-end c = omega arith
 
 find-rule-requires : tie.Need-find-rule-requires Inv-loop μ-loop
-find-rule-requires c κs =
-    let pre′ = c .before .before .before .before .before .pre in
-    let loop′ = c .before .before .loop in
-    let loop-test′ = c .before .loop-test in
-    choosing-row _ _ _ _ _ (pre′ .0) (loop′ .inv) (loop-test′ .taken) (pre′ .1)
+find-rule-requires c κs = choosing-row _ _ _ _ _ ((c .before .before .before .before .before .before .before .before .before .pre) .0) ((c .before .before .before .before .before .loop) .inv .choosing) ((c .before .before .before .before .loop-test) .taken) _ ((c .before .before .before .before .before .loop) .inv .knows) _ ((c .before .before .known-at) .ensures) ((c .before .before .before .before .before .before .before .before .before .pre) .1) ((c .before .if1) .taken)
+
+same-length : tie.Need-same-length Inv-loop μ-loop
+same-length c = ((c .before .before .before .before .before .before .before .before .before .loop) .inv) .size
 
 returns : tie.Need-returns Inv-loop μ-loop
-returns c =
-    let args′ = c .before .before .before .before .before .before .before .before .before .args in
-    let pre′ = c .before .before .before .before .before .before .before .before .before .pre in
-    let loop′ = c .before .before .before .before .before .before .loop in
-    let loop-test′ = c .before .before .before .before .before .loop-test in
-    let find-rule′ = c .before .before .before .find-rule in
-    let if1′ = c .before .before .if1 in
-    choosing-found _ _ _ (args′ .m) _ (pre′ .0) (loop′ .inv) (loop-test′ .taken) _ _ _ (find-rule′ .ensures) (if1′ .taken)
+returns c = (
+  choosing-found _ _ _ ((c .before .before .before .before .before .before .before .before .before .before .before .before .before .args) .m) _ ((c .before .before .before .before .before .before .before .before .before .before .before .before .before .pre) .0) ((c .before .before .before .before .before .before .before .before .before .loop) .inv .choosing) ((c .before .before .before .before .before .before .before .before .loop-test) .taken) _ _ _ ((c .before .before .before .find-rule) .ensures) ((c .before .before .if2) .taken),
+  (c .before .before .before .before .before .before .before .before .before .loop) .inv .knows,
+)
 
-add-i : tie.Need-add-i Inv-loop μ-loop
-add-i c = omega arith
+add-note : tie.Need-add-note Inv-loop μ-loop
+add-note c = omega arith
+
+note-requires : tie.Need-note-requires Inv-loop μ-loop
+note-requires c κs = search needs
 
 loop-less : tie.Need-loop-less Inv-loop μ-loop
 loop-less c = omega arith
 
 loop-again : tie.Need-loop-again Inv-loop μ-loop
-loop-again c =
-    let args′ = c .before .before .before .before .before .before .before .args in
-    let pre′ = c .before .before .before .before .before .before .before .pre in
-    let loop′ = c .before .before .before .before .loop in
-    let loop-test′ = c .before .before .before .loop-test in
-    let find-rule′ = c .before .find-rule in
-    let if1′ = c .if1 in
-    choosing-next _ _ _ (args′ .m) _ (pre′ .0) (loop′ .inv) (loop-test′ .taken) _ _ _ (find-rule′ .ensures) (if1′ .left)
+loop-again c = noting-next _ _ _ _ _ _ _ ((c .before .before .before .before .before .before .before .before .before .before .before .before .before .before .before .pre) .0) ((c .before .before .before .before .before .before .before .before .before .before .before .loop) .inv) ((c .before .before .before .before .before .before .before .before .before .before .loop-test) .taken) ((c .before .before .before .before .before .before .before .before .before .before .before .before .before .before .before .pre) .1) _ _ _ ((c .before .before .before .before .before .find-rule) .ensures) ((c .before .before .before .before .if2) .left) _ ((c .before .before .note) .ensures)
+
+loop-less-2 : tie.Need-loop-less-2 Inv-loop μ-loop
+loop-less-2 c = omega arith
+
+loop-again-2 : tie.Need-loop-again-2 Inv-loop μ-loop
+loop-again-2 c = noting-passed _ _ _ _ _ _ _ ((c .before .before .before .before .before .before .before .before .pre) .0) ((c .before .before .before .before .loop) .inv) ((c .before .before .before .loop-test) .taken) ((c .before .before .before .before .before .before .before .before .pre) .1) _ ((c .before .known-at) .ensures) ((c .if1) .left)
+
+same-length-2 : tie.Need-same-length-2 Inv-loop μ-loop
+same-length-2 c = ((c .before .loop) .inv) .size
 
 returns-2 : tie.Need-returns-2 Inv-loop μ-loop
-returns-2 c =
-    let args′ = c .before .before .before .before .args in
-    let pre′ = c .before .before .before .before .pre in
-    let loop′ = c .before .loop in
-    let loop-test′ = c .loop-test in
-    choosing-none _ _ _ (args′ .m) _ (pre′ .0) (loop′ .inv) (loop-test′ .left)
+returns-2 c = (choosing-none _ _ _ ((c .before .before .before .before .before .args) .m) _ ((c .before .before .before .before .before .pre) .0) ((c .before .loop) .inv .choosing) ((c .loop-test) .left), (c .before .loop) .inv .knows)
 
 pub choose-spec : {M : Type 1} → statement M
 choose-spec =
@@ -89,6 +94,8 @@ choose-spec =
     Inv-loop
     μ-loop
     loop-holds
+    known-at-requires
+    add-i
     mul-a
     add-e
     mul-find-rule
@@ -96,8 +103,13 @@ choose-spec =
     part-find-rule-start
     part-find-rule-end
     find-rule-requires
+    same-length
     returns
-    add-i
+    add-note
+    note-requires
     loop-less
     loop-again
+    loop-less-2
+    loop-again-2
+    same-length-2
     returns-2)

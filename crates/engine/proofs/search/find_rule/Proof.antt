@@ -1,10 +1,11 @@
 -- `find_rule` meets its contract: the search starts with no position and nothing settled.
 -- Assumes nothing.
+use Rattle.engine.proofs.ChooseLaws.{rule-seeking, rule-barren, rule-located}
 use borrow.Author.Needs.{needs}
-use Rattle.engine.proofs.ChooseLaws.{rule-seeking, rule-located}
 use Rattle.engine.proofs.search.find_rule.Statement.{statement}
 use Rattle.engine.proofs.search.find_rule.Tie as tie
 use Rattle.engine.proofs.search.find.Reads as find-reads
+use Rattle.tables.proofs.wide.Reads as wide-reads
 
 shared-slice-read-wide : tie.Need-shared-slice-read-wide
 shared-slice-read-wide c = search needs
@@ -28,17 +29,14 @@ part-find-end : tie.Need-part-find-end
 part-find-end c = search needs
 
 find-requires : tie.Need-find-requires
-find-requires c κs =
-    let pre′ = c .before .before .before .before .before .pre in
-    let wide′ = c .before .wide in
-    rule-seeking _ _ _ _ (pre′ .0) (pre′ .1) (wide′ .ensures .0)
+find-requires c κs = (
+  rule-seeking _ _ _ _ ((c .before .before .before .before .before .pre) .0) ((c .before .before .before .before .before .pre) .1) ((c .before .wide) .ensures .0),
+  rule-barren _ _ _ _ ((c .before .before .before .before .before .pre) .0) ((c .before .before .before .before .before .pre) .1) ((c .before .wide) .ensures .0) _ ((c .before .before .before .before .before .pre) .2),
+  (c .before .before .before .before .before .pre) .3,
+)
 
 returns : tie.Need-returns
-returns c =
-    let pre′ = c .before .before .before .before .before .before .pre in
-    let wide′ = c .before .before .wide in
-    let find′ = c .find in
-    rule-located _ _ _ _ (pre′ .0) (pre′ .1) (wide′ .ensures .0) _ _ _ (find′ .ensures)
+returns c = rule-located _ _ _ _ ((c .before .before .before .before .before .before .pre) .0) ((c .before .before .before .before .before .before .pre) .1) ((c .before .before .wide) .ensures .0) _ _ _ ((c .find) .ensures)
 
 pub find-rule-spec : {M : Type 1} → statement M
 find-rule-spec =

@@ -21,8 +21,8 @@ loop-holds c =
     let start = c .before .before .before .before .before .before in
     lines-start _ _ _ _ _ (start .pre .0)
 
-split-requires : tie.Need-split-requires Inv-loop μ-loop
-split-requires c κs =
+line-at-requires : tie.Need-line-at-requires Inv-loop μ-loop
+line-at-requires c κs =
     let at-loop-test = c .before in
     let at-classes = at-loop-test .before .before in
     let start = at-classes .before .before .before .before .before .before in
@@ -30,18 +30,18 @@ split-requires c κs =
 
 returns : tie.Need-returns Inv-loop μ-loop
 returns c =
-    let at-split = c .before in
-    let at-loop-test = at-split .before .before in
+    let at-line = c .before in
+    let at-loop-test = at-line .before .before in
     let at-loop = at-loop-test .before in
-    lines-faulty _ _ _ _ _ _ _ _ _ _ (at-loop .loop .inv) (at-loop-test .loop-test .taken) _ (at-split .split .ensures)
+    lines-faulty _ _ _ _ _ _ _ _ _ _ (at-loop .loop .inv) (at-loop-test .loop-test .taken) _ (at-line .line-at .ensures)
     (c .if1 .taken)
 
 read-line-requires : tie.Need-read-line-requires Inv-loop μ-loop
 read-line-requires c κs =
-    let at-split = c .before .before .before .before .before in
-    let at-loop = at-split .before .before .before in (
+    let at-line = c .before .before .before .before .before in
+    let at-loop = at-line .before .before .before in (
       record {
-        near = at-split .split .ensures .near;
+        near = at-line .line-at .ensures .near;
         low = omega arith;
         names-size = at-loop .loop .inv .room .names-size;
         places-size = at-loop .loop .inv .room .places-size;
@@ -110,10 +110,10 @@ returns-2 c =
     let at-names = at-x .before .before .before .before .before .before .before .before .before in
     let at-read-line = at-names .before in
     let at-if1 = at-read-line .before .before .before .before .before in
-    let at-split = at-if1 .before in
-    let at-loop-test = at-split .before .before in
+    let at-line = at-if1 .before in
+    let at-loop-test = at-line .before .before in
     let at-loop = at-loop-test .before in
-    lines-refused _ _ _ _ _ _ _ _ _ _ (at-loop .loop .inv) (at-loop-test .loop-test .taken) _ (at-split .split .ensures)
+    lines-refused _ _ _ _ _ _ _ _ _ _ (at-loop .loop .inv) (at-loop-test .loop-test .taken) _ (at-line .line-at .ensures)
     (at-if1 .if1 .left) _ _ _ _ _
     (at-read-line .read-line .ensures) _ (at-x .x .given .1)
 
@@ -121,16 +121,16 @@ add-at : tie.Need-add-at Inv-loop μ-loop
 add-at c =
     let at-places = c .before .before .before .before .before .before .before .before .before in
     let at-if1 = at-places .before .before .before .before .before .before .before .before in
-    let at-split = at-if1 .before in
-    let at-shared-slice-known = at-split .before .before .before .before .before .before .before .before .before in
+    let at-line = at-if1 .before in
+    let at-shared-slice-known = at-line .before .before .before .before .before .before .before .before .before in
     let start = at-shared-slice-known .before in
-    record { fits = omega (arith, at-split .split .ensures .inside (at-if1 .if1 .left), start .pre .1) }
+    record { fits = omega (arith, at-line .line-at .ensures .inside (at-if1 .if1 .left), start .pre .1) }
 
 add-number : tie.Need-add-number Inv-loop μ-loop
 add-number c =
     let at-places = c .before .before .before .before .before .before .before .before .before in
-    let at-split = at-places .before .before .before .before .before .before .before .before .before in
-    let at-loop-test = at-split .before .before in
+    let at-line = at-places .before .before .before .before .before .before .before .before .before in
+    let at-loop-test = at-line .before .before in
     let at-loop = at-loop-test .before in
     let start = at-loop .before .before .before .before .before .before .before in
     record { fits = omega (arith, at-loop .loop .inv .numbered, at-loop-test .loop-test .taken, start .pre .1) }
@@ -139,9 +139,9 @@ loop-less : tie.Need-loop-less Inv-loop μ-loop
 loop-less c =
     let at-places = c .before .before .before .before .before .before .before .before .before in
     let at-if1 = at-places .before .before .before .before .before .before .before .before in
-    let at-split = at-if1 .before in
-    let at-loop-test = at-split .before .before in
-    omega (arith, at-split .split .ensures .begun (at-if1 .if1 .left), at-loop-test .loop-test .taken)
+    let at-line = at-if1 .before in
+    let at-loop-test = at-line .before .before in
+    omega (arith, at-line .line-at .ensures .begun (at-if1 .if1 .left), at-loop-test .loop-test .taken)
 
 loop-again : tie.Need-loop-again Inv-loop μ-loop
 loop-again c =
@@ -149,10 +149,10 @@ loop-again c =
     let at-names = at-next .before .before .before .before .before .before .before .before .before in
     let at-read-line = at-names .before in
     let at-if1 = at-read-line .before .before .before .before .before in
-    let at-split = at-if1 .before in
-    let at-loop-test = at-split .before .before in
+    let at-line = at-if1 .before in
+    let at-loop-test = at-line .before .before in
     let at-loop = at-loop-test .before in
-    lines-next _ _ _ _ _ _ _ _ _ _ (at-loop .loop .inv) (at-loop-test .loop-test .taken) _ (at-split .split .ensures)
+    lines-next _ _ _ _ _ _ _ _ _ _ (at-loop .loop .inv) (at-loop-test .loop-test .taken) _ (at-line .line-at .ensures)
     (at-if1 .if1 .left) _ _ _ _ _
     (at-read-line .read-line .ensures) _ (at-next .next .given .1)
 
@@ -165,7 +165,7 @@ pub read-lines-spec : {M : Type 1} → statement M
 read-lines-spec =
     tie.close
     (tie.spec
-    Inv-loop μ-loop (λ c κs. search needs) loop-holds (λ c. search needs) split-requires (λ c. search needs)
+    Inv-loop μ-loop (λ c κs. search needs) loop-holds (λ c. search needs) line-at-requires (λ c. search needs)
     (λ c. search needs) (λ c. search needs) (λ c. search needs) returns read-line-requires (λ c. search needs)
     same-length-5 same-length-6 same-length-7 same-length-8 returns-2 (λ c. search needs) add-at add-number loop-less
     loop-again (λ c. search needs) (λ c. search needs) (λ c. search needs) (λ c. search needs) returns-3)

@@ -1,0 +1,67 @@
+// A state's variables numbered anew by first appearance, so that tables by cell stay small.
+use tables::wide;
+ghost use mathlib.Core.Path.{_≡_};
+ghost use Prim.Native.Nat.{_+_, _<_, _≤_};
+ghost use lib.ListN.{length};
+ghost use Rattle.colours.specs.Bounds.{Below};
+ghost use Rattle.colours.specs.Numbering.{Numbering, Numbered, CellsNumbered, Renumbered};
+
+// From this cell on, cells are variables.
+const VARIABLES: u16 = 256;
+
+// Cells lie below this: constants, 28 goal variables, and 26 more for each of 512 firings.
+const ROOM: usize = 13596;
+
+// A cell in its new number, and the next number.
+pub struct Number {
+    pub cell: u16,
+    pub next: u16,
+}
+
+// A constant keeps its number; a variable that has none yet gets the next one.
+pub fn number_cell(x: u16, numbers: &mut [u16], next: u16) -> Number
+    requires { ⌜ Numbering (now numbers) next × (x < length (now numbers)) × (next < 65535) ⌝ }
+    ensures { λ r. ⌜ Numbered x (r .cell) (now (numbers .entry)) next (now (numbers .exit)) (r .next) ⌝ }
+{
+    if x < VARIABLES {
+        return Number { cell: x, next };
+    }
+    let p = wide(x);
+    let known = numbers[p];
+    if known != 0 {
+        return Number { cell: known, next };
+    }
+    numbers[p] = next;
+    Number {
+        cell: next,
+        next: next + 1,
+    }
+}
+
+// All cells; answers the next number.
+pub fn number_cells(cells: &[u16], out: &mut [u16], numbers: &mut [u16], first: u16) -> u16
+    requires { ⌜ Numbering (now numbers) first × Below (length (now numbers)) (now cells)
+        × (length (now out) ≡ length (now cells)) × (first + length (now cells) < 65535) ⌝ }
+    ensures { λ r. ⌜ CellsNumbered (now (cells .entry)) (now (out .exit)) (now (numbers .entry)) first (now (numbers .exit)) r ⌝ }
+{
+    let mut next = first;
+    let mut i = 0;
+    while i < cells.len() {
+        let number = number_cell(cells[i], numbers, next);
+        out[i] = number.cell;
+        next = number.next;
+        i += 1;
+    }
+    next
+}
+
+// What the goal variables became, then the constraints; answers the next number.
+pub fn number_state(cells: &[u16], bound: &[u16], out: &mut [u16], out_bound: &mut [u16]) -> u16
+    requires { ⌜ Below 13596 (now cells) × Below 13596 (now bound) × (length (now out) ≡ length (now cells))
+        × (length (now «out_bound») ≡ length (now bound)) × (length (now cells) ≤ 2560) × (length (now bound) ≤ 28) ⌝ }
+    ensures { λ r. ⌜ Renumbered (now (cells .entry)) (now (bound .entry)) (now (out .exit)) (now («out_bound» .exit)) r ⌝ }
+{
+    let mut numbers = [0u16; ROOM];
+    let next = number_cells(bound, out_bound, &mut numbers, VARIABLES);
+    number_cells(cells, out, &mut numbers, next)
+}

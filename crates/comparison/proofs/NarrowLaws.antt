@@ -1,0 +1,117 @@
+-- Classes made finer step by step: one law for each way that the code goes.
+--   colourable-…      what colouring asks, with more room and after a step
+--   weigh-…           one step
+--   narrowing-…       one step after the other
+-- Assumes nothing.
+use Prim.Native.Nat.{ℕ, _≤_, _*_}
+use native.Mathlib.Omega.{arith}
+use mathlib.Core.Bool.{Bool, true, false}
+use mathlib.Core.List.{List}
+use mathlib.Core.Path.{_≡_, refl, sym, _∙_}
+use lib.ListN.{length}
+use Rattle.semantics.specs.Variants.{sameState}
+use Rattle.semantics.proofs.Options.{true-false}
+use Rattle.colours.specs.Bounds.{TermsBelow}
+use Rattle.colours.specs.Ends.{endOf}
+use Rattle.colours.specs.Classes.{Colourable, Classified}
+use Rattle.comparison.specs.Settlements.{Found}
+use Rattle.comparison.specs.Narrowings.{Weighed}
+
+-- terms that have places in a table have them in a larger one
+terms-more : (m k : ℕ) (cells : List ℕ) → m ≤ k → TermsBelow m cells → TermsBelow k cells
+terms-more m k cells h b = record { below = λ i j l. omega (arith, b .below i j l) }
+
+pub colourable-more : (cells bound : List ℕ) (size n : ℕ) → Colourable cells bound size n → Colourable cells bound 2844 n
+colourable-more cells bound size n c =
+    record {
+      count = c .count;
+      room = omega arith;
+      terms = terms-more size 2844 cells (c .room) (c .terms);
+      bound-below = record { below = λ i. omega (arith, c .bound-below .below i, c .room) };
+    }
+
+pub colourable-after :
+    (cells bound cells′ : List ℕ) (size n : ℕ) → Colourable cells bound size n → length cells′ ≡ length cells
+    → ((m : ℕ) → TermsBelow m cells → TermsBelow m cells′) → Colourable cells′ bound size n
+colourable-after cells bound cells′ size n c l t =
+    record { count = l ∙ c .count; room = c .room; terms = t size (c .terms); bound-below = c .bound-below }
+
+module _ (f a g b : List ℕ) (r : Bool) (a′ b′ : List ℕ) (k : Classified r f a g b a′ b′) where
+  -- the classes differ
+  pub weigh-apart : r ≡ false → Weighed true false f a g b a′ b′
+  weigh-apart e =
+      record {
+        answer = λ z. sym (k .apart e);
+        same = λ z. true-false refl z;
+        left = λ z. true-false refl z;
+        right = λ z. true-false refl z;
+      }
+
+  module _ (t : r ≡ true) where
+    -- all constraints are placed
+    pub weigh-found : (q : Bool) → Found q f a′ g b′ → q ≡ true → Weighed true true f a g b a′ b′
+    weigh-found q w e =
+        record {
+          answer = λ z. sym (w .same e) ∙ k .same t;
+          same = λ z. true-false refl z;
+          left = λ z. true-false refl z;
+          right = λ z. true-false refl z;
+        }
+
+    -- the question is left
+    pub weigh-open : Weighed false false f a g b a′ b′
+    weigh-open =
+        record {
+          answer = λ z. true-false z refl;
+          same = λ z. k .same t;
+          left = λ z. k .left t;
+          right = λ z. k .right t;
+        }
+
+    -- what placing asks
+    pub weigh-left : (size n : ℕ) → Colourable a f size n → length a′ ≡ length a → Colourable a′ f 2844 n
+    weigh-left size n c l = colourable-more a′ f size n (colourable-after a f a′ size n c l (k .left t))
+
+    pub weigh-right : (size n : ℕ) → Colourable b g size n → length b′ ≡ length b → Colourable b′ g 2844 n
+    weigh-right size n c l = colourable-more b′ g size n (colourable-after b g b′ size n c l (k .right t))
+
+-- two states that answer for two others
+pub record Narrowing (f a₀ g b₀ a b : List ℕ) (size n : ℕ) : Type 0 where
+  pub left : Colourable a f size n
+  pub right : Colourable b g size n
+  pub same : sameState (endOf f a) (endOf g b) ≡ sameState (endOf f a₀) (endOf g b₀)
+  pub left-size : length a ≡ length a₀
+  pub right-size : length b ≡ length b₀
+
+pub narrowing-start :
+    (f a g b : List ℕ) (size n : ℕ) → Colourable a f size n → Colourable b g size n → Narrowing f a g b a b size n
+narrowing-start f a g b size n ca cb = record { left = ca; right = cb; same = refl; left-size = refl; right-size = refl }
+
+module _ (f a₀ g b₀ a b : List ℕ) (size n : ℕ) (w : Narrowing f a₀ g b₀ a b size n) where
+  -- what the search asks
+  pub narrowing-left : Colourable a f 2844 n
+  narrowing-left = colourable-more a f size n (w .left)
+
+  pub narrowing-right : Colourable b g 2844 n
+  narrowing-right = colourable-more b g size n (w .right)
+
+  -- and what it finds
+  pub narrowing-answer : (r : Bool) → r ≡ sameState (endOf f a) (endOf g b) → r ≡ sameState (endOf f a₀) (endOf g b₀)
+  narrowing-answer r e = e ∙ w .same
+
+  module _ (decided equal : Bool) (a′ b′ : List ℕ) (v : Weighed decided equal f a g b a′ b′) where
+    -- a step decided
+    pub narrowing-decided : decided ≡ true → equal ≡ sameState (endOf f a₀) (endOf g b₀)
+    narrowing-decided t = v .answer t ∙ w .same
+
+    -- a step left the question
+    pub narrowing-next :
+        decided ≡ false → length a′ ≡ length a → length b′ ≡ length b → Narrowing f a₀ g b₀ a′ b′ size n
+    narrowing-next t la lb =
+        record {
+          left = colourable-after a f a′ size n (w .left) la (v .left t);
+          right = colourable-after b g b′ size n (w .right) lb (v .right t);
+          same = v .same t ∙ w .same;
+          left-size = la ∙ w .left-size;
+          right-size = lb ∙ w .right-size;
+        }

@@ -1,0 +1,83 @@
+-- `mark` meets its contract: the first i constraints are marked.
+-- Assumes nothing.
+use borrow.Author.Needs.{needs}
+use Prim.Native.Nat.{_-_}
+use native.Mathlib.Omega.{arith}
+use mathlib.Core.Path.{refl}
+use lib.ListN.{length}
+use Rattle.engine.proofs.KnownLaws.{Marking, marking-start, marking-next, marking-other, marking-end}
+use Rattle.engine.proofs.known.mark.Statement.{statement}
+use Rattle.engine.proofs.known.mark.Tie as tie
+
+abbrev Inv-loop : tie.InvT-loop
+Inv-loop body fresh₀ i₀ fresh i = Marking fresh₀ body fresh i
+
+abbrev μ-loop : tie.MeasureT-loop
+μ-loop body fresh₀ i₀ fresh i = length body - i
+
+loop-holds : tie.Need-loop-holds Inv-loop μ-loop
+loop-holds c = marking-start _ _ ((c .before .before .pre))
+
+mul-loop : tie.Need-mul-loop Inv-loop μ-loop
+mul-loop c = omega arith
+
+add-loop : tie.Need-add-loop Inv-loop μ-loop
+add-loop c = omega arith
+
+mul-wide : tie.Need-mul-wide Inv-loop μ-loop
+mul-wide c = omega arith
+
+mul-wide-2 : tie.Need-mul-wide-2 Inv-loop μ-loop
+mul-wide-2 c = omega arith
+
+shared-slice-read-wide : tie.Need-shared-slice-read-wide Inv-loop μ-loop
+shared-slice-read-wide c = omega arith
+
+wide-requires : tie.Need-wide-requires Inv-loop μ-loop
+wide-requires c κs = search needs
+
+add-i : tie.Need-add-i Inv-loop μ-loop
+add-i c = omega arith
+
+slice-write-fresh : tie.Need-slice-write-fresh Inv-loop μ-loop
+slice-write-fresh c = omega arith
+
+loop-less : tie.Need-loop-less Inv-loop μ-loop
+loop-less c = omega arith
+
+loop-again : tie.Need-loop-again Inv-loop μ-loop
+loop-again c = marking-next _ _ _ _ ((c .before .before .before .before .loop) .inv) ((c .before .before .before .loop-test) .taken) _ _ ((c .before .wide) .ensures .0) ((c .if1) .taken) refl
+
+loop-less-2 : tie.Need-loop-less-2 Inv-loop μ-loop
+loop-less-2 c = omega arith
+
+loop-again-2 : tie.Need-loop-again-2 Inv-loop μ-loop
+loop-again-2 c = marking-other _ _ _ _ ((c .before .before .before .before .loop) .inv) ((c .before .before .before .loop-test) .taken) _ ((c .before .wide) .ensures .0) ((c .if1) .left)
+
+same-length : tie.Need-same-length Inv-loop μ-loop
+same-length c = (c .before .loop) .inv .size
+
+returns : tie.Need-returns Inv-loop μ-loop
+returns c = marking-end _ _ _ _ ((c .before .loop) .inv) ((c .loop-test) .left)
+
+pub mark-spec : {M : Type 1} → statement M
+mark-spec =
+    tie.close
+    (tie.spec
+    Inv-loop
+    μ-loop
+    loop-holds
+    mul-loop
+    add-loop
+    mul-wide
+    mul-wide-2
+    shared-slice-read-wide
+    wide-requires
+    add-i
+    slice-write-fresh
+    loop-less
+    loop-again
+    loop-less-2
+    loop-again-2
+    same-length
+    returns)

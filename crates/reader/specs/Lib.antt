@@ -1,0 +1,1 @@
+-- The line reader cites definitions of `text` alone. Assumes nothing.
