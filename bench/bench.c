@@ -1,4 +1,4 @@
-/* Nanoseconds for each call of the library, in a thread with a stack of 256 KB.
+/* Nanoseconds of processor time for each call of the library, in a thread with a stack of 256 KB.
    bench check FOLDER NAME...: checks of FOLDER/NAME. bench run FOLDER NAME...: runs of FOLDER/NAME.goal over FOLDER/NAME.sheet.
    `reading` is the same call with a last line that is refused, so that the texts are read and nothing more. Each figure is the least
    of up to ROUNDS, each over some 10 ms of calls or one call; after SECONDS no further round is started. */
@@ -23,7 +23,7 @@ struct texts {
 static double now(void)
 {
     struct timespec t;
-    clock_gettime(CLOCK_MONOTONIC, &t);
+    clock_gettime(CLOCK_THREAD_CPUTIME_ID, &t);
     return t.tv_sec * 1e9 + t.tv_nsec;
 }
 
