@@ -1,7 +1,6 @@
 // The search for positions head by head, and the choice of a rule.
 use crate::known::known_at;
 use crate::known::note;
-use crate::matching::Fit;
 use crate::matching::match_constraint;
 use crate::matching::may_fit;
 use tables::layout::CONSTRAINT_SIZE;
@@ -55,18 +54,16 @@ pub fn fit_at(
     h: usize,
     p: usize,
     chosen: [usize; 4],
-    bindings: [u16; 26],
-) -> Fit
-    requires { ⌜ Rows (now head) (now constraint) bindings × (h ≤ 4) × (length chosen ≡ 4) ⌝ }
-    ensures { λ r. ⌜ Matched (r .fits) (r .bindings)
+    bindings: &mut [u16],
+) -> bool
+    requires { ⌜ Rows (now head) (now constraint) (now bindings) × (h ≤ 4) × (length chosen ≡ 4) ⌝ }
+    ensures { λ r. ⌜ Matched r (now (bindings .exit))
         (cond (has p (take h chosen)) none
-        (matchConstraint (rowConstraint (now (head .entry))) (rowConstraint (now (constraint .entry))) (assigned bindings))) ⌝ }
+        (matchConstraint (rowConstraint (now (head .entry))) (rowConstraint (now (constraint .entry)))
+        (assigned (now (bindings .entry))))) ⌝ }
 {
     if is_chosen(chosen, h, p) {
-        return Fit {
-            fits: false,
-            bindings,
-        };
+        return false;
     }
     match_constraint(head, constraint, bindings)
 }
@@ -121,11 +118,17 @@ pub fn find(
         let d = b + CONSTRAINT_SIZE;
         p += 1;
         if may_fit(head, &cells[b..d], &bindings) {
-            let fit = fit_at(head, &cells[b..d], h, q, chosen, bindings);
-            if fit.fits {
+            let mut settled = bindings;
+            if fit_at(head, &cells[b..d], h, q, chosen, &mut settled) {
                 let mut more = chosen;
                 more[h] = q;
-                let settled = fit.bindings;
+                if left == 1 {
+                    return Found {
+                        found: true,
+                        positions: more,
+                        bindings: settled,
+                    };
+                }
                 let since = still(from, q);
                 let found = find(heads, n, left - 1, cells, m, more, settled, since);
                 if found.found {

@@ -68,7 +68,7 @@ known-at-requires : tie.Need-known-at-requires Inv-loop μ-loop
 known-at-requires c κs = search needs
 
 lowered-requires : tie.Need-lowered-requires Inv-loop μ-loop
-lowered-requires c κs = 
+lowered-requires c κs =
     lowering-row _ _ _ _ _ _ _ ((c .before .before .before .before .before .before .before .before .before .before .before .before .before .before .before .pre) .0) ((c .before .before .before .before .loop-test) .taken) ((c .before .before .before .before .before .before .before .before .before .before .before .before .before .before .before .pre) .1) ((c .before .before .before .before .before .before .before .before .before .before .before .before .before .before .before .pre) .2) ((c .before .before .before .before .before .before .before .mark) .ensures) ((c .before .before .before .before .before .before .before .before .before .before .wide) .ensures .0)
 
 note-requires : tie.Need-note-requires Inv-loop μ-loop
@@ -81,7 +81,7 @@ loop-less : tie.Need-loop-less Inv-loop μ-loop
 loop-less c = omega arith
 
 loop-again : tie.Need-loop-again Inv-loop μ-loop
-loop-again c = 
+loop-again c =
     lowering-next _ _ _ _ _ _ _ _ ((c .before .before .before .before .before .before .before .before .before .before .loop) .inv) ((c .before .before .before .before .before .before .before .before .before .loop-test) .taken) _ _ _ ((c .before .before .before .before .before .known-at) .ensures) ((c .before .before .before .before .lowered) .ensures) ((c .before .before .note) .ensures)
 
 same-length : tie.Need-same-length Inv-loop μ-loop

@@ -66,7 +66,7 @@ less-requires : tie.Need-less-requires
 less-requires c κs = search needs
 
 returns-2 : tie.Need-returns-2
-returns-2 c = 
+returns-2 c =
     lowered-concerned _ _ _ _ _ ((c .before .before .before .before .before .before .before .before .before .before .before .before .if1) .left) ((c .before .before .before .before .before .before .before .before .before .if2) .taken) _ _ _ ((c .before .before .before .before .before .before .before .wide2) .ensures .0) ((c .before .before .before .before .before .wide3) .ensures .0) ((c .before .before .concerned) .ensures) ((c .before .if3) .taken) _ _ ((c .before .before .before .before .before .before .before .before .before .before .wide) .ensures .0) ((c .less) .ensures)
 
 add-result : tie.Need-add-result
