@@ -164,7 +164,19 @@ pub fn find_rule(row: &[u16], cells: &[u16], m: usize, from: usize) -> Found
     find(&row[FIRST_HEAD..e], n, n, cells, m, [0; 4], [0; 26], from)
 }
 
-// The first rule that fits; what is known of the rules before it is noted.
+// In how many of the first constraints a rule fits nowhere, where it fits at these smallest positions.
+pub fn leading(row: &[u16], positions: [usize; 4]) -> usize
+    requires { ⌜ Row (now row) × (length positions ≡ 4) ⌝ }
+    ensures { λ r. ⌜ r ≡ cond (eqb (getD (now (row .entry)) headsCell 0) 0) 0 (getD positions 0 0) ⌝ }
+{
+    if row[HEADS_CELL] == 0 {
+        0
+    } else {
+        positions[0]
+    }
+}
+
+// The first rule that fits; what is known of it and of the rules before it is noted.
 pub fn choose(rules: &[u16], n: usize, known: &mut [usize], cells: &[u16], m: usize) -> Choice
     requires { ⌜ Table (now rules) n × (length (now cells) ≡ constraintSize * m)
         × Knows (now rules) n (now known) (cellConstraints (now cells)) ⌝ }
@@ -183,6 +195,7 @@ pub fn choose(rules: &[u16], n: usize, known: &mut [usize], cells: &[u16], m: us
             if place.found {
                 let positions = place.positions;
                 let bindings = place.bindings;
+                note(known, q, leading(&rules[a..e], positions));
                 return Choice {
                     found: true,
                     number: q,

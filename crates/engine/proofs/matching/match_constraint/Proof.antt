@@ -18,10 +18,13 @@ same-length : tie.Need-same-length
 same-length c = search needs
 
 returns : tie.Need-returns
-returns c = match-symbols _ _ _ _ _ ((c .before .before .before .before .if1) .taken) ((c .before .before .match-terms) .ensures)
+returns c =
+    let at-match-terms = c .before .before in
+    let at-if1 = at-match-terms .before .before in
+    match-symbols _ _ _ _ _ (at-if1 .if1 .taken) (at-match-terms .match-terms .ensures)
 
 returns-2 : tie.Need-returns-2
-returns-2 c = match-others _ _ _ ((c .if1) .left) ((c .before .before .before .before .before .before .pre))
+returns-2 c = match-others _ _ _ (c .if1 .left) ((c .before .before .before .before .before .before .pre))
 
 pub match-constraint-spec : {M : Type 1} → statement M
 match-constraint-spec =

@@ -6,7 +6,7 @@ use Rattle.engine.proofs.matching.match_term.Statement.{statement}
 use Rattle.engine.proofs.matching.match_term.Tie as tie
 
 returns : tie.Need-returns
-returns c = match-constant _ _ _ ((c .if1) .taken) ((c .before .pre) .2)
+returns c = match-constant _ _ _ (c .if1 .taken) (c .before .pre .2)
 
 cast-x : tie.Need-cast-x
 cast-x c = search needs
@@ -27,10 +27,16 @@ same-length : tie.Need-same-length
 same-length c = search needs
 
 returns-2 : tie.Need-returns-2
-returns-2 c = match-new _ _ _ ((c .before .before .if1) .left) ((c .before .before .before .pre) .0) ((c .before .before .before .pre) .1) ((c .before .before .before .pre) .2) ((c .if2) .taken)
+returns-2 c =
+    let at-if1 = c .before .before in
+    let at-pre = at-if1 .before in
+    match-new _ _ _ (at-if1 .if1 .left) (at-pre .pre .0) (at-pre .pre .1) (at-pre .pre .2) (c .if2 .taken)
 
 returns-3 : tie.Need-returns-3
-returns-3 c = match-settled _ _ _ ((c .before .before .if1) .left) ((c .before .before .before .pre) .2) ((c .if2) .left)
+returns-3 c =
+    let at-if1 = c .before .before in
+    let at-pre = at-if1 .before in
+    match-settled _ _ _ (at-if1 .if1 .left) (at-pre .pre .2) (c .if2 .left)
 
 pub match-term-spec : {M : Type 1} → statement M
 match-term-spec =

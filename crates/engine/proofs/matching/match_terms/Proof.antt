@@ -33,23 +33,48 @@ same-length : tie.Need-same-length Inv-loop μ-loop
 same-length c = omega arith
 
 returns : tie.Need-returns Inv-loop μ-loop
-returns c = walk-head-ends _ _ _ _ _ ((c .before .before .before .before .loop) .inv) ((c .before .before .before .loop-test) .taken) ((c .if1) .taken)
+returns c =
+    let at-loop-test = c .before .before .before in
+    let at-loop = at-loop-test .before in
+    walk-head-ends _ _ _ _ _ (at-loop .loop .inv) (at-loop-test .loop-test .taken) (c .if1 .taken)
 
 same-length-2 : tie.Need-same-length-2 Inv-loop μ-loop
 same-length-2 c = omega arith
 
 returns-2 : tie.Need-returns-2 Inv-loop μ-loop
-returns-2 c = walk-constraint-ends _ _ _ _ _ ((c .before .before .before .before .before .loop) .inv) ((c .before .before .before .before .loop-test) .taken) ((c .before .if1) .left) ((c .if2) .taken)
+returns-2 c =
+    let at-if1 = c .before in
+    let at-loop-test = at-if1 .before .before .before in
+    let at-loop = at-loop-test .before in
+    walk-constraint-ends _ _ _ _ _ (at-loop .loop .inv) (at-loop-test .loop-test .taken) (at-if1 .if1 .left) (c .if2
+    .taken)
 
 match-term-requires : tie.Need-match-term-requires Inv-loop μ-loop
-match-term-requires c κs = (walk-letter _ _ _ _ _ ((c .before .before .before .before .before .before .loop) .inv) ((c .before .before .before .before .before .loop-test) .taken) ((c .before .before .if1) .left), omega (arith, (c .before .if2) .left), (c .before .before .before .before .before .before .loop) .inv .size)
+match-term-requires c κs =
+    let at-if2 = c .before in
+    let at-if1 = at-if2 .before in
+    let at-loop-test = at-if1 .before .before .before in
+    let at-loop = at-loop-test .before in (
+      walk-letter _ _ _ _ _ (at-loop .loop .inv) (at-loop-test .loop-test .taken) (at-if1 .if1 .left),
+      omega (
+        arith,
+        at-if2 .if2 .left,
+      ),
+      at-loop .loop .inv .size,
+    )
 
 same-length-3 : tie.Need-same-length-3 Inv-loop μ-loop
-same-length-3 c = omega (arith, (c .before .before .before .match-term) .ensures .size)
+same-length-3 c = omega (arith, c .before .before .before .match-term .ensures .size)
 
 returns-3 : tie.Need-returns-3 Inv-loop μ-loop
 returns-3 c =
-    walk-fails _ _ _ _ _ ((c .before .before .before .before .before .before .before .before .before .before .loop) .inv) ((c .before .before .before .before .before .before .before .before .before .loop-test) .taken) ((c .before .before .before .before .before .before .if1) .left) ((c .before .before .before .before .before .if2) .left) _ _ ((c .before .before .before .match-term) .ensures) (not-true _ ((c .if3) .taken))
+    let at-match-term = c .before .before .before in
+    let at-if2 = at-match-term .before .before in
+    let at-if1 = at-if2 .before in
+    let at-loop-test = at-if1 .before .before .before in
+    let at-loop = at-loop-test .before in
+    walk-fails _ _ _ _ _ (at-loop .loop .inv) (at-loop-test .loop-test .taken) (at-if1 .if1 .left) (at-if2 .if2
+    .left) _ _ (at-match-term .match-term .ensures) (not-true _ (c .if3 .taken))
 
 add-i : tie.Need-add-i Inv-loop μ-loop
 add-i c = omega arith
@@ -59,13 +84,19 @@ loop-less c = omega arith
 
 loop-again : tie.Need-loop-again Inv-loop μ-loop
 loop-again c =
-    walk-fits _ _ _ _ _ ((c .before .before .before .before .before .before .before .before .before .before .loop) .inv) ((c .before .before .before .before .before .before .before .before .before .loop-test) .taken) ((c .before .before .before .before .before .before .if1) .left) ((c .before .before .before .before .before .if2) .left) _ _ ((c .before .before .before .match-term) .ensures) (not-false _ ((c .if3) .left))
+    let at-match-term = c .before .before .before in
+    let at-if2 = at-match-term .before .before in
+    let at-if1 = at-if2 .before in
+    let at-loop-test = at-if1 .before .before .before in
+    let at-loop = at-loop-test .before in
+    walk-fits _ _ _ _ _ (at-loop .loop .inv) (at-loop-test .loop-test .taken) (at-if1 .if1 .left) (at-if2 .if2
+    .left) _ _ (at-match-term .match-term .ensures) (not-false _ (c .if3 .left))
 
 same-length-4 : tie.Need-same-length-4 Inv-loop μ-loop
 same-length-4 c = omega arith
 
 returns-4 : tie.Need-returns-4 Inv-loop μ-loop
-returns-4 c = walk-end _ _ _ _ _ ((c .before .loop) .inv) ((c .loop-test) .left)
+returns-4 c = walk-end _ _ _ _ _ (c .before .loop .inv) (c .loop-test .left)
 
 pub match-terms-spec : {M : Type 1} → statement M
 match-terms-spec =

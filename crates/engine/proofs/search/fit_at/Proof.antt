@@ -9,7 +9,10 @@ is-chosen-requires : tie.Need-is-chosen-requires
 is-chosen-requires c κs = search needs
 
 returns : tie.Need-returns
-returns c = fit-chosen _ _ _ (rw ((c .if1) .taken) at ((c .before .is-chosen) .ensures)) ((c .before .before .before .before .before .pre) .0 .bindings-size)
+returns c =
+    let at-is-chosen = c .before in
+    let at-pre = at-is-chosen .before .before .before .before in
+    fit-chosen _ _ _ (rw (c .if1 .taken) at (at-is-chosen .is-chosen .ensures)) (at-pre .pre .0 .bindings-size)
 
 match-constraint-requires : tie.Need-match-constraint-requires
 match-constraint-requires c κs = search needs
@@ -18,7 +21,12 @@ same-length : tie.Need-same-length
 same-length c = search needs
 
 returns-2 : tie.Need-returns-2
-returns-2 c = fit-free _ _ _ _ (rw ((c .before .before .before .before .if1) .left) at ((c .before .before .before .before .before .is-chosen) .ensures)) ((c .before .before .match-constraint) .ensures)
+returns-2 c =
+    let at-match-constraint = c .before .before in
+    let at-if1 = at-match-constraint .before .before in
+    let at-is-chosen = at-if1 .before in
+    fit-free _ _ _ _ (rw (at-if1 .if1 .left) at (at-is-chosen .is-chosen .ensures)) (at-match-constraint
+    .match-constraint .ensures)
 
 pub fit-at-spec : {M : Type 1} → statement M
 fit-at-spec =
