@@ -1,5 +1,4 @@
 -- Laws of the comparison. Assumes nothing.
-pub mod PairLaws
 pub mod PlaceLaws
 pub mod SearchLaws
 pub mod SettleLaws

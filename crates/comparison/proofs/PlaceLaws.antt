@@ -21,7 +21,7 @@ use Rattle.semantics.proofs.Options.{true-false}
 use Rattle.tables.specs.Cells.{cellConstraints, cellTerms}
 use Rattle.tables.specs.Cells.{rowConstraint}
 use Rattle.tables.proofs.CellLaws.{either, constraints-at}
-use Rattle.comparison.specs.Renamings.{Graph, Marks, Rows, RowsLinked, cleared}
+use Rattle.pairing.specs.Renamings.{Graph, Marks, Rows, RowsLinked, cleared}
 use Rattle.comparison.specs.Placements.{attempted, placed, Placing, Tried}
 use Rattle.colours.proofs.RowLaws.{terms-row, terms-drop}
 

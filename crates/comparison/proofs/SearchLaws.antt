@@ -18,12 +18,12 @@ use Rattle.semantics.proofs.Bools.{none-unless}
 use Rattle.semantics.proofs.Multisets.{pointwise-length}
 use Rattle.semantics.proofs.Pairs.{pairTerms-sound}
 use Rattle.tables.specs.Cells.{cellTerm, cellConstraints}
-use Rattle.comparison.specs.Renamings.{Joined}
+use Rattle.pairing.specs.Renamings.{Joined}
 use Rattle.colours.specs.Bounds.{TermsBelow}
 use Rattle.comparison.specs.Placements.{placed, Placing, Tried}
 use Rattle.colours.specs.Ends.{endOf}
 use Rattle.colours.proofs.RowLaws.{constraints-count}
-use Rattle.comparison.proofs.PairLaws.{graph-empty}
+use Rattle.pairing.proofs.PairLaws.{graph-empty}
 use Rattle.comparison.proofs.PlaceLaws.{marks-none}
 
 -- both tests, where the second fails

@@ -19,11 +19,11 @@ use Rattle.semantics.proofs.Bools.{or-right}
 use Rattle.tables.specs.Cells.{cellTerm, cellConstraints}
 use Rattle.tables.specs.Cells.{rowConstraint}
 use Rattle.tables.proofs.CellLaws.{constraints-at}
-use Rattle.comparison.specs.Renamings.{Graph, Marks, Joined, RowsLinked, cleared}
+use Rattle.pairing.specs.Renamings.{Graph, Marks, Joined, RowsLinked, cleared}
 use Rattle.colours.specs.Bounds.{TermsBelow}
 use Rattle.comparison.specs.Placements.{attempted, placed, Placing}
 use Rattle.comparison.specs.Settlements.{Settled, Kept, SettledAll, Found}
-use Rattle.comparison.proofs.PairLaws.{graph-empty}
+use Rattle.pairing.proofs.PairLaws.{graph-empty}
 use Rattle.comparison.proofs.PlaceLaws.{lent, marks-more, marks-none, at-terms}
 use Rattle.colours.proofs.RowLaws.{constraints-count}
 

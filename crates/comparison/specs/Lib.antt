@@ -1,5 +1,4 @@
 -- What the comparison's tables stand for, and what its functions promise. Assumes nothing.
-pub mod Renamings
 pub mod Placements
 pub mod Comparing
 pub mod Settlements

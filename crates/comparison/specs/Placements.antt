@@ -12,7 +12,7 @@ use Rattle.text.specs.Lists.{onward, has}
 use Rattle.semantics.specs.Variants.{Pair, pairConstraint, place}
 use Rattle.tables.specs.Cells.{cellConstraints}
 use Rattle.tables.specs.Cells.{rowConstraint}
-use Rattle.comparison.specs.Renamings.{Graph, Marks}
+use Rattle.pairing.specs.Renamings.{Graph, Marks}
 use Rattle.colours.specs.Bounds.{TermsBelow}
 
 -- whether the first of the constraints a can be the one at position j of b, the others being placed behind it

@@ -10,7 +10,7 @@ use mathlib.Core.List.{List}
 use mathlib.Core.Path.{_≡_}
 use lib.ListN.{drop}
 use Rattle.semantics.specs.Variants.{Pair, sameState}
-use Rattle.comparison.specs.Renamings.{Graph, Marks}
+use Rattle.pairing.specs.Renamings.{Graph, Marks}
 use Rattle.comparison.specs.Placements.{placed}
 use Rattle.colours.specs.Ends.{endOf}
 

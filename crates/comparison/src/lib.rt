@@ -3,7 +3,6 @@
 // before:
 // states in the same order, and states that differ in what a renaming cannot change.
 pub mod narrowing;
-pub mod pairing;
 pub mod placing;
 pub mod search;
 pub mod settling;

@@ -1,7 +1,7 @@
 // Placing a constraint of the first state and trying its partners in the second call one another, until all are placed or no
 // partner is left.
-use crate::pairing::pair_rows;
-use crate::pairing::unpair;
+use pairing::pair_rows;
+use pairing::unpair;
 ghost use Prim.Native.Nat.{_<_, _≤_};
 ghost use lib.ListN.{length};
 ghost use Rattle.comparison.specs.Placements.{Placing, Tried, attempted, placed};

@@ -1,11 +1,11 @@
 // The comparison step by step: what is decided without a search comes first.
 use crate::narrowing::narrow;
-use crate::pairing::pair_bound;
 use crate::placing::place;
 use crate::settling::settles;
 use colours::classes::Depth;
 use colours::classes::classify;
 use colours::order::arrange_by;
+use pairing::pair_bound;
 ghost use mathlib.Core.Path.{_≡_};
 ghost use Prim.Native.Nat.{_*_, _≤_};
 ghost use lib.ListN.{length};

@@ -1,8 +1,8 @@
 // Placing constraints without going back: each at the first partner that its terms can be made equal to. Where that places all of
 // them the states are equal; where it does not, nothing is said.
-use crate::pairing::pair_bound;
-use crate::pairing::pair_rows;
-use crate::pairing::unpair;
+use pairing::pair_bound;
+use pairing::pair_rows;
+use pairing::unpair;
 ghost use mathlib.Core.Path.{_≡_};
 ghost use Prim.Native.Nat.{_*_, _≤_, _<_};
 ghost use lib.ListN.{length};

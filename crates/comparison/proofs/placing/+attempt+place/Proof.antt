@@ -18,8 +18,8 @@ use Rattle.comparison.proofs.placing.+attempt+place.Lts-attempt as atte
 use Rattle.comparison.proofs.placing.place.Reads as place
 use Rattle.comparison.proofs.placing.place.Kinds as place-kinds
 use Rattle.comparison.proofs.placing.+attempt+place.Lts-place as place-lts
-use Rattle.comparison.proofs.pairing.pair_rows.Reads as pair-rows-reads
-use Rattle.comparison.proofs.pairing.unpair.Reads as unpair-reads
+use Rattle.pairing.proofs.pair_rows.Reads as pair-rows-reads
+use Rattle.pairing.proofs.unpair.Reads as unpair-reads
 use Rattle.comparison.proofs.placing.+attempt+place.{statement}
 use Rattle.comparison.proofs.placing.+attempt+place.Tie.{close}
 

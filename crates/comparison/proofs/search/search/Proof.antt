@@ -8,7 +8,7 @@ use Rattle.comparison.proofs.search.search.Statement.{statement}
 use Rattle.comparison.proofs.search.search.Tie as tie
 use Rattle.comparison.proofs.search.search.Reads as reads
 use Rattle.comparison.proofs.search.search.Lts as lts
-use Rattle.comparison.proofs.pairing.pair_bound.Reads as pair-bound-reads
+use Rattle.pairing.proofs.pair_bound.Reads as pair-bound-reads
 use Rattle.comparison.proofs.placing.place.Reads as place-reads
 
 slice-aggregate-pair-bound : tie.Need-slice-aggregate-pair-bound

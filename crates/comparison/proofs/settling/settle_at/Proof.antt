@@ -10,8 +10,8 @@ use Rattle.comparison.proofs.settling.settle_at.Statement.{statement}
 use Rattle.comparison.proofs.settling.settle_at.Tie as tie
 use Rattle.comparison.proofs.settling.settle_at.Reads as reads
 use Rattle.comparison.proofs.settling.settle_at.Lts as lts
-use Rattle.comparison.proofs.pairing.pair_rows.Reads as pair-rows-reads
-use Rattle.comparison.proofs.pairing.unpair.Reads as unpair-reads
+use Rattle.pairing.proofs.pair_rows.Reads as pair-rows-reads
+use Rattle.pairing.proofs.unpair.Reads as unpair-reads
 
 slice-read-if1 : tie.Need-slice-read-if1
 slice-read-if1 c = search needs

@@ -9,7 +9,7 @@ use Rattle.comparison.proofs.settling.settles.Statement.{statement}
 use Rattle.comparison.proofs.settling.settles.Tie as tie
 use Rattle.comparison.proofs.settling.settles.Reads as reads
 use Rattle.comparison.proofs.settling.settles.Lts as lts
-use Rattle.comparison.proofs.pairing.pair_bound.Reads as pair-bound-reads
+use Rattle.pairing.proofs.pair_bound.Reads as pair-bound-reads
 use Rattle.comparison.proofs.settling.settle_all.Reads as settle-all-reads
 
 slice-aggregate-pair-bound : tie.Need-slice-aggregate-pair-bound

@@ -8,7 +8,7 @@ ghost use Prim.Native.Nat.{_<_};
 ghost use lib.ListN.{length, drop};
 ghost use Rattle.semantics.specs.Variants.{pairTerm, pairTerms};
 ghost use Rattle.tables.specs.Cells.{cellTerm, cellTerms};
-ghost use Rattle.comparison.specs.Renamings.{Linked, RowsLinked, Rows, Joined, cleared};
+ghost use Rattle.pairing.specs.Renamings.{Linked, RowsLinked, Rows, Joined, cleared};
 ghost use Rattle.colours.specs.Bounds.{Below};
 
 // From this cell on, cells are variables.

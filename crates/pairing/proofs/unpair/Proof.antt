@@ -1,11 +1,11 @@
-use Rattle.comparison.proofs.PairLaws.{Clearing, clearing-start, clearing-left, clearing-right, clearing-made}
-use Rattle.comparison.proofs.PairLaws.{clearing-kept, clearing-end}
+use Rattle.pairing.proofs.PairLaws.{Clearing, clearing-start, clearing-left, clearing-right, clearing-made}
+use Rattle.pairing.proofs.PairLaws.{clearing-kept, clearing-end}
 use borrow.Author.Needs.{needs}
 use native.Mathlib.Omega.{arith}
-use Rattle.comparison.proofs.pairing.unpair.Statement.{statement}
-use Rattle.comparison.proofs.pairing.unpair.Tie as tie
-use Rattle.comparison.proofs.pairing.unpair.Reads as reads
-use Rattle.comparison.proofs.pairing.unpair.Lts as lts
+use Rattle.pairing.proofs.unpair.Statement.{statement}
+use Rattle.pairing.proofs.unpair.Tie as tie
+use Rattle.pairing.proofs.unpair.Reads as reads
+use Rattle.pairing.proofs.unpair.Lts as lts
 
 abbrev Inv-loop : tie.InvT-loop
 Inv-loop a b forth₀ back₀ fresh i₀ forth back i = Clearing a b forth₀ back₀ forth back fresh i

@@ -1,14 +1,14 @@
 use borrow.Author.Tests.{not-true, not-false}
-use Rattle.comparison.proofs.PairLaws.{Columns, columns-start, columns-end, columns-short, columns-left, columns-right}
+use Rattle.pairing.proofs.PairLaws.{Columns, columns-start, columns-end, columns-short, columns-left, columns-right}
 use Prim.Native.Nat.{_-_}
 use borrow.Author.Needs.{needs}
 use native.Mathlib.Omega.{arith}
-use Rattle.comparison.proofs.PairLaws.{columns-apart, columns-next, columns-done}
-use Rattle.comparison.proofs.pairing.pair_rows.Statement.{statement}
-use Rattle.comparison.proofs.pairing.pair_rows.Tie as tie
-use Rattle.comparison.proofs.pairing.pair_rows.Reads as reads
-use Rattle.comparison.proofs.pairing.pair_rows.Lts as lts
-use Rattle.comparison.proofs.pairing.pair.Reads as pair-reads
+use Rattle.pairing.proofs.PairLaws.{columns-apart, columns-next, columns-done}
+use Rattle.pairing.proofs.pair_rows.Statement.{statement}
+use Rattle.pairing.proofs.pair_rows.Tie as tie
+use Rattle.pairing.proofs.pair_rows.Reads as reads
+use Rattle.pairing.proofs.pair_rows.Lts as lts
+use Rattle.pairing.proofs.pair.Reads as pair-reads
 
 abbrev Inv-loop : tie.InvT-loop
 Inv-loop a b forth₀ back₀ fresh₀ i₀ forth back fresh i = Columns a b forth₀ back₀ forth back fresh i

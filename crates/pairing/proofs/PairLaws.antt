@@ -21,7 +21,7 @@ use Rattle.semantics.specs.Variants.{Pair, arePartners, arePaired, pairTerm, pa
 use Rattle.semantics.proofs.Options.{true-false}
 use Rattle.tables.specs.Cells.{cellTerm, cellTerms}
 use Rattle.tables.proofs.CellLaws.{either, le-or-lt, cell-low, cell-high, eqb-iff, terms-none, terms-more}
-use Rattle.comparison.specs.Renamings.{Graph, Joined, Linked, RowsLinked, Rows, cleared}
+use Rattle.pairing.specs.Renamings.{Graph, Joined, Linked, RowsLinked, Rows, cleared}
 use Rattle.colours.specs.Bounds.{Below}
 
 -- a test, or false

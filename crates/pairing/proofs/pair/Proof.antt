@@ -1,11 +1,11 @@
 -- `pair` meets its contract: one law for each way out.
 -- Assumes nothing.
 use borrow.Author.Needs.{needs}
-use Rattle.comparison.proofs.PairLaws.{link-constant, link-apart, link-partners, link-left, link-right, link-new}
-use Rattle.comparison.proofs.pairing.pair.Statement.{statement}
-use Rattle.comparison.proofs.pairing.pair.Tie as tie
-use Rattle.comparison.proofs.pairing.pair.Reads as reads
-use Rattle.comparison.proofs.pairing.pair.Lts as lts
+use Rattle.pairing.proofs.PairLaws.{link-constant, link-apart, link-partners, link-left, link-right, link-new}
+use Rattle.pairing.proofs.pair.Statement.{statement}
+use Rattle.pairing.proofs.pair.Tie as tie
+use Rattle.pairing.proofs.pair.Reads as reads
+use Rattle.pairing.proofs.pair.Lts as lts
 
 returns : tie.Need-returns
 returns c =

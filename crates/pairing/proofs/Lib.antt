@@ -1,0 +1,2 @@
+-- Laws of pairing. Assumes nothing.
+pub mod PairLaws
