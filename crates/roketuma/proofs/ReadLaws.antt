@@ -2,6 +2,7 @@
 --   program-unreadable, goal-unreadable    the judgement of a text that is refused
 --   goal-readable                          the judgement of a goal that is read
 --   program-tabled, tabled-used, tabled-room   a program's tables, for reading a goal
+--   goal-answers                           the goal reader's answer is that of the definition
 --   program-goes-on                        where a program is read, the goal's judgement is that of both
 --   refused-number                         the number of a refusal is that of a run's
 --   read-refused, read-readable            a run's reply where the texts are refused, and where they are read
@@ -90,24 +91,25 @@ module _ {symbols names places : List ℕ} {c : Counts} (t : Tabled symbols name
   used-size = length-take-le (symbolSize * c .symbols) symbols tabled-used
 
   -- there is room to read a goal
-  pub tabled-room : {cells letters : List ℕ} → length cells ≡ 320 → length letters ≡ 26
+  pub tabled-room : {cells letters : List ℕ} → 320 ≤ length cells → length letters ≡ 26
       → Room (take (symbolSize * c .symbols) symbols) names places cells letters
   tabled-room h l =
       record {
         few-symbols = omega (arith, used-size, t .few-symbols);
         names-size = t .names-size;
         places-size = t .places-size;
-        cells-size = omega arith;
+        cells-size = h;
         letters-size = l;
       }
 
   module _ (goal : List ℕ) {names′ places′ cells letters : List ℕ} {reply : GoalRead}
       (g : GoalIn goal (take (symbolSize * c .symbols) symbols) names places (c .constants) names′ places′ cells letters
       reply) where
-    answers :
+    -- the reader's answer is that of the definition
+    pub goal-answers :
         goalAnswer names′ cells letters reply
         ≡ readGoal (symbolsOf names symbols (c .symbols)) (constantsOf names (c .constants)) goal
-    answers =
+    goal-answers =
         g .answers (c .symbols) used-size
         ∙ ap (λ (ss : List Symbol). readGoal ss (constantsOf names (c .constants)) goal) (symbols-used names symbols (c .symbols))
 
@@ -119,7 +121,7 @@ module _ {symbols names places : List ℕ} {c : Counts} (t : Tabled symbols name
     unfolding goalAnswer textMeant goalReply judged
     goal-unreadable number line h =
         ap (λ (a : Answer GoalReading). judged goalText a (λ g. readable))
-        (sym (ap (goalAnswer names′ cells letters) h) ∙ answers)
+        (sym (ap (goalAnswer names′ cells letters) h) ∙ goal-answers)
 
     -- a goal that is read
     pub goal-readable :
@@ -128,7 +130,7 @@ module _ {symbols names places : List ℕ} {c : Counts} (t : Tabled symbols name
     unfolding goalAnswer readMeant goalReply judged
     goal-readable found h =
         ap (λ (a : Answer GoalReading). judged goalText a (λ g. readable))
-        (sym (ap (goalAnswer names′ cells letters) h) ∙ answers)
+        (sym (ap (goalAnswer names′ cells letters) h) ∙ goal-answers)
 
 -- a letter has the byte of the text that it names
 meant-byte : (t : TextName) → nameByte t ≡ textByte (textMeant t)

@@ -1,6 +1,6 @@
 -- From the readers' answers to what the stages of a run ask, and to the reply where a text is refused.
 --   program-refused, program-ready     the reply to a program that is refused; a program as read, in its tables
---   goal-room                          there is room to read a goal over it
+--   goal-tabled                        its tables, for reading a goal over it
 --   goal-refused, goal-ready           the same for a goal over a program as read
 -- Assumes nothing.
 use Prim.Native.Nat.{ℕ, zero, suc, _+_, _-_, _*_, _≤_, _<_}
@@ -33,8 +33,7 @@ use Rattle.programs.specs.Read.{programAnswer, readingOf, ProgramIn, ProgramFit
 use Rattle.programs.specs.declared.Counts.{Counts}
 use Rattle.programs.specs.declared.ProgramRead.{ProgramRead}
 use Rattle.programs.specs.declared.ProgramRead.the-variants as program-read
-use Rattle.programs.proofs.AddLaws.{symbols-used}
-use Rattle.goals.specs.ReadGoal.{Room, GoalFits, goalAnswer, goalReadingOf, GoalIn}
+use Rattle.goals.specs.ReadGoal.{GoalFits, goalAnswer, goalReadingOf, GoalIn}
 use Rattle.goals.specs.declared.GoalCounts.{GoalCounts}
 use Rattle.goals.specs.declared.GoalRead.{GoalRead}
 use Rattle.goals.specs.declared.GoalRead.the-variants as goal-read
@@ -42,6 +41,8 @@ use Rattle.replies.specs.Replies.{runReply}
 use Rattle.replies.proofs.Elements.{all-at}
 use Rattle.replies.proofs.ShortNames.{Termed, TermedProgram, TermedGoal, program-termed, goal-termed, term-some, reads-accepted}
 use Rattle.roketuma.specs.Answers.{Replied}
+use Rattle.roketuma.specs.Readings.{Tabled}
+use Rattle.roketuma.proofs.ReadLaws.{goal-answers}
 use Rattle.roketuma.specs.Stages.{programTable, isKnown, ProgramReady, GoalReady, Ready}
 use Rattle.roketuma.specs.declared.Sizes.{Sizes}
 use Rattle.roketuma.specs.declared.TextName.the-variants.{S, G}
@@ -117,13 +118,7 @@ letters-front letters v h =
     (λ i l. ap (λ (b : ℕ). b ∷ []) (sym (getD-take v letters i 0 l))))
 
 module _ {program names places symbols rules : List ℕ} {c : Counts} (r : GoalReady program names places symbols rules c) where
-  -- the used part of the symbols
-  pub used-few : symbolSize * c .symbols ≤ length symbols
-  used-few = omega (arith, few-symbols (r .first), r .symbols-size)
-
-  used-size : length (take (symbolSize * c .symbols) symbols) ≡ symbolSize * c .symbols
-  used-size = length-take-le (symbolSize * c .symbols) symbols used-few
-
+  -- the program has few constants
   pub few-own : c .constants ≤ 64
   unfolding constantsOf
   few-own =
@@ -134,27 +129,26 @@ module _ {program names places symbols rules : List ℕ} {c : Counts} (r : GoalR
         tabled-length (λ i. nameOf names (firstConstant + i)) (c .constants),
       )
 
-  -- there is room to read a goal
-  pub goal-room : {cells letters : List ℕ} → length cells ≡ 2590 → length letters ≡ 26
-      → Room (take (symbolSize * c .symbols) symbols) names places cells letters
-  goal-room h l =
+  -- its tables, for reading a goal
+  pub goal-tabled : Tabled symbols names places c
+  goal-tabled =
       record {
-        few-symbols = omega (arith, used-size, few-symbols (r .first));
         names-size = r .names-size;
         places-size = r .places-size;
-        cells-size = omega arith;
-        letters-size = l;
+        symbols-size = r .symbols-size;
+        few-symbols = few-symbols (r .first);
+        few-constants = few-own;
       }
 
   module _ (goal : List ℕ) {names′ places′ cells letters : List ℕ} {reply : GoalRead}
       (g : GoalIn goal (take (symbolSize * c .symbols) symbols) names places (c .constants) names′ places′ cells letters reply) where
-    declared : symbolsOf names (take (symbolSize * c .symbols) symbols) (c .symbols) ≡ r .p .program .symbols
+    declared : symbolsOf names symbols (c .symbols) ≡ r .p .program .symbols
     unfolding programTable
-    declared = symbols-used names symbols (c .symbols) ∙ sym (ap (λ (q : Program). q .symbols) (r .first .holds))
+    declared = sym (ap (λ (q : Program). q .symbols) (r .first .holds))
 
     answers : goalAnswer names′ cells letters reply ≡ readGoal (r .p .program .symbols) (r .p .constants) goal
     answers =
-        g .answers (c .symbols) used-size
+        goal-answers goal-tabled goal g
         ∙ ap (λ (ss : List Symbol). readGoal ss (constantsOf names (c .constants)) goal) declared
         ∙ ap (λ (cs : List (List ℕ)). readGoal (r .p .program .symbols) cs goal) (sym (r .spelled))
 

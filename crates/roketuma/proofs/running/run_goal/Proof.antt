@@ -3,19 +3,20 @@ use native.Mathlib.Omega.{arith}
 use mathlib.Core.Path.{sym}
 use lib.Seq.{length-take-le}
 use borrow.Author.Needs.{needs}
-use Rattle.roketuma.proofs.ReadingLaws.{used-few, few-own, goal-room, goal-refused, few-letters, goal-ready}
+use Rattle.roketuma.proofs.ReadLaws.{tabled-used, tabled-room}
+use Rattle.roketuma.proofs.ReadingLaws.{goal-tabled, few-own, goal-refused, few-letters, goal-ready}
 use Rattle.roketuma.proofs.running.run_goal.Statement.{statement}
 use Rattle.roketuma.proofs.running.run_goal.Tie as tie
 
 mul-e : tie.Need-mul-e
 mul-e c =
     let start = c .before .before .before .before .before .before .before .before in
-    omega (arith, used-few (start .pre), start .pre .symbols-size)
+    omega (arith, tabled-used (goal-tabled (start .pre)), start .pre .symbols-size)
 
 slice-aggregate-read-goal : tie.Need-slice-aggregate-read-goal
 slice-aggregate-read-goal c =
     let start = c .before .before .before .before .before .before .before .before .before in
-    sym (length-take-le _ _ (used-few (start .pre)))
+    sym (length-take-le _ _ (tabled-used (goal-tabled (start .pre))))
 
 slice-aggregate-read-goal-2 : tie.Need-slice-aggregate-read-goal-2
 slice-aggregate-read-goal-2 c = search needs
@@ -26,7 +27,7 @@ slice-aggregate-read-goal-3 c = search needs
 read-goal-requires : tie.Need-read-goal-requires
 read-goal-requires c κs =
     let start = c .before .before .before .before .before .before .before .before .before .before .before .before .before in
-    (goal-room (start .pre) (omega arith) (omega arith), few-own (start .pre))
+    (tabled-room (goal-tabled (start .pre)) (omega arith) (omega arith), few-own (start .pre))
 
 enum-known-number : tie.Need-enum-known-number
 enum-known-number c = search needs
