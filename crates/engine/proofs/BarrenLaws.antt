@@ -3,6 +3,7 @@
 --   barren-fired       the first of the constraints, after a firing
 --   barren-strange     all of them, where no constraint of the body has a symbol of the heads
 --   barren-last        the search for the last head starts behind such constraints
+--   barren-first       where heads fit at the smallest positions, they fit nowhere before the first of them
 --   barren-next        where a head is placed among them, the later ones fit nowhere among them
 -- Assumes nothing.
 use Prim.Native.Nat.{ℕ, zero, suc, _+_, _-_, _≤_, _<_}
@@ -23,9 +24,9 @@ use Rattle.semantics.specs.Terms.{Constraint}
 use Rattle.semantics.specs.Matching.{Assignment, matchConstraint}
 use Rattle.semantics.specs.Strategy.{Match, firstIn, find}
 use Rattle.semantics.specs.Firing.{without}
-use Rattle.semantics.proofs.Options.{none-some, cond-some-not, apart-eqb, equal-eqb, eqb-equal, true-false}
+use Rattle.semantics.proofs.Options.{none-some, bind-some, cond-some-not, apart-eqb, equal-eqb, eqb-equal, true-false}
 use Rattle.semantics.proofs.Bools.{or-right}
-use Rattle.semantics.proofs.Search.{firstIn-none}
+use Rattle.semantics.proofs.Search.{firstIn-none, firstIn-some, find-found}
 use Rattle.engine.specs.Known.{Barren, hasSymbol, concerns}
 
 -- where no element has an answer, there is none
@@ -67,7 +68,8 @@ module _ (f : ℕ → ℕ) (inj : (q r : ℕ) → f q ≡ f r → q ≡ r) (ds c
   unfolding find hasSymbol matchConstraint
   embedded [] chosen θ stands e = none-some e refl
   embedded (h ∷ hs) chosen θ stands e =
-      firstIn-nothing 0 ds _ (λ i c s. rw zero-add (go (λ i θ′. embedded hs (chosen ++ (i ∷ [])) θ′ (λ q d t. later q d (stands q d t)))
+      firstIn-nothing 0 ds _ (λ i c s. rw zero-add (go (λ i θ′. embedded hs (chosen ++ (i ∷ [])) θ′ (λ q d t. later q d
+      (stands q d t)))
       i c (stands i c s)))
     where
       tail : (s : ℕ) → (eqb (h .symbol) s || hasSymbol s hs) ≡ false → (eqb (h .symbol) s ≡ false) × (hasSymbol s hs ≡ false)
@@ -78,7 +80,8 @@ module _ (f : ℕ → ℕ) (inj : (q r : ℕ) → f q ≡ f r → q ≡ r) (ds c
           both false k = (refl, k)
 
       later :
-          (q : ℕ) (c : Constraint) → (getElem? cs (f q) ≡ some c) ⊎ ((eqb (h .symbol) (c .symbol) || hasSymbol (c .symbol) hs) ≡ false)
+          (q : ℕ) (c : Constraint) → (getElem? cs (f q)
+          ≡ some c) ⊎ ((eqb (h .symbol) (c .symbol) || hasSymbol (c .symbol) hs) ≡ false)
           → (getElem? cs (f q) ≡ some c) ⊎ (hasSymbol (c .symbol) hs ≡ false)
       later q c (inl s) = inl s
       later q c (inr k) = inr (tail (c .symbol) k .1)
@@ -94,7 +97,8 @@ module _ (f : ℕ → ℕ) (inj : (q r : ℕ) → f q ≡ f r → q ≡ r) (ds c
       fits i c (some θ′) more false e = more θ′ (rw renamed-append e)
 
       go :
-          ((i : ℕ) (θ′ : Assignment) → find hs cs (map f (chosen ++ (i ∷ []))) θ′ ≡ none → find hs ds (chosen ++ (i ∷ [])) θ′ ≡ none)
+          ((i : ℕ) (θ′ : Assignment) → find hs cs (map f (chosen ++ (i ∷ []))) θ′ ≡ none
+          → find hs ds (chosen ++ (i ∷ [])) θ′ ≡ none)
           → (i : ℕ) (c : Constraint)
           → (getElem? cs (f i) ≡ some c) ⊎ ((eqb (h .symbol) (c .symbol) || hasSymbol (c .symbol) hs) ≡ false)
           → cond (has i chosen) none (bind (matchConstraint h c θ) (find hs ds (chosen ++ (i ∷ [])))) ≡ none
@@ -140,7 +144,8 @@ kept-stands p ps [] q d s = none-some refl s
 kept-stands p ps (c ∷ cs) q d s = go (λ q. kept-stands (suc p) ps cs q d) (has p ps) q s
   where
     go :
-        ((q : ℕ) → getElem? (without (suc p) ps cs) q ≡ some d → getElem? cs (kept (suc p) ps cs q) ≡ some d) → (t : Bool) (q : ℕ)
+        ((q : ℕ) → getElem? (without (suc p) ps cs) q ≡ some d → getElem? cs (kept (suc p) ps cs q) ≡ some d)
+        → (t : Bool) (q : ℕ)
         → getElem? (cond t (without (suc p) ps cs) (c ∷ without (suc p) ps cs)) q ≡ some d
         → getElem? (c ∷ cs) (cond t (suc (kept (suc p) ps cs q)) (shifted (kept (suc p) ps cs) q)) ≡ some d
     go more true q s = more q s
@@ -169,7 +174,8 @@ atLeast-falls p (k ∷ ks) = go (atLeast-falls p ks) (le-or-lt (suc p) k)
   where
     go :
         atLeast (suc p) ks ≤ atLeast p ks → (suc p ≤ k) ⊎ (k < suc p)
-        → cond (leb (suc p) k) (suc (atLeast (suc p) ks)) (atLeast (suc p) ks) ≤ cond (leb p k) (suc (atLeast p ks)) (atLeast p ks)
+        → cond (leb (suc p) k) (suc (atLeast (suc p) ks)) (atLeast (suc p) ks) ≤ cond (leb p k) (suc (atLeast p ks))
+        (atLeast p ks)
     go more (inl l) = rw (le-leb (suc p) k l, le-leb p k (omega arith)) (omega arith)
     go more (inr l) = rw (lt-leb (suc p) k l) (either-way (leb p k))
       where
@@ -185,7 +191,8 @@ atLeast-here p (k ∷ ks) e = go (atLeast-here p ks) (atLeast-falls p ks) (eithe
   where
     later :
         suc (atLeast (suc p) ks) ≤ atLeast p ks → (suc p ≤ k) ⊎ (k < suc p)
-        → suc (cond (leb (suc p) k) (suc (atLeast (suc p) ks)) (atLeast (suc p) ks)) ≤ cond (leb p k) (suc (atLeast p ks)) (atLeast p ks)
+        → suc (cond (leb (suc p) k) (suc (atLeast (suc p) ks)) (atLeast (suc p) ks)) ≤ cond (leb p k) (suc
+        (atLeast p ks)) (atLeast p ks)
     later more (inl l) = rw (le-leb (suc p) k l, le-leb p k (omega arith)) (omega arith)
     later more (inr l) = rw (lt-leb (suc p) k l) (either-way (leb p k))
       where
@@ -196,7 +203,8 @@ atLeast-here p (k ∷ ks) e = go (atLeast-here p ks) (atLeast-falls p ks) (eithe
     go :
         (has p ks ≡ true → suc (atLeast (suc p) ks) ≤ atLeast p ks) → atLeast (suc p) ks ≤ atLeast p ks
         → (eqb p k ≡ true) ⊎ (eqb p k ≡ false)
-        → suc (cond (leb (suc p) k) (suc (atLeast (suc p) ks)) (atLeast (suc p) ks)) ≤ cond (leb p k) (suc (atLeast p ks)) (atLeast p ks)
+        → suc (cond (leb (suc p) k) (suc (atLeast (suc p) ks)) (atLeast (suc p) ks)) ≤ cond (leb p k) (suc
+        (atLeast p ks)) (atLeast p ks)
     go more fewer (inl t) =
         let s : p ≡ k = eqb-equal t in
         rw (lt-leb (suc p) k (omega arith), le-leb p k (omega arith)) (omega arith)
@@ -230,13 +238,15 @@ without-length p ps (c ∷ cs) = go (without-length (suc p) ps cs) (atLeast-fall
     go more l false e = omega arith
 
 -- an element of the first k
-taken-stands : {A : Type 0} (k : ℕ) (l : List A) (q : ℕ) (a : A) → getElem? (take k l) q ≡ some a → (q < k) × (getElem? l q ≡ some a)
+taken-stands : {A : Type 0} (k : ℕ) (l : List A) (q : ℕ) (a : A) → getElem? (take k l) q ≡ some a
+    → (q < k) × (getElem? l q ≡ some a)
 taken-stands zero l q a s = none-some refl s
 taken-stands (suc k) [] q a s = none-some refl s
 taken-stands (suc k) (x ∷ l) zero a s = (omega arith, s)
 taken-stands (suc k) (x ∷ l) (suc q) a s = let t = taken-stands k l q a s in (omega (arith, t .0), t .1)
 
-stands-taken : {A : Type 0} (k : ℕ) (l : List A) (q : ℕ) (a : A) → q < k → getElem? l q ≡ some a → getElem? (take k l) q ≡ some a
+stands-taken : {A : Type 0} (k : ℕ) (l : List A) (q : ℕ) (a : A) → q < k → getElem? l q ≡ some a
+    → getElem? (take k l) q ≡ some a
 stands-taken zero l q a h s = absurd (omega arith)
 stands-taken (suc k) [] q a h s = s
 stands-taken (suc k) (x ∷ l) zero a h s = s
@@ -255,7 +265,8 @@ symbol-stands : (body : List Constraint) (i : ℕ) (c : Constraint) → getElem?
 unfolding hasSymbol
 symbol-stands [] i c s = none-some refl s
 symbol-stands (b ∷ body) zero c s = let same : b ≡ c = cc in rw (same, equal-eqb {m = c .symbol} refl)
-symbol-stands (b ∷ body) (suc i) c s = or-right (eqb (b .symbol) (c .symbol)) (hasSymbol (c .symbol) body) (symbol-stands body i c s)
+symbol-stands (b ∷ body) (suc i) c s = or-right (eqb (b .symbol) (c .symbol)) (hasSymbol (c .symbol) body)
+    (symbol-stands body i c s)
 
 -- a constraint of a body that has no symbol of the heads
 strange-stands :
@@ -329,7 +340,8 @@ module _ (h : Constraint) (cs : List Constraint) (chosen : List ℕ) (θ : Assig
   -- the last head is sought behind the prefix only
   pub barren-last :
       (hs : List Constraint) → hs ≡ [] → Barren (h ∷ hs) cs chosen θ from
-      → firstIn from (drop from cs) (λ p c. cond (has p chosen) none (bind (matchConstraint h c θ) (find hs cs (chosen ++ (p ∷ [])))))
+      → firstIn from (drop from cs) (λ p c. cond (has p chosen) none (bind (matchConstraint h c θ) (find hs cs
+      (chosen ++ (p ∷ [])))))
       ≡ find (h ∷ hs) cs chosen θ
   unfolding find
   barren-last [] e b = firstIn-behind from cs _ (b .nowhere)
@@ -346,8 +358,31 @@ module _ (h : Constraint) (cs : List Constraint) (chosen : List ℕ) (θ : Assig
       nothing : q < from → find hs (take from cs) (chosen ++ (q ∷ [])) θ′ ≡ none
       nothing l =
           let t = cond-some-not (has q chosen) e in
-          rw (zero-add, t .0, t .1) at (firstIn-none 0 (take from cs) _ (b .nowhere (omega arith)) q c (stands-taken from cs q c l s))
+          rw (zero-add, t .0, t .1) at (firstIn-none 0 (take from cs) _ (b .nowhere (omega arith)) q c
+          (stands-taken from cs q c l s))
 
       go : (ltb q from ≡ true) ⊎ (ltb q from ≡ false) → Barren hs cs (chosen ++ (q ∷ [])) θ′ since
       go (inl t) = let k : since ≡ from = rw t at g in record { nowhere = λ z. rw k (nothing (ltb-true q from t)) }
       go (inr t) = let k : since ≡ 0 = rw t at g in record { nowhere = λ z. absurd (omega arith) }
+
+-- heads that fit at the smallest positions fit nowhere before the first of them
+pub barren-first :
+    (hs cs : List Constraint) (θ : Assignment) (m : Match) (p : ℕ) (ps : List ℕ) → find hs cs [] θ ≡ some m
+    → m .positions ≡ p ∷ ps → find hs (take p cs) [] θ ≡ none
+unfolding find
+barren-first [] cs θ m p ps e z = let y : _≡_ {A = ℕ} 0 1 = cc in absurd (omega arith)
+barren-first (h ∷ hs) cs θ m p ps e z =
+    let f = firstIn-some 0 cs _ m e in
+    let a = rw zero-add at (f .answers) in
+    let w = bind-some (matchConstraint h (f .constraint) θ) (find hs cs (f .at ∷ [])) a in
+    let g = find-found hs cs (f .at ∷ []) (w .0) m (w .2) in
+    let here : f .at ≡ p = cc (g .split, z) in
+    firstIn-nothing 0 (take p cs) _ (λ i c s.
+    let t = taken-stands p cs i c s in
+    rw zero-add (go i (matchConstraint h c θ) (rw zero-add at (f .earlier i c (omega (arith, here, t .0)) (t .1)))))
+  where
+    go :
+        (i : ℕ) (o : Option Assignment) → bind o (find hs cs (i ∷ [])) ≡ none → bind o (find hs (take p cs) (i ∷ [])) ≡ none
+    go i none k = refl
+    go i (some θ′) k =
+        embedded (λ q. q) (λ q r s. s) (take p cs) cs hs (i ∷ []) θ′ (λ q c s. inl (taken-stands p cs q c s .1)) k

@@ -3,10 +3,10 @@
 use Prim.Native.Nat.{ℕ, zero, suc, _+_, _-_, _*_, _≤_, _<_}
 use native.Mathlib.Omega.{arith}
 use native.Mathlib.Numerals.{add-one}
-use mathlib.Core.Bool.{Bool, true, false}
+use mathlib.Core.Bool.{Bool, true, false, cond}
 use mathlib.Core.List.{List, [], _∷_}
 use mathlib.Core.Logic.{⊎-elim}
-use mathlib.Core.Option.{none}
+use mathlib.Core.Option.{none, some}
 use mathlib.Core.Path.{_≡_, refl, sym, fun-ext, _∙_}
 use lib.Dec.{eqb}
 use lib.ListN.{length, getD, set, take, drop, replicate, length-set, length-append, length-drop, drop-of-length-le}
@@ -14,6 +14,7 @@ use lib.ListN.{List·getD-append, List·getD-eq-default}
 use lib.Seq.{drop-cons, length-take-le, getD-at, take-all, getD-set-same, getD-set-other}
 use borrow.Author.Tests.{eqb-true, eqb-false}
 use Rattle.text.specs.Lists.{orElse, tabled}
+use Rattle.semantics.specs.Terms.{Constraint}
 use Rattle.semantics.specs.Matching.{unassigned}
 use Rattle.semantics.specs.Strategy.{find, chooseFrom, choose}
 use Rattle.tables.specs.Cells.{cellConstraints}
@@ -22,6 +23,7 @@ use Rattle.engine.specs.Cells.{assigned}
 use Rattle.engine.specs.Positions.{foundOf, Seeking, Located, Row, Table, choiceOf, Chosen}
 use Rattle.engine.specs.Known.{Barren, Knows}
 use Rattle.tables.proofs.CellLaws.{either, le-or-lt}
+use Rattle.engine.proofs.BarrenLaws.{barren-first}
 use Rattle.engine.proofs.GapLaws.{length-constraints}
 
 -- no cell of zeros is settled
@@ -103,6 +105,38 @@ noted-at known i v P j old new none-there =
     (le-or-lt (length known) i)))
     (λ t. rw (getD-set-other known i j v 0 (λ e. eqb-false i j t (sym e))) old)
     (either (eqb i j))
+
+-- a table with one entry set is as long
+pub noted-size :
+    (start known known′ : List ℕ) (i v : ℕ) → known′ ≡ set known i v → length known ≡ length start → length known′ ≡ length start
+noted-size start known known′ i v e s = rw e (length-set known i v) ∙ s
+
+-- the first of some positions
+first-of : (n : ℕ) (ps : List ℕ) → 1 ≤ n → 1 ≤ length ps → (qs : List ℕ) × (take n ps ≡ getD ps 0 0 ∷ qs)
+first-of zero ps h k = absurd (omega arith)
+first-of (suc n) [] h k = absurd (omega arith)
+first-of (suc n) (p ∷ ps) h k = (take n ps, refl)
+
+-- heads that fit at positions fit nowhere before the first
+first-barren :
+    (hs cs : List Constraint) (n : ℕ) (ps b : List ℕ) (first : ℕ) → length ps ≡ 4
+    → some (record { positions = take n ps; assignment = assigned b }) ≡ find hs cs [] unassigned
+    → first ≡ cond (eqb n 0) 0 (getD ps 0 0) → Barren hs cs [] unassigned first
+first-barren hs cs n ps b first size found e =
+    ⊎-elim (λ t. let z : first ≡ 0 = rw t at e in record { nowhere = λ h. absurd (omega arith) })
+    (λ t.
+    let z : first ≡ getD ps 0 0 = rw t at e in
+    let some-heads : 1 ≤ n = positive n (eqb-false n 0 t) in
+    let front = first-of n ps some-heads (omega arith) in
+    record {
+      nowhere = λ h. rw z (barren-first hs cs unassigned (record { positions = take n ps; assignment = assigned b })
+          (getD ps 0 0) (front .0) (sym found) (front .1));
+    })
+    (either (eqb n 0))
+  where
+    positive : (k : ℕ) → (k ≡ 0 → ⊥) → 1 ≤ k
+    positive zero h = absurd (h refl)
+    positive (suc k) h = omega arith
 
 -- a rule's row as the code lends it
 abbrev pub lentRow : List ℕ → ℕ → List ℕ
@@ -200,11 +234,33 @@ module _ (rules : List ℕ) (n : ℕ) (cells : List ℕ) (m i : ℕ) (given : Ta
           sym (rw (row-cells i, z) at (t .same)) in
           rw e (record {
             barren = λ j k.
-                noted-at known i (m + 1) (λ v. Barren (ruleOfRow [] (rowOf rules j) .heads) (cellConstraints cells) [] unassigned v)
+                noted-at known i (m + 1) (λ v. Barren (ruleOfRow [] (rowOf rules j) .heads)
+                (cellConstraints cells) [] unassigned v)
                 j (ks .barren j k)
                 (λ s. record {
                   nowhere = λ o. rw (← s, all-known size (m + 1) (omega arith)) nothing;
                 })
+                (λ a s. record { nowhere = λ (o : 1 ≤ 0). absurd (omega arith) });
+          })
+
+      -- what `leading` asks
+      pub choosing-leads : Row (lentRow rules i) × (length ps ≡ 4)
+      choosing-leads = (rw (row-cells i) (given .rows i l), t .positions-size)
+
+      -- it fits, and what is known then is noted
+      pub choosing-first :
+          f ≡ true → (known known′ : List ℕ) (first : ℕ) → Knows rules n known (cellConstraints cells)
+          → first ≡ cond (eqb (getD (lentRow rules i) 3 0) 0) 0 (getD ps 0 0) → known′ ≡ set known i first
+          → Knows rules n known′ (cellConstraints cells)
+      unfolding foundOf
+      choosing-first z known known′ first ks g e =
+          let found = rw (row-cells i, z) at (t .same) in
+          rw e (record {
+            barren = λ j k.
+                noted-at known i first (λ v. Barren (ruleOfRow [] (rowOf rules j) .heads) (cellConstraints cells) [] unassigned v)
+                j (ks .barren j k)
+                (λ s. rw (← s) (first-barren (ruleOfRow [] (rowOf rules i) .heads) (cellConstraints cells)
+                (getD (rowOf rules i) 3 0) ps b first (t .positions-size) found (rw (row-cells i) at g)))
                 (λ a s. record { nowhere = λ (o : 1 ≤ 0). absurd (omega arith) });
           })
 
@@ -227,7 +283,8 @@ pub record Noting (rules : List ℕ) (n : ℕ) (start cells known : List ℕ) (i
   pub size : length known ≡ length start
 
 pub noting-start :
-    (rules : List ℕ) (n : ℕ) (start cells : List ℕ) → Knows rules n start (cellConstraints cells) → Noting rules n start cells start 0
+    (rules : List ℕ) (n : ℕ) (start cells : List ℕ) → Knows rules n start (cellConstraints cells)
+    → Noting rules n start cells start 0
 noting-start rules n start cells ks = record { choosing = choosing-start rules n cells; knows = ks; size = refl }
 
 module _ (rules : List ℕ) (n : ℕ) (start cells known : List ℕ) (m i : ℕ) (given : Table rules n)
@@ -242,7 +299,7 @@ module _ (rules : List ℕ) (n : ℕ) (start cells known : List ℕ) (m i : ℕ)
       record {
         choosing = choosing-next rules n cells m i given (w .choosing) l f ps b t z;
         knows = choosing-noted rules n cells m i given (w .choosing) l f ps b t z e known known′ (w .knows) g;
-        size = rw g (length-set known i (m + 1)) ∙ w .size;
+        size = noted-size start known known′ i (m + 1) g (w .size);
       }
 
   -- it is known not to fit

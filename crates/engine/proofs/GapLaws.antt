@@ -11,7 +11,19 @@ use mathlib.Core.List.{List, [], _∷_, _++_, append-assoc, append-nil}
 use mathlib.Core.Path.{_≡_, refl, ap, sym, _∙_}
 use lib.Dec.{eqb}
 use lib.ListN.{length, getD, set, take, drop, length-drop, drop-of-length-le}
-use lib.Seq.{paste, take-paste, length-paste, take-suc, drop-cons, take-take, take-add, take-all, take-append-le, take-at, drop-at}
+use lib.Seq.{
+  paste,
+  take-paste,
+  length-paste,
+  take-suc,
+  drop-cons,
+  take-take,
+  take-add,
+  take-all,
+  take-append-le,
+  take-at,
+  drop-at,
+}
 use lib.Seq.{length-take-le}
 use Rattle.text.specs.Lists.{has}
 use Rattle.semantics.specs.Terms.{Constraint}
@@ -88,7 +100,15 @@ pub record Topping (positions : List ℕ) (n p top i : ℕ) : Type 0 where
 
 pub topping-start : (positions : List ℕ) (n p : ℕ) → Topping positions n p 0 0
 topping-start positions n p =
-    record { within = omega arith; same = record { below = omega arith; there = λ l. absurd (omega arith); free = λ q l h. refl } }
+    record {
+      within = omega arith;
+      same = record {
+        below = omega arith;
+        there = λ l. absurd
+            (omega arith);
+        free = λ q l h. refl;
+      };
+    }
 
 module _ (positions : List ℕ) (n p top i : ℕ) (few : n ≤ 4) (size : length positions ≡ 4) (w : Topping positions n p top i)
     (l : i < n) where
@@ -96,7 +116,8 @@ module _ (positions : List ℕ) (n p top i : ℕ) (few : n ≤ 4) (size : length
   one-more = take-suc positions i 0 (omega arith)
 
   -- it lies below p, and higher
-  pub topping-higher : getD positions i 0 < p → top ≤ getD positions i 0 → Topping positions n p (getD positions i 0 + 1) (i + 1)
+  pub topping-higher : getD positions i 0 < p → top ≤ getD positions i 0
+      → Topping positions n p (getD positions i 0 + 1) (i + 1)
   topping-higher h k =
       let same : getD positions i 0 + 1 - 1 ≡ getD positions i 0 = omega arith in
       rw (add-one i) (record {
@@ -116,7 +137,8 @@ module _ (positions : List ℕ) (n p top i : ℕ) (few : n ≤ 4) (size : length
         within = l;
         same = rw one-more (record {
           below = w .same .below;
-          there = λ z. has-front (top - 1) (getD positions i 0) (take i positions) ∙ or-right (eqb (top - 1) (getD positions i 0)) (has (top - 1) (take i positions)) (w .same .there z);
+          there = λ z. has-front (top - 1) (getD positions i 0) (take i positions)
+              ∙ or-right (eqb (top - 1) (getD positions i 0)) (has (top - 1) (take i positions)) (w .same .there z);
           free = λ q a b. has-other q (getD positions i 0) (take i positions) (f q a b) ∙ w .same .free q a b;
         });
       })
@@ -176,10 +198,17 @@ any : Constraint
 any = record { symbol = 0; terms = [] }
 
 -- the constraint at a position that is not removed
-stays-here : (p : ℕ) (ps : List ℕ) (cs : List Constraint) → p < length cs → has p ps ≡ false → staying (suc p) ps cs ≡ staying p ps cs
+stays-here : (p : ℕ) (ps : List ℕ) (cs : List Constraint) → p < length cs → has p ps ≡ false
+    → staying (suc p) ps cs ≡ staying p ps cs
 unfolding without
 stays-here p ps cs l e =
-    rw (take-suc cs p any l, drop-cons cs p any l, e, append-assoc (take p cs) (getD cs p any ∷ []) (without (suc p) ps (drop (suc p) cs)))
+    rw (
+      take-suc cs p any l,
+      drop-cons cs p any l,
+      e,
+      append-assoc (take p cs) (getD cs p any ∷ []) (without (suc p) ps
+          (drop (suc p) cs)),
+    )
 
 -- one that is removed
 goes-here : (p : ℕ) (ps : List ℕ) (cs : List Constraint) → p < length cs → has p ps ≡ true
@@ -221,7 +250,11 @@ removing-start m ps start top e h =
       same =
           rw (take-all (5 * m) start (omega arith))
           (sym (append-nil (cellConstraints start))
-          ∙ rw (take-all m (cellConstraints start) (omega arith), drop-of-length-le (cellConstraints start) {i = m} (omega arith)) at
+          ∙ rw (
+            take-all m (cellConstraints start) (omega arith),
+            drop-of-length-le (cellConstraints start) {i = m}
+                (omega arith),
+          ) at
           (rw between at (stay-between (m - top) top ps (cellConstraints start) (omega arith)
           (λ q a b. h .free q a (omega (arith, h .below))))));
     }
@@ -248,14 +281,16 @@ module _ (m : ℕ) (ps start cells : List ℕ) (k top : ℕ) (w : Removing m ps 
         let all : length (cellConstraints start) ≡ m = length-constraints m start (w .start-size) in
         let now : suc (top - 1) ≡ top = omega arith in
         let between : top′ + (top - 1 - top′) ≡ top - 1 = omega (arith, h .below) in
-        let front : length (take top (cellConstraints start)) ≡ top = length-take-le top (cellConstraints start) (omega arith) in
+        let front : length (take top (cellConstraints start))
+        ≡ top = length-take-le top (cellConstraints start) (omega arith) in
         let closed : cellConstraints (take (5 * (k - 1)) c) ≡ take (top - 1) (cellConstraints start) ++ without top ps
         (drop top (cellConstraints start)) =
         let decoded = gap-closed k (top - 1) cells (omega arith) (omega (arith, w .size, w .start-size)) in
         rw g (decoded ∙ rw (
           now,
           w .same,
-          take-append-le (top - 1) (take top (cellConstraints start)) (without top ps (drop top (cellConstraints start))) (omega arith),
+          take-append-le (top - 1) (take top (cellConstraints start)) (without top ps (drop top
+              (cellConstraints start))) (omega arith),
           take-take (top - 1) top (cellConstraints start) (omega arith),
           drop-at (take top (cellConstraints start)) (without top ps (drop top (cellConstraints start))) top front,
         )) in

@@ -66,7 +66,8 @@ module _ (s : ℕ) (cells : List ℕ) (i : ℕ) (w : Scanning s cells i) where
 
   module _ (h : 5 * i + 5 ≤ length cells) where
     split :
-        (eqb (getD cells (5 * i) 0) s || hasSymbol s (cellConstraints (drop (5 * suc i) cells))) ≡ hasSymbol s (cellConstraints cells)
+        (eqb (getD cells (5 * i) 0) s || hasSymbol s (cellConstraints (drop (5 * suc i) cells)))
+        ≡ hasSymbol s (cellConstraints cells)
     unfolding hasSymbol
     split = rw (constraints-at cells i h, row-symbol cells i) at (w .same)
 
@@ -259,7 +260,8 @@ pub record Lowering (rules : List ℕ) (n : ℕ) (row : List ℕ) (m count : ℕ
   pub done : (j : ℕ) → j < i → getD known j 0 ≡ loweredOf (rowOf rules j) row m count (getD start j 0)
   pub left : (j : ℕ) → i ≤ j → getD known j 0 ≡ getD start j 0
 
-pub lowering-start : (rules : List ℕ) (n : ℕ) (row : List ℕ) (m count : ℕ) (start : List ℕ) → Lowering rules n row m count start start 0
+pub lowering-start : (rules : List ℕ) (n : ℕ) (row : List ℕ) (m count : ℕ) (start : List ℕ)
+    → Lowering rules n row m count start start 0
 lowering-start rules n row m count start =
     record { within = omega arith; size = refl; done = λ j h. absurd (omega arith); left = λ j h. refl }
 
@@ -318,7 +320,8 @@ unfolding hasSymbol mapTerms
 symbol-mapped s σ [] = refl
 symbol-mapped s σ (c ∷ cs) = ap (eqb (c .symbol) s ||_) (symbol-mapped s σ cs)
 
-concerns-mapped : (hs : List Constraint) (σ : Term → Term) (cs : List Constraint) → concerns hs (map (mapTerms σ) cs) ≡ concerns hs cs
+concerns-mapped : (hs : List Constraint) (σ : Term → Term) (cs : List Constraint)
+    → concerns hs (map (mapTerms σ) cs) ≡ concerns hs cs
 unfolding concerns
 concerns-mapped [] σ cs = refl
 concerns-mapped (h ∷ hs) σ cs = rw (symbol-mapped (h .symbol) σ cs, concerns-mapped hs σ cs)
@@ -377,7 +380,10 @@ module _ (row ps b : List ℕ) (next : ℕ) (bound cells : List ℕ) (m : ℕ) (
         let l : v ≤ m = ltb-false m v q in
         let z : getD row 5 0 ≤ 0 = ltb-false 0 (getD row 5 0) p in
         let r : v′ ≡ v - getD row 3 0 = rw (p, q) at e in
-        record { nowhere = λ h. rw r (part-kept (λ x. omega arith) (ruleOfRow [] other .heads) v l (known .nowhere (omega arith))) }
+        record {
+          nowhere = λ h. rw r (part-kept (λ x. omega arith) (ruleOfRow [] other .heads) v l (known .nowhere
+              (omega arith)));
+        }
 
     module _ (p : ltb 0 (getD row 5 0) ≡ false) (q : ltb m v ≡ true) where
       unequated : 0 < getD row 5 0 → ⊥
@@ -411,7 +417,8 @@ module _ (row ps b : List ℕ) (next : ℕ) (bound cells : List ℕ) (m : ℕ) (
     lowered-barren =
         ⊎-elim (λ p. let z : v′ ≡ 0 = rw p at e in record { nowhere = λ h. absurd (omega arith) })
         (λ p. ⊎-elim
-        (λ q. ⊎-elim (kept-concerned p q) (kept-strange p q) (either (concerns (ruleOfRow [] other .heads) (ruleOfRow [] row .body))))
+        (λ q. ⊎-elim (kept-concerned p q) (kept-strange p q) (either (concerns (ruleOfRow [] other .heads)
+        (ruleOfRow [] row .body))))
         (kept-part p) (either (ltb m v)))
         (either (ltb 0 (getD row 5 0)))
 

@@ -137,10 +137,10 @@ module _ (head constraint start settled : List ℕ) (i : ℕ) (w : Walk head con
     pub walk-fails :
         (b : List ℕ) (f : Bool)
         → Matched f b (matchTerm (cellTerm (getD head i 0)) (cellTerm (getD constraint i 0)) (assigned settled))
-        → f ≡ false → Matched f b (whole head constraint start)
+        → f ≡ false → Matched false b (whole head constraint start)
     unfolding fitOf
     walk-fails b f m z =
-        record { same = rw z (rw (← m .same, z) at here); size = m .size }
+        record { same = rw (← m .same, z) at here; size = m .size }
 
     -- the terms fit
     pub walk-fits :

@@ -290,3 +290,16 @@ module _ (n left : ℕ) where
                     positions-size = u .positions-size;
                     bindings-size = u .bindings-size;
                   }
+
+-- the last head fits, and all have their positions
+pub seek-fits :
+    (n left : ℕ) (heads cells : List ℕ) (m : ℕ) (chosen bindings : List ℕ) → Seeking heads n left cells m chosen bindings
+    → (left ≡ 0 → ⊥) → (p : ℕ) → Sought heads (n - left) cells m chosen bindings p → p < m → (f : Bool) (b : List ℕ)
+    → Matched f b (cond (has p (take (n - left) chosen)) none
+    (matchConstraint (rowConstraint (lent heads (n - left))) (rowConstraint (lent cells p)) (assigned bindings)))
+    → f ≡ true → left ≡ 1
+    → Located true n (set chosen (n - left) p) b (answer heads (n - left) cells chosen bindings)
+seek-fits n left heads cells m chosen bindings s l p w k f b given z o =
+    seek-found n left heads cells m chosen bindings s l p w k f b given z true (set chosen (n - left) p) b
+    (seek-done n (left - 1) heads cells m (set chosen (n - left) p) b
+    (seek-next n left heads cells m chosen bindings s l p b (given .size)) (omega arith)) refl

@@ -140,9 +140,9 @@ module _ (heads : List ℕ) (n : ℕ) (cells : List ℕ) (m : ℕ) (positions bi
             ∙ rw (element-row cells p (omega (arith, w .cells-size))) at here
 
         -- the head does not fit there, or an earlier head has the position
-        pub matching-misfit : f ≡ false → Matched f b answer
+        pub matching-misfit : f ≡ false → Matched false b answer
         unfolding fitOf
-        matching-misfit z = record { same = rw z (rw (← t .same, z) at tried); size = t .size }
+        matching-misfit z = record { same = rw (← t .same, z) at tried; size = t .size }
 
         -- it fits
         pub matching-fits : f ≡ true → Matching heads n cells m positions b (h + 1) answer

@@ -1,6 +1,6 @@
 -- How the engine's state decodes, and what solving and firing promise.
 --   Merged, Solvable, Solved    one equation, and all of them
---   Highest, Removed, Appended           the constraints behind a firing
+--   Highest, Removed, Appended  the constraints behind a firing
 --   Equated, SolvedRule         a rule's equations
 --   Fires, Fired                a firing
 -- Assumes nothing.

@@ -1,4 +1,4 @@
-// Matching a head of a rule against a constraint, under bindings of the rule's variables by value.
+// Matching a head of a rule against a constraint, under lent bindings of the rule's variables.
 use tables::layout::CONSTRAINT_SIZE;
 use tables::layout::FIRST_VARIABLE;
 ghost use mathlib.Core.Path.{_≡_};
@@ -15,82 +15,59 @@ pub struct Fit {
 }
 
 // One term of a head against one term of a constraint: a constant fits itself only, and a variable what it is bound to.
-pub fn match_term(head: u16, term: u16, bindings: [u16; 26]) -> Fit
-    requires { ⌜ (head < afterLetters) × (0 < term) × (length bindings ≡ 26) ⌝ }
-    ensures { λ r. ⌜ Matched (r .fits) (r .bindings) (matchTerm (cellTerm head) (cellTerm term) (assigned bindings)) ⌝ }
+pub fn match_term(head: u16, term: u16, bindings: &mut [u16]) -> bool
+    requires { ⌜ (head < afterLetters) × (0 < term) × (length (now bindings) ≡ 26) ⌝ }
+    ensures { λ r. ⌜ Matched r (now (bindings .exit))
+        (matchTerm (cellTerm head) (cellTerm term) (assigned (now (bindings .entry)))) ⌝ }
 {
     if head < FIRST_VARIABLE {
-        return Fit {
-            fits: head == term,
-            bindings,
-        };
+        return head == term;
     }
     let x = (head - FIRST_VARIABLE) as usize;
     let settled = bindings[x];
     if settled == 0 {
-        let mut more = bindings;
-        more[x] = term;
-        return Fit {
-            fits: true,
-            bindings: more,
-        };
+        bindings[x] = term;
+        return true;
     }
-    Fit {
-        fits: settled == term,
-        bindings,
-    }
+    settled == term
 }
 
 // The terms of a head against those of a constraint, column by column; a 0 stands behind the last.
-pub fn match_terms(head: &[u16], constraint: &[u16], bindings: [u16; 26]) -> Fit
-    requires { ⌜ Rows (now head) (now constraint) bindings ⌝ }
-    ensures { λ r. ⌜ Matched (r .fits) (r .bindings)
+pub fn match_terms(head: &[u16], constraint: &[u16], bindings: &mut [u16]) -> bool
+    requires { ⌜ Rows (now head) (now constraint) (now bindings) ⌝ }
+    ensures { λ r. ⌜ Matched r (now (bindings .exit))
         (matchTerms (rowConstraint (now (head .entry)) .terms) (rowConstraint (now (constraint .entry)) .terms)
-        (assigned bindings)) ⌝ }
+        (assigned (now (bindings .entry)))) ⌝ }
 {
-    let mut settled = bindings;
     let mut i = 1;
     while i < CONSTRAINT_SIZE {
         let h = head[i];
         let t = constraint[i];
         if h == 0 {
-            return Fit {
-                fits: t == 0,
-                bindings: settled,
-            };
+            return t == 0;
         }
         if t == 0 {
-            return Fit {
-                fits: false,
-                bindings: settled,
-            };
+            return false;
         }
-        let fit = match_term(h, t, settled);
-        if !fit.fits {
-            return fit;
+        if !match_term(h, t, bindings) {
+            return false;
         }
-        settled = fit.bindings;
         i += 1;
     }
-    Fit {
-        fits: true,
-        bindings: settled,
-    }
+    true
 }
 
-// A head against a constraint, the symbols before the terms.
-pub fn match_constraint(head: &[u16], constraint: &[u16], bindings: [u16; 26]) -> Fit
-    requires { ⌜ Rows (now head) (now constraint) bindings ⌝ }
-    ensures { λ r. ⌜ Matched (r .fits) (r .bindings)
-        (matchConstraint (rowConstraint (now (head .entry))) (rowConstraint (now (constraint .entry))) (assigned bindings)) ⌝ }
+// A head against a constraint, the symbols before the terms; where it does not fit, the bindings say nothing.
+pub fn match_constraint(head: &[u16], constraint: &[u16], bindings: &mut [u16]) -> bool
+    requires { ⌜ Rows (now head) (now constraint) (now bindings) ⌝ }
+    ensures { λ r. ⌜ Matched r (now (bindings .exit))
+        (matchConstraint (rowConstraint (now (head .entry))) (rowConstraint (now (constraint .entry)))
+        (assigned (now (bindings .entry)))) ⌝ }
 {
     if head[0] == constraint[0] {
         return match_terms(head, constraint, bindings);
     }
-    Fit {
-        fits: false,
-        bindings,
-    }
+    false
 }
 
 // Whether what is settled already speaks against a head's term being a constraint's.

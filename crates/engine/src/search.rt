@@ -1,7 +1,6 @@
 // The search for positions head by head, and the choice of a rule.
 use crate::known::known_at;
 use crate::known::note;
-use crate::matching::Fit;
 use crate::matching::match_constraint;
 use crate::matching::may_fit;
 use tables::layout::CONSTRAINT_SIZE;
@@ -55,18 +54,16 @@ pub fn fit_at(
     h: usize,
     p: usize,
     chosen: [usize; 4],
-    bindings: [u16; 26],
-) -> Fit
-    requires { ⌜ Rows (now head) (now constraint) bindings × (h ≤ 4) × (length chosen ≡ 4) ⌝ }
-    ensures { λ r. ⌜ Matched (r .fits) (r .bindings)
+    bindings: &mut [u16],
+) -> bool
+    requires { ⌜ Rows (now head) (now constraint) (now bindings) × (h ≤ 4) × (length chosen ≡ 4) ⌝ }
+    ensures { λ r. ⌜ Matched r (now (bindings .exit))
         (cond (has p (take h chosen)) none
-        (matchConstraint (rowConstraint (now (head .entry))) (rowConstraint (now (constraint .entry))) (assigned bindings))) ⌝ }
+        (matchConstraint (rowConstraint (now (head .entry))) (rowConstraint (now (constraint .entry)))
+        (assigned (now (bindings .entry))))) ⌝ }
 {
     if is_chosen(chosen, h, p) {
-        return Fit {
-            fits: false,
-            bindings,
-        };
+        return false;
     }
     match_constraint(head, constraint, bindings)
 }
@@ -121,11 +118,17 @@ pub fn find(
         let d = b + CONSTRAINT_SIZE;
         p += 1;
         if may_fit(head, &cells[b..d], &bindings) {
-            let fit = fit_at(head, &cells[b..d], h, q, chosen, bindings);
-            if fit.fits {
+            let mut settled = bindings;
+            if fit_at(head, &cells[b..d], h, q, chosen, &mut settled) {
                 let mut more = chosen;
                 more[h] = q;
-                let settled = fit.bindings;
+                if left == 1 {
+                    return Found {
+                        found: true,
+                        positions: more,
+                        bindings: settled,
+                    };
+                }
                 let since = still(from, q);
                 let found = find(heads, n, left - 1, cells, m, more, settled, since);
                 if found.found {
@@ -161,7 +164,19 @@ pub fn find_rule(row: &[u16], cells: &[u16], m: usize, from: usize) -> Found
     find(&row[FIRST_HEAD..e], n, n, cells, m, [0; 4], [0; 26], from)
 }
 
-// The first rule that fits; what is known of the rules before it is noted.
+// In how many of the first constraints a rule fits nowhere, where it fits at these smallest positions.
+pub fn leading(row: &[u16], positions: [usize; 4]) -> usize
+    requires { ⌜ Row (now row) × (length positions ≡ 4) ⌝ }
+    ensures { λ r. ⌜ r ≡ cond (eqb (getD (now (row .entry)) headsCell 0) 0) 0 (getD positions 0 0) ⌝ }
+{
+    if row[HEADS_CELL] == 0 {
+        0
+    } else {
+        positions[0]
+    }
+}
+
+// The first rule that fits; what is known of it and of the rules before it is noted.
 pub fn choose(rules: &[u16], n: usize, known: &mut [usize], cells: &[u16], m: usize) -> Choice
     requires { ⌜ Table (now rules) n × (length (now cells) ≡ constraintSize * m)
         × Knows (now rules) n (now known) (cellConstraints (now cells)) ⌝ }
@@ -180,6 +195,7 @@ pub fn choose(rules: &[u16], n: usize, known: &mut [usize], cells: &[u16], m: us
             if place.found {
                 let positions = place.positions;
                 let bindings = place.bindings;
+                note(known, q, leading(&rules[a..e], positions));
                 return Choice {
                     found: true,
                     number: q,

@@ -37,11 +37,12 @@ pub fn match_at(row: &[u16], positions: [usize; 4], cells: &[u16], m: usize) -> 
         let b = a + CONSTRAINT_SIZE;
         let c = CONSTRAINT_SIZE * p;
         let d = c + CONSTRAINT_SIZE;
-        let fit = fit_at(&heads[a..b], &cells[c..d], h, p, positions, bindings);
-        if !fit.fits {
-            return fit;
+        if !fit_at(&heads[a..b], &cells[c..d], h, p, positions, &mut bindings) {
+            return Fit {
+                fits: false,
+                bindings,
+            };
         }
-        bindings = fit.bindings;
         h += 1;
     }
     Fit {

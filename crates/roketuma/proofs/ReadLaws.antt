@@ -102,7 +102,8 @@ module _ {symbols names places : List ℕ} {c : Counts} (t : Tabled symbols name
       }
 
   module _ (goal : List ℕ) {names′ places′ cells letters : List ℕ} {reply : GoalRead}
-      (g : GoalIn goal (take (symbolSize * c .symbols) symbols) names places (c .constants) names′ places′ cells letters reply) where
+      (g : GoalIn goal (take (symbolSize * c .symbols) symbols) names places (c .constants) names′ places′ cells letters
+      reply) where
     answers :
         goalAnswer names′ cells letters reply
         ≡ readGoal (symbolsOf names symbols (c .symbols)) (constantsOf names (c .constants)) goal
@@ -117,7 +118,8 @@ module _ {symbols names places : List ℕ} {c : Counts} (t : Tabled symbols name
         ≡ goalReply (symbolsOf names symbols (c .symbols)) (constantsOf names (c .constants)) goal
     unfolding goalAnswer textMeant goalReply judged
     goal-unreadable number line h =
-        ap (λ (a : Answer GoalReading). judged goalText a (λ g. readable)) (sym (ap (goalAnswer names′ cells letters) h) ∙ answers)
+        ap (λ (a : Answer GoalReading). judged goalText a (λ g. readable))
+        (sym (ap (goalAnswer names′ cells letters) h) ∙ answers)
 
     -- a goal that is read
     pub goal-readable :
@@ -125,7 +127,8 @@ module _ {symbols names places : List ℕ} {c : Counts} (t : Tabled symbols name
         → readMeant Readable ≡ goalReply (symbolsOf names symbols (c .symbols)) (constantsOf names (c .constants)) goal
     unfolding goalAnswer readMeant goalReply judged
     goal-readable found h =
-        ap (λ (a : Answer GoalReading). judged goalText a (λ g. readable)) (sym (ap (goalAnswer names′ cells letters) h) ∙ answers)
+        ap (λ (a : Answer GoalReading). judged goalText a (λ g. readable))
+        (sym (ap (goalAnswer names′ cells letters) h) ∙ answers)
 
 -- a letter has the byte of the text that it names
 meant-byte : (t : TextName) → nameByte t ≡ textByte (textMeant t)

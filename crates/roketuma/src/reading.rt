@@ -29,7 +29,13 @@ fn refused(number: u8, text: TextName, line: u16) -> ReadReply
 }
 
 // The answer to a goal's text, over the tables of a program as read.
-fn judge_goal(goal: &[u8], symbols: &[u16], names: &mut [u64], places: &mut [u16], counts: Counts) -> ReadReply
+fn judge_goal(
+    goal: &[u8],
+    symbols: &[u16],
+    names: &mut [u64],
+    places: &mut [u16],
+    counts: Counts,
+) -> ReadReply
     requires { ⌜ Tabled (now symbols) (now names) (now places) counts ⌝ }
     ensures { λ r. ⌜ readMeant r ≡ goalReply (symbolsOf (now (names .entry)) (now (symbols .entry)) (counts .symbols))
         (constantsOf (now (names .entry)) (counts .constants)) (now (goal .entry)) ⌝ }
@@ -61,7 +67,13 @@ pub fn read(program: &[u8], goal: &[u8]) -> ReadReply
     let mut rules = [0; 2048];
     match read_program(program, &mut names, &mut places, &mut symbols, &mut rules) {
         ProgramRead::Refused(number, line) => refused(number, TextName::S, line),
-        ProgramRead::Accepted(counts) => judge_goal(goal, &symbols, &mut names, &mut places, counts),
+        ProgramRead::Accepted(counts) => judge_goal(
+            goal,
+            &symbols,
+            &mut names,
+            &mut places,
+            counts,
+        ),
     }
 }
 

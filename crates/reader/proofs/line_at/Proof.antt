@@ -67,9 +67,13 @@ abbrev B : Lfts 2 → RattleType
 B κs = T.the-row (namedLft 2 1 tt κs)
 
 abbrev stayed : Stays (finds.ended .signature .params) (finds.ended .kept)
-stayed =
-    (stay-none-slice (0 ∷ []) tt (plain (λ _. u8)) yes, (stay-none-slice (1 ∷ []) tt (plain (λ _. u8)) yes,
-    (stay-none (λ _. usize) yes, tt)))
+stayed = (
+  stay-none-slice (0 ∷ []) tt (plain (λ _. u8)) yes,
+  (
+    stay-none-slice (1 ∷ []) tt (plain (λ _. u8)) yes,
+    (stay-none (λ _. usize) yes, tt),
+  ),
+)
 
 -- what is asked of a text and the start of a line
 abbrev Asked : List ℕ → List ℕ → ℕ → Type 0
@@ -249,9 +253,10 @@ finds-meets :
     → Triple 𝓤 (𝓣 .C #reader·line) (Reads 𝓤 H A mem run)
     → Meets 𝓤 H A finds.signature (WpFn 𝓤 H (𝓣 .C) (𝓣 .Λ) code.function) (finds.spec 𝓤 H A mem run)
 finds-meets 𝓤 H A W mem run 𝓣 known-makes known-reads =
-    walk-meets 𝓤 H A finds.ended stayed W
-    (goes-none-slice 𝓤 H A W 2 (0 ∷ []) tt (plain (λ _. u8)) yes,
-    (goes-none-slice 𝓤 H A W 2 (1 ∷ []) tt (plain (λ _. u8)) yes, (goes-none 𝓤 H A W 2 (λ _. usize) yes (λ κs x f. refl), tt)))
+    walk-meets 𝓤 H A finds.ended stayed W (
+      goes-none-slice 𝓤 H A W 2 (0 ∷ []) tt (plain (λ _. u8)) yes,
+      (goes-none-slice 𝓤 H A W 2 (1 ∷ []) tt (plain (λ _. u8)) yes, (goes-none 𝓤 H A W 2 (λ _. usize) yes (λ κs x f. refl), tt)),
+    )
     (finds.clauses 𝓤 H A mem run) (WpFn 𝓤 H (𝓣 .C) (𝓣 .Λ) code.function) (WpFn-mono 𝓤 H (W .laws) 𝓣 code.function)
     (finds-walks 𝓤 H A W mem run (𝓣 .C) (𝓣 .Λ) (fmOf 𝓤 H (W .laws) 𝓣) known-makes known-reads)
 

@@ -15,10 +15,12 @@ slice-reshare-prefix-choose : tie.Need-slice-reshare-prefix-choose
 slice-reshare-prefix-choose c = search needs
 
 slice-aggregate-choose : tie.Need-slice-aggregate-choose
-slice-aggregate-choose c = step-lent _ _ _ _ _ ((c .before .before .before .before .before .before .pre) .0)
+slice-aggregate-choose c = step-lent _ _ _ _ _ (c .before .before .before .before .before .before .pre .0)
 
 choose-requires : tie.Need-choose-requires
-choose-requires c κs = step-chooses _ _ _ _ _ ((c .before .before .before .before .before .before .pre) .0) _ ((c .before .before .before .before .before .before .pre) .1) _ (omega arith)
+choose-requires c κs =
+    let at-pre = c .before .before .before .before .before .before in
+    step-chooses _ _ _ _ _ (at-pre .pre .0) _ (at-pre .pre .1) _ (omega arith)
 
 same-length : tie.Need-same-length
 same-length c = search needs
@@ -27,13 +29,19 @@ same-length-2 : tie.Need-same-length-2
 same-length-2 c = search needs
 
 returns : tie.Need-returns
-returns c = (
-  step-rests _ _ _ _ _ ((c .before .before .before .before .before .before .before .before .before .before .before .pre) .0) _ _ _ _ ((c .before .before .before .before .choose) .ensures .0) _ (not-true _ ((c .if1) .taken)),
-  step-keeps-none _ _ _ _ _ ((c .before .before .before .before .before .before .before .before .before .before .before .pre) .0) _ _ _ _ ((c .before .before .before .before .choose) .ensures .0) _ _ _ _,
-)
+returns c =
+    let at-choose = c .before .before .before .before in
+    let at-pre = at-choose .before .before .before .before .before .before .before in (
+      step-rests _ _ _ _ _ (at-pre .pre .0) _ _ _ _ (at-choose .choose .ensures .0) _ (not-true _ (c .if1 .taken)),
+      step-keeps-none _ _ _ _ _ (at-pre .pre .0) _ _ _ _ (at-choose .choose .ensures .0) _ _ _ _,
+    )
 
 part-fire-end : tie.Need-part-fire-end
-part-fire-end c = step-row _ _ _ _ _ ((c .before .before .before .before .before .before .before .before .before .before .before .before .before .pre) .0) _ _ _ _ ((c .before .before .before .before .before .before .choose) .ensures .0) (not-false _ ((c .before .before .if1) .left))
+part-fire-end c =
+    let at-if1 = c .before .before in
+    let at-choose = at-if1 .before .before .before .before in
+    let at-pre = at-choose .before .before .before .before .before .before .before in
+    step-row _ _ _ _ _ (at-pre .pre .0) _ _ _ _ (at-choose .choose .ensures .0) (not-false _ (at-if1 .if1 .left))
 
 mul-a : tie.Need-mul-a
 mul-a c = omega (arith, part-fire-end c)
@@ -54,10 +62,18 @@ slice-aggregate-fire : tie.Need-slice-aggregate-fire
 slice-aggregate-fire c = search needs
 
 fire-requires : tie.Need-fire-requires
-fire-requires c κs = step-fires _ _ _ _ _ ((c .before .before .before .before .before .before .before .before .before .before .before .before .before .before .before .before .before .pre) .0) _ _ _ _ ((c .before .before .before .before .before .before .before .before .before .before .choose) .ensures .0) (not-false _ ((c .before .before .before .before .before .before .if1) .left))
+fire-requires c κs =
+    let at-if1 = c .before .before .before .before .before .before in
+    let at-choose = at-if1 .before .before .before .before in
+    let at-pre = at-choose .before .before .before .before .before .before .before in
+    step-fires _ _ _ _ _ (at-pre .pre .0) _ _ _ _ (at-choose .choose .ensures .0) (not-false _ (at-if1 .if1 .left))
 
 part-lower-end : tie.Need-part-lower-end
-part-lower-end c = step-row _ _ _ _ _ ((c .before .before .before .before .before .before .before .before .before .before .before .before .before .before .before .before .before .before .before .before .before .before .pre) .0) _ _ _ _ ((c .before .before .before .before .before .before .before .before .before .before .before .before .before .before .before .choose) .ensures .0) (not-false _ ((c .before .before .before .before .before .before .before .before .before .before .before .if1) .left))
+part-lower-end c =
+    let at-if1 = c .before .before .before .before .before .before .before .before .before .before .before in
+    let at-choose = at-if1 .before .before .before .before in
+    let at-pre = at-choose .before .before .before .before .before .before .before in
+    step-row _ _ _ _ _ (at-pre .pre .0) _ _ _ _ (at-choose .choose .ensures .0) (not-false _ (at-if1 .if1 .left))
 
 mul-lower : tie.Need-mul-lower
 mul-lower c = omega (arith, part-lower-end c)
@@ -69,7 +85,13 @@ part-lower-start : tie.Need-part-lower-start
 part-lower-start c = search needs
 
 lower-requires : tie.Need-lower-requires
-lower-requires c κs = step-lowers _ _ _ _ _ ((c .before .before .before .before .before .before .before .before .before .before .before .before .before .before .before .before .before .before .before .before .before .before .before .before .pre) .0) _ _ _ _ ((c .before .before .before .before .before .before .before .before .before .before .before .before .before .before .before .before .before .choose) .ensures .0) (not-false _ ((c .before .before .before .before .before .before .before .before .before .before .before .before .before .if1) .left)) _ _ _ _ _ ((c .before .before .before .before .before .before .fire) .ensures) ((c .before .before .before .before .before .before .before .before .before .before .before .before .before .before .before .before .before .before .before .before .before .before .before .before .pre) .2)
+lower-requires c κs =
+    let at-fire = c .before .before .before .before .before .before in
+    let at-if1 = at-fire .before .before .before .before .before .before .before in
+    let at-choose = at-if1 .before .before .before .before in
+    let at-pre = at-choose .before .before .before .before .before .before .before in
+    step-lowers _ _ _ _ _ (at-pre .pre .0) _ _ _ _ (at-choose .choose .ensures .0) (not-false _ (at-if1 .if1 .left))
+    _ _ _ _ _ (at-fire .fire .ensures) (at-pre .pre .2)
 
 same-length-3 : tie.Need-same-length-3
 same-length-3 c = search needs
@@ -81,10 +103,18 @@ same-length-5 : tie.Need-same-length-5
 same-length-5 c = search needs
 
 returns-2 : tie.Need-returns-2
-returns-2 c = (
-  step-moves _ _ _ _ _ ((c .before .before .before .before .before .before .before .before .before .before .before .before .before .before .before .before .before .before .before .before .before .before .before .before .before .before .before .pre) .0) _ _ _ _ ((c .before .before .before .before .before .before .before .before .before .before .before .before .before .before .before .before .before .before .before .before .choose) .ensures .0) (not-false _ ((c .before .before .before .before .before .before .before .before .before .before .before .before .before .before .before .before .if1) .left)) _ _ _ _ _ ((c .before .before .before .before .before .before .before .before .before .fire) .ensures),
-  step-keeps _ _ _ _ _ ((c .before .before .before .before .before .before .before .before .before .before .before .before .before .before .before .before .before .before .before .before .before .before .before .before .before .before .before .pre) .0) _ _ _ _ ((c .before .before .before .before .before .before .before .before .before .before .before .before .before .before .before .before .before .before .before .before .choose) .ensures .0) (not-false _ ((c .before .before .before .before .before .before .before .before .before .before .before .before .before .before .before .before .if1) .left)) _ _ _ _ _ ((c .before .before .before .before .before .before .before .before .before .fire) .ensures) _ _ ((c .before .before .before .before .before .before .before .before .before .before .before .before .before .before .before .before .before .before .before .before .choose) .ensures .1) ((c .before .before .lower) .ensures),
-)
+returns-2 c =
+    let at-lower = c .before .before in
+    let at-fire = at-lower .before .before .before .before .before .before .before in
+    let at-if1 = at-fire .before .before .before .before .before .before .before in
+    let at-choose = at-if1 .before .before .before .before in
+    let at-pre = at-choose .before .before .before .before .before .before .before in (
+      step-moves _ _ _ _ _ (at-pre .pre .0) _ _ _ _ (at-choose .choose .ensures .0) (not-false _ (at-if1 .if1 .left))
+          _ _ _ _ _ (at-fire .fire .ensures),
+      step-keeps _ _ _ _ _ (at-pre .pre .0) _ _ _ _ (at-choose .choose .ensures
+          .0) (not-false _ (at-if1 .if1 .left)) _ _ _ _ _ (at-fire .fire .ensures) _ _ (at-choose .choose .ensures .1)
+          (at-lower .lower .ensures),
+    )
 
 pub advance-spec : {M : Type 1} → statement M
 advance-spec =

@@ -16,7 +16,8 @@ use Rattle.engine.proofs.derivation.normalise.Tie as tie
 
 abbrev Inv-loop : tie.InvT-loop
 Inv-loop rules n bound₀ cells₀ m next alive₀ count₀ number₀ firings₀ known₀ bound cells alive count number firings known =
-    Running rules n bound₀ cells₀ m next bound cells alive count number firings × Keeps rules n known cells true alive count × (length known ≡ 32)
+    Running rules n bound₀ cells₀ m next bound cells alive count number firings × Keeps rules n known cells true alive
+    count × (length known ≡ 32)
 
 abbrev μ-loop : tie.MeasureT-loop
 μ-loop rules n bound₀ cells₀ m next alive₀ count₀ number₀ firings₀ known₀ bound cells alive count number firings known =
@@ -29,11 +30,15 @@ slice-aggregate-advance : tie.Need-slice-aggregate-advance Inv-loop μ-loop
 slice-aggregate-advance c = omega arith
 
 advance-requires : tie.Need-advance-requires Inv-loop μ-loop
-advance-requires c κs = (
-  running-live _ _ _ _ _ _ ((c .before .before .before .before .before .before .before .before .pre)) _ _ _ _ _ _ ((c .before .before .before .before .loop) .inv .0) ((c .before .before .before .loop-test) .taken),
-  (c .before .before .before .before .loop) .inv .1 .knows refl ((c .before .before .before .loop-test) .taken),
-  few-now _ _ _ _ _ _ ((c .before .before .before .before .before .before .before .before .pre)) _ _ _ _ _ _ ((c .before .before .before .before .loop) .inv .0) ((c .before .before .before .loop-test) .taken),
-)
+advance-requires c κs =
+    let at-loop-test = c .before .before .before in
+    let at-loop = at-loop-test .before in
+    let at-pre = at-loop .before .before .before .before in (
+      running-live _ _ _ _ _ _ ((at-pre .pre)) _ _ _ _ _ _ (at-loop .loop .inv .0) (at-loop-test .loop-test .taken),
+      at-loop .loop .inv .1 .knows refl (at-loop-test .loop-test .taken),
+      few-now _ _ _ _ _ _ ((at-pre .pre)) _ _ _ _
+          _ _ (at-loop .loop .inv .0) (at-loop-test .loop-test .taken),
+    )
 
 same-length : tie.Need-same-length Inv-loop μ-loop
 same-length c = omega arith
@@ -42,10 +47,22 @@ same-length-2 : tie.Need-same-length-2 Inv-loop μ-loop
 same-length-2 c = omega arith
 
 returns : tie.Need-returns Inv-loop μ-loop
-returns c = running-rests _ _ _ _ _ _ ((c .before .before .before .before .before .before .before .before .before .before .before .before .before .before .before .before .pre)) _ _ _ _ _ _ ((c .before .before .before .before .before .before .before .before .before .before .before .before .loop) .inv .0) ((c .before .before .before .before .before .before .before .before .before .before .before .loop-test) .taken) _ _ _ _ _ ((c .before .before .before .before .before .before .before .advance) .ensures .0) (not-true _ ((c .if1) .taken))
+returns c =
+    let at-advance = c .before .before .before .before .before .before .before in
+    let at-loop-test = at-advance .before .before .before .before in
+    let at-loop = at-loop-test .before in
+    let at-pre = at-loop .before .before .before .before in
+    running-rests _ _ _ _ _ _ ((at-pre .pre)) _ _ _ _ _ _ (at-loop .loop .inv .0) (at-loop-test .loop-test .taken) _
+    _ _ _ _ (at-advance .advance .ensures .0) (not-true _ (c .if1 .taken))
 
 loop-less : tie.Need-loop-less Inv-loop μ-loop
-loop-less c = running-less _ _ _ _ _ _ ((c .before .before .before .before .before .before .before .before .before .before .before .before .before .before .before .before .pre)) _ _ _ _ _ _ ((c .before .before .before .before .before .before .before .before .before .before .before .before .loop) .inv .0) ((c .before .before .before .before .before .before .before .before .before .before .before .loop-test) .taken) _ _ _ _ _ ((c .before .before .before .before .before .before .before .advance) .ensures .0) (not-false _ ((c .if1) .left))
+loop-less c =
+    let at-advance = c .before .before .before .before .before .before .before in
+    let at-loop-test = at-advance .before .before .before .before in
+    let at-loop = at-loop-test .before in
+    let at-pre = at-loop .before .before .before .before in
+    running-less _ _ _ _ _ _ ((at-pre .pre)) _ _ _ _ _ _ (at-loop .loop .inv .0) (at-loop-test .loop-test .taken) _
+    _ _ _ _ (at-advance .advance .ensures .0) (not-false _ (c .if1 .left))
 
 add-number : tie.Need-add-number Inv-loop μ-loop
 add-number c = omega (arith, loop-less c)
@@ -54,11 +71,17 @@ add-firings : tie.Need-add-firings Inv-loop μ-loop
 add-firings c = omega (arith, loop-less c)
 
 loop-again : tie.Need-loop-again Inv-loop μ-loop
-loop-again c = (
-  running-next _ _ _ _ _ _ ((c .before .before .before .before .before .before .before .before .before .before .before .before .before .before .before .before .pre)) _ _ _ _ _ _ ((c .before .before .before .before .before .before .before .before .before .before .before .before .loop) .inv .0) ((c .before .before .before .before .before .before .before .before .before .before .before .loop-test) .taken) _ _ _ _ _ ((c .before .before .before .before .before .before .before .advance) .ensures .0) (not-false _ ((c .if1) .left)) (omega arith) (omega arith),
-  keeps-on _ _ _ _ _ _ _ ((c .before .before .before .before .before .before .before .advance) .ensures .1) (not-false _ ((c .if1) .left)),
-  search needs,
-)
+loop-again c =
+    let at-advance = c .before .before .before .before .before .before .before in
+    let at-loop-test = at-advance .before .before .before .before in
+    let at-loop = at-loop-test .before in
+    let at-pre = at-loop .before .before .before .before in (
+      running-next _ _ _ _ _ _ ((at-pre .pre)) _ _ _ _ _ _ (at-loop .loop .inv .0) (at-loop-test .loop-test .taken) _
+          _ _ _ _ (at-advance .advance .ensures .0) (not-false _ (c .if1 .left)) (omega arith) (omega arith),
+      keeps-on _ _
+          _ _ _ _ _ (at-advance .advance .ensures .1) (not-false _ (c .if1 .left)),
+      search needs,
+    )
 
 same-length-3 : tie.Need-same-length-3 Inv-loop μ-loop
 same-length-3 c = omega arith

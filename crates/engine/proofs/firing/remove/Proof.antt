@@ -19,13 +19,13 @@ highest-requires : tie.Need-highest-requires Inv-loop μ-loop
 highest-requires c κs = search needs
 
 loop-holds : tie.Need-loop-holds Inv-loop μ-loop
-loop-holds c = removing-start _ _ _ _ ((c .before .before .pre) .0) ((c .highest) .ensures)
+loop-holds c = removing-start _ _ _ _ (c .before .before .pre .0) (c .highest .ensures)
 
 sub-p : tie.Need-sub-p Inv-loop μ-loop
 sub-p c = omega arith
 
 close-gap-requires : tie.Need-close-gap-requires Inv-loop μ-loop
-close-gap-requires c κs = removing-room _ _ _ _ _ _ ((c .before .before .loop) .inv) ((c .before .loop-test) .taken)
+close-gap-requires c κs = removing-room _ _ _ _ _ _ (c .before .before .loop .inv) (c .before .loop-test .taken)
 
 sub-k : tie.Need-sub-k Inv-loop μ-loop
 sub-k c = omega arith
@@ -34,16 +34,16 @@ highest-requires-2 : tie.Need-highest-requires-2 Inv-loop μ-loop
 highest-requires-2 c κs = search needs
 
 loop-less : tie.Need-loop-less Inv-loop μ-loop
-loop-less c = omega (arith, (c .highest2) .ensures .below)
+loop-less c = omega (arith, c .highest2 .ensures .below)
 
 loop-again : tie.Need-loop-again Inv-loop μ-loop
 loop-again c = search removing-next
 
 same-length : tie.Need-same-length Inv-loop μ-loop
-same-length c = ((c .before .loop) .inv) .size
+same-length c = (c .before .loop .inv) .size
 
 returns : tie.Need-returns Inv-loop μ-loop
-returns c = removing-end _ _ _ _ _ _ ((c .before .loop) .inv) ((c .loop-test) .left)
+returns c = removing-end _ _ _ _ _ _ (c .before .loop .inv) (c .loop-test .left)
 
 pub remove-spec : {M : Type 1} → statement M
 remove-spec =

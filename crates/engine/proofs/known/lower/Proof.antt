@@ -68,8 +68,13 @@ known-at-requires : tie.Need-known-at-requires Inv-loop μ-loop
 known-at-requires c κs = search needs
 
 lowered-requires : tie.Need-lowered-requires Inv-loop μ-loop
-lowered-requires c κs = 
-    lowering-row _ _ _ _ _ _ _ ((c .before .before .before .before .before .before .before .before .before .before .before .before .before .before .before .pre) .0) ((c .before .before .before .before .loop-test) .taken) ((c .before .before .before .before .before .before .before .before .before .before .before .before .before .before .before .pre) .1) ((c .before .before .before .before .before .before .before .before .before .before .before .before .before .before .before .pre) .2) ((c .before .before .before .before .before .before .before .mark) .ensures) ((c .before .before .before .before .before .before .before .before .before .before .wide) .ensures .0)
+lowered-requires c κs =
+    let at-loop-test = c .before .before .before .before in
+    let at-mark = at-loop-test .before .before .before in
+    let at-wide = at-mark .before .before .before in
+    let at-pre = at-wide .before .before .before .before .before in
+    lowering-row _ _ _ _ _ _ _ (at-pre .pre .0) (at-loop-test .loop-test .taken) (at-pre .pre .1) (at-pre .pre .2)
+    (at-mark .mark .ensures) (at-wide .wide .ensures .0)
 
 note-requires : tie.Need-note-requires Inv-loop μ-loop
 note-requires c κs = search needs
@@ -81,14 +86,20 @@ loop-less : tie.Need-loop-less Inv-loop μ-loop
 loop-less c = omega arith
 
 loop-again : tie.Need-loop-again Inv-loop μ-loop
-loop-again c = 
-    lowering-next _ _ _ _ _ _ _ _ ((c .before .before .before .before .before .before .before .before .before .before .loop) .inv) ((c .before .before .before .before .before .before .before .before .before .loop-test) .taken) _ _ _ ((c .before .before .before .before .before .known-at) .ensures) ((c .before .before .before .before .lowered) .ensures) ((c .before .before .note) .ensures)
+loop-again c =
+    let at-note = c .before .before in
+    let at-lowered = at-note .before .before in
+    let at-known-at = at-lowered .before in
+    let at-loop-test = at-known-at .before .before .before .before in
+    let at-loop = at-loop-test .before in
+    lowering-next _ _ _ _ _ _ _ _ (at-loop .loop .inv) (at-loop-test .loop-test .taken) _ _ _ (at-known-at .known-at
+    .ensures) (at-lowered .lowered .ensures) (at-note .note .ensures)
 
 same-length : tie.Need-same-length Inv-loop μ-loop
-same-length c = (c .before .loop) .inv .size
+same-length c = c .before .loop .inv .size
 
 returns : tie.Need-returns Inv-loop μ-loop
-returns c = lowering-end _ _ _ _ _ _ _ _ ((c .before .loop) .inv) ((c .loop-test) .left)
+returns c = lowering-end _ _ _ _ _ _ _ _ (c .before .loop .inv) (c .loop-test .left)
 
 pub lower-spec : {M : Type 1} → statement M
 lower-spec =

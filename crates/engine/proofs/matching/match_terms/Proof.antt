@@ -7,17 +7,15 @@ use Rattle.engine.proofs.MatchLaws.{Walk, walk-start, walk-head-ends, w
 use Rattle.engine.proofs.MatchLaws.{walk-fits, walk-end}
 use Rattle.engine.proofs.matching.match_terms.Statement.{statement}
 use Rattle.engine.proofs.matching.match_terms.Tie as tie
-use Rattle.engine.proofs.matching.match_term.Reads as match-term-reads
 
 abbrev Inv-loop : tie.InvT-loop
-Inv-loop head constraint settled₀ i₀ settled i = Walk head constraint settled₀ settled i
+Inv-loop head constraint bindings₀ i₀ bindings i = Walk head constraint bindings₀ bindings i
 
 abbrev μ-loop : tie.MeasureT-loop
-μ-loop head constraint settled₀ i₀ settled i = 5 - i
+μ-loop head constraint bindings₀ i₀ bindings i = 5 - i
 
 loop-holds : tie.Need-loop-holds Inv-loop μ-loop
-loop-holds c =
-    walk-start _ _ _ ((c .before .before .pre))
+loop-holds c = walk-start _ _ _ ((c .before .before .before .pre))
 
 mul-h : tie.Need-mul-h Inv-loop μ-loop
 mul-h c = omega arith
@@ -31,39 +29,52 @@ mul-t c = omega arith
 shared-slice-read-t : tie.Need-shared-slice-read-t Inv-loop μ-loop
 shared-slice-read-t c = omega arith
 
+same-length : tie.Need-same-length Inv-loop μ-loop
+same-length c = omega arith
+
 returns : tie.Need-returns Inv-loop μ-loop
 returns c =
-    let loop′ = c .before .before .before .before .loop in
-    let loop-test′ = c .before .before .before .loop-test in
-    let if1′ = c .if1 in
-    walk-head-ends _ _ _ _ _ (loop′ .inv) (loop-test′ .taken) (if1′ .taken)
+    let at-loop-test = c .before .before .before in
+    let at-loop = at-loop-test .before in
+    walk-head-ends _ _ _ _ _ (at-loop .loop .inv) (at-loop-test .loop-test .taken) (c .if1 .taken)
+
+same-length-2 : tie.Need-same-length-2 Inv-loop μ-loop
+same-length-2 c = omega arith
 
 returns-2 : tie.Need-returns-2 Inv-loop μ-loop
 returns-2 c =
-    let loop′ = c .before .before .before .before .before .loop in
-    let loop-test′ = c .before .before .before .before .loop-test in
-    let if1′ = c .before .if1 in
-    let if2′ = c .if2 in
-    walk-constraint-ends _ _ _ _ _ (loop′ .inv) (loop-test′ .taken) (if1′ .left) (if2′ .taken)
+    let at-if1 = c .before in
+    let at-loop-test = at-if1 .before .before .before in
+    let at-loop = at-loop-test .before in
+    walk-constraint-ends _ _ _ _ _ (at-loop .loop .inv) (at-loop-test .loop-test .taken) (at-if1 .if1 .left) (c .if2
+    .taken)
 
 match-term-requires : tie.Need-match-term-requires Inv-loop μ-loop
 match-term-requires c κs =
-    let loop′ = c .before .before .before .before .before .loop in
-    let loop-test′ = c .before .before .before .before .loop-test in
-    let if1′ = c .before .if1 in
-    let if2′ = c .if2 in
-    (walk-letter _ _ _ _ _ (loop′ .inv) (loop-test′ .taken) (if1′ .left), omega (arith, if2′ .left), loop′ .inv .size)
+    let at-if2 = c .before in
+    let at-if1 = at-if2 .before in
+    let at-loop-test = at-if1 .before .before .before in
+    let at-loop = at-loop-test .before in (
+      walk-letter _ _ _ _ _ (at-loop .loop .inv) (at-loop-test .loop-test .taken) (at-if1 .if1 .left),
+      omega (
+        arith,
+        at-if2 .if2 .left,
+      ),
+      at-loop .loop .inv .size,
+    )
+
+same-length-3 : tie.Need-same-length-3 Inv-loop μ-loop
+same-length-3 c = omega (arith, c .before .before .before .match-term .ensures .size)
 
 returns-3 : tie.Need-returns-3 Inv-loop μ-loop
 returns-3 c =
-    let loop′ = c .before .before .before .before .before .before .before .before .loop in
-    let loop-test′ = c .before .before .before .before .before .before .before .loop-test in
-    let if1′ = c .before .before .before .before .if1 in
-    let if2′ = c .before .before .before .if2 in
-    let match-term′ = c .before .before .match-term in
-    let if3′ = c .if3 in
-    walk-fails _ _ _ _ _ (loop′ .inv) (loop-test′ .taken) (if1′ .left) (if2′ .left) _ _ (match-term′ .ensures) (not-true _
-    (if3′ .taken))
+    let at-match-term = c .before .before .before in
+    let at-if2 = at-match-term .before .before in
+    let at-if1 = at-if2 .before in
+    let at-loop-test = at-if1 .before .before .before in
+    let at-loop = at-loop-test .before in
+    walk-fails _ _ _ _ _ (at-loop .loop .inv) (at-loop-test .loop-test .taken) (at-if1 .if1 .left) (at-if2 .if2
+    .left) _ _ (at-match-term .match-term .ensures) (not-true _ (c .if3 .taken))
 
 add-i : tie.Need-add-i Inv-loop μ-loop
 add-i c = omega arith
@@ -73,20 +84,19 @@ loop-less c = omega arith
 
 loop-again : tie.Need-loop-again Inv-loop μ-loop
 loop-again c =
-    let loop′ = c .before .before .before .before .before .before .before .before .before .loop in
-    let loop-test′ = c .before .before .before .before .before .before .before .before .loop-test in
-    let if1′ = c .before .before .before .before .before .if1 in
-    let if2′ = c .before .before .before .before .if2 in
-    let match-term′ = c .before .before .before .match-term in
-    let if3′ = c .before .if3 in
-    walk-fits _ _ _ _ _ (loop′ .inv) (loop-test′ .taken) (if1′ .left) (if2′ .left) _ _ (match-term′ .ensures) (not-false _
-    (if3′ .left))
+    let at-match-term = c .before .before .before in
+    let at-if2 = at-match-term .before .before in
+    let at-if1 = at-if2 .before in
+    let at-loop-test = at-if1 .before .before .before in
+    let at-loop = at-loop-test .before in
+    walk-fits _ _ _ _ _ (at-loop .loop .inv) (at-loop-test .loop-test .taken) (at-if1 .if1 .left) (at-if2 .if2
+    .left) _ _ (at-match-term .match-term .ensures) (not-false _ (c .if3 .left))
+
+same-length-4 : tie.Need-same-length-4 Inv-loop μ-loop
+same-length-4 c = omega arith
 
 returns-4 : tie.Need-returns-4 Inv-loop μ-loop
-returns-4 c =
-    let loop′ = c .before .loop in
-    let loop-test′ = c .loop-test in
-    walk-end _ _ _ _ _ (loop′ .inv) (loop-test′ .left)
+returns-4 c = walk-end _ _ _ _ _ (c .before .loop .inv) (c .loop-test .left)
 
 pub match-terms-spec : {M : Type 1} → statement M
 match-terms-spec =
@@ -99,11 +109,15 @@ match-terms-spec =
     shared-slice-read-h
     mul-t
     shared-slice-read-t
+    same-length
     returns
+    same-length-2
     returns-2
     match-term-requires
+    same-length-3
     returns-3
     add-i
     loop-less
     loop-again
+    same-length-4
     returns-4)

@@ -7,7 +7,7 @@ use borrow.Author.Needs.{needs}
 use borrow.Fn.Kinds.{In}
 use borrow.Fn.PlainCycle.{Measures, is, falls, and}
 use Rattle.engine.proofs.SearchLaws.{Sought, seek-done, seek-start, seek-rows, seek-next, seek-found, seek-dead}
-use Rattle.engine.proofs.SearchLaws.{seek-misfit, seek-unfit, seek-none, seek-since, since-few}
+use Rattle.engine.proofs.SearchLaws.{seek-misfit, seek-unfit, seek-none, seek-since, since-few, seek-fits}
 use Rattle.engine.proofs.search.find.Reads as find
 use Rattle.engine.proofs.search.find.Kinds as find-kinds
 use Rattle.engine.proofs.search.+find.Lts-find as lts
@@ -62,15 +62,29 @@ module _ (t : ℕ) where
   may-fit-requires c κs = search (needs, seek-rows)
 
   fit-at-requires : lts.Need-fit-at-requires (calls t) (Pre t) find.Post Inv μ
-  fit-at-requires c κs = (search (needs, seek-rows), omega arith, search needs)
+  fit-at-requires c κs =
+      let turn = c .before .before .before .before .before .before in
+      let start = turn .before .before .before .before .before .before .before in (
+        seek-rows _ _ _ _ _ _ _ (start .pre .1 .0) (turn .before .before .before .before .if1 .left) _ (turn .before .loop .inv)
+            (turn .loop-test .taken),
+        omega arith,
+        start .pre .1 .0 .chosen-size,
+      )
+
+  returns-2 : lts.Need-returns-2 (calls t) (Pre t) find.Post Inv μ
+  returns-2 c =
+      let called = c .before .before .before in
+      let turn = called .before .before .before .before .before .before .before in
+      let start = turn .before .before .before .before .before .before .before in
+      seek-fits _ _ _ _ _ _ _ (start .pre .1 .0) (turn .before .before .before .before .if1 .left) _ (turn .before .loop .inv)
+      (turn .loop-test .taken) _ _ (called .fit-at .ensures) (c .before .if3 .taken) (c .if4 .taken)
 
   find-requires : lts.Need-find-requires (calls t) (Pre t) find.Post Inv μ
   find-requires c κs =
-      let called = c .before .before .before in
-      let turn = called .before .before .before .before .before .before in
+      let called = c .before .before .before .before in
+      let turn = called .before .before .before .before .before .before .before in
       let start = turn .before .before .before .before .before .before .before in
-      let if1′ = turn .before .before .before .before .if1 in
-      (
+      let if1′ = turn .before .before .before .before .if1 in (
         omega arith,
         (
           seek-next _ _ _ _ _ _ _ (start .pre .1 .0) (if1′ .left) _ _ (called .fit-at .ensures .size),
@@ -80,32 +94,37 @@ module _ (t : ℕ) where
         ),
       )
 
-  returns-2 : lts.Need-returns-2 (calls t) (Pre t) find.Post Inv μ
-  returns-2 c =
-      let called = c .before .before .before .before .before in
-      let turn = called .before .before .before .before .before .before in
+  returns-3 : lts.Need-returns-3 (calls t) (Pre t) find.Post Inv μ
+  returns-3 c =
+      let called = c .before .before .before .before .before .before in
+      let turn = called .before .before .before .before .before .before .before in
       let start = turn .before .before .before .before .before .before .before in
       seek-found _ _ _ _ _ _ _ (start .pre .1 .0) (turn .before .before .before .before .if1 .left) _ (turn .before .loop .inv)
       (turn .loop-test .taken) _ _ (called .fit-at .ensures) (c .before .before .before .before .if3 .taken)
-      _ _ _ (c .before .find .ensures) (c .if4 .taken)
+      _ _ _ (c .before .find .ensures) (c .if5 .taken)
 
   loop-again : lts.Need-loop-again (calls t) (Pre t) find.Post Inv μ
   loop-again c =
-      let called = c .before .before .before .before .before in
-      let turn = called .before .before .before .before .before .before in
+      let called = c .before .before .before .before .before .before in
+      let turn = called .before .before .before .before .before .before .before in
       let start = turn .before .before .before .before .before .before .before in
       seek-dead _ _ _ _ _ _ _ (start .pre .1 .0) (turn .before .before .before .before .if1 .left) _ (turn .before .loop .inv)
       (turn .loop-test .taken) _ _ (called .fit-at .ensures) (c .before .before .before .before .if3 .taken)
-      _ _ _ (c .before .find .ensures) (c .if4 .left)
+      _ _ _ (c .before .find .ensures) (c .if5 .left)
 
   loop-again-2 : lts.Need-loop-again-2 (calls t) (Pre t) find.Post Inv μ
-  loop-again-2 c = search (needs, seek-misfit)
+  loop-again-2 c =
+      let called = c .before .before in
+      let turn = called .before .before .before .before .before .before .before in
+      let start = turn .before .before .before .before .before .before .before in
+      seek-misfit _ _ _ _ _ _ _ (start .pre .1 .0) (turn .before .before .before .before .if1 .left) _ (turn .before .loop .inv)
+      (turn .loop-test .taken) _ _ (called .fit-at .ensures) (c .if3 .left)
 
   loop-again-3 : lts.Need-loop-again-3 (calls t) (Pre t) find.Post Inv μ
   loop-again-3 c = search (needs, seek-unfit)
 
-  returns-3 : lts.Need-returns-3 (calls t) (Pre t) find.Post Inv μ
-  returns-3 c = search (needs, seek-none)
+  returns-4 : lts.Need-returns-4 (calls t) (Pre t) find.Post Inv μ
+  returns-4 c = search (needs, seek-none)
 
 -- the needs in the code's order: sums, products and bounds are arithmetic
 pub +find-spec : {M : Type 1} → statement M
@@ -119,11 +138,13 @@ pub +find-spec : {M : Type 1} → statement M
     (λ c. omega arith) (λ c. omega arith) (λ c. omega arith) (λ c. omega arith)
     (λ c. omega arith) (λ c. omega arith) (λ c. omega arith)
     (λ c. omega arith) (may-fit-requires t)
-    (λ c. omega arith) (λ c. omega arith) (λ c. omega arith) (λ c. omega arith) (fit-at-requires t)
-    -- more, since and left - 1
-    (λ c. omega arith) (λ c. omega arith) (λ c κs. tt) (λ c. omega arith) (find-requires t)
-    (returns-2 t)
+    (λ c. omega arith) (λ c. omega arith) (λ c. omega arith) (λ c. omega arith) (λ c. omega arith) (fit-at-requires t)
+    -- more
+    (λ c. omega arith) (λ c. omega arith) (returns-2 t)
+    -- since and left - 1
+    (λ c κs. tt) (λ c. omega arith) (find-requires t)
+    (returns-3 t)
     (λ c. omega arith) (loop-again t)
     (λ c. omega arith) (loop-again-2 t)
     (λ c. omega arith) (loop-again-3 t)
-    (returns-3 t)
+    (returns-4 t)

@@ -11,12 +11,11 @@ use Rattle.engine.proofs.ChooseLaws.{
   choosing-none,
   choosing-row,
   choosing-found,
+  choosing-first,
+  choosing-leads,
 }
 use Rattle.engine.proofs.search.choose.Statement.{statement}
 use Rattle.engine.proofs.search.choose.Tie as tie
-use Rattle.engine.proofs.known.known_at.Reads as known-at-reads
-use Rattle.engine.proofs.known.note.Reads as note-reads
-use Rattle.engine.proofs.search.find_rule.Reads as find-rule-reads
 
 abbrev Inv-loop : tie.InvT-loop
 Inv-loop rules n known₀ cells m i₀ known i = Noting rules n known₀ cells known i
@@ -25,7 +24,7 @@ abbrev μ-loop : tie.MeasureT-loop
 μ-loop rules n known₀ cells m i₀ known i = n - i
 
 loop-holds : tie.Need-loop-holds Inv-loop μ-loop
-loop-holds c = noting-start _ _ _ _ ((c .before .before .before .pre) .2)
+loop-holds c = noting-start _ _ _ _ (c .before .before .before .pre .2)
 
 known-at-requires : tie.Need-known-at-requires Inv-loop μ-loop
 known-at-requires c κs = search needs
@@ -52,40 +51,101 @@ part-find-rule-end : tie.Need-part-find-rule-end Inv-loop μ-loop
 part-find-rule-end c = omega arith
 
 find-rule-requires : tie.Need-find-rule-requires Inv-loop μ-loop
-find-rule-requires c κs = choosing-row _ _ _ _ _ ((c .before .before .before .before .before .before .before .before .before .pre) .0) ((c .before .before .before .before .before .loop) .inv .choosing) ((c .before .before .before .before .loop-test) .taken) _ ((c .before .before .before .before .before .loop) .inv .knows) _ ((c .before .before .known-at) .ensures) ((c .before .before .before .before .before .before .before .before .before .pre) .1) ((c .before .if1) .taken)
+find-rule-requires c κs =
+    let at-if1 = c .before in
+    let at-known-at = at-if1 .before in
+    let at-loop-test = at-known-at .before .before in
+    let at-loop = at-loop-test .before in
+    let at-pre = at-loop .before .before .before .before in
+    choosing-row _ _ _ _ _ (at-pre .pre .0) (at-loop .loop .inv .choosing) (at-loop-test .loop-test .taken) _
+    (at-loop .loop .inv .knows) _ (at-known-at .known-at .ensures) (at-pre .pre .1) (at-if1 .if1 .taken)
+
+mul-leading : tie.Need-mul-leading Inv-loop μ-loop
+mul-leading c = omega arith
+
+sub-leading : tie.Need-sub-leading Inv-loop μ-loop
+sub-leading c = omega arith
+
+part-leading-start : tie.Need-part-leading-start Inv-loop μ-loop
+part-leading-start c = omega arith
+
+part-leading-end : tie.Need-part-leading-end Inv-loop μ-loop
+part-leading-end c = omega arith
+
+leading-requires : tie.Need-leading-requires Inv-loop μ-loop
+leading-requires c κs =
+    let at-find-rule = c .before .before .before .before .before in
+    let at-loop-test = at-find-rule .before .before .before .before .before in
+    let at-loop = at-loop-test .before in
+    let at-args = at-loop .before .before .before .before in
+    choosing-leads _ _ _ (at-args .args .m) _ (at-args .pre .0) (at-loop .loop .inv .choosing) (at-loop-test
+    .loop-test .taken) _ _ _ (at-find-rule .find-rule .ensures)
+
+note-requires : tie.Need-note-requires Inv-loop μ-loop
+note-requires c κs = search needs
 
 same-length : tie.Need-same-length Inv-loop μ-loop
-same-length c = ((c .before .before .before .before .before .before .before .before .before .loop) .inv) .size
+same-length c = search needs
 
 returns : tie.Need-returns Inv-loop μ-loop
-returns c = (
-  choosing-found _ _ _ ((c .before .before .before .before .before .before .before .before .before .before .before .before .before .args) .m) _ ((c .before .before .before .before .before .before .before .before .before .before .before .before .before .pre) .0) ((c .before .before .before .before .before .before .before .before .before .loop) .inv .choosing) ((c .before .before .before .before .before .before .before .before .loop-test) .taken) _ _ _ ((c .before .before .before .find-rule) .ensures) ((c .before .before .if2) .taken),
-  (c .before .before .before .before .before .before .before .before .before .loop) .inv .knows,
-)
+returns c =
+    let at-note = c .before .before in
+    let at-leading = at-note .before in
+    let at-if2 = at-leading .before .before .before .before .before in
+    let at-find-rule = at-if2 .before in
+    let at-loop-test = at-find-rule .before .before .before .before .before in
+    let at-loop = at-loop-test .before in
+    let at-args = at-loop .before .before .before .before in (
+      choosing-found _ _ _ (at-args .args .m) _ (at-args .pre .0) (at-loop .loop .inv .choosing) (at-loop-test
+          .loop-test .taken) _ _ _ (at-find-rule .find-rule .ensures) (at-if2 .if2 .taken),
+      choosing-first _ _ _ (at-args
+          .args .m) _ (at-args .pre .0) (at-loop .loop .inv .choosing) (at-loop-test .loop-test .taken) _ _ _
+          (at-find-rule .find-rule .ensures) (at-if2 .if2 .taken) _ _ _ (at-loop .loop .inv .knows) (at-leading .leading
+          .ensures) (at-note .note .ensures),
+    )
 
 add-note : tie.Need-add-note Inv-loop μ-loop
 add-note c = omega arith
 
-note-requires : tie.Need-note-requires Inv-loop μ-loop
-note-requires c κs = search needs
+note-requires-2 : tie.Need-note-requires-2 Inv-loop μ-loop
+note-requires-2 c κs = search needs
 
 loop-less : tie.Need-loop-less Inv-loop μ-loop
 loop-less c = omega arith
 
 loop-again : tie.Need-loop-again Inv-loop μ-loop
-loop-again c = noting-next _ _ _ _ _ _ _ ((c .before .before .before .before .before .before .before .before .before .before .before .before .before .before .before .pre) .0) ((c .before .before .before .before .before .before .before .before .before .before .before .loop) .inv) ((c .before .before .before .before .before .before .before .before .before .before .loop-test) .taken) ((c .before .before .before .before .before .before .before .before .before .before .before .before .before .before .before .pre) .1) _ _ _ ((c .before .before .before .before .before .find-rule) .ensures) ((c .before .before .before .before .if2) .left) _ ((c .before .before .note) .ensures)
+loop-again c =
+    let at-note2 = c .before .before in
+    let at-if2 = at-note2 .before .before in
+    let at-find-rule = at-if2 .before in
+    let at-loop-test = at-find-rule .before .before .before .before .before in
+    let at-loop = at-loop-test .before in
+    let at-pre = at-loop .before .before .before .before in
+    noting-next _ _ _ _ _ _ _ (at-pre .pre .0) (at-loop .loop .inv) (at-loop-test .loop-test .taken) (at-pre .pre
+    .1) _ _ _ (at-find-rule .find-rule .ensures) (at-if2 .if2 .left) _ (at-note2 .note2 .ensures)
 
 loop-less-2 : tie.Need-loop-less-2 Inv-loop μ-loop
 loop-less-2 c = omega arith
 
 loop-again-2 : tie.Need-loop-again-2 Inv-loop μ-loop
-loop-again-2 c = noting-passed _ _ _ _ _ _ _ ((c .before .before .before .before .before .before .before .before .pre) .0) ((c .before .before .before .before .loop) .inv) ((c .before .before .before .loop-test) .taken) ((c .before .before .before .before .before .before .before .before .pre) .1) _ ((c .before .known-at) .ensures) ((c .if1) .left)
+loop-again-2 c =
+    let at-known-at = c .before in
+    let at-loop-test = at-known-at .before .before in
+    let at-loop = at-loop-test .before in
+    let at-pre = at-loop .before .before .before .before in
+    noting-passed _ _ _ _ _ _ _ (at-pre .pre .0) (at-loop .loop .inv) (at-loop-test .loop-test .taken) (at-pre .pre
+    .1) _ (at-known-at .known-at .ensures) (c .if1 .left)
 
 same-length-2 : tie.Need-same-length-2 Inv-loop μ-loop
-same-length-2 c = ((c .before .loop) .inv) .size
+same-length-2 c = c .before .loop .inv .size
 
 returns-2 : tie.Need-returns-2 Inv-loop μ-loop
-returns-2 c = (choosing-none _ _ _ ((c .before .before .before .before .before .args) .m) _ ((c .before .before .before .before .before .pre) .0) ((c .before .loop) .inv .choosing) ((c .loop-test) .left), (c .before .loop) .inv .knows)
+returns-2 c =
+    let at-loop = c .before in
+    let at-args = at-loop .before .before .before .before in (
+      choosing-none _ _ _ (at-args .args .m) _ (at-args .pre .0) (at-loop .loop .inv .choosing) (c .loop-test .left),
+      at-loop .loop .inv .knows,
+    )
 
 pub choose-spec : {M : Type 1} → statement M
 choose-spec =
@@ -103,10 +163,16 @@ choose-spec =
     part-find-rule-start
     part-find-rule-end
     find-rule-requires
+    mul-leading
+    sub-leading
+    part-leading-start
+    part-leading-end
+    leading-requires
+    note-requires
     same-length
     returns
     add-note
-    note-requires
+    note-requires-2
     loop-less
     loop-again
     loop-less-2

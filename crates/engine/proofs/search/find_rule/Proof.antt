@@ -29,14 +29,20 @@ part-find-end : tie.Need-part-find-end
 part-find-end c = search needs
 
 find-requires : tie.Need-find-requires
-find-requires c κs = (
-  rule-seeking _ _ _ _ ((c .before .before .before .before .before .pre) .0) ((c .before .before .before .before .before .pre) .1) ((c .before .wide) .ensures .0),
-  rule-barren _ _ _ _ ((c .before .before .before .before .before .pre) .0) ((c .before .before .before .before .before .pre) .1) ((c .before .wide) .ensures .0) _ ((c .before .before .before .before .before .pre) .2),
-  (c .before .before .before .before .before .pre) .3,
-)
+find-requires c κs =
+    let at-wide = c .before in
+    let at-pre = at-wide .before .before .before .before in (
+      rule-seeking _ _ _ _ (at-pre .pre .0) (at-pre .pre .1) (at-wide .wide .ensures .0),
+      rule-barren _ _ _ _ (at-pre
+          .pre .0) (at-pre .pre .1) (at-wide .wide .ensures .0) _ (at-pre .pre .2),
+      at-pre .pre .3,
+    )
 
 returns : tie.Need-returns
-returns c = rule-located _ _ _ _ ((c .before .before .before .before .before .before .pre) .0) ((c .before .before .before .before .before .before .pre) .1) ((c .before .before .wide) .ensures .0) _ _ _ ((c .find) .ensures)
+returns c =
+    let at-wide = c .before .before in
+    let at-pre = at-wide .before .before .before .before in
+    rule-located _ _ _ _ (at-pre .pre .0) (at-pre .pre .1) (at-wide .wide .ensures .0) _ _ _ (c .find .ensures)
 
 pub find-rule-spec : {M : Type 1} → statement M
 find-rule-spec =

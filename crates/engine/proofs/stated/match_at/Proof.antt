@@ -40,16 +40,16 @@ fit-at-requires c κs = (search matching-rows, omega arith, search needs)
 returns-2 : tie.Need-returns-2 Inv-loop μ-loop
 returns-2 c =
     let placed = c .before .before in
-    let tested = placed .before .before .before in
+    let tested = placed .before .before .before .before in
     matching-misfit _ _ _ _ _ _ _ _ (tested .before .before .loop .inv) (tested .before .loop-test .taken) (tested .if1 .left) _ _
     (placed .fit-at .ensures) (not-true _ (c .if2 .taken))
 
 loop-again : tie.Need-loop-again Inv-loop μ-loop
 loop-again c =
-    let placed = c .before .before .before in
-    let tested = placed .before .before .before in
+    let placed = c .before .before in
+    let tested = placed .before .before .before .before in
     matching-fits _ _ _ _ _ _ _ _ (tested .before .before .loop .inv) (tested .before .loop-test .taken) (tested .if1 .left) _ _
-    (placed .fit-at .ensures) (not-false _ (c .before .if2 .left))
+    (placed .fit-at .ensures) (not-false _ (c .if2 .left))
 
 returns-3 : tie.Need-returns-3 Inv-loop μ-loop
 returns-3 c = search matching-end
@@ -73,7 +73,7 @@ match-at-spec =
     -- a, b, c, d and the cells of the head and of the constraint
     (λ c. omega arith) (λ c. omega arith) (λ c. omega arith) (λ c. omega arith)
     (λ c. omega arith) (λ c. omega arith) (λ c. omega arith) (λ c. omega arith)
-    (λ c. omega arith) (λ c. omega arith) (λ c. omega arith) (λ c. omega arith)
+    (λ c. omega arith) (λ c. omega arith) (λ c. omega arith) (λ c. omega arith) (λ c. omega arith)
     fit-at-requires
     returns-2
     -- h

@@ -27,7 +27,7 @@ add-result-2 : tie.Need-add-result-2
 add-result-2 c = omega (arith, c .name-byte .ensures, byte-few (c .before .before .before .args .refusal .text))
 
 returns : tie.Need-returns
-returns c = search needs
+returns c = rw (c .name-byte .ensures)
 
 pub refusal-number-spec : {M : Type 1} → statement M
 refusal-number-spec =

@@ -27,7 +27,8 @@ returns-2 c =
     let at-counts = at-judge .before .before .before .before .before in
     let at-read = at-counts .before .before .before .before .before .before in
     let counts′ = at-counts .counts in
-    program-goes-on (at-read .read-program .ensures) (counts′ .given .0 .0) (counts′ .given .1) _ _ (at-judge .judge-goal .ensures)
+    program-goes-on (at-read .read-program .ensures) (counts′ .given .0 .0) (counts′ .given .1) _ _
+    (at-judge .judge-goal .ensures)
 
 pub read-spec : {M : Type 1} → statement M
 read-spec =
