@@ -4,7 +4,7 @@
    In every call any bytes of any length may be handed in. Each pointer must be valid for its length, and not null; the output
    must overlap no text. A call uses no heap and keeps nothing between calls.
 
-   A call returns one number, of which the functions below take the parts. It says the length of the listing, which is then in the
+   A call returns one number, of which the functions below take the parts. It is the length of the listing, which is then in the
    front of the output, the bytes behind it being as they were; or a refusal, with document 01's number (1 to 11), the text ('S'
    for the program's, 'G' for the goal's) and the line counted from 1 (0 where no line is meant), every byte of the output being
    as it was. */
@@ -30,6 +30,10 @@ uint64_t roketuma_check(const uint8_t *program, size_t program_len, uint8_t *out
 /* Runs the goal over the program. Returns the length of the listing, below 2^31, or a refusal as above. */
 uint64_t roketuma_run(const uint8_t *program, size_t program_len, const uint8_t *goal, size_t goal_len,
                       uint8_t *output, size_t output_len);
+
+/* Whether the program's text and the goal's can be read; either may be empty. Returns 0 where they can, or the refusal, numbers 1
+   to 10, that a run of them returns. Nothing is lent to write into. */
+uint64_t roketuma_read(const uint8_t *program, size_t program_len, const uint8_t *goal, size_t goal_len);
 
 /* Room for every listing. */
 #define ROKETUMA_ROOM 32768

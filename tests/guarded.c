@@ -1,6 +1,6 @@
-/* Calls both functions of the library with guard bytes around every buffer, on listings and refusals, and in every room from
-   0 bytes to one more than the listing has. Prints what each call returned; ends with 1 where a byte or an answer is not as it must
-   be. */
+/* Calls the functions of the library with guard bytes around every buffer, on listings and refusals, and in every room from
+   0 bytes to one more than the listing has. Prints what each call returned; ends with 1 where a byte or an answer is not as it
+   must be. */
 #include "roketuma.h"
 #include <stdio.h>
 #include <string.h>
@@ -34,7 +34,8 @@ static void fault(const char *what, const char *why)
     faults++;
 }
 
-/* One call, a check where there is no goal: both texts must stay as they were, and the output outside the listing too. */
+/* One call, a check where there is no goal: both texts must stay as they were, and the output outside the listing too. Where there
+   is a goal, reading must answer 0, or the refusal of the run. */
 static uint64_t call(const char *what, struct text program, const struct text *goal, size_t room)
 {
     static struct lent a, b, before_a, before_b;
@@ -47,6 +48,9 @@ static uint64_t call(const char *what, struct text program, const struct text *g
     memcpy(before, output, sizeof output);
     uint64_t r = goal ? roketuma_run(a.bytes + GUARD, program.length, b.bytes + GUARD, goal->length, output + GUARD, room)
                       : roketuma_check(a.bytes + GUARD, program.length, output + GUARD, room);
+    uint64_t read = goal ? roketuma_read(a.bytes + GUARD, program.length, b.bytes + GUARD, goal->length) : 0;
+    if (goal && read != (roketuma_is_refusal(r) && roketuma_number(r) < 11 ? r : 0))
+        fault(what, "reading answers something else");
     size_t written = roketuma_length(r);
     if (memcmp(&a, &before_a, sizeof a) || memcmp(&b, &before_b, sizeof b) || written > room
         || memcmp(output, before, GUARD) || memcmp(output + GUARD + written, before + GUARD + written, ROOM - written + GUARD))
