@@ -90,7 +90,8 @@ module _ {program names symbols rules : List ℕ} {k n : ℕ} {p : Reading} (r :
   rule-row i l =
       record {
         given = read-table names symbols k rules n (as-read r) .rows i l;
-        low = heads-low (p .program .symbols) (read-small program (r .read) .few-symbols) (ruleOf names rules i) (rule-formed i l);
+        low =
+            heads-low (p .program .symbols) (read-small program (r .read) .few-symbols) (ruleOf names rules i) (rule-formed i l);
       }
 
   weigh-light : (j : ℕ) → weigh names symbols k rules n (as-read r) j ≤ 64

@@ -81,7 +81,8 @@ unfolding fitted listedIn listedOver outputAfter checkMeant listedBytes textMean
 check-short {bytes} {before} {after} {reply} l e = go (ltb (length before) (length bytes)) (sym e ∙ l .answer) (l .output)
   where
     go :
-        (b : Bool) → TooShort ≡ cond b TooShort (Written (length bytes)) → after ≡ cond b before (bytes ++ drop (length bytes) before)
+        (b : Bool) → TooShort ≡ cond b TooShort (Written (length bytes))
+        → after ≡ cond b before (bytes ++ drop (length bytes) before)
         → CheckReplied (cond b (refusal 11 programText 0) (listing bytes)) before after
         (Refused (record { number = 11; text = S; line = 0 }))
     go true a o = record { meant = refl; counted = omega arith; output = o }
@@ -97,7 +98,8 @@ written {bytes} {before} {after} {reply} n r meant counted l e =
     go (ltb (length before) (length bytes)) (sym e ∙ l .answer) (l .output)
   where
     go :
-        (b : Bool) → Written n ≡ cond b TooShort (Written (length bytes)) → after ≡ cond b before (bytes ++ drop (length bytes) before)
+        (b : Bool) → Written n ≡ cond b TooShort (Written (length bytes))
+        → after ≡ cond b before (bytes ++ drop (length bytes) before)
         → CheckReplied (cond b (refusal 11 programText 0) (listing bytes)) before after r
     go true a o = absurd (let z : _≡_ {A = ℕ} 0 1 = cc in omega arith)
     go false a o =
@@ -305,7 +307,8 @@ module _ (e : Final) (bound cells : List ℕ) (a : ℕ) (x : End) (cut : a ≡ l
   end-same = rw shown (go (e .alive) refl cut)
     where
       go : (b : Bool) → e .alive ≡ b → a ≡ cond b (5 * e .count) 0
-          → _≡_ {A = End′} (record { state = stateOf (e .alive) (cond (e .alive) (e .next) 0) bound (take a cells); firings = e .firings })
+          → _≡_ {A = End′}
+          (record { state = stateOf (e .alive) (cond (e .alive) (e .next) 0) bound (take a cells); firings = e .firings })
           (record { state = stateOf (e .alive) (e .next) bound (take (5 * e .count) cells); firings = e .firings })
       go true y q = rw (y, q)
       go false y q = rw y

@@ -255,7 +255,10 @@ module _ {program goal places rules letters cells : List ℕ} {z : Sizes} (r : R
       → SpokenState (r .p .program .symbols) vocabulary (r .g .goal .variables) f s
       → (usesOnly (isKnown (r .k) (r .c)) s ≡ true) × (boundIn s ≤ length letters)
   unfolding boundIn
-  final-uses failed f t = (state-known (r .k) (r .c) (r .p .program .symbols) (r .g .goal .variables) f failed (symbols-count (r .first)) tt, omega arith)
+  final-uses failed f t = (
+    state-known (r .k) (r .c) (r .p .program .symbols) (r .g .goal .variables) f failed (symbols-count (r .first)) tt,
+    omega arith,
+  )
   final-uses (live next b cs) f t = (
     state-known (r .k) (r .c) (r .p .program .symbols) (r .g .goal .variables) f (live next b cs) (symbols-count (r .first))
         (rw count-constants at t),
