@@ -3,9 +3,9 @@
 --   held           this table holds it
 --   few-rules      it has at most 32 rules
 -- Assumes nothing.
-use Prim.Native.Nat.{ℕ, zero, suc, _+_, _*_, _≤_, _<_, max}
+use Prim.Native.Nat.{ℕ, zero, suc, _≤_, _<_}
 use native.Mathlib.Omega.{arith}
-use mathlib.Core.Bool.{Bool, true, _&&_}
+use mathlib.Core.Bool.{true, _&&_}
 use mathlib.Core.List.{List, [], _∷_}
 use mathlib.Core.Path.{_≡_, refl, ap, subst, _∙_}
 use lib.Dec.{ltb, eqb}
@@ -90,7 +90,8 @@ module _ {program names symbols rules : List ℕ} {k n : ℕ} {p : Reading} (r :
   rule-row i l =
       record {
         given = read-table names symbols k rules n (as-read r) .rows i l;
-        low = heads-low (p .program .symbols) (read-small program (r .read) .few-symbols) (ruleOf names rules i) (rule-formed i l);
+        low =
+            heads-low (p .program .symbols) (read-small program (r .read) .few-symbols) (ruleOf names rules i) (rule-formed i l);
       }
 
   weigh-light : (j : ℕ) → weigh names symbols k rules n (as-read r) j ≤ 64

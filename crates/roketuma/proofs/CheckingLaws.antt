@@ -15,27 +15,25 @@ use mathlib.Core.Bool.{Bool, true, false, cond}
 use mathlib.Core.List.{List, [], _∷_, _++_}
 use mathlib.Core.Path.{_≡_, refl, sym, ap, subst, _∙_}
 use lib.Dec.{ltb}
-use lib.ListN.{length, take, drop, length-append, length-drop, length-take}
+use lib.ListN.{length, take, drop, length-append, length-take}
 use lib.Seq.{take-at, take-take, length-take-le}
 use Rattle.text.specs.Bytes.{ascii}
 use Rattle.text.proofs.Laws.{drop-take, tabled-length}
 use Rattle.semantics.specs.Terms.{Symbol, Rule, Program}
 use Rattle.semantics.specs.Strategy.{Final as End′}
 use Rattle.semantics.specs.Overlaps.{Overlap}
-use Rattle.semantics.specs.Verdict.{Verdict, confluent, unjoined, verdict}
+use Rattle.semantics.specs.Verdict.{confluent, unjoined, verdict}
 use Rattle.semantics.proofs.Configurations.{All}
 use Rattle.semantics.proofs.Multisets.{all-mono}
-use Rattle.semantics.proofs.Vocabulary.{ConstraintOver, RuleOver}
 use Rattle.syntax.specs.Answers.{Answer, refused, accepted}
 use Rattle.syntax.specs.Forms.{firstConstant}
 use Rattle.syntax.specs.Programs.{Reading, readProgram}
 use Rattle.syntax.proofs.Vocabulary.{ConstantOf, read-small}
 use Rattle.syntax.proofs.WellFormed.{read-wellFormed}
 use Rattle.tables.specs.Layout.{firstRule}
-use Rattle.tables.specs.Cells.{cellConstraints, stateOf}
-use Rattle.tables.specs.Rows.{symbolsOf, constantsOf, nameOf, ruleOf, rulesOf}
+use Rattle.tables.specs.Cells.{stateOf}
+use Rattle.tables.specs.Rows.{symbolsOf, constantsOf, nameOf, ruleOf}
 use Rattle.tables.specs.Names.{nameIn}
-use Rattle.tables.specs.Numbers.{Renumberable}
 use Rattle.programs.specs.Read.{programAnswer, ProgramIn}
 use Rattle.programs.specs.declared.Counts.{Counts}
 use Rattle.programs.specs.declared.ProgramRead.{ProgramRead}
@@ -44,7 +42,7 @@ use Rattle.engine.specs.declared.derivation.Final.{Final}
 use Rattle.sides.specs.Sides.{cellGoal}
 use Rattle.judging.specs.Judging.{endIn}
 use Rattle.critical.specs.declared.deciding.Shown.{Shown}
-use Rattle.critical.specs.Walks.{Holds, ruleAt, Room}
+use Rattle.critical.specs.Walks.{Holds, ruleAt}
 use Rattle.critical.specs.Verdicts.{Deciding, finalIn, EndIn, ShownIn, UnjoinedIn}
 use Rattle.listing.specs.Listing.{decimal, lineOf, namingOf, verdictListing}
 use Rattle.listing.specs.Writing.{listedIn, listedOver, ListedAs}
@@ -56,7 +54,7 @@ use Rattle.listing.specs.declared.Listed.the-variants.{TooShort, Written}
 use Rattle.listing.specs.declared.checks.Shown.{Shown as Listing}
 use Rattle.listing.proofs.NamingLaws.{overlap-named}
 use Rattle.listing.proofs.CheckLaws.{pass-listed}
-use Rattle.replies.specs.Replies.{programText, Reply, refusal, listing, replyOf, fitted, checkListing, checkReply, outputAfter}
+use Rattle.replies.specs.Replies.{programText, refusal, listing, replyOf, fitted, checkListing, checkReply, outputAfter}
 use Rattle.replies.proofs.ShortNames.{Termed, TermedProgram, program-termed, reads-accepted}
 use Rattle.roketuma.specs.Answers.{textMeant}
 use Rattle.roketuma.specs.Stages.{programTable, isKnown, GoalReady}
@@ -81,7 +79,8 @@ unfolding fitted listedIn listedOver outputAfter checkMeant listedBytes textMean
 check-short {bytes} {before} {after} {reply} l e = go (ltb (length before) (length bytes)) (sym e ∙ l .answer) (l .output)
   where
     go :
-        (b : Bool) → TooShort ≡ cond b TooShort (Written (length bytes)) → after ≡ cond b before (bytes ++ drop (length bytes) before)
+        (b : Bool) → TooShort ≡ cond b TooShort (Written (length bytes))
+        → after ≡ cond b before (bytes ++ drop (length bytes) before)
         → CheckReplied (cond b (refusal 11 programText 0) (listing bytes)) before after
         (Refused (record { number = 11; text = S; line = 0 }))
     go true a o = record { meant = refl; counted = omega arith; output = o }
@@ -97,7 +96,8 @@ written {bytes} {before} {after} {reply} n r meant counted l e =
     go (ltb (length before) (length bytes)) (sym e ∙ l .answer) (l .output)
   where
     go :
-        (b : Bool) → Written n ≡ cond b TooShort (Written (length bytes)) → after ≡ cond b before (bytes ++ drop (length bytes) before)
+        (b : Bool) → Written n ≡ cond b TooShort (Written (length bytes))
+        → after ≡ cond b before (bytes ++ drop (length bytes) before)
         → CheckReplied (cond b (refusal 11 programText 0) (listing bytes)) before after r
     go true a o = absurd (let z : _≡_ {A = ℕ} 0 1 = cc in omega arith)
     go false a o =
@@ -305,7 +305,8 @@ module _ (e : Final) (bound cells : List ℕ) (a : ℕ) (x : End) (cut : a ≡ l
   end-same = rw shown (go (e .alive) refl cut)
     where
       go : (b : Bool) → e .alive ≡ b → a ≡ cond b (5 * e .count) 0
-          → _≡_ {A = End′} (record { state = stateOf (e .alive) (cond (e .alive) (e .next) 0) bound (take a cells); firings = e .firings })
+          → _≡_ {A = End′}
+          (record { state = stateOf (e .alive) (cond (e .alive) (e .next) 0) bound (take a cells); firings = e .firings })
           (record { state = stateOf (e .alive) (e .next) bound (take (5 * e .count) cells); firings = e .firings })
       go true y q = rw (y, q)
       go false y q = rw y

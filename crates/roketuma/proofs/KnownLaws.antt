@@ -11,7 +11,7 @@ use mathlib.Core.Path.{_≡_, refl, sym, subst}
 use lib.Dec.{leb, ltb}
 use lib.ListN.{length, getD}
 use borrow.Author.Tests.{le-leb, lt-ltb, ltb-true, leb-true}
-use Rattle.text.specs.Lists.{every, tabled}
+use Rattle.text.specs.Lists.{every}
 use Rattle.text.specs.Keys.{spell, spellFrom}
 use Rattle.text.proofs.Bools.{and-true}
 use Rattle.text.proofs.Laws.{tabled-length, tabled-at}
@@ -19,7 +19,7 @@ use Rattle.semantics.specs.Terms.{Term, con, var, Constraint, Symbol, Rule, Sta
 use Rattle.semantics.proofs.Configurations.{All, also}
 use Rattle.semantics.proofs.Multisets.{all-mono}
 use Rattle.semantics.proofs.Listings.{all-every}
-use Rattle.semantics.proofs.Vocabulary.{TermOver, ConstraintOver, Spoken, SpokenState}
+use Rattle.semantics.proofs.Vocabulary.{TermOver, ConstraintOver, SpokenState}
 use Rattle.syntax.specs.Forms.{firstConstant}
 use Rattle.syntax.proofs.Vocabulary.{ConstantOf}
 use Rattle.tables.specs.Layout.{firstRule}

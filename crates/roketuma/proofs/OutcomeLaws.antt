@@ -6,13 +6,13 @@
 -- Assumes nothing.
 use Prim.Native.Nat.{ℕ}
 use mathlib.Core.Bool.{true}
-use mathlib.Core.List.{List, [], _∷_}
+use mathlib.Core.List.{List, []}
 use mathlib.Core.Logic.{_↔_}
 use mathlib.Core.Path.{_≡_, refl}
 use Rattle.semantics.specs.Terms.{Constraint, Program, State, failed, live}
 use Rattle.semantics.specs.Derivations.{derive}
 use Rattle.semantics.specs.Strategy.{Final}
-use Rattle.semantics.specs.Variants.{OneToOne, TermVariant, Pointwise, ConstraintVariant, SameMultiset, done, put, Variant}
+use Rattle.semantics.specs.Variants.{OneToOne, ConstraintVariant, SameMultiset, done, put, Variant}
 use Rattle.semantics.specs.Variants.{Pair, arePartners}
 use Rattle.semantics.specs.Overlaps.{Overlap}
 use Rattle.semantics.specs.Claims as claims

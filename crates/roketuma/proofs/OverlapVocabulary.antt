@@ -26,7 +26,7 @@ use Rattle.semantics.proofs.Normal.{arrived}
 use Rattle.semantics.proofs.SolveLaws.{solve-keeps}
 use Rattle.semantics.proofs.Pairings.{leftover}
 use Rattle.semantics.proofs.JoinedHeads.{leftover-member}
-use Rattle.semantics.proofs.Enumeration.{OverlapParts, overlap-parts, Listed, overlaps-member}
+use Rattle.semantics.proofs.Enumeration.{OverlapParts, overlap-parts, overlaps-member}
 use Rattle.semantics.proofs.OverlapGoals.{overlapOrder, goalTerm, goalSecond, goal-constraints, listed-goal}
 use Rattle.semantics.proofs.Vocabulary.{TermOver, ConstraintOver, RuleOver, SpokenState, reached-spoken, side-spoken}
 use Rattle.semantics.proofs.Verdicts.{verdict-unjoined}

@@ -6,14 +6,14 @@
 -- Assumes nothing.
 use Prim.Native.Nat.{ℕ, zero, suc, _+_, _-_, _*_, _≤_, _<_}
 use native.Mathlib.Omega.{arith}
-use mathlib.Core.Bool.{Bool, true, false, cond, _&&_, _||_}
+use mathlib.Core.Bool.{Bool, true, false, _&&_}
 use mathlib.Core.List.{List, [], _∷_, _++_, map}
 use mathlib.Core.Option.{Option, none, some}
 use mathlib.Core.Path.{_≡_, refl, sym, ap, subst, _∙_}
-use lib.Dec.{leb, ltb}
+use lib.Dec.{ltb}
 use lib.ListN.{length, getD, take, drop, length-append}
 use lib.Seq.{take-at, length-take-le}
-use borrow.Author.Tests.{le-leb, lt-ltb, ltb-true, ltb-false, leb-true}
+use borrow.Author.Tests.{le-leb, lt-ltb, ltb-true}
 use Rattle.text.specs.Lists.{onward, every, tabled}
 use Rattle.text.proofs.Laws.{tabled-length, tabled-at}
 use Rattle.semantics.specs.Terms.{Term, con, var, Constraint, Equation, Symbol, Program, State, failed, live, noSymbol}
@@ -24,23 +24,21 @@ use Rattle.semantics.proofs.Configurations.{All, also, TermBelow}
 use Rattle.semantics.proofs.Configurations as C
 use Rattle.semantics.proofs.Multisets.{all-mono}
 use Rattle.semantics.proofs.Listings.{all-every}
-use Rattle.semantics.proofs.Vocabulary.{TermOver, ConstraintOver, RuleOver, Spoken, SpokenState, run-spoken}
-use Rattle.syntax.specs.Answers.{accepted}
+use Rattle.semantics.proofs.Vocabulary.{TermOver, RuleOver, Spoken, SpokenState, run-spoken}
 use Rattle.syntax.specs.Forms.{firstConstant}
-use Rattle.syntax.specs.Programs.{Reading, readProgram}
-use Rattle.syntax.specs.Goals.{GoalReading, readGoal}
+use Rattle.syntax.specs.Programs.{Reading}
 use Rattle.syntax.proofs.WellFormed.{read-wellFormed}
 use Rattle.syntax.proofs.Vocabulary.{ConstantOf, SymbolSmall, RuleSmall, ReadSmall, read-small, term-more}
 use Rattle.syntax.proofs.GoalVocabulary.{ReadGoal, goal-small}
-use Rattle.tables.specs.Layout.{constraintSize, firstVariable, maxNames}
+use Rattle.tables.specs.Layout.{firstVariable}
 use Rattle.tables.specs.Cells.{cellTerm, cellConstraints, isLow, stateOf}
 use Rattle.tables.specs.Rows.{symbolOf, symbolsOf, constantsOf, nameOf, rowOf, ruleOfRow, ruleOf, rulesOf, lettersOf}
-use Rattle.tables.specs.Names.{nameIn, Placed}
+use Rattle.tables.specs.Names.{nameIn}
 use Rattle.tables.specs.Numbers.{isWithin, Renumberable}
 use Rattle.engine.specs.Runs.{storeOf, Startable, Ended}
 use Rattle.engine.specs.declared.derivation.Final.{Final as FinalCells}
 use Rattle.engine.proofs.GoalLaws.{isUsed, programOf, AsRead, goal-starts, goal-runs}
-use Rattle.listing.specs.Listing.{Naming, namingOf, variableName, stateListing, endListing}
+use Rattle.listing.specs.Listing.{namingOf, variableName, endListing}
 use Rattle.listing.specs.Ends.{endBytes, Listable}
 use Rattle.listing.proofs.NamingLaws.{usesOnly, boundIn, state-named, variable-named}
 use Rattle.replies.specs.Replies.{goalText, replyOf, fitted, runListing, runReply}
@@ -255,7 +253,10 @@ module _ {program goal places rules letters cells : List ℕ} {z : Sizes} (r : R
       → SpokenState (r .p .program .symbols) vocabulary (r .g .goal .variables) f s
       → (usesOnly (isKnown (r .k) (r .c)) s ≡ true) × (boundIn s ≤ length letters)
   unfolding boundIn
-  final-uses failed f t = (state-known (r .k) (r .c) (r .p .program .symbols) (r .g .goal .variables) f failed (symbols-count (r .first)) tt, omega arith)
+  final-uses failed f t = (
+    state-known (r .k) (r .c) (r .p .program .symbols) (r .g .goal .variables) f failed (symbols-count (r .first)) tt,
+    omega arith,
+  )
   final-uses (live next b cs) f t = (
     state-known (r .k) (r .c) (r .p .program .symbols) (r .g .goal .variables) f (live next b cs) (symbols-count (r .first))
         (rw count-constants at t),

@@ -52,8 +52,8 @@ pub record Joins (p : Program) (o : Overlap) : Type 0 where
   pub ends : Ends p o one two
   pub equal : EqualStates (one .state) (two .state)
 
--- an unjoined overlap, shown with two ends: it is one of the program's, by its number in the enumeration, and every overlap before
--- it joins; its goal is over the program's symbols; the ends are its own, and they are not equal
+-- an unjoined overlap, shown with two ends: it is one of the program's, by its number in the enumeration, and every overlap
+-- before it joins; its goal is over the program's symbols; the ends are its own, and they are not equal
 pub record Counterexample (p : Program) (o : Overlap) (one two : Final) : Type 0 where
   pub number : ℕ
   pub listed : getElem? (overlaps p) number ≡ some o

@@ -21,7 +21,8 @@ ghost use Rattle.tables.specs.Layout.{constraintSize};
 ghost use Rattle.listing.specs.Checks.{OverlapListable};
 ghost use Rattle.replies.specs.Replies.{checkReply};
 ghost use Rattle.roketuma.specs.Promises.{CheckReplied, Demand3Of};
-ghost use Rattle.roketuma.specs.Checking.{listedCells, endShown, CheckReady, ShowReady, PassReplied, OverlapReplied, Checked};
+ghost use Rattle.roketuma.specs.Checking.{listedCells, endShown, CheckReady, ShowReady};
+ghost use Rattle.roketuma.specs.Checking.{PassReplied, OverlapReplied, Checked};
 
 // The listing of a pass over a number of overlaps, or number 11.
 fn pass(overlaps: usize, output: &mut [u8]) -> CheckReply

@@ -1,4 +1,5 @@
--- `roketuma::checking::check` meets its contract: the program is refused, or read and decided on; demand 3 of the answer. Assumes nothing.
+-- `roketuma::checking::check` meets its contract: the program is refused, or read and decided on; demand 3 of the answer.
+-- Assumes nothing.
 use borrow.Author.Needs.{needs}
 use mathlib.Core.Path.{refl}
 use Rattle.roketuma.proofs.ReadingLaws.{program-ready}

@@ -1,4 +1,4 @@
--- `roketuma::checking::end_shown` meets its contract: a live end with its next variable, and a failed one without. Assumes nothing.
+-- `roketuma::checking::end_shown` meets its contract: a live end with its variables, and a failed one without. Assumes nothing.
 use borrow.Author.Needs.{needs}
 use Rattle.roketuma.proofs.CheckingLaws.{end-live, end-failed}
 use Rattle.roketuma.proofs.checking.end_shown.Statement.{statement}

@@ -13,10 +13,14 @@ add-w : tie.Need-add-w
 add-w c = search needs
 
 listed-cells-requires : tie.Need-listed-cells-requires
-listed-cells-requires c κs = let start = c .before .before .before .before .before .before .before .before in cells-few (start .pre .unjoined-in .first-end)
+listed-cells-requires c κs =
+    let start = c .before .before .before .before .before .before .before .before in
+    cells-few (start .pre .unjoined-in .first-end)
 
 listed-cells-requires-2 : tie.Need-listed-cells-requires-2
-listed-cells-requires-2 c κs = let start = c .before .before .before .before .before .before .before .before .before in cells-few (start .pre .unjoined-in .second-end)
+listed-cells-requires-2 c κs =
+    let start = c .before .before .before .before .before .before .before .before .before in
+    cells-few (start .pre .unjoined-in .second-end)
 
 end-shown-requires : tie.Need-end-shown-requires
 end-shown-requires c κs = search needs
