@@ -84,6 +84,17 @@ pub record Meeting (heads body : List ℕ) (i : ℕ) : Type 0 where
       concerns (cellConstraints (drop (5 * i) heads)) (cellConstraints body) ≡ concerns (cellConstraints heads)
       (cellConstraints body)
 
+-- a body without constraints concerns nothing
+pub concerns-none : (hs : List Constraint) → concerns hs [] ≡ false
+unfolding concerns hasSymbol
+concerns-none [] = refl
+concerns-none (h ∷ hs) = concerns-none hs
+
+pub meeting-none : (heads body : List ℕ) → length body ≡ 0 → false ≡ concerns (cellConstraints heads) (cellConstraints body)
+unfolding cellConstraints
+meeting-none heads [] e = sym (concerns-none (cellConstraints heads))
+meeting-none heads (x ∷ body) e = absurd (omega arith)
+
 pub meeting-start : (heads body : List ℕ) → Meeting heads body 0
 meeting-start heads body = record { within = omega arith; same = refl }
 

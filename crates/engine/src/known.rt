@@ -78,6 +78,9 @@ pub fn concerned(heads: &[u16], fresh: &[u8], body: &[u16]) -> bool
     requires { ⌜ Marks (now fresh) (cellConstraints (now body)) ⌝ }
     ensures { λ r. ⌜ r ≡ concerns (cellConstraints (now (heads .entry))) (cellConstraints (now (body .entry))) ⌝ }
 {
+    if body.len() == 0 {
+        return false;
+    }
     let mut i = 0;
     while CONSTRAINT_SIZE * i + CONSTRAINT_SIZE <= heads.len() {
         if is_fresh(heads[CONSTRAINT_SIZE * i], fresh, body) {

@@ -4,7 +4,7 @@ use borrow.Author.Needs.{needs}
 use Prim.Native.Nat.{_-_}
 use native.Mathlib.Omega.{arith}
 use lib.ListN.{length}
-use Rattle.engine.proofs.KnownLaws.{Meeting, meeting-start, meeting-found, meeting-next, meeting-end}
+use Rattle.engine.proofs.KnownLaws.{Meeting, meeting-none, meeting-start, meeting-found, meeting-next, meeting-end}
 use Rattle.engine.proofs.known.concerned.Statement.{statement}
 use Rattle.engine.proofs.known.concerned.Tie as tie
 
@@ -13,6 +13,9 @@ Inv-loop heads fresh body i₀ i = Meeting heads body i
 
 abbrev μ-loop : tie.MeasureT-loop
 μ-loop heads fresh body i₀ i = length heads - i
+
+returns : tie.Need-returns Inv-loop μ-loop
+returns c = search meeting-none
 
 loop-holds : tie.Need-loop-holds Inv-loop μ-loop
 loop-holds c = meeting-start _ _
@@ -35,8 +38,8 @@ shared-slice-read-is-fresh c = omega arith
 is-fresh-requires : tie.Need-is-fresh-requires Inv-loop μ-loop
 is-fresh-requires c κs = search needs
 
-returns : tie.Need-returns Inv-loop μ-loop
-returns c = search meeting-found
+returns-2 : tie.Need-returns-2 Inv-loop μ-loop
+returns-2 c = search meeting-found
 
 add-i : tie.Need-add-i Inv-loop μ-loop
 add-i c = omega arith
@@ -47,8 +50,8 @@ loop-less c = omega arith
 loop-again : tie.Need-loop-again Inv-loop μ-loop
 loop-again c = search meeting-next
 
-returns-2 : tie.Need-returns-2 Inv-loop μ-loop
-returns-2 c = search meeting-end
+returns-3 : tie.Need-returns-3 Inv-loop μ-loop
+returns-3 c = search meeting-end
 
 pub concerned-spec : {M : Type 1} → statement M
 concerned-spec =
@@ -56,6 +59,7 @@ concerned-spec =
     (tie.spec
     Inv-loop
     μ-loop
+    returns
     loop-holds
     mul-loop
     add-loop
@@ -63,8 +67,8 @@ concerned-spec =
     mul-is-fresh-2
     shared-slice-read-is-fresh
     is-fresh-requires
-    returns
+    returns-2
     add-i
     loop-less
     loop-again
-    returns-2)
+    returns-3)
