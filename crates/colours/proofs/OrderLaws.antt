@@ -19,11 +19,12 @@ use Rattle.semantics.specs.Terms.{Constraint}
 use Rattle.semantics.specs.Variants.{SameMultiset, put, Inserted, here, there}
 use Rattle.semantics.proofs.Multisets.{multiset-refl, multiset-right}
 use Rattle.tables.specs.Cells.{cellConstraints}
+use Rattle.tables.proofs.CellLaws.{constraints-length}
 use Rattle.tables.proofs.CellLaws.{either}
 use Rattle.colours.specs.Rows.{rowOf}
 use Rattle.colours.specs.Bounds.{TermsBelow}
 use Rattle.colours.specs.Order.{Ordering, swapped, Swapped, Reordered}
-use Rattle.colours.proofs.RowLaws.{row-at, constraints-count}
+use Rattle.colours.proofs.RowLaws.{row-at}
 
 -- a term has its place
 pub term-room :
@@ -190,19 +191,19 @@ module _ (n : ℕ) (cells cells′ : List ℕ) (s : length cells ≡ 5 * n) (s�
       let q : k ≡ j = eqb-true k j y in
       rw x (ap (rowOf cells) (sym q ∙ p) ∙ (sym (row-at i cells nothing (omega arith))
       ∙ (sym (getD-set-same (set cs i (getD cs j nothing)) j (getD cs i nothing) nothing
-      (rw (length-set cs i (getD cs j nothing), constraints-count n cells s) hj))
+      (rw (length-set cs i (getD cs j nothing), constraints-length n cells s) hj))
       ∙ ap (λ m. getD (set (set cs i (getD cs j nothing)) j (getD cs i nothing)) m nothing) (sym q))))
   constraint-swapped k h (inl x) (inr y) =
       let p : k ≡ i = eqb-true k i x in
       rw x (sym (row-at j cells nothing (omega arith))
-      ∙ (sym (getD-set-same cs i (getD cs j nothing) nothing (rw (constraints-count n cells s) hi))
+      ∙ (sym (getD-set-same cs i (getD cs j nothing) nothing (rw (constraints-length n cells s) hi))
       ∙ (ap (λ m. getD (set cs i (getD cs j nothing)) m nothing) (sym p)
       ∙ sym (getD-set-other (set cs i (getD cs j nothing)) j k (getD cs i nothing) nothing (eqb-false k j y)))))
   constraint-swapped k h (inr x) (inl y) =
       let q : k ≡ j = eqb-true k j y in
       rw (x, y) (sym (row-at i cells nothing (omega arith))
       ∙ (sym (getD-set-same (set cs i (getD cs j nothing)) j (getD cs i nothing) nothing
-      (rw (length-set cs i (getD cs j nothing), constraints-count n cells s) hj))
+      (rw (length-set cs i (getD cs j nothing), constraints-length n cells s) hj))
       ∙ ap (λ m. getD (set (set cs i (getD cs j nothing)) j (getD cs i nothing)) m nothing) (sym q)))
   constraint-swapped k h (inr x) (inr y) =
       rw (x, y) (sym (row-at k cells nothing (omega arith))
@@ -212,10 +213,10 @@ module _ (n : ℕ) (cells cells′ : List ℕ) (s : length cells ≡ 5 * n) (s�
   rows-swapped : cellConstraints cells′ ≡ set (set cs i (getD cs j nothing)) j (getD cs i nothing)
   rows-swapped =
       ext-getD nothing (cellConstraints cells′) (set (set cs i (getD cs j nothing)) j (getD cs i nothing))
-      (constraints-count n cells′ s′ ∙ sym (length-set (set cs i (getD cs j nothing)) j (getD cs i nothing)
-      ∙ (length-set cs i (getD cs j nothing) ∙ constraints-count n cells s)))
+      (constraints-length n cells′ s′ ∙ sym (length-set (set cs i (getD cs j nothing)) j (getD cs i nothing)
+      ∙ (length-set cs i (getD cs j nothing) ∙ constraints-length n cells s)))
       (λ k h.
-      let l : k < n = rw (constraints-count n cells′ s′) at h in
+      let l : k < n = rw (constraints-length n cells′ s′) at h in
       row-at k cells′ nothing (omega arith)
       ∙ (row-swapped k ∙ constraint-swapped k l (either (eqb k i)) (either (eqb k j))))
 
@@ -224,7 +225,7 @@ module _ (n : ℕ) (cells cells′ : List ℕ) (s : length cells ≡ 5 * n) (s�
   swapped-reordered =
       record {
         same = rw rows-swapped
-            (swapped-multiset cs i j nothing (rw (constraints-count n cells s) hi) (rw (constraints-count n cells s) hj));
+            (swapped-multiset cs i j nothing (rw (constraints-length n cells s) hi) (rw (constraints-length n cells s) hj));
         below = λ m b. record {
           below = λ k d h. rw (w .at k (1 + d) (omega arith)) (b .below (swapped i j k) d h);
         };

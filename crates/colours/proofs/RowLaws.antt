@@ -17,20 +17,10 @@ use Rattle.semantics.specs.Variants.{Pointwise, empty, each}
 use Rattle.semantics.proofs.Configurations.{Member, first, later}
 use Rattle.tables.specs.Cells.{cellConstraints}
 use Rattle.tables.specs.Cells.{rowConstraint}
+use Rattle.tables.proofs.CellLaws.{constraints-length}
 use Rattle.tables.proofs.CellLaws.{le-or-lt, constraints-at}
 use Rattle.colours.specs.Rows.{rowOf}
 use Rattle.colours.specs.Bounds.{Below, TermsBelow}
-
--- how many constraints there are
-pub constraints-count : (n : ℕ) (l : List ℕ) → length l ≡ 5 * n → length (cellConstraints l) ≡ n
-unfolding cellConstraints
-constraints-count n [] e = omega arith
-constraints-count n (k ∷ []) e = absurd (omega arith)
-constraints-count n (k ∷ a ∷ []) e = absurd (omega arith)
-constraints-count n (k ∷ a ∷ b ∷ []) e = absurd (omega arith)
-constraints-count n (k ∷ a ∷ b ∷ c ∷ []) e = absurd (omega arith)
-constraints-count zero (k ∷ a ∷ b ∷ c ∷ d ∷ l) e = absurd (omega arith)
-constraints-count (suc n) (k ∷ a ∷ b ∷ c ∷ d ∷ l) e = ap suc (constraints-count n l (omega arith))
 
 -- the cells of a row, behind another row
 row-behind : (k a b c d : ℕ) (l : List ℕ) (i : ℕ) → rowOf (k ∷ a ∷ b ∷ c ∷ d ∷ l) (suc i) ≡ rowOf l i
@@ -84,7 +74,7 @@ module _ (n : ℕ) (l : List ℕ) (s : length l ≡ 5 * n) where
   room i h = omega arith
 
   count : length (cellConstraints l) ≡ n
-  count = constraints-count n l s
+  count = constraints-length n l s
 
   -- an element of an image of the constraints
   pub image-at : (g : Constraint → ℕ) (i : ℕ) → i < n → getD (map g (cellConstraints l)) i 0 ≡ g (rowOf l i)
@@ -105,9 +95,9 @@ module _ (n : ℕ) (l : List ℕ) (s : length l ≡ 5 * n) where
         → cellConstraints l′ ≡ map f (cellConstraints l)
     rows-map f e =
         ext-getD nothing (cellConstraints l′) (map f (cellConstraints l))
-        (constraints-count n l′ s′ ∙ (sym count ∙ sym (length-map (cellConstraints l) f)))
+        (constraints-length n l′ s′ ∙ (sym count ∙ sym (length-map (cellConstraints l) f)))
         (λ i h.
-        let k : i < n = rw (constraints-count n l′ s′) at h in
+        let k : i < n = rw (constraints-length n l′ s′) at h in
         row-at i l′ nothing (omega arith)
         ∙ (e i k ∙ sym (getD-map f (cellConstraints l) i nothing nothing (rw count k) ∙ ap f (row-at i l nothing (room i k)))))
 
@@ -126,10 +116,10 @@ pub rows-pointwise :
     {R : Constraint → Constraint → Type 0} (n : ℕ) (l l′ : List ℕ) → length l ≡ 5 * n → length l′ ≡ 5 * n
     → ((i : ℕ) → i < n → R (rowOf l i) (rowOf l′ i)) → Pointwise R (cellConstraints l) (cellConstraints l′)
 rows-pointwise {R} n l l′ s s′ f =
-    pointwise-at nothing nothing (cellConstraints l) (cellConstraints l′) (constraints-count n l s ∙ sym
-    (constraints-count n l′ s′))
+    pointwise-at nothing nothing (cellConstraints l) (cellConstraints l′) (constraints-length n l s ∙ sym
+    (constraints-length n l′ s′))
     (λ i h.
-    let k : i < n = rw (constraints-count n l s) at h in
+    let k : i < n = rw (constraints-length n l s) at h in
     rw (row-at i l nothing (omega arith), row-at i l′ nothing (omega arith)) (f i k))
 
 -- the terms of a row have their places

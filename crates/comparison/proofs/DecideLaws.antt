@@ -24,6 +24,7 @@ use Rattle.semantics.proofs.VariantLaws.{variant-refl, variant-sym, variant-tra
 use Rattle.semantics.proofs.Comparison.{sameState-complete}
 use Rattle.tables.specs.Cells.{cellTerm, cellConstraints}
 use Rattle.tables.specs.Cells.{isLow}
+use Rattle.tables.proofs.CellLaws.{constraints-length}
 use Rattle.tables.proofs.CellLaws.{le-or-lt, every-first, every-rest}
 use Rattle.colours.specs.Rows.{rowOf}
 use Rattle.colours.specs.Bounds.{Below, TermsBelow}
@@ -34,7 +35,7 @@ use Rattle.comparison.specs.Settlements.{Found}
 use Rattle.colours.specs.Numbering.{Renames, Numbering, Renumbered}
 use Rattle.colours.specs.Order.{Reordered}
 use Rattle.comparison.proofs.NarrowLaws.{colourable-more, colourable-after}
-use Rattle.colours.proofs.RowLaws.{pointwise-at, rows-pointwise, row-at, constraints-count}
+use Rattle.colours.proofs.RowLaws.{pointwise-at, rows-pointwise, row-at}
 use Rattle.colours.proofs.AgreeLaws.{prefix-agree}
 use Rattle.colours.proofs.ClassLaws.{same-iff}
 
@@ -92,7 +93,7 @@ low-symbol :
 unfolding isLow rowOf
 low-symbol n l i s e h =
     let none : Constraint = record { symbol = 0; terms = [] } in
-    let t = every-at isLow (cellConstraints l) i none e (rw (constraints-count n l s) h) in
+    let t = every-at isLow (cellConstraints l) i none e (rw (constraints-length n l s) h) in
     ltb-true (getD l (5 * i) 0) 256 (rw (row-at i l none (omega arith)) at t)
 
 -- a table of numbers renames one to one
@@ -195,7 +196,7 @@ module _ (a f ca₀ l₀ b g cb₀ r₀ : List ℕ) (p : Comparable a f ca₀ l�
 
   -- as many constraints as cells hold
   pub compare-count : length a ≡ 5 * length (cellConstraints a)
-  compare-count = rw (constraints-count (p .count) a (p .first .size)) (p .first .size)
+  compare-count = rw (constraints-length (p .count) a (p .first .size)) (p .first .size)
 
   module _ (ca l : List ℕ) (x : ℕ) (cb r : List ℕ) (y : ℕ) (lca : length ca ≡ length ca₀) (ll : length l ≡ length l₀)
       (lcb : length cb ≡ length cb₀) (lr : length r ≡ length r₀) (ra : Renumbered a f ca l x) (rb : Renumbered b g cb r y) where

@@ -18,11 +18,11 @@ use Rattle.semantics.proofs.Bools.{none-unless}
 use Rattle.semantics.proofs.Multisets.{pointwise-length}
 use Rattle.semantics.proofs.Pairs.{pairTerms-sound}
 use Rattle.tables.specs.Cells.{cellTerm, cellConstraints}
+use Rattle.tables.proofs.CellLaws.{constraints-length}
 use Rattle.pairing.specs.Renamings.{Joined}
 use Rattle.colours.specs.Bounds.{TermsBelow}
 use Rattle.comparison.specs.Placements.{placed, Placing, Tried}
 use Rattle.colours.specs.Ends.{endOf}
-use Rattle.colours.proofs.RowLaws.{constraints-count}
 use Rattle.pairing.proofs.PairLaws.{graph-empty}
 use Rattle.comparison.proofs.PlaceLaws.{marks-none}
 
@@ -40,7 +40,7 @@ module _ (a : List ℕ) (n : ℕ) (f : List ℕ) (b : List ℕ) (m : ℕ) (g : L
   pub count-apart : (n ≡ m → ⊥) → false ≡ sameState (endOf f a) (endOf g b)
   unfolding sameState
   count-apart d =
-      rw (constraints-count n a s, constraints-count m b t, ne-eqb n m d)
+      rw (constraints-length n a s, constraints-length m b t, ne-eqb n m d)
 
   -- the answer where what the goal variables became cannot be made equal
   no-bound : pairTerms (map cellTerm f) (map cellTerm g) [] ≡ none → false ≡ sameState (endOf f a) (endOf g b)
@@ -82,5 +82,5 @@ module _ (a : List ℕ) (n : ℕ) (f : List ℕ) (b : List ℕ) (m : ℕ) (g : L
       unfolding sameState placed
       search-answer q used′ f″ g″ w =
           let (qs, z, i) = j .joined [] (graph-empty h h) y in
-          rw (constraints-count n a s, constraints-count m b t, eq-eqb n m e, z)
+          rw (constraints-length n a s, constraints-length m b t, eq-eqb n m e, z)
           (w .same [] qs (marks-none m 512) i)

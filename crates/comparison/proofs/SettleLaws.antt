@@ -18,6 +18,7 @@ use Rattle.semantics.proofs.Options.{true-false}
 use Rattle.semantics.proofs.Bools.{or-right}
 use Rattle.tables.specs.Cells.{cellTerm, cellConstraints}
 use Rattle.tables.specs.Cells.{rowConstraint}
+use Rattle.tables.proofs.CellLaws.{constraints-length}
 use Rattle.tables.proofs.CellLaws.{constraints-at}
 use Rattle.pairing.specs.Renamings.{Graph, Marks, Joined, RowsLinked, cleared}
 use Rattle.colours.specs.Bounds.{TermsBelow}
@@ -25,7 +26,6 @@ use Rattle.comparison.specs.Placements.{attempted, placed, Placing}
 use Rattle.comparison.specs.Settlements.{Settled, Kept, SettledAll, Found}
 use Rattle.pairing.proofs.PairLaws.{graph-empty}
 use Rattle.comparison.proofs.PlaceLaws.{lent, marks-more, marks-none, at-terms}
-use Rattle.colours.proofs.RowLaws.{constraints-count}
 
 -- one partner that will do is enough
 tries-at :
@@ -213,5 +213,5 @@ module _ (f a g b : List ℕ) (n : ℕ) (s : length a ≡ 5 * n) (t : length b �
       record {
         same = λ z.
             let (qs, x, i) = j .joined [] (graph-empty h h) y in
-            rw (constraints-count n a s, constraints-count n b t, eq-eqb n n refl, x) (w .all z [] qs (marks-none n 512) i);
+            rw (constraints-length n a s, constraints-length n b t, eq-eqb n n refl, x) (w .all z [] qs (marks-none n 512) i);
       }

@@ -14,10 +14,10 @@ use Rattle.text.specs.Lists.{has}
 use Rattle.semantics.specs.Terms.{Constraint}
 use Rattle.semantics.specs.Overlaps.{unjoinedHeads}
 use Rattle.tables.specs.Cells.{rowConstraint, cellConstraints}
+use Rattle.tables.proofs.CellLaws.{constraints-length}
 use Rattle.tables.proofs.CellLaws.{constraints-at}
 use Rattle.engine.specs.Cells.{movedRow}
 use Rattle.engine.proofs.FireLaws.{constraints-append, drop-moved, row-constraints}
-use Rattle.engine.proofs.RunLaws.{length-constraints}
 use Rattle.critical.specs.Cells.{Unjoined}
 
 -- the first m constraints of cells, and the others
@@ -28,7 +28,7 @@ module _ (m : ℕ) (l : List ℕ) (h : 5 * m ≤ length l) where
       ∙ constraints-append m (take (5 * m) l) (drop (5 * m) l) (length-take-le (5 * m) l h)
 
   few : length (cellConstraints (take (5 * m) l)) ≡ m
-  few = length-constraints m (take (5 * m) l) (length-take-le (5 * m) l h)
+  few = constraints-length m (take (5 * m) l) (length-take-le (5 * m) l h)
 
   pub constraints-take : cellConstraints (take (5 * m) l) ≡ take m (cellConstraints l)
   constraints-take =

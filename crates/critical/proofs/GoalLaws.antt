@@ -14,8 +14,8 @@ use Rattle.semantics.specs.Terms.{Constraint, Goal, mapTerms, isBelow}
 use Rattle.semantics.specs.Overlaps.{unjoinedHeads, appearingIn, appearing, numbered, goalOf}
 use Rattle.tables.specs.Cells.{cellConstraints, isLow}
 use Rattle.tables.specs.Numbers.{orderOf, isWithin, Renumberable, Renumbered}
+use Rattle.tables.proofs.CellLaws.{constraints-length}
 use Rattle.tables.proofs.MapLaws.{low-kept}
-use Rattle.engine.proofs.RunLaws.{length-constraints}
 use Rattle.critical.specs.Joins.{goalFrom}
 use Rattle.critical.specs.Cells.{Unjoined}
 use Rattle.critical.specs.Overlapped.{Whole, Finished}
@@ -54,7 +54,7 @@ module _ (cells : List ℕ) (m n : ℕ) (partners : List ℕ) (w : Whole cells m
             (sym (r .same) ∙ ap cellConstraints (sym (take-at front rest (5 * count) s)));
         few = u .few;
         left =
-            sym (length-constraints count (take (5 * count) kept) (length-take-le (5 * count) kept goal-room))
+            sym (constraints-length count (take (5 * count) kept) (length-take-le (5 * count) kept goal-room))
             ∙ ap length (u .same)
             ∙ length-append (take m (cellConstraints cells)) (unjoinedHeads 1 (drop m (cellConstraints cells)) (take m partners))
             ∙ ap (_+ length (unjoinedHeads 1 (drop m (cellConstraints cells)) (take m partners)))
@@ -70,7 +70,7 @@ module _ (cells : List ℕ) (m n : ℕ) (partners : List ℕ) (w : Whole cells m
       }
     where
       all : length (cellConstraints cells) ≡ m + n
-      all = length-constraints (m + n) cells (w .size)
+      all = constraints-length (m + n) cells (w .size)
 
       goal-of :
           (cs : List Constraint) {v : ℕ} {ds : List Constraint} → length (appearing [] cs) ≡ v

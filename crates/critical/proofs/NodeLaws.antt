@@ -20,9 +20,9 @@ use Rattle.text.proofs.Bools.{and-true}
 use Rattle.tables.specs.Cells.{cellConstraints, isLow}
 use Rattle.tables.specs.Rows.{ruleOfRow}
 use Rattle.tables.specs.Numbers.{isWithin}
+use Rattle.tables.proofs.CellLaws.{constraints-length}
 use Rattle.engine.specs.Positions.{isLettered}
 use Rattle.engine.proofs.RuleLaws.{every-append}
-use Rattle.engine.proofs.RunLaws.{length-constraints}
 use Rattle.critical.specs.Joins.{joinNext, paired}
 use Rattle.critical.specs.Cells.{joinedOf, Partner, RuleRow, RulePair, headsOf}
 use Rattle.critical.specs.Overlapped.{Node, Whole}
@@ -66,7 +66,7 @@ first-within cs l h = rw (replaced-none cs) at (heads-within (λ t. t) low-lette
 pub heads-count : (row : List ℕ) → RuleRow row → length (ruleOfRow [] row .heads) ≡ getD row 3 0
 unfolding ruleOfRow
 heads-count row r =
-    length-constraints (getD row 3 0) (take (5 * getD row 3 0) (drop 6 row))
+    constraints-length (getD row 3 0) (take (5 * getD row 3 0) (drop 6 row))
     (length-take-le (5 * getD row 3 0) (drop 6 row)
     (omega (arith, length-drop 6 row, r .given .size, r .given .heads-few)))
 

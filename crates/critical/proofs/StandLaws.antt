@@ -18,8 +18,8 @@ use Rattle.semantics.proofs.Enumeration.{overlap-parts}
 use Rattle.semantics.proofs.OverlapGoals.{overlap-goal, wellFormed-heads}
 use Rattle.tables.specs.Cells.{cellConstraints, isLow}
 use Rattle.tables.specs.Rows.{ruleOfRow, ruleOf, rulesOf, rowOf}
+use Rattle.tables.proofs.CellLaws.{constraints-length}
 use Rattle.engine.specs.Runs.{weightBy}
-use Rattle.engine.proofs.RunLaws.{length-constraints}
 use Rattle.sides.specs.Sides.{cellGoal}
 use Rattle.judging.specs.Judging.{Stands, Overlapping}
 use Rattle.critical.specs.Walks.{Holds, ruleAt, PairAt, firstHeads, secondHeads}
@@ -103,7 +103,7 @@ module _ (rules : List ℕ) (n i j a b : ℕ) (q : PairAt rules n i j a b) where
             lowers = check .lowers;
             light =
                 let most = weight-most (check .weigh) (check .light) (cellConstraints goal) in
-                omega (arith, most, length-constraints k goal size, fewer, pair-few .0, pair-few .1);
+                omega (arith, most, constraints-length k goal size, fewer, pair-few .0, pair-few .1);
           };
           first = q .first;
           second = q .second;

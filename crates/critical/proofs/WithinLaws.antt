@@ -27,8 +27,8 @@ use Rattle.semantics.proofs.Indices.{some-equal}
 use Rattle.semantics.proofs.SolveLaws.{solve-keeps}
 use Rattle.tables.specs.Cells.{cellTerm, cellTerms, cellConstraints, isLow}
 use Rattle.tables.specs.Numbers.{isWithin}
+use Rattle.tables.proofs.CellLaws.{constraints-length}
 use Rattle.engine.proofs.RuleLaws.{every-append}
-use Rattle.engine.proofs.RunLaws.{length-constraints}
 use Rattle.critical.specs.Joins.{joined, joinNext}
 use Rattle.critical.specs.Overlapped.{Whole, Finished, Partners}
 
@@ -246,7 +246,7 @@ pub finished-fewer :
     → Finished cells m n partners made k v → every (eqb 0) (take m partners) ≡ false → k < m + n
 finished-fewer cells m n partners made k v w b f h =
     let cs = cellConstraints cells in
-    let all : length (drop m cs) ≡ n = length-drop m cs ∙ omega (arith, length-constraints (m + n) cells (w .size)) in
+    let all : length (drop m cs) ≡ n = length-drop m cs ∙ omega (arith, constraints-length (m + n) cells (w .size)) in
     let count : length (take m partners) ≡ m = length-take-le m partners (omega (arith, w .first-few, w .partners-size)) in
     let less = unjoined-fewer (drop m cs) (take m partners) (λ x l.
     let is = getD-take m partners x 0 (omega (arith, count)) in

@@ -22,9 +22,9 @@ use Rattle.tables.specs.Rows.{ruleOfRow, ruleOf, rulesOf, rowOf}
 use Rattle.engine.specs.Cells.{assigned}
 use Rattle.engine.specs.Positions.{foundOf, Seeking, Located, Row, Table, choiceOf, Chosen}
 use Rattle.engine.specs.Known.{Barren, Knows}
+use Rattle.tables.proofs.CellLaws.{constraints-length}
 use Rattle.tables.proofs.CellLaws.{either, le-or-lt}
 use Rattle.engine.proofs.BarrenLaws.{barren-first}
-use Rattle.engine.proofs.GapLaws.{length-constraints}
 
 -- no cell of zeros is settled
 pub zeros-zero : (n x : ℕ) → _≡_ {A = ℕ} (getD (replicate n 0) x 0) 0
@@ -174,7 +174,7 @@ module _ (rules : List ℕ) (n : ℕ) (cells : List ℕ) (m i : ℕ) (given : Ta
   module _ (l : i < n) where
     -- nothing fits where all is known
     all-known : length cells ≡ 5 * m → (k : ℕ) → m < k → take k (cellConstraints cells) ≡ cellConstraints cells
-    all-known e k h = take-all k (cellConstraints cells) (omega (arith, length-constraints m cells e))
+    all-known e k h = take-all k (cellConstraints cells) (omega (arith, constraints-length m cells e))
 
     module _ (known : List ℕ) (ks : Knows rules n known (cellConstraints cells)) (from : ℕ) (z : from ≡ getD known i 0)
         (size : length cells ≡ 5 * m) where

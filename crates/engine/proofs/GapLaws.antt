@@ -1,5 +1,5 @@
 -- Removing constraints from cells, the highest position first, is removing them from the list.
---   take-constraints, drop-constraints, length-constraints    the first constraints of cells, the others, and how many
+--   take-constraints, drop-constraints    the first constraints of cells, and the others
 --   Closing, Topping, Removing                                the loops of `close_gap`, `highest` and `remove`
 -- Assumes nothing.
 use Prim.Native.Nat.{ℕ, zero, suc, _+_, _-_, _*_, _≤_, _<_}
@@ -31,6 +31,7 @@ use Rattle.semantics.specs.Firing.{without}
 use Rattle.semantics.proofs.Removal.{has-last, has-other, has-front}
 use Rattle.semantics.proofs.Bools.{or-right}
 use Rattle.tables.specs.Cells.{cellConstraints}
+use Rattle.tables.proofs.CellLaws.{constraints-length}
 use Rattle.engine.specs.Cells.{closedGap}
 use Rattle.engine.specs.States.{Highest, Removed}
 use Rattle.engine.proofs.FireLaws.{Moving, moving-start, moving-next, moving-end, constraints-append}
@@ -178,17 +179,6 @@ gap-closed k p cells l h =
     (length-take-le (5 * p) (take (5 * k) cells) (omega (arith, length-take-le (5 * k) cells h)))
     ∙ rw (take-constraints p (take (5 * k) cells), drop-constraints (suc p) (take (5 * k) cells)))
 
--- as many constraints as five cells each
-pub length-constraints : (k : ℕ) (l : List ℕ) → length l ≡ 5 * k → length (cellConstraints l) ≡ k
-unfolding cellConstraints
-length-constraints k [] h = omega arith
-length-constraints k (a ∷ []) h = absurd (omega arith)
-length-constraints k (a ∷ b ∷ []) h = absurd (omega arith)
-length-constraints k (a ∷ b ∷ c ∷ []) h = absurd (omega arith)
-length-constraints k (a ∷ b ∷ c ∷ d ∷ []) h = absurd (omega arith)
-length-constraints k (a ∷ b ∷ c ∷ d ∷ e ∷ l) h =
-    let more : length (cellConstraints l) ≡ k - 1 = length-constraints (k - 1) l (omega arith) in omega arith
-
 -- the constraints below a position, and those from it on that stay
 abbrev staying : ℕ → List ℕ → List Constraint → List Constraint
 staying p ps cs = take p cs ++ without p ps (drop p cs)
@@ -239,7 +229,7 @@ pub removing-start :
     (m : ℕ) (ps start : List ℕ) (top : ℕ) → length start ≡ 5 * m → Highest ps m top → Removing m ps start start m top
 unfolding without
 removing-start m ps start top e h =
-    let all : length (cellConstraints start) ≡ m = length-constraints m start e in
+    let all : length (cellConstraints start) ≡ m = constraints-length m start e in
     let between : top + (m - top) ≡ m = omega (arith, h .below) in
     record {
       few = omega arith;
@@ -278,7 +268,7 @@ module _ (m : ℕ) (ps start cells : List ℕ) (k top : ℕ) (w : Removing m ps 
     removing-next c top′ n g h =
         let few-left : k ≤ m = w .few in
         let fits : top ≤ k = w .fits in
-        let all : length (cellConstraints start) ≡ m = length-constraints m start (w .start-size) in
+        let all : length (cellConstraints start) ≡ m = constraints-length m start (w .start-size) in
         let now : suc (top - 1) ≡ top = omega arith in
         let between : top′ + (top - 1 - top′) ≡ top - 1 = omega (arith, h .below) in
         let front : length (take top (cellConstraints start))

@@ -23,6 +23,7 @@ use Rattle.semantics.specs.Strategy.{find}
 use Rattle.semantics.specs.Firing.{without, instance}
 use Rattle.tables.specs.Cells.{cellConstraints, cellEquations, rowConstraint}
 use Rattle.tables.specs.Rows.{ruleOfRow, rowOf}
+use Rattle.tables.proofs.CellLaws.{constraints-length}
 use Rattle.tables.proofs.CellLaws.{either, le-or-lt, constraints-at, constraints-short}
 use Rattle.engine.specs.Cells.{assigned}
 use Rattle.engine.specs.Positions.{Row, Table}
@@ -30,7 +31,7 @@ use Rattle.engine.specs.States.{Fired}
 use Rattle.engine.specs.Runs.{storeOf}
 use Rattle.engine.specs.Known.{Barren, Knows, hasSymbol, concerns, Marks, Clear, loweredOf, Lowered, Keeps}
 use Rattle.engine.proofs.BarrenLaws.{barren-fired, barren-strange}
-use Rattle.engine.proofs.GapLaws.{take-constraints, drop-constraints, length-constraints}
+use Rattle.engine.proofs.GapLaws.{take-constraints, drop-constraints}
 use Rattle.engine.proofs.ChooseLaws.{lentRow, row-cells, noted-at, zeros-zero}
 use Rattle.engine.proofs.FiredLaws.{fired-plain}
 
@@ -348,7 +349,7 @@ module _ (row ps b : List ℕ) (next : ℕ) (bound cells : List ℕ) (m : ℕ) (
 
   store-size : length (storeOf cells m) ≡ m
   unfolding storeOf
-  store-size = length-constraints m (take (5 * m) cells) (length-take-le (5 * m) cells fits)
+  store-size = constraints-length m (take (5 * m) cells) (length-take-le (5 * m) cells fits)
 
   store-few : length (storeOf cells′ count) ≤ count
   unfolding storeOf

@@ -15,10 +15,10 @@ use Rattle.semantics.specs.Terms.{Rule, State, failed, live}
 use Rattle.semantics.specs.Strategy.{Final, advance, normalise}
 use Rattle.tables.specs.Cells.{cellTerm, cellConstraints, isLow, stateOf}
 use Rattle.tables.specs.Rows.{rulesOf}
+use Rattle.tables.proofs.CellLaws.{constraints-length}
 use Rattle.engine.specs.Runs.{weightBy, Lowers, storeOf, Live, Stepped, Startable, Ended}
 use Rattle.engine.specs.Runs.{Continued}
 use Rattle.engine.proofs.StepLaws.{no-way}
-pub use Rattle.engine.proofs.GapLaws.{length-constraints}
 use Rattle.engine.proofs.WeightLaws.{weight-length}
 
 -- no more constraints than weight
@@ -29,7 +29,7 @@ count-weight w cells m p l =
     omega (
       arith,
       weight-length w p (cellConstraints (take (5 * m) cells)),
-      length-constraints m (take (5 * m) cells) (length-take-le (5 * m) cells l),
+      constraints-length m (take (5 * m) cells) (length-take-le (5 * m) cells l),
     )
 
 -- a state in which no rule fits is the end

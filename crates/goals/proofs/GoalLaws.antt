@@ -32,13 +32,14 @@ use Rattle.tables.specs.Layout.{goalPlace}
 use Rattle.tables.specs.Cells.{cellTerms, rowConstraint, cellConstraints}
 use Rattle.tables.specs.Rows.{symbolsOf, constantsOf, lettersOf}
 use Rattle.tables.specs.Names.{Placed}
+use Rattle.tables.proofs.CellLaws.{constraints-length}
 use Rattle.lines.specs.declared.ConstraintRead.{ConstraintRead}
 use Rattle.lines.specs.Read.{Outside, constraintAnswer, CellsMean, ConstraintIn}
 use Rattle.lines.proofs.Held.{key-at}
 use Rattle.lines.proofs.HeadLaws.{symbols-same}
 use Rattle.lines.proofs.TermLaws.{outside-same, outside-trans, constants-length}
 use Rattle.lines.proofs.ConstraintLaws.{line-other}
-use Rattle.lines.proofs.Weighing.{constraints-append, constraints-length, five-is}
+use Rattle.lines.proofs.Weighing.{constraints-append, five-is}
 use Rattle.lines.proofs.Spelling.{spelled-goal}
 use Rattle.goals.specs.declared.GoalCounts.{GoalCounts}
 use Rattle.goals.specs.declared.RowRead.{RowRead}

@@ -19,9 +19,9 @@ use Rattle.semantics.proofs.OverlapGoals.{overlap-goal, wellFormed-heads}
 use Rattle.tables.specs.Layout.{constraintSize, headsCell}
 use Rattle.tables.specs.Cells.{cellConstraints}
 use Rattle.tables.specs.Rows.{ruleOfRow, ruleOf, rulesOf, rowOf}
+use Rattle.tables.proofs.CellLaws.{constraints-length}
 use Rattle.engine.specs.Positions.{Row}
 use Rattle.engine.specs.Runs.{Runnable}
-use Rattle.engine.proofs.RunLaws.{length-constraints}
 use Rattle.engine.proofs.GoalLaws.{rule-stands}
 use Rattle.sides.specs.Sides.{cellGoal}
 use Rattle.judging.specs.Judging.{Overlapping, Joins}
@@ -30,7 +30,7 @@ use Rattle.judging.specs.Judging.{Overlapping, Joins}
 pub heads-count : (name row : List ℕ) → Row row → length (ruleOfRow name row .heads) ≡ getD row headsCell 0
 unfolding ruleOfRow
 heads-count name row r =
-    length-constraints (getD row 3 0) (take (5 * getD row 3 0) (drop 6 row))
+    constraints-length (getD row 3 0) (take (5 * getD row 3 0) (drop 6 row))
     (length-take-le (5 * getD row 3 0) (drop 6 row) (omega (arith, r .heads-few, r .size, length-drop 6 row)))
 
 module _ (p : Program) (names rules : List ℕ) (n : ℕ) (whole : p .rules ≡ rulesOf names rules n) (w : isWellFormed p ≡ true)

@@ -26,9 +26,9 @@ use Rattle.semantics.proofs.Multisets.{all-mono}
 use Rattle.semantics.proofs.VariantLaws.{variant-refl}
 use Rattle.tables.specs.Cells.{cellTerm, cellConstraints, isLow, stateOf}
 use Rattle.tables.specs.Numbers.{isWithin}
+use Rattle.tables.proofs.CellLaws.{constraints-length}
 use Rattle.tables.proofs.CellLaws.{every-first, every-rest}
 use Rattle.colours.specs.Ends.{endOf}
-use Rattle.colours.proofs.RowLaws.{constraints-count}
 use Rattle.comparison.specs.Comparing.{Side, Alike}
 use Rattle.judging.specs.Tidying.{Tidied}
 use Rattle.judging.specs.Judging.{Stands, endIn, LiveEnd, EndOf, Joins}
@@ -131,8 +131,8 @@ module _ {rules : List ℕ} {n i j : ℕ} {positions : List ℕ} {v : ℕ} {goal
           (rw (
             y,
             z,
-            constraints-count count₁ (take (5 * count₁) cells₁) (s .live y .size),
-            constraints-count count₂ (take (5 * count₂) cells₂) (t .live z .size),
+            constraints-length count₁ (take (5 * count₁) cells₁) (s .live y .size),
+            constraints-length count₂ (take (5 * count₂) cells₂) (t .live z .size),
             ne-eqb count₁ count₂ (λ e. d (sym e)),
           ))
 

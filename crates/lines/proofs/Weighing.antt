@@ -1,5 +1,5 @@
 -- Laws of the weight of constraints in cells, five to each.
---   constraints-append, constraints-length    whole constraints in front of more cells, and how many they are
+--   constraints-append                        whole constraints in front of more cells
 --   five-is                                   five cells are one constraint
 --   weight-known, weight-none                 the weight of a symbol by the table
 --   weight-step, weight-end                   the weight of the constraints from a place on, and from the next on
@@ -29,17 +29,6 @@ constraints-append (suc h) (a ∷ b ∷ c ∷ d ∷ []) ys e = absurd (omega ari
 constraints-append (suc h) (a ∷ b ∷ c ∷ d ∷ f ∷ xs) ys e =
     ap (λ (l : List Constraint). record { symbol = a; terms = cellTerms (b ∷ c ∷ d ∷ f ∷ []) } ∷ l)
     (constraints-append h xs ys (omega arith))
-
-pub constraints-length : (h : ℕ) (xs : List ℕ) → length xs ≡ 5 * h → length (cellConstraints xs) ≡ h
-unfolding cellConstraints
-constraints-length zero [] e = refl
-constraints-length zero (x ∷ xs) e = absurd (omega arith)
-constraints-length (suc h) [] e = absurd (omega arith)
-constraints-length (suc h) (a ∷ []) e = absurd (omega arith)
-constraints-length (suc h) (a ∷ b ∷ []) e = absurd (omega arith)
-constraints-length (suc h) (a ∷ b ∷ c ∷ []) e = absurd (omega arith)
-constraints-length (suc h) (a ∷ b ∷ c ∷ d ∷ []) e = absurd (omega arith)
-constraints-length (suc h) (a ∷ b ∷ c ∷ d ∷ f ∷ xs) e = ap suc (constraints-length h xs (omega arith))
 
 -- five cells are one constraint
 pub five-is : (vs : List ℕ) → length vs ≡ 5 → cellConstraints vs ≡ rowConstraint vs ∷ []

@@ -1,5 +1,5 @@
 -- What the readers of both texts find in a line: one decoding for each of their answers.
---   formMeant, sectionMeant, sectionAnswer      the code's forms and places
+--   formMeant, sectionMeant, sectionAnswer      the code's forms and sections
 --   constraintHead, headAnswer              numbers 4 and 6 of an H, B or G line
 --   termCell, padded                        the cell of a term, and cells with zeros behind them
 --   Lent, Outside, Spelled, KeepsPlaces     the tables lent, and what a line does to names and places
@@ -46,14 +46,14 @@ formMeant Equation = equationForm
 formMeant Goal = goalForm
 formMeant Nothing = noForm
 
--- the place that a number stands for
+-- the section that a number stands for
 unfoldable pub sectionMeant : ℕ → Section
 sectionMeant zero = inSymbols
 sectionMeant (suc zero) = inHeads
 sectionMeant (suc (suc zero)) = inBody
 sectionMeant (suc (suc (suc n))) = inEquations
 
--- the place that a line leads to: none from 4 on
+-- the section that a line leads to: none from 4 on
 unfoldable pub sectionAnswer : ℕ → Option Section
 sectionAnswer n = cond (ltb n 4) (some (sectionMeant n)) none
 

@@ -19,7 +19,8 @@ use Rattle.syntax.proofs.Tabled.{tabled-same}
 use Rattle.tables.specs.Layout.{firstRule}
 use Rattle.tables.specs.Cells.{cellTerm, rowConstraint, cellConstraints, cellEquations}
 use Rattle.tables.specs.Rows.{nameOf, ruleOfRow, rowOf, ruleOf}
-use Rattle.lines.proofs.Weighing.{constraints-append, constraints-length, five-is}
+use Rattle.tables.proofs.CellLaws.{constraints-length}
+use Rattle.lines.proofs.Weighing.{constraints-append, five-is}
 use Rattle.programs.specs.declared.Stage.{Stage}
 use Rattle.programs.specs.Read.{ruleRead, rulesRead, RowFits, Sound}
 use Rattle.programs.proofs.Pasted.{cut-pasted, cut-before, drop-behind, at-before, new-length}

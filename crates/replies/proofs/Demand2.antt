@@ -18,12 +18,12 @@ use Rattle.replies.proofs.Appearance.{goal-by-appearance}
 use Rattle.replies.proofs.Demand3.{fitted-listed}
 
 -- a listing of a run that fits is the reply
-run-listed :
+run-listed-in :
     (s t : List ℕ) (room : ℕ) (r : Reading) (g : GoalReading) → readProgram s ≡ accepted r
     → readGoal (r .program .symbols) (r .constants) t ≡ accepted g → length (runListing r g) ≤ room
     → runReply s t room ≡ listing (runListing r g)
 unfolding runReply replyOf
-run-listed s t room r g e f l = rw (e, f) (fitted-listed goalText room (runListing r g) l)
+run-listed-in s t room r g e f l = rw (e, f) (fitted-listed goalText room (runListing r g) l)
 
 -- demand 2: firing is the published Simplify step, the overlaps are the published critical pairs, and the reply to a goal is the
 -- listing of its run
@@ -39,7 +39,7 @@ run-published s r e =
             goal = goal-small r t (read-small s e .few-constants) f .is-goal;
             appearance = goal-by-appearance (r .program .symbols) (r .constants) t f;
             end = run (r .program) (g .goal);
-            reply = run-listed s t room r g e f l;
+            reply = run-listed-in s t room r g e f l;
             runs = published .runs .goals (g .goal);
           };
     }

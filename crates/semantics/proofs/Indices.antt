@@ -1,8 +1,8 @@
--- Numbers and places in lists: whether a number stands in one, where its first place is, and what stands at a place.
+-- Numbers and indices in lists: whether a number stands in one, its first index, and what stands at an index.
 --   le-or-lt, leb-true, leb-false        the order of numbers and its test
---   indexFrom-…, place-…                 the first place
---   getElem-…, getD-at                   the element at a place
---   pointwise-at, pointwise-get          the elements at one place of two related lists
+--   indexFrom-…, index-…                 the first index
+--   getElem-…, getD-at                   the element at an index
+--   pointwise-at, pointwise-get          the elements at one index of two related lists
 --   has-…, Distinct                      a number of a list; lists without repetition
 --   distinct-fresh, fresh-distinct       distinct positions are fresh ones
 -- Assumes nothing.
@@ -55,7 +55,7 @@ false-unless false f = refl
 pub some-equal : {A : Type 0} {a b : A} → some a ≡ some b → a ≡ b
 some-equal p = cc
 
--- the place counts on
+-- the index counts on
 pub indexFrom-suc : {A : Type 0} (t : A → Bool) (i : ℕ) (l : List A) → indexFrom t (suc i) l ≡ suc (indexFrom t i l)
 indexFrom-suc t i [] = refl
 indexFrom-suc t i (x ∷ l) = go (t x) (indexFrom-suc t (suc i) l)
@@ -66,7 +66,7 @@ indexFrom-suc t i (x ∷ l) = go (t x) (indexFrom-suc t (suc i) l)
     go true e = refl
     go false e = e
 
--- the place of an element that passes, and of one behind an element that does not
+-- the index of an element that passes, and of one behind an element that does not
 pub indexFrom-hit : {A : Type 0} (t : A → Bool) (i : ℕ) {x : A} (l : List A) → t x ≡ true → indexFrom t i (x ∷ l) ≡ i
 indexFrom-hit t i l e = rw e
 
@@ -74,7 +74,7 @@ pub indexFrom-miss :
     {A : Type 0} (t : A → Bool) (i : ℕ) {x : A} (l : List A) → t x ≡ false → indexFrom t i (x ∷ l) ≡ suc (indexFrom t i l)
 indexFrom-miss t i l e = rw e (indexFrom-suc t i l)
 
--- elements at one place of related lists are related
+-- elements at one index of related lists are related
 pub pointwise-at :
     {A B : Type 0} {R : A → B → Type 0} {l : List A} {m : List B} (i : ℕ) {a : A} {b : B} → Pointwise R l m
     → getElem? l i ≡ some a → getElem? m i ≡ some b → R a b
@@ -89,7 +89,7 @@ getElem-map f [] i p = none-some refl p
 getElem-map f (x ∷ l) zero p = ap some (ap f (some-equal p))
 getElem-map f (x ∷ l) (suc i) p = getElem-map f l i p
 
--- the partner of an element, at its place
+-- the partner of an element, at its index
 pub pointwise-get :
     {A B : Type 0} {R : A → B → Type 0} {l : List A} {m : List B} (i : ℕ) {a : A} → Pointwise R l m → getElem? l i ≡ some a
     → (b : B) × (getElem? m i ≡ some b) × R a b
@@ -104,7 +104,7 @@ pointwise-get-back i empty p = none-some refl p
 pointwise-get-back {R} zero (each {a = x} r h) p = (x, refl, subst (R x) (some-equal p) r)
 pointwise-get-back (suc i) (each r h) p = pointwise-get-back i h p
 
--- what stands at a place, with a default
+-- what stands at an index, with a default
 pub getD-at : {A : Type 0} (l : List A) (i : ℕ) {a : A} (z : A) → getElem? l i ≡ some a → getD l i z ≡ a
 getD-at [] i z e = none-some refl e
 getD-at (x ∷ l) zero z e = some-equal e
@@ -134,7 +134,7 @@ getElem-at [] i h = absurd (omega arith)
 getElem-at (x ∷ l) zero h = (x, refl)
 getElem-at (x ∷ l) (suc i) h = getElem-at l i (omega arith)
 
--- a number of a list stands at its first place
+-- a number of a list stands at its first index
 pub index-stands : (n : ℕ) (l : List ℕ) → has n l ≡ true → getElem? l (indexFrom (eqb n) 0 l) ≡ some n
 index-stands n [] h = true-false h refl
 index-stands n (m ∷ l) h = go (decide (eqb n m)) (index-stands n l)
@@ -148,7 +148,7 @@ index-stands n (m ∷ l) h = go (decide (eqb n m)) (index-stands n l)
 pub index-below : (n : ℕ) (l : List ℕ) → has n l ≡ true → indexFrom (eqb n) 0 l < length l
 index-below n l h = getElem-below l (indexFrom (eqb n) 0 l) (index-stands n l h)
 
--- what stands at a place is a number of the list
+-- what stands at an index is a number of the list
 pub has-at : (n : ℕ) (l : List ℕ) (i : ℕ) → getElem? l i ≡ some n → has n l ≡ true
 has-at n [] i p = none-some refl p
 has-at n (m ∷ l) zero p = rw (equal-eqb {m = n} {n = m} (sym (some-equal p)))
@@ -200,7 +200,7 @@ distinct-append (p ∷ l) m d e h = (
   distinct-append l m (d .1) e (λ q k. h q (or-right (eqb q p) (has q l) k)),
 )
 
--- a place of distinct numbers is the first place of what stands there
+-- an index of distinct numbers is the first index of what stands there
 pub index-unique : (l : List ℕ) (i n : ℕ) → Distinct l → getElem? l i ≡ some n → indexFrom (eqb n) 0 l ≡ i
 index-unique [] i n d s = none-some refl s
 index-unique (m ∷ l) zero n d s = indexFrom-hit (eqb n) 0 l (equal-eqb {m = n} {n = m} (sym (some-equal s)))

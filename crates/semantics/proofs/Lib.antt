@@ -1,5 +1,7 @@
--- The theory of this crate's definitions, in the order in which it is built. Assumes nothing.
+-- The theory of this crate's definitions, in the order in which it is built, by chapters. Assumes nothing.
 pub mod Opened
+
+-- Configurations: states whose equations nobody has solved, and their steps
 pub mod Configurations
 pub mod Multisets
 pub mod Atoms
@@ -12,6 +14,8 @@ pub mod Options
 pub mod Contexts
 pub mod Commute
 pub mod Peaks
+
+-- States represent configurations: solving, matching, firing, equal states
 pub mod Lifting
 pub mod SolveLaws
 pub mod PositionLaws
@@ -23,11 +27,15 @@ pub mod VariantLaws
 pub mod Outcomes
 pub mod Represent
 pub mod Bools
+
+-- The strategy, and the comparison of states
 pub mod Search
 pub mod Choosing
 pub mod Removal
 pub mod Pairs
 pub mod Comparison
+
+-- Weights, derivations and runs
 pub mod Weights
 pub mod Bound
 pub mod Entering
@@ -36,6 +44,8 @@ pub mod Runs
 pub mod Vocabulary
 pub mod Reordering
 pub mod LateEntry
+
+-- Overlaps: pairings, positions, goals, and the verdict
 pub mod Indices
 pub mod Pairings
 pub mod OverlapPositions
@@ -47,6 +57,8 @@ pub mod Appearing
 pub mod JoinLaws
 pub mod OverlapGoals
 pub mod PeakOverlaps
+
+-- Confluence: demand 3
 pub mod Newman
 pub mod Firings
 pub mod Reface
@@ -57,6 +69,8 @@ pub mod Forks
 pub mod Peak
 pub mod Exactness
 pub mod Demand3
+
+-- Document 000: stores, entailment and Simplify
 pub mod Renamings
 pub mod Valuations
 pub mod Equating
@@ -68,6 +82,8 @@ pub mod FreshVariants
 pub mod SimplifyLaws
 pub mod RuleLetters
 pub mod FiringIsSimplify
+
+-- Document 000: critical pairs
 pub mod Joinings
 pub mod ChosenHeads
 pub mod GoalTerms
@@ -76,6 +92,8 @@ pub mod PairStates
 pub mod JoinedHeads
 pub mod OverlapSides
 pub mod CriticalOverlaps
+
+-- Demand 2
 pub mod Derived
 pub mod Reached
 pub mod Demand2

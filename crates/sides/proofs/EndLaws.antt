@@ -24,9 +24,9 @@ use Rattle.semantics.proofs.Vocabulary.{ConstraintOver, RuleOver, Spoken, Spoke
 use Rattle.tables.specs.Cells.{cellTerm, cellConstraints, stateOf}
 use Rattle.tables.specs.Layout.{firstRule}
 use Rattle.tables.specs.Rows.{nameOf, symbolsOf, ruleOfRow, ruleOf, rulesOf, rowOf}
+use Rattle.tables.proofs.CellLaws.{constraints-length}
 use Rattle.engine.specs.Positions.{Row}
 use Rattle.engine.specs.Stated.{statedAt}
-use Rattle.engine.proofs.RunLaws.{length-constraints}
 use Rattle.engine.proofs.GoalLaws.{AsRead, programOf, rule-stands, goal-runnable}
 use Rattle.sides.specs.Sides.{cellGoal, Sidable, Begun, Sided}
 
@@ -69,7 +69,7 @@ first-stated :
 unfolding ruleOfRow
 first-stated name row r =
     few (getD row 3 0) (r .heads-few)
-    ∙ ap upTo (sym (length-constraints (getD row 3 0) (take (5 * getD row 3 0) (drop 6 row))
+    ∙ ap upTo (sym (constraints-length (getD row 3 0) (take (5 * getD row 3 0) (drop 6 row))
     (length-take-le (5 * getD row 3 0) (drop 6 row) (omega (arith, r .heads-few, r .size, length-drop 6 row)))))
   where
     few : (k : ℕ) → k ≤ 4 → take k (0 ∷ 1 ∷ 2 ∷ 3 ∷ []) ≡ upTo k

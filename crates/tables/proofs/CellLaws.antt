@@ -3,6 +3,7 @@
 --   cell-low, cell-high       a cell below 256 is a constant, any other a variable
 --   same-cell                 two cells are the same term where they are the same cell
 --   terms-none, terms-more, terms-end              the terms of cells from one on
+--   constraints-length                             how many constraints whole rows are
 --   constraints-at, constraints-short              the constraints of cells from one on
 --   element-row, element-none                      the constraint of a number
 -- Assumes nothing.
@@ -102,6 +103,17 @@ constraints-five (k ∷ a ∷ []) h = absurd (omega arith)
 constraints-five (k ∷ a ∷ b ∷ []) h = absurd (omega arith)
 constraints-five (k ∷ a ∷ b ∷ c ∷ []) h = absurd (omega arith)
 constraints-five (k ∷ a ∷ b ∷ c ∷ d ∷ l) h = refl
+
+-- how many constraints there are: one for each five cells
+pub constraints-length : (n : ℕ) (l : List ℕ) → length l ≡ 5 * n → length (cellConstraints l) ≡ n
+unfolding cellConstraints
+constraints-length n [] e = omega arith
+constraints-length n (k ∷ []) e = absurd (omega arith)
+constraints-length n (k ∷ a ∷ []) e = absurd (omega arith)
+constraints-length n (k ∷ a ∷ b ∷ []) e = absurd (omega arith)
+constraints-length n (k ∷ a ∷ b ∷ c ∷ []) e = absurd (omega arith)
+constraints-length zero (k ∷ a ∷ b ∷ c ∷ d ∷ l) e = absurd (omega arith)
+constraints-length (suc n) (k ∷ a ∷ b ∷ c ∷ d ∷ l) e = ap suc (constraints-length n l (omega arith))
 
 -- the constraints from number i on
 pub constraints-at :
