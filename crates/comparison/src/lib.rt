@@ -1,7 +1,6 @@
 // The comparison of two final states: whether one is the other under a renaming of its variables, one to one.
-// Placing a constraint and trying its partners call one another (`placing`). What that would take for ever over is decided
-// before:
-// states in the same order, and states that differ in what a renaming cannot change.
+// Placing a constraint and trying its partners call one another (`placing`). Before it is decided what they would take very
+// long for: states in the same order, and states that differ in what a renaming cannot change.
 pub mod narrowing;
 pub mod placing;
 pub mod search;
@@ -40,8 +39,7 @@ pub fn count(cells: &[u16]) -> usize
     n
 }
 
-// Whether two states are equal, in room for their cells that is lent: the variables are numbered anew by first appearance,
-// so that
+// Whether two states are equal, in lent room for their cells: the variables are numbered anew by first appearance, so that
 // states in the same order become the same cells.
 pub fn compare(
     a: &[u16],

@@ -1,3 +1,4 @@
+-- `pairing::pair_bound` meets its contract. Assumes nothing.
 use borrow.Author.Tests.{not-true, not-false}
 use lib.ListN.{length}
 use Prim.Native.Nat.{_-_}

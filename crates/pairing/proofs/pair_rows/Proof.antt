@@ -1,3 +1,4 @@
+-- `pairing::pair_rows` meets its contract. Assumes nothing.
 use borrow.Author.Tests.{not-true, not-false}
 use Rattle.pairing.proofs.PairLaws.{Columns, columns-start, columns-end, columns-short, columns-left, columns-right}
 use Prim.Native.Nat.{_-_}

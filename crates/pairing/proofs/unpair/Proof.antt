@@ -1,3 +1,4 @@
+-- `pairing::unpair` meets its contract. Assumes nothing.
 use Rattle.pairing.proofs.PairLaws.{Clearing, clearing-start, clearing-left, clearing-right, clearing-made}
 use Rattle.pairing.proofs.PairLaws.{clearing-kept, clearing-end}
 use borrow.Author.Needs.{needs}

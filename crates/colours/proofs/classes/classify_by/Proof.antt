@@ -1,3 +1,4 @@
+-- `colours::classes::classify_by` meets its contract. Assumes nothing.
 use native.Mathlib.Omega.{arith}
 use Rattle.colours.proofs.ClassLaws.{classified-apart, classified-same}
 use borrow.Author.Needs.{needs}

@@ -1,3 +1,4 @@
+-- `colours::order::swap_rows` meets its contract. Assumes nothing.
 use lib.ListN.{length-set}
 use Prim.Native.Nat.{_-_}
 use Prim.Native.Nat.{_-_}

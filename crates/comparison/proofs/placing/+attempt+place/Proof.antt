@@ -1,3 +1,4 @@
+-- `comparison::placing::attempt` and `place`, which call one another, meet their contracts. Assumes nothing.
 use borrow.Author.Needs.{needs}
 use native.Mathlib.Omega.{arith}
 use Rattle.comparison.proofs.PlaceLaws.{Seeking, try-used, try-symbol, try-rows, try-rows-in, try-apart, try-others}
