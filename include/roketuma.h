@@ -78,6 +78,26 @@ static inline unsigned roketuma_line(uint64_t r)
     return (unsigned)(r & 0xffff);
 }
 
+/* What a refusal's number means, in words; docs/FORMAT.md has each with its definition and an example. */
+static inline const char *roketuma_words(unsigned number)
+{
+    switch (number) {
+    case 1: return "the text is longer than 16,384 bytes";
+    case 2: return "the line is empty, is longer than 80 bytes, lacks its line feed, "
+                   "or holds a byte that is no letter, digit or comma";
+    case 3: return "the first field is no letter that may stand there";
+    case 4: return "the count of fields, or the form of a field, is wrong";
+    case 5: return "the name of a symbol or a rule is repeated";
+    case 6: return "the symbol was not declared, or has another number of terms";
+    case 7: return "the line would pass one of the limits on counts";
+    case 8: return "the rule has no head";
+    case 9: return "the heads of the rule do not weigh more than its body";
+    case 10: return "the goal weighs more than 512";
+    case 11: return "the lent output is shorter than the listing";
+    default: return "no refusal";
+    }
+}
+
 #ifdef __cplusplus
 }
 #endif
