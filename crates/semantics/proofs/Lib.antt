@@ -1,6 +1,5 @@
 -- The theory of this crate's definitions, in the order in which it is built, by chapters. Assumes nothing.
 pub mod Opened
-
 -- Configurations: states whose equations nobody has solved, and their steps
 pub mod Configurations
 pub mod Multisets
@@ -14,7 +13,6 @@ pub mod Options
 pub mod Contexts
 pub mod Commute
 pub mod Peaks
-
 -- States represent configurations: solving, matching, firing, equal states
 pub mod Lifting
 pub mod SolveLaws
@@ -27,14 +25,12 @@ pub mod VariantLaws
 pub mod Outcomes
 pub mod Represent
 pub mod Bools
-
 -- The strategy, and the comparison of states
 pub mod Search
 pub mod Choosing
 pub mod Removal
 pub mod Pairs
 pub mod Comparison
-
 -- Weights, derivations and runs
 pub mod Weights
 pub mod Bound
@@ -44,7 +40,6 @@ pub mod Runs
 pub mod Vocabulary
 pub mod Reordering
 pub mod LateEntry
-
 -- Overlaps: pairings, positions, goals, and the verdict
 pub mod Indices
 pub mod Pairings
@@ -57,7 +52,6 @@ pub mod Appearing
 pub mod JoinLaws
 pub mod OverlapGoals
 pub mod PeakOverlaps
-
 -- Confluence: demand 3
 pub mod Newman
 pub mod Firings
@@ -69,7 +63,6 @@ pub mod Forks
 pub mod Peak
 pub mod Exactness
 pub mod Demand3
-
 -- Document 000: stores, entailment and Simplify
 pub mod Renamings
 pub mod Valuations
@@ -82,7 +75,6 @@ pub mod FreshVariants
 pub mod SimplifyLaws
 pub mod RuleLetters
 pub mod FiringIsSimplify
-
 -- Document 000: critical pairs
 pub mod Joinings
 pub mod ChosenHeads
@@ -92,7 +84,6 @@ pub mod PairStates
 pub mod JoinedHeads
 pub mod OverlapSides
 pub mod CriticalOverlaps
-
 -- Demand 2
 pub mod Derived
 pub mod Reached
