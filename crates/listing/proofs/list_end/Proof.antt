@@ -22,7 +22,8 @@ put-end-requires c κs =
     let at-slice-known5 = c .before .before .before in
     let at-slice-known4 = at-slice-known5 .before .before in
     let at-number-end = at-slice-known4 .before .before in
-    let start = at-number-end .before .before .before .before .before .before .before .before .before .before in
+    let at-shared-slice-known3 = at-number-end .before .before .before .before .before .before in
+    let start = at-shared-slice-known3 .before .before .before .before in
     end-writable _ (name-short _ _ _) _ _ _ _ (λ i l. omega (arith, at-slice-known4 .slice-known4 .given i))
     (λ i l. omega (arith, at-slice-known5 .slice-known5 .given i))
     (λ h. omega (arith, start .pre .live h .few, at-number-end .number-end .kept .0, at-number-end .number-end .kept .1))
@@ -46,7 +47,8 @@ put-end-requires-2 c κs =
     let at-slice-known5 = c .before .before .before .before .before .before .before .before .before in
     let at-slice-known4 = at-slice-known5 .before .before in
     let at-number-end = at-slice-known4 .before .before in
-    let start = at-number-end .before .before .before .before .before .before .before .before .before .before in
+    let at-shared-slice-known3 = at-number-end .before .before .before .before .before .before in
+    let start = at-shared-slice-known3 .before .before .before .before in
     end-writable _ (name-short _ _ _) _ _ _ _ (λ i l. omega (arith, at-slice-known4 .slice-known4 .given i))
     (λ i l. omega (arith, at-slice-known5 .slice-known5 .given i))
     (λ h. omega (arith, start .pre .live h .few, at-number-end .number-end .kept .0, at-number-end .number-end .kept .1))

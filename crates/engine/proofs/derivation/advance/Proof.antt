@@ -70,7 +70,8 @@ fire-requires c κs =
 
 part-lower-end : tie.Need-part-lower-end
 part-lower-end c =
-    let at-if1 = c .before .before .before .before .before .before .before .before .before .before .before in
+    let at-fire = c .before .before .before .before in
+    let at-if1 = at-fire .before .before .before .before .before .before .before in
     let at-choose = at-if1 .before .before .before .before in
     let at-pre = at-choose .before .before .before .before .before .before .before in
     step-row _ _ _ _ _ (at-pre .pre .0) _ _ _ _ (at-choose .choose .ensures .0) (not-false _ (at-if1 .if1 .left))

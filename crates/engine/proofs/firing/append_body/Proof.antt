@@ -59,10 +59,11 @@ same-length c = search needs
 
 returns : tie.Need-returns
 returns c =
-    let pre′ = c .before .before .before .before .before .before .before .before .before .before .pre in
-    let wide′ = c .before .before .before .before .before .wide in
-    let instantiate′ = c .before .before .instantiate in
-    body-appended _ _ _ _ _ _ _ _ (pre′ .0) (pre′ .3) (wide′ .ensures .0) (instantiate′ .ensures)
+    let at-instantiate = c .before .before in
+    let at-wide = at-instantiate .before .before .before in
+    let start = at-wide .before .before .before .before .before in
+    body-appended _ _ _ _ _ _ _ _ (start .pre .0) (start .pre .3) (at-wide .wide .ensures .0)
+    (at-instantiate .instantiate .ensures)
 
 pub append-body-spec : {M : Type 1} → statement M
 append-body-spec =

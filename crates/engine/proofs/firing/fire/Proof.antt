@@ -42,43 +42,41 @@ remove-requires c κs =
 
 append-body-requires : tie.Need-append-body-requires
 append-body-requires c κs =
-    let pre′ = c .before .before .before .before .before .before .before .before .before .before .before .pre in
-    let wide′ = c .before .before .before .before .before .wide in
-    let remove′ = c .before .before .before .remove in
-    fire-appends _ _ _ _ _ _ _ pre′ (wide′ .ensures .0) _ _ (remove′ .kept .0) (remove′ .ensures)
+    let at-remove = c .before .before .before in
+    let at-wide = at-remove .before .before in
+    let start = at-wide .before .before .before .before .before .before in
+    fire-appends _ _ _ _ _ _ _ (start .pre) (at-wide .wide .ensures .0) _ _ (at-remove .remove .kept .0)
+    (at-remove .remove .ensures)
 
 mul-end : tie.Need-mul-end
 mul-end c = search needs
 
 slice-relend-prefix-solve-rule : tie.Need-slice-relend-prefix-solve-rule
 slice-relend-prefix-solve-rule c =
-    let pre′ = c .before .before .before .before .before .before .before .before .before .before .before .before .before .before
-    .before .pre in
-    let wide′ = c .before .before .before .before .before .before .before .before .before .wide in
-    let remove′ = c .before .before .before .before .before .before .before .remove in
-    let append-body′ = c .before .before .before .append-body in
-    fire-within _ _ _ _ _ _ _ pre′ (wide′ .ensures .0) _ _ (remove′ .kept .0) (remove′ .ensures) _ _
-    (append-body′ .kept .1 .1 .1 .0) (append-body′ .ensures)
+    let at-append-body = c .before .before .before in
+    let at-remove = at-append-body .before .before .before .before in
+    let at-wide = at-remove .before .before in
+    let start = at-wide .before .before .before .before .before .before in
+    fire-within _ _ _ _ _ _ _ (start .pre) (at-wide .wide .ensures .0) _ _ (at-remove .remove .kept .0)
+    (at-remove .remove .ensures) _ _ (at-append-body .append-body .kept .1 .1 .1 .0) (at-append-body .append-body .ensures)
 
 slice-aggregate-solve-rule : tie.Need-slice-aggregate-solve-rule
 slice-aggregate-solve-rule c =
-    let pre′ = c .before .before .before .before .before .before .before .before .before .before .before .before .before .before
-    .before .before .pre in
-    let wide′ = c .before .before .before .before .before .before .before .before .before .before .wide in
-    let remove′ = c .before .before .before .before .before .before .before .before .remove in
-    let append-body′ = c .before .before .before .before .append-body in
-    fire-lends _ _ _ _ _ _ _ pre′ (wide′ .ensures .0) _ _ (remove′ .kept .0) (remove′ .ensures) _ _
-    (append-body′ .kept .1 .1 .1 .0) (append-body′ .ensures)
+    let at-append-body = c .before .before .before .before in
+    let at-remove = at-append-body .before .before .before .before in
+    let at-wide = at-remove .before .before in
+    let start = at-wide .before .before .before .before .before .before in
+    fire-lends _ _ _ _ _ _ _ (start .pre) (at-wide .wide .ensures .0) _ _ (at-remove .remove .kept .0)
+    (at-remove .remove .ensures) _ _ (at-append-body .append-body .kept .1 .1 .1 .0) (at-append-body .append-body .ensures)
 
 solve-rule-requires : tie.Need-solve-rule-requires
 solve-rule-requires c κs =
-    let pre′ = c .before .before .before .before .before .before .before .before .before .before .before .before .before .before
-    .before .before .pre in
-    let wide′ = c .before .before .before .before .before .before .before .before .before .before .wide in
-    let remove′ = c .before .before .before .before .before .before .before .before .remove in
-    let append-body′ = c .before .before .before .before .append-body in
-    fire-equated _ _ _ _ _ _ _ pre′ (wide′ .ensures .0) _ _ (remove′ .kept .0) (remove′ .ensures) _ _
-    (append-body′ .kept .1 .1 .1 .0) (append-body′ .ensures)
+    let at-append-body = c .before .before .before .before in
+    let at-remove = at-append-body .before .before .before .before in
+    let at-wide = at-remove .before .before in
+    let start = at-wide .before .before .before .before .before .before in
+    fire-equated _ _ _ _ _ _ _ (start .pre) (at-wide .wide .ensures .0) _ _ (at-remove .remove .kept .0)
+    (at-remove .remove .ensures) _ _ (at-append-body .append-body .kept .1 .1 .1 .0) (at-append-body .append-body .ensures)
 
 same-length : tie.Need-same-length
 same-length c = search needs
@@ -88,17 +86,14 @@ same-length-2 c = search needs
 
 returns : tie.Need-returns
 returns c =
-    let pre′ = c .before .before .before .before .before .before .before .before .before .before .before .before .before .before
-    .before .before .before .before .before .before .before .pre in
-    let wide′ = c .before .before .before .before .before .before .before .before .before .before .before .before .before
-    .before .before .wide in
-    let remove′ = c .before .before .before .before .before .before .before .before .before .before .before .before .before
-    .remove in
-    let append-body′ = c .before .before .before .before .before .before .before .before .before .append-body in
-    let solve-rule′ = c .before .before .before .before .solve-rule in
-    fire-done _ _ _ _ _ _ _ pre′ (wide′ .ensures .0) _ _ (remove′ .kept .0) (remove′ .ensures) _ _
-    (append-body′ .kept .1 .1 .1 .0)
-    (append-body′ .ensures) _ _ _ _ (solve-rule′ .kept .1 .1 .1 .1 .0) (solve-rule′ .ensures)
+    let at-solve-rule = c .before .before .before .before in
+    let at-append-body = at-solve-rule .before .before .before .before .before in
+    let at-remove = at-append-body .before .before .before .before in
+    let at-wide = at-remove .before .before in
+    let start = at-wide .before .before .before .before .before .before in
+    fire-done _ _ _ _ _ _ _ (start .pre) (at-wide .wide .ensures .0) _ _ (at-remove .remove .kept .0)
+    (at-remove .remove .ensures) _ _ (at-append-body .append-body .kept .1 .1 .1 .0) (at-append-body .append-body .ensures)
+    _ _ _ _ (at-solve-rule .solve-rule .kept .1 .1 .1 .1 .0) (at-solve-rule .solve-rule .ensures)
 
 pub fire-spec : {M : Type 1} → statement M
 fire-spec =

@@ -50,24 +50,24 @@ instantiate-requires c κs =
 
 array-borrow-prefix-equations-2 : tie.Need-array-borrow-prefix-equations-2
 array-borrow-prefix-equations-2 c =
-    let pre′ = c .before .before .before .before .before .before .before .before .before .before .pre in
-    let count′ = c .before .before .before .before .at-most-four in
-    let instantiate′ = c .before .instantiate in
-    equations-prefix _ _ _ _ _ pre′ (count′ .ensures) _ _ (instantiate′ .ensures)
+    let at-instantiate = c .before in
+    let at-count = at-instantiate .before .before .before in
+    let start = at-count .before .before .before .before .before .before in
+    equations-prefix _ _ _ _ _ (start .pre) (at-count .at-most-four .ensures) _ _ (at-instantiate .instantiate .ensures)
 
 slice-aggregate-solve : tie.Need-slice-aggregate-solve
 slice-aggregate-solve c =
-    let pre′ = c .before .before .before .before .before .before .before .before .before .before .before .pre in
-    let count′ = c .before .before .before .before .before .at-most-four in
-    let instantiate′ = c .before .before .instantiate in
-    equations-lent _ _ _ _ _ pre′ (count′ .ensures) _ _ (instantiate′ .ensures)
+    let at-instantiate = c .before .before in
+    let at-count = at-instantiate .before .before .before in
+    let start = at-count .before .before .before .before .before .before in
+    equations-lent _ _ _ _ _ (start .pre) (at-count .at-most-four .ensures) _ _ (at-instantiate .instantiate .ensures)
 
 solve-requires : tie.Need-solve-requires
 solve-requires c κs =
-    let pre′ = c .before .before .before .before .before .before .before .before .before .before .before .before .before .pre in
-    let count′ = c .before .before .before .before .before .before .before .at-most-four in
-    let instantiate′ = c .before .before .before .before .instantiate in
-    equations-solvable _ _ _ _ _ pre′ (count′ .ensures) _ _ (instantiate′ .ensures)
+    let at-instantiate = c .before .before .before .before in
+    let at-count = at-instantiate .before .before .before in
+    let start = at-count .before .before .before .before .before .before in
+    equations-solvable _ _ _ _ _ (start .pre) (at-count .at-most-four .ensures) _ _ (at-instantiate .instantiate .ensures)
 
 same-length : tie.Need-same-length
 same-length c = search needs
@@ -77,13 +77,12 @@ same-length-2 c = search needs
 
 returns : tie.Need-returns
 returns c =
-    let pre′ = c .before .before .before .before .before .before .before .before .before .before .before .before .before .before
-    .before .before .before .before .before .pre in
-    let count′ = c .before .before .before .before .before .before .before .before .before .before .before .before .before
-    .at-most-four in
-    let instantiate′ = c .before .before .before .before .before .before .before .before .before .before .instantiate in
-    let solve′ = c .before .before .before .before .before .solve in
-    rule-solved _ _ _ _ _ pre′ (count′ .ensures) _ _ (instantiate′ .ensures) _ _ _ _ (solve′ .ensures)
+    let at-solve = c .before .before .before .before .before in
+    let at-instantiate = at-solve .before .before .before .before .before in
+    let at-count = at-instantiate .before .before .before in
+    let start = at-count .before .before .before .before .before .before in
+    rule-solved _ _ _ _ _ (start .pre) (at-count .at-most-four .ensures) _ _ (at-instantiate .instantiate .ensures) _ _ _ _
+    (at-solve .solve .ensures)
 
 pub solve-rule-spec : {M : Type 1} → statement M
 solve-rule-spec =

@@ -62,9 +62,9 @@ part-concerned-end-2 c = search needs
 concerned-requires : tie.Need-concerned-requires
 concerned-requires c κs =
     let at-wide3 = c .before .before in
-    let at-pre = at-wide3 .before .before .before .before .before .before .before .before .before .before .before
-    .before in
-    lowered-asks _ _ _ (at-pre .pre .3) (at-wide3 .wide3 .ensures .0)
+    let at-if1 = at-wide3 .before .before .before .before .before .before .before in
+    let start = at-if1 .before .before .before .before .before in
+    lowered-asks _ _ _ (start .pre .3) (at-wide3 .wide3 .ensures .0)
 
 less-requires : tie.Need-less-requires
 less-requires c κs = search needs

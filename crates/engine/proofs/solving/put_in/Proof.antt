@@ -32,13 +32,13 @@ same-length-3 c = search needs
 
 returns-2 : tie.Need-returns-2
 returns-2 c =
-    let pre′ = c .before .before .before .before .before .before .before .before .before .before .before .before .before .before
-    .before .before .pre in
-    let if1′ = c .before .before .before .before .before .before .before .before .before .before .before .before .if1 in
-    let replace-all′ = c .before .before .before .before .before .before .before .before .before .before .replace-all in
-    let replace-all2′ = c .before .before .before .before .before .before .replace-all2 in
-    let replace-all3′ = c .before .before .replace-all3 in
-    merged-done _ _ _ _ _ _ _ _ pre′ (if1′ .left) (replace-all′ .ensures) (replace-all2′ .ensures) (replace-all3′ .ensures)
+    let at-replace-all3 = c .before .before in
+    let at-replace-all2 = at-replace-all3 .before .before .before .before in
+    let at-replace-all = at-replace-all2 .before .before .before .before in
+    let at-if1 = at-replace-all .before .before in
+    let start = at-if1 .before .before .before .before in
+    merged-done _ _ _ _ _ _ _ _ (start .pre) (at-if1 .if1 .left) (at-replace-all .replace-all .ensures)
+    (at-replace-all2 .replace-all2 .ensures) (at-replace-all3 .replace-all3 .ensures)
 
 pub put-in-spec : {M : Type 1} → statement M
 put-in-spec =

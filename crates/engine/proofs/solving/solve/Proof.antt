@@ -42,34 +42,29 @@ unify-requires c κs = tt
 
 same-length : tie.Need-same-length Inv-loop μ-loop
 same-length c =
-    let unify′ = c .before .before .before .before .before .before .before .unify in
-    let loop′ = c .before .before .before .before .before .before .before .before .before .before .before .before .before
-    .before .loop in
-    unify′ .kept .1 .1 .0 ∙ loop′ .inv .equations-size
+    let at-unify = c .before .before .before .before .before .before .before in
+    let at-loop = at-unify .before .before .before .before .before .before .before in
+    at-unify .unify .kept .1 .1 .0 ∙ at-loop .loop .inv .equations-size
 
 same-length-2 : tie.Need-same-length-2 Inv-loop μ-loop
 same-length-2 c =
-    let unify′ = c .before .before .before .before .before .before .before .unify in
-    let loop′ = c .before .before .before .before .before .before .before .before .before .before .before .before .before
-    .before .loop in
-    unify′ .kept .1 .1 .1 .0 ∙ loop′ .inv .bound-size
+    let at-unify = c .before .before .before .before .before .before .before in
+    let at-loop = at-unify .before .before .before .before .before .before .before in
+    at-unify .unify .kept .1 .1 .1 .0 ∙ at-loop .loop .inv .bound-size
 
 same-length-3 : tie.Need-same-length-3 Inv-loop μ-loop
 same-length-3 c =
-    let unify′ = c .before .before .before .before .before .before .before .unify in
-    let loop′ = c .before .before .before .before .before .before .before .before .before .before .before .before .before
-    .before .loop in
-    unify′ .kept .1 .1 .1 .1 .0 ∙ loop′ .inv .cells-size
+    let at-unify = c .before .before .before .before .before .before .before in
+    let at-loop = at-unify .before .before .before .before .before .before .before in
+    at-unify .unify .kept .1 .1 .1 .1 .0 ∙ at-loop .loop .inv .cells-size
 
 returns : tie.Need-returns Inv-loop μ-loop
 returns c =
-    let loop′ = c .before .before .before .before .before .before .before .before .before .before .before .before .before
-    .before .loop in
-    let loop-test′ = c .before .before .before .before .before .before .before .before .before .before .before .before .before
-    .loop-test in
-    let unify′ = c .before .before .before .before .before .before .before .unify in
-    let if1′ = c .if1 in
-    solving-clash _ _ _ _ _ _ _ _ (loop′ .inv) (loop-test′ .taken) _ _ _ _ (unify′ .ensures) (not-true _ (if1′ .taken))
+    let at-unify = c .before .before .before .before .before .before .before in
+    let at-loop-test = at-unify .before .before .before .before .before .before in
+    let at-loop = at-loop-test .before in
+    solving-clash _ _ _ _ _ _ _ _ (at-loop .loop .inv) (at-loop-test .loop-test .taken) _ _ _ _ (at-unify .unify .ensures)
+    (not-true _ (c .if1 .taken))
 
 add-i : tie.Need-add-i Inv-loop μ-loop
 add-i c = omega arith
@@ -79,13 +74,11 @@ loop-less c = omega arith
 
 loop-again : tie.Need-loop-again Inv-loop μ-loop
 loop-again c =
-    let loop′ = c .before .before .before .before .before .before .before .before .before .before .before .before .before
-    .before .loop in
-    let loop-test′ = c .before .before .before .before .before .before .before .before .before .before .before .before .before
-    .loop-test in
-    let unify′ = c .before .before .before .before .before .before .before .unify in
-    let if1′ = c .if1 in
-    solving-next _ _ _ _ _ _ _ _ (loop′ .inv) (loop-test′ .taken) _ _ _ _ (unify′ .ensures) (not-false _ (if1′ .left))
+    let at-unify = c .before .before .before .before .before .before .before in
+    let at-loop-test = at-unify .before .before .before .before .before .before in
+    let at-loop = at-loop-test .before in
+    solving-next _ _ _ _ _ _ _ _ (at-loop .loop .inv) (at-loop-test .loop-test .taken) _ _ _ _ (at-unify .unify .ensures)
+    (not-false _ (c .if1 .left))
 
 same-length-4 : tie.Need-same-length-4 Inv-loop μ-loop
 same-length-4 c =

@@ -24,9 +24,9 @@ same-length-3 c = search needs
 
 returns-2 : tie.Need-returns-2
 returns-2 c =
-    let if2′ = c .before .before .before .before .before .before .before .before .before .before .if2 in
-    let put-in′ = c .before .before .before .before .before .before .put-in in
-    merged-turned _ _ _ _ _ _ _ _ _ (if2′ .taken) (put-in′ .ensures)
+    let at-put-in = c .before .before .before .before .before .before in
+    let at-if2 = at-put-in .before .before .before .before in
+    merged-turned _ _ _ _ _ _ _ _ _ (at-if2 .if2 .taken) (at-put-in .put-in .ensures)
 
 put-in-requires-2 : tie.Need-put-in-requires-2
 put-in-requires-2 c κs = search needs

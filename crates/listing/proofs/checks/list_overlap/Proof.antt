@@ -47,7 +47,8 @@ part-number-end-end c = search needs
 number-end-requires-2 : tie.Need-number-end-requires-2
 number-end-requires-2 c κs =
     let at-number-end = c .before .before .before .before .before .before in
-    let start = at-number-end .before .before .before .before .before .before .before .before .before .before in
+    let at-shared-slice-known3 = at-number-end .before .before .before .before .before .before in
+    let start = at-shared-slice-known3 .before .before .before .before in
     let b = start .args .bounds .now in
     half-listable (start .args .shown .variables) b (at-number-end .number-end .last .0) (start .pre .within)
     (at-number-end .number-end .kept .0) (start .pre .second-end)
@@ -97,7 +98,8 @@ returns c =
     let at-put-overlap = c .before .before in
     let at-number-end2 = at-put-overlap .before .before .before .before .before .before .before .before .before in
     let at-number-end = at-number-end2 .before .before .before .before .before .before .before in
-    let start = at-number-end .before .before .before .before .before .before .before .before .before .before in
+    let at-shared-slice-known3 = at-number-end .before .before .before .before .before .before in
+    let start = at-shared-slice-known3 .before .before .before .before in
     let v = start .args .shown .variables in
     let b = start .args .bounds .now in
     let ys = at-number-end .number-end .last .0 in
@@ -111,7 +113,8 @@ returns c =
 
 put-overlap-requires-2 : tie.Need-put-overlap-requires-2
 put-overlap-requires-2 c κs =
-    let at-slice-known8 = c .before .before .before .before .before .before .before .before .before .before .before in
+    let at-put-overlap = c .before .before .before .before .before .before .before in
+    let at-slice-known8 = at-put-overlap .before .before .before .before in
     let at-slice-known7 = at-slice-known8 .before .before in
     let at-number-end2 = at-slice-known7 .before .before in
     let at-slice-known6 = at-number-end2 .before .before .before in
@@ -153,7 +156,8 @@ returns-2 c =
     let at-put-overlap = at-if1 .before .before in
     let at-number-end2 = at-put-overlap .before .before .before .before .before .before .before .before .before in
     let at-number-end = at-number-end2 .before .before .before .before .before .before .before in
-    let start = at-number-end .before .before .before .before .before .before .before .before .before .before in
+    let at-shared-slice-known3 = at-number-end .before .before .before .before .before .before in
+    let start = at-shared-slice-known3 .before .before .before .before in
     let v = start .args .shown .variables in
     let b = start .args .bounds .now in
     let ys = at-number-end .number-end .last .0 in

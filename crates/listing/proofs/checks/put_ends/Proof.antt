@@ -27,18 +27,21 @@ slice-aggregate-put-end-2 c = search needs
 
 slice-aggregate-put-end-3 : tie.Need-slice-aggregate-put-end-3
 slice-aggregate-put-end-3 c =
-    let start = c .before .before .before .before .before .before .before .before .before .before .before in
+    let at-behind = c .before .before .before .before in
+    let start = at-behind .before .before .before .before .before .before .before in
     sym (length-take-le (start .args .shown .variables) (start .args .bounds .now) (start .pre .within))
 
 put-end-requires : tie.Need-put-end-requires
 put-end-requires c κs =
-    let start = c .before .before .before .before .before .before .before .before .before .before .before in
+    let at-behind = c .before .before .before .before in
+    let start = at-behind .before .before .before .before .before .before .before in
     start .pre .first-end
 
 add-next : tie.Need-add-next
 add-next c =
     let at-put-end = c .before .before in
-    let start = at-put-end .before .before .before .before .before .before .before .before .before .before .before .before in
+    let at-behind = at-put-end .before .before .before .before .before in
+    let start = at-behind .before .before .before .before .before .before .before in
     omega (arith, ends-room _ _ _ _ _ (start .pre .counted) (at-put-end .put-end .ensures))
 
 behind-requires-2 : tie.Need-behind-requires-2
@@ -65,13 +68,15 @@ mul-put-end c = search needs
 sub-put-end-3 : tie.Need-sub-put-end-3
 sub-put-end-3 c =
     let at-put-end = c .before .before .before .before .before .before in
-    let start = at-put-end .before .before .before .before .before .before .before .before .before .before .before .before in
+    let at-behind = at-put-end .before .before .before .before .before in
+    let start = at-behind .before .before .before .before .before .before .before in
     omega (arith, start .pre .within)
 
 part-put-end-start-3 : tie.Need-part-put-end-start-3
 part-put-end-start-3 c =
     let at-put-end = c .before .before .before .before .before .before in
-    let start = at-put-end .before .before .before .before .before .before .before .before .before .before .before .before in
+    let at-behind = at-put-end .before .before .before .before .before in
+    let start = at-behind .before .before .before .before .before .before .before in
     omega (arith, start .pre .within)
 
 part-put-end-end-3 : tie.Need-part-put-end-end-3
@@ -80,14 +85,16 @@ part-put-end-end-3 c = search needs
 put-end-requires-2 : tie.Need-put-end-requires-2
 put-end-requires-2 c κs =
     let at-put-end = c .before .before .before .before .before .before .before in
-    let start = at-put-end .before .before .before .before .before .before .before .before .before .before .before .before in
+    let at-behind = at-put-end .before .before .before .before .before in
+    let start = at-behind .before .before .before .before .before .before .before in
     lent-writable _ (start .args .bounds .now) (start .args .one .now) _ (start .args .shown) (start .pre .second-end)
 
 add-result : tie.Need-add-result
 add-result c =
     let at-put-end2 = c .before .before in
     let at-put-end = at-put-end2 .before .before .before .before .before .before .before .before in
-    let start = at-put-end .before .before .before .before .before .before .before .before .before .before .before .before in
+    let at-behind = at-put-end .before .before .before .before .before in
+    let start = at-behind .before .before .before .before .before .before .before in
     let room = ends-all-room _ _ _ _ _ (start .pre .counted) (at-put-end .put-end .ensures) (at-put-end2 .put-end2 .ensures) in
     omega (arith, room)
 

@@ -17,7 +17,8 @@ put-rules-requires c κs =
 
 array-share-prefix-partners : tie.Need-array-share-prefix-partners
 array-share-prefix-partners c =
-    let start = c .before .before .before .before .before .before .before .before .before .before in
+    let at-put-rules = c .before .before .before .before in
+    let start = at-put-rules .before .before .before .before .before .before in
     let few = start .pre .1 .heads-few in
     let own = start .good .1 .1 .1 .1 .0 in
     let size : length (start .args .shown .partners) ≡ 4 = search (needs, own) in
@@ -25,7 +26,8 @@ array-share-prefix-partners c =
 
 slice-aggregate-put-pairs : tie.Need-slice-aggregate-put-pairs
 slice-aggregate-put-pairs c =
-    let start = c .before .before .before .before .before .before .before .before .before .before .before in
+    let at-put-rules = c .before .before .before .before .before in
+    let start = at-put-rules .before .before .before .before .before .before in
     let few = start .pre .1 .heads-few in
     let own = start .good .1 .1 .1 .1 .0 in
     let size : length (start .args .shown .partners) ≡ 4 = search (needs, own) in

@@ -27,8 +27,9 @@ returns c =
 
 put-live-requires : tie.Need-put-live-requires
 put-live-requires c κs =
-    let start = c .before .before .before .before .before .before .before .before .before .before in
-    let lives = not-false _ (c .before .if1 .left) in
+    let at-if1 = c .before in
+    let start = at-if1 .before .before .before .before .before .before .before .before .before in
+    let lives = not-false _ (at-if1 .if1 .left) in
     (count-is (sym (numbered-live _ _ _ _ _ lives)) (start .pre .counted), start .pre .few lives)
 
 same-length-2 : tie.Need-same-length-2

@@ -16,14 +16,16 @@ put-head-requires c κs =
 put-bounds-requires : tie.Need-put-bounds-requires
 put-bounds-requires c κs =
     let at-head = c .before .before .before in
-    let start = at-head .before .before .before .before .before .before .before .before .before .before in
+    let at-shared-slice-known3 = at-head .before .before .before .before .before .before in
+    let start = at-shared-slice-known3 .before .before .before .before in
     (live-bounds _ _ _ _ _ (start .pre .0) (at-head .put-head .ensures), start .pre .1)
 
 put-rows-requires : tie.Need-put-rows-requires
 put-rows-requires c κs =
     let at-bounds = c .before .before .before in
     let at-head = at-bounds .before .before .before .before in
-    let start = at-head .before .before .before .before .before .before .before .before .before .before in
+    let at-shared-slice-known3 = at-head .before .before .before .before .before .before in
+    let start = at-shared-slice-known3 .before .before .before .before in
     live-rows _ _ _ _ _ (start .pre .0) (at-head .put-head .ensures) (at-bounds .put-bounds .ensures)
 
 same-length : tie.Need-same-length
