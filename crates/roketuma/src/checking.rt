@@ -2,6 +2,7 @@
 use crate::CheckReply;
 use crate::Refusal;
 use crate::TextName;
+use critical::deciding::Answer;
 use critical::deciding::Shown;
 use critical::deciding::decide;
 use engine::derivation::Final;
@@ -150,20 +151,21 @@ fn check_read<'a>(
     let mut one = [0; 2590];
     let mut two = [0; 2590];
     let verdict = decide(rules, n, &mut goal, &mut bounds, &mut one, &mut two);
-    if verdict.confluent {
-        return pass(verdict.overlaps, output);
-    }
+    let answer = verdict.answer;
     let shown = verdict.shown;
-    show(
-        program,
-        places,
-        &goal,
-        &mut bounds,
-        &mut one,
-        &mut two,
-        shown,
-        output,
-    )
+    match answer {
+        Answer::Confluent(overlaps) => pass(overlaps, output),
+        Answer::Unjoined => show(
+            program,
+            places,
+            &goal,
+            &mut bounds,
+            &mut one,
+            &mut two,
+            shown,
+            output,
+        ),
+    }
 }
 
 // The check of a program, from its text into the lent output: every input has its reply.

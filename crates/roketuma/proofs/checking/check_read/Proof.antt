@@ -22,18 +22,24 @@ decide-requires c κs =
     let start = c .before .before .before .before .before .before .before .before in
     decidable (start .pre) _ _ _ _ refl refl refl refl
 
+enum-known-answer : tie.Need-enum-known-answer
+enum-known-answer c = search needs
+
 pass-requires : tie.Need-pass-requires
 pass-requires c κs = search needs
+
+enum-told : tie.Need-enum-told
+enum-told c = search needs
 
 same-length : tie.Need-same-length
 same-length c = search needs
 
 returns : tie.Need-returns
 returns c =
-    let at-if = c .before .before .before .before in
-    let at-decide = at-if .before .before .before .before .before in
+    let at-answer = c .before .before .before .before .before in
+    let at-decide = at-answer .before .before .before .before .before .before .before in
     let start = at-decide .before .before .before .before .before .before .before .before .before in
-    pass-replies (start .pre) (at-decide .decide .ensures .passes (at-if .if1 .taken) _ (holds (start .pre)))
+    pass-replies (start .pre) (at-decide .decide .ensures .passes _ (at-answer .answer .given .1) _ (holds (start .pre)))
     (c .before .before .pass .ensures)
 
 slice-aggregate-show : tie.Need-slice-aggregate-show
@@ -50,10 +56,10 @@ slice-aggregate-show-4 c = search needs
 
 show-requires : tie.Need-show-requires
 show-requires c κs =
-    let at-if = c .before .before .before .before .before .before in
-    let at-decide = at-if .before .before .before .before .before in
+    let at-told = c .before .before .before .before .before in
+    let at-decide = at-told .before .before .before .before .before .before .before in
     let start = at-decide .before .before .before .before .before .before .before .before .before in
-    show-ready (start .pre) (at-decide .decide .ensures .shows (at-if .if1 .left)) (at-decide .decide .kept .1 .1 .0)
+    show-ready (start .pre) (at-decide .decide .ensures .shows (at-told .enum-told .given .1)) (at-decide .decide .kept .1 .1 .0)
     (at-decide .decide .kept .1 .1 .1 .0)
 
 same-length-2 : tie.Need-same-length-2
@@ -71,13 +77,15 @@ check-read-spec =
     slice-aggregate-decide-3
     slice-aggregate-decide-4
     decide-requires
+    enum-known-answer
     pass-requires
-    same-length
-    returns
+    enum-told
     slice-aggregate-show
     slice-aggregate-show-2
     slice-aggregate-show-3
     slice-aggregate-show-4
     show-requires
+    same-length
+    returns
     same-length-2
     returns-2)
