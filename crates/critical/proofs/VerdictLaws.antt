@@ -34,6 +34,7 @@ use Rattle.judging.specs.declared.Ends.{Ends}
 use Rattle.judging.specs.Judging.{EndOf}
 use Rattle.judging.proofs.JoinLaws.{live-room}
 use Rattle.critical.specs.declared.walking.Reply.{Reply}
+use Rattle.critical.specs.declared.deciding.Answer.the-variants.{Confluent, Unjoined}
 use Rattle.critical.specs.declared.deciding.Shown.{Shown}
 use Rattle.critical.specs.Overlapped.{Partners, OverlapOf}
 use Rattle.critical.specs.Walks.{Holds, ruleAt, Checkable, PairAt, AllWalked}
@@ -392,15 +393,26 @@ verdict-kept rules n goal bounds one two one′ two′ d e f =
       bounds-size = d .bounds-size;
     }
 
+-- the two answers differ, and `Confluent` has one number
+unjoined-confluent : {A : Type 0} {k : ℕ} → Unjoined ≡ Confluent k → A
+unjoined-confluent {A} {k} e = absurd (let z : _≡_ {A = ℕ} 0 1 = cc in omega arith)
+
+confluent-equal : {k m : ℕ} → Confluent k ≡ Confluent m → k ≡ m
+confluent-equal e = cc
+
 -- the answer: an overlap that does not join, or none
 pub verdict-shown :
     (rules : List ℕ) (n : ℕ) (goal bounds one two : List ℕ) (s : Shown) → UnjoinedIn rules n goal bounds one two s
-    → VerdictIn rules n goal bounds one two (record { confluent = false; overlaps = 0; shown = s })
-verdict-shown rules n goal bounds one two s u = record { passes = λ e. true-false e refl; shows = λ e. u }
+    → VerdictIn rules n goal bounds one two (record { answer = Unjoined; shown = s })
+verdict-shown rules n goal bounds one two s u = record { passes = λ k e. unjoined-confluent e; shows = λ e. u }
 
 pub verdict-passed :
     (rules : List ℕ) (n : ℕ) (stopped : Bool) (k i j : ℕ) (partners : List ℕ) → AllWalked rules n stopped k i j partners
     → stopped ≡ false → (goal bounds one two : List ℕ) (s : Shown)
-    → VerdictIn rules n goal bounds one two (record { confluent = true; overlaps = k; shown = s })
+    → VerdictIn rules n goal bounds one two (record { answer = Confluent k; shown = s })
 verdict-passed rules n stopped k i j partners w e goal bounds one two s =
-    record { passes = λ t. walked-confluent rules n stopped k i j partners w e; shows = λ t. true-false refl t }
+    record {
+      passes =
+          λ m t p h. subst (λ a. verdict p ≡ confluent a) (confluent-equal t) (walked-confluent rules n stopped k i j partners w e p h);
+      shows = λ t. unjoined-confluent (sym t);
+    }

@@ -26,6 +26,7 @@ use Rattle.judging.specs.declared.Ends.{Ends}
 use Rattle.judging.specs.Judging.{Stands, Overlapping, endIn, mostVariables, LiveEnd, EndOf}
 use Rattle.critical.specs.declared.walking.Reply.{Reply}
 use Rattle.critical.specs.declared.deciding.Shown.{Shown}
+use Rattle.critical.specs.declared.deciding.Answer.the-variants.{Confluent, Unjoined}
 use Rattle.critical.specs.declared.deciding.Verdict.{Verdict}
 use Rattle.critical.specs.Overlapped.{Partners}
 use Rattle.critical.specs.Walks.{Holds, ruleAt, Checkable, Room}
@@ -131,5 +132,5 @@ pub record UnjoinedIn (rules : List ℕ) (n : ℕ) (goal bounds one two : List �
 
 -- what deciding promises: the verdict on every program of the table
 pub record VerdictIn (rules : List ℕ) (n : ℕ) (goal bounds one two : List ℕ) (r : Verdict) : Type 0 where
-  pub passes : r .confluent ≡ true → (p : Program) → Holds p rules n → verdict p ≡ confluent (r .overlaps)
-  pub shows : r .confluent ≡ false → UnjoinedIn rules n goal bounds one two (r .shown)
+  pub passes : (k : ℕ) → r .answer ≡ Confluent k → (p : Program) → Holds p rules n → verdict p ≡ confluent k
+  pub shows : r .answer ≡ Unjoined → UnjoinedIn rules n goal bounds one two (r .shown)

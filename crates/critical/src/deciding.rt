@@ -27,10 +27,15 @@ pub struct Shown {
     pub two: Final,
 }
 
-// The verdict on a program: whether all overlaps join, and how many there are then; or the first that does not.
+// The answer to whether all overlaps join: yes, and how many there are, or no.
+pub enum Answer {
+    Confluent(usize),
+    Unjoined,
+}
+
+// The verdict on a program: the answer, and for `Unjoined` the first overlap that does not join.
 pub struct Verdict {
-    pub confluent: bool,
-    pub overlaps: usize,
+    pub answer: Answer,
     pub shown: Shown,
 }
 
@@ -181,15 +186,13 @@ pub fn decide(
     if met.stopped {
         let shown = show(rules, n, met, goal, bounds, one, two);
         return Verdict {
-            confluent: false,
-            overlaps: 0,
+            answer: Answer::Unjoined,
             shown,
         };
     }
     let none = show_none();
     Verdict {
-        confluent: true,
-        overlaps: met.count,
+        answer: Answer::Confluent(met.count),
         shown: none,
     }
 }

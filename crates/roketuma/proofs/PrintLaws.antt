@@ -6,7 +6,7 @@
 --   listing-printed, refusal-printed    the same of a run's reply
 --   check-listed, check-turned          the same of a check's reply
 --   printed-within, printed-front       what is printed lies inside the output
---   front-length, parts-printed         the parts of an input
+--   parts-printed                       the parts of an input
 -- Assumes nothing.
 use mathlib.Core.Path.{_≡_, refl, sym, ap, subst, _∙_}
 use mathlib.Core.Logic.{_⊎_, inl, inr}
@@ -28,15 +28,15 @@ use Rattle.listing.proofs.Decimals.{decimal-low, decimal-high, decimal-few}
 use Rattle.listing.proofs.WriteLaws.{partFrom, partBack, wrote-then, wrote-behind}
 use Rattle.replies.specs.Replies.{programText, goalText, Reply, refusal, listing, runReply, checkReply, outputAfter}
 use Rattle.replies.specs.Replies.{textLetter, printed, ample, sheetrun, sheetcheck}
-use Rattle.roketuma.specs.Answers.{textMeant, replyMeant, answerOf, Replied, refusalBytes, Printed}
-use Rattle.roketuma.specs.declared.TextName.{TextName}
-use Rattle.roketuma.specs.declared.TextName.the-variants.{S, G}
-use Rattle.roketuma.specs.declared.Refusal.{Refusal}
-use Rattle.roketuma.specs.declared.RunReply.{RunReply}
-use Rattle.roketuma.specs.declared.RunReply.the-variants.{Refused, Listed}
-use Rattle.roketuma.specs.declared.CheckReply.{CheckReply}
-use Rattle.roketuma.specs.declared.CheckReply.the-variants as check-reply
-use Rattle.roketuma.specs.Promises.{checkMeant, listedBytes, CheckReplied}
+use Rattle.answers.specs.Answers.{textMeant, replyMeant, answerOf, Replied, refusalBytes, Printed}
+use Rattle.answers.specs.declared.TextName.{TextName}
+use Rattle.answers.specs.declared.TextName.the-variants.{S, G}
+use Rattle.answers.specs.declared.Refusal.{Refusal}
+use Rattle.answers.specs.declared.RunReply.{RunReply}
+use Rattle.answers.specs.declared.RunReply.the-variants.{Refused, Listed}
+use Rattle.answers.specs.declared.CheckReply.{CheckReply}
+use Rattle.answers.specs.declared.CheckReply.the-variants as check-reply
+use Rattle.answers.specs.Promises.{checkMeant, listedBytes, CheckReplied}
 
 -- a number has at most two digits more than its tenth
 pub decimal-tenth : (n : ℕ) → length (decimal n) ≤ n / 10 + 2
@@ -223,10 +223,6 @@ module _ (input : List ℕ) {o a : List ℕ} {r : CheckReply} (replied : CheckRe
         (omega (arith, replied .counted, ap listedBytes e))
     check-listed n (inr e) = listed-check n (ap (λ (q : CheckReply). checkMeant q a) e)
         (omega (arith, replied .counted, ap listedBytes e))
-
--- the length of a front
-pub front-length : (n : ℕ) (l : List ℕ) → n ≤ length l → n ≡ length (take n l)
-front-length n l h = sym (length-take-le n l h)
 
 -- the parts of an input, as they are lent
 pub parts-printed : (input : List ℕ) (end start : ℕ) {o a : List ℕ} {n : ℕ}

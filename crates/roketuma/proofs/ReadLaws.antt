@@ -1,8 +1,6 @@
 -- Reading two texts, and how it is tied to a run of them.
 --   program-unreadable, goal-unreadable    the judgement of a text that is refused
 --   goal-readable                          the judgement of a goal that is read
---   program-tabled, tabled-used, tabled-room   a program's tables, for reading a goal
---   goal-answers                           the goal reader's answer is that of the definition
 --   program-goes-on                        where a program is read, the goal's judgement is that of both
 --   refused-number                         the number of a refusal is that of a run's
 --   read-refused, read-readable            a run's reply where the texts are refused, and where they are read
@@ -15,38 +13,37 @@ use native.Mathlib.Omega.{arith}
 use mathlib.Core.Bool.{Bool, true, false, cond}
 use mathlib.Core.List.{List}
 use mathlib.Core.Logic.{_⊎_, inl, inr, _↔_}
-use mathlib.Core.Path.{_≡_, refl, sym, ap, subst, _∙_}
-use lib.Dec.{eqb, ltb}
+use mathlib.Core.Path.{_≡_, refl, sym, ap, _∙_}
+use lib.Dec.{ltb}
 use lib.ListN.{length, take}
-use lib.Seq.{length-take-le}
 use borrow.Author.Tests.{ne-eqb}
-use Rattle.semantics.specs.Terms.{Symbol}
 use Rattle.syntax.specs.Answers.{Answer, refused, accepted}
 use Rattle.syntax.specs.Programs.{Reading, readProgram}
 use Rattle.syntax.specs.Goals.{GoalReading, readGoal}
 use Rattle.tables.specs.Layout.{symbolSize}
 use Rattle.tables.specs.Rows.{symbolsOf, constantsOf}
-use Rattle.programs.specs.Read.{programAnswer, readingOf, ProgramIn, ProgramFits}
+use Rattle.programs.specs.Read.{programAnswer, readingOf, ProgramIn}
 use Rattle.programs.specs.declared.Counts.{Counts}
 use Rattle.programs.specs.declared.ProgramRead.{ProgramRead}
 use Rattle.programs.specs.declared.ProgramRead.the-variants as program-read
-use Rattle.programs.proofs.AddLaws.{symbols-used}
-use Rattle.goals.specs.ReadGoal.{Room, goalAnswer, GoalIn}
+use Rattle.goals.specs.ReadGoal.{goalAnswer, GoalIn}
 use Rattle.goals.specs.declared.GoalCounts.{GoalCounts}
 use Rattle.goals.specs.declared.GoalRead.{GoalRead}
 use Rattle.goals.specs.declared.GoalRead.the-variants as goal-read
-use Rattle.replies.specs.Replies.{Text, programText, goalText, Reply, refusal, listing, replyOf, fitted, runListing, runReply}
+use Rattle.replies.specs.Replies.{Text, programText, goalText, refusal, listing, replyOf, fitted, runListing, runReply}
 use Rattle.replies.proofs.ShortNames.{Turned, Reads, ShortProgram, ShortGoal, program-short, goal-short}
-use Rattle.roketuma.specs.Answers.{textMeant, textByte, nameByte, answerNumber, replyNumber}
+use Rattle.answers.specs.Answers.{textMeant, textByte, nameByte, answerNumber, replyNumber}
 use Rattle.roketuma.specs.Readings.{Judgement, readable, unreadable, judged, goalReply, readReply, readMeant}
-use Rattle.roketuma.specs.Readings.{judgementNumber, readRead, Tabled}
-use Rattle.roketuma.specs.declared.TextName.{TextName}
-use Rattle.roketuma.specs.declared.TextName.the-variants.{S, G}
-use Rattle.roketuma.specs.declared.Refusal.{Refusal}
-use Rattle.roketuma.specs.declared.RunReply.the-variants.{Refused as RunRefused}
+use Rattle.roketuma.specs.Readings.{judgementNumber, readRead}
+use Rattle.inputs.specs.Inputs.{Tabled}
+use Rattle.answers.specs.declared.TextName.{TextName}
+use Rattle.answers.specs.declared.TextName.the-variants.{S, G}
+use Rattle.answers.specs.declared.Refusal.{Refusal}
+use Rattle.answers.specs.declared.RunReply.the-variants.{Refused as RunRefused}
 use Rattle.roketuma.specs.declared.reading.ReadReply.{ReadReply}
 use Rattle.roketuma.specs.declared.reading.ReadReply.the-variants.{Refused, Readable}
-use Rattle.roketuma.proofs.Numbers.{refusal-read}
+use Rattle.answers.proofs.Numbers.{refusal-read}
+use Rattle.inputs.proofs.TabledLaws.{goal-answers}
 
 module _ {program names places names′ places′ symbols′ rules′ : List ℕ} {reply : ProgramRead}
     (r : ProgramIn program names places names′ places′ symbols′ rules′ reply) where
@@ -60,18 +57,6 @@ module _ {program names places names′ places′ symbols′ rules′ : List ℕ
       (sym (ap (programAnswer names′ symbols′ rules′) h) ∙ r .answers)
 
   module _ (counts : Counts) (h : reply ≡ program-read.Accepted counts) where
-    -- the tables of a program that is read
-    pub program-tabled : Tabled symbols′ names′ places′ counts
-    program-tabled =
-        let fits : ProgramFits rules′ counts = rw h at (r .fits) in
-        record {
-          names-size = r .room .names-size;
-          places-size = r .room .places-size;
-          symbols-size = r .room .symbols-size;
-          few-symbols = fits .few-symbols;
-          few-constants = fits .few-constants;
-        }
-
     -- the goal's judgement is that of both
     pub program-goes-on :
         (goal : List ℕ) (a : ReadReply)
@@ -83,36 +68,9 @@ module _ {program names places names′ places′ symbols′ rules′ : List ℕ
         (sym (ap (programAnswer names′ symbols′ rules′) h) ∙ r .answers)
 
 module _ {symbols names places : List ℕ} {c : Counts} (t : Tabled symbols names places c) where
-  -- the used part of the symbols
-  pub tabled-used : symbolSize * c .symbols ≤ length symbols
-  tabled-used = omega (arith, t .few-symbols, t .symbols-size)
-
-  used-size : length (take (symbolSize * c .symbols) symbols) ≡ symbolSize * c .symbols
-  used-size = length-take-le (symbolSize * c .symbols) symbols tabled-used
-
-  -- there is room to read a goal
-  pub tabled-room : {cells letters : List ℕ} → 320 ≤ length cells → length letters ≡ 26
-      → Room (take (symbolSize * c .symbols) symbols) names places cells letters
-  tabled-room h l =
-      record {
-        few-symbols = omega (arith, used-size, t .few-symbols);
-        names-size = t .names-size;
-        places-size = t .places-size;
-        cells-size = h;
-        letters-size = l;
-      }
-
   module _ (goal : List ℕ) {names′ places′ cells letters : List ℕ} {reply : GoalRead}
       (g : GoalIn goal (take (symbolSize * c .symbols) symbols) names places (c .constants) names′ places′ cells letters
       reply) where
-    -- the reader's answer is that of the definition
-    pub goal-answers :
-        goalAnswer names′ cells letters reply
-        ≡ readGoal (symbolsOf names symbols (c .symbols)) (constantsOf names (c .constants)) goal
-    goal-answers =
-        g .answers (c .symbols) used-size
-        ∙ ap (λ (ss : List Symbol). readGoal ss (constantsOf names (c .constants)) goal) (symbols-used names symbols (c .symbols))
-
     -- a goal that is refused
     pub goal-unreadable :
         (number line : ℕ) → reply ≡ goal-read.Refused number line
@@ -121,7 +79,7 @@ module _ {symbols names places : List ℕ} {c : Counts} (t : Tabled symbols name
     unfolding goalAnswer textMeant goalReply judged
     goal-unreadable number line h =
         ap (λ (a : Answer GoalReading). judged goalText a (λ g. readable))
-        (sym (ap (goalAnswer names′ cells letters) h) ∙ goal-answers)
+        (sym (ap (goalAnswer names′ cells letters) h) ∙ goal-answers t goal g)
 
     -- a goal that is read
     pub goal-readable :
@@ -130,7 +88,7 @@ module _ {symbols names places : List ℕ} {c : Counts} (t : Tabled symbols name
     unfolding goalAnswer readMeant goalReply judged
     goal-readable found h =
         ap (λ (a : Answer GoalReading). judged goalText a (λ g. readable))
-        (sym (ap (goalAnswer names′ cells letters) h) ∙ goal-answers)
+        (sym (ap (goalAnswer names′ cells letters) h) ∙ goal-answers t goal g)
 
 -- a letter has the byte of the text that it names
 meant-byte : (t : TextName) → nameByte t ≡ textByte (textMeant t)

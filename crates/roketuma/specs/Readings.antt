@@ -5,26 +5,21 @@
 --   readMeant            an answer as a judgement
 --   judgementNumber      a judgement as one number
 --   readRead             the answer of a number of `roketuma_read`
---   Tabled               what reading a goal asks of the tables of a program
 -- `read-exact` of proofs/ReadLaws.antt says that the refusals are those of a run by numbers 1 to 10, for every room.
 -- Assumes nothing.
-use Prim.Native.Nat.{ℕ, _≤_}
+use Prim.Native.Nat.{ℕ}
 use mathlib.Core.Bool.{cond}
 use mathlib.Core.List.{List}
-use mathlib.Core.Path.{_≡_}
 use lib.Dec.{eqb}
-use lib.ListN.{length}
 use Rattle.semantics.specs.Terms.{Symbol}
 use Rattle.syntax.specs.Answers.{Answer, refused, accepted}
 use Rattle.syntax.specs.Programs.{readProgram}
 use Rattle.syntax.specs.Goals.{readGoal}
-use Rattle.tables.specs.Layout.{maxNames}
-use Rattle.programs.specs.declared.Counts.{Counts}
 use Rattle.replies.specs.Replies.{Text, programText, goalText, refusal}
 use Rattle.roketuma.specs.declared.reading.ReadReply.{ReadReply}
 use Rattle.roketuma.specs.declared.reading.ReadReply.the-variants.{Refused, Readable}
-use Rattle.roketuma.specs.Answers.{textMeant, replyNumber}
-use Rattle.roketuma.specs.Numbers.{refusalRead}
+use Rattle.answers.specs.Answers.{textMeant, replyNumber}
+use Rattle.answers.specs.Numbers.{refusalRead}
 
 -- what is said of texts: they can be read, or are refused by document 01's number, with the text and the line, from 1, or 0
 pub data Judgement : Type 0 where
@@ -58,11 +53,3 @@ judgementNumber (unreadable number text line) = replyNumber (refusal number text
 -- the answer of a number: 0 where the texts can be read, and a refusal from 2^32 on
 unfoldable pub readRead : ℕ → ReadReply
 readRead n = cond (eqb n 0) Readable (Refused (refusalRead n))
-
--- what reading a goal asks of the tables of a program as read
-pub record Tabled (symbols names places : List ℕ) (c : Counts) : Type 0 where
-  pub names-size : length names ≡ maxNames
-  pub places-size : length places ≡ maxNames
-  pub symbols-size : length symbols ≡ 128
-  pub few-symbols : c .symbols ≤ 32
-  pub few-constants : c .constants ≤ 64

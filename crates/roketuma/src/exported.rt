@@ -1,16 +1,16 @@
 // The same for programs in other languages: an answer as one number.
-use crate::CheckReply;
-use crate::Refusal;
-use crate::RunReply;
-use crate::TextName;
-use crate::checking::check;
-use crate::running::run;
+use answers::CheckReply;
+use answers::Refusal;
+use answers::RunReply;
+use answers::TextName;
+use checking::check;
+use running::run;
 ghost use mathlib.Core.Path.{_≡_};
 ghost use Prim.Native.Nat.{_+_, _*_, _<_};
 ghost use lib.ListN.{length};
 ghost use Rattle.replies.specs.Replies.{runReply};
-ghost use Rattle.roketuma.specs.Answers.{nameByte, answerNumber, Returned};
-ghost use Rattle.roketuma.specs.Promises.{listedBytes, checkNumber, CheckReturned};
+ghost use Rattle.answers.specs.Answers.{nameByte, answerNumber, Returned};
+ghost use Rattle.answers.specs.Promises.{listedBytes, checkNumber, CheckReturned};
 
 // The byte of a text's letter.
 fn name_byte(text: TextName) -> u64

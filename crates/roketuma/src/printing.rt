@@ -1,13 +1,13 @@
 // What the programs print, as bytes in a lent output: the reply to an input, and a refusal.
 // The programs do no more than write them.
-use crate::CheckReply;
-use crate::RunReply;
-use crate::TextName;
-use crate::checking::check;
-use crate::running::run;
+use answers::CheckReply;
+use answers::RunReply;
+use answers::TextName;
+use checking::check;
 use listing::putting::put_head;
 use listing::writing::copy;
 use listing::writing::put_decimal;
+use running::run;
 use text::split_goal;
 ghost use mathlib.Core.List.{_++_};
 ghost use mathlib.Core.Path.{_≡_};
@@ -16,7 +16,7 @@ ghost use lib.ListN.{length};
 ghost use Rattle.text.specs.Bytes.{ascii};
 ghost use Rattle.listing.specs.Listing.{decimal};
 ghost use Rattle.replies.specs.Replies.{refusal, printed, runReply, ample, sheetrun, sheetcheck};
-ghost use Rattle.roketuma.specs.Answers.{textMeant, refusalBytes, Printed};
+ghost use Rattle.answers.specs.Answers.{textMeant, refusalBytes, Printed};
 
 // The line of a refusal, from the bytes `,S,` or `,G,` that name its text: the number behind the word, the line behind both.
 fn put_line(out: &mut [u8], number: usize, named: &[u8], line: usize) -> usize

@@ -1,9 +1,9 @@
 // Whether texts can be read: a program's and a goal's, with nothing lent to write into. So an editor can judge a text while it
 // is typed. Its promises are the definitions of specs/Readings.antt.
-use crate::Refusal;
-use crate::RunReply;
-use crate::TextName;
 use crate::exported::answer_number;
+use answers::Refusal;
+use answers::RunReply;
+use answers::TextName;
 use goals::GoalRead;
 use goals::read_goal;
 use programs::Counts;
@@ -12,8 +12,9 @@ use programs::read_program;
 use tables::layout::SYMBOL_SIZE;
 ghost use mathlib.Core.Path.{_≡_};
 ghost use Rattle.tables.specs.Rows.{symbolsOf, constantsOf};
-ghost use Rattle.roketuma.specs.Answers.{textMeant};
-ghost use Rattle.roketuma.specs.Readings.{unreadable, Tabled, readMeant, goalReply, readReply, judgementNumber};
+ghost use Rattle.answers.specs.Answers.{textMeant};
+ghost use Rattle.roketuma.specs.Readings.{unreadable, readMeant, goalReply, readReply, judgementNumber};
+ghost use Rattle.inputs.specs.Inputs.{Tabled};
 
 // The answer of reading: a refusal, or that both texts can be read.
 pub enum ReadReply {

@@ -1,6 +1,6 @@
--- `roketuma::exported::answer_number` meets its contract. Assumes nothing.
+-- `roketuma::answer_number` meets its contract. Assumes nothing.
 use borrow.Author.Needs.{needs}
-use Rattle.roketuma.specs.Answers.{answerNumber}
+use Rattle.answers.specs.Answers.{answerNumber}
 use Rattle.roketuma.proofs.exported.answer_number.Statement.{statement}
 use Rattle.roketuma.proofs.exported.answer_number.Tie as tie
 

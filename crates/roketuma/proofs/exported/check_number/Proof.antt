@@ -1,8 +1,8 @@
--- `roketuma::exported::check_number` meets its contract. Assumes nothing.
+-- `roketuma::check_number` meets its contract. Assumes nothing.
 use borrow.Author.Needs.{needs}
 use mathlib.Core.Path.{ap}
 use native.Mathlib.Omega.{arith}
-use Rattle.roketuma.specs.Promises.{listedBytes, checkNumber}
+use Rattle.answers.specs.Promises.{listedBytes, checkNumber}
 use Rattle.roketuma.proofs.exported.check_number.Statement.{statement}
 use Rattle.roketuma.proofs.exported.check_number.Tie as tie
 

@@ -1,6 +1,6 @@
--- `roketuma::exported::name_byte` meets its contract. Assumes nothing.
+-- `roketuma::name_byte` meets its contract. Assumes nothing.
 use borrow.Author.Needs.{needs}
-use Rattle.roketuma.specs.Answers.{nameByte}
+use Rattle.answers.specs.Answers.{nameByte}
 use Rattle.roketuma.proofs.exported.name_byte.Statement.{statement}
 use Rattle.roketuma.proofs.exported.name_byte.Tie as tie
 

@@ -1,7 +1,7 @@
--- `roketuma::exported::refusal_number` meets its contract. Assumes nothing.
+-- `roketuma::refusal_number` meets its contract. Assumes nothing.
 use borrow.Author.Needs.{needs}
 use native.Mathlib.Omega.{arith}
-use Rattle.roketuma.proofs.ReplyLaws.{byte-few}
+use Rattle.answers.proofs.ReplyLaws.{byte-few}
 use Rattle.roketuma.proofs.exported.refusal_number.Statement.{statement}
 use Rattle.roketuma.proofs.exported.refusal_number.Tie as tie
 

@@ -1,6 +1,6 @@
--- `roketuma::exported::roketuma_check` meets its contract: the answer of `check`, as a number. Assumes nothing.
+-- `roketuma::roketuma_check` meets its contract: the answer of `check`, as a number. Assumes nothing.
 use borrow.Author.Needs.{needs}
-use Rattle.roketuma.proofs.Numbers.{check-few}
+use Rattle.answers.proofs.Numbers.{check-few}
 use Rattle.roketuma.proofs.exported.roketuma_check.Statement.{statement}
 use Rattle.roketuma.proofs.exported.roketuma_check.Tie as tie
 

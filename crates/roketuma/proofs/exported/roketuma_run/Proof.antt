@@ -1,9 +1,9 @@
--- `roketuma::exported::roketuma_run` meets its contract: the answer of `run`, as a number. Assumes nothing.
+-- `roketuma::roketuma_run` meets its contract: the answer of `run`, as a number. Assumes nothing.
 use mathlib.Core.Path.{_∙_, ap}
 use borrow.Author.Needs.{needs}
 use Rattle.replies.specs.Replies.{runReply}
-use Rattle.roketuma.specs.Answers.{answerNumber}
-use Rattle.roketuma.proofs.ReplyLaws.{reply-number}
+use Rattle.answers.specs.Answers.{answerNumber}
+use Rattle.answers.proofs.ReplyLaws.{reply-number}
 use Rattle.roketuma.proofs.exported.roketuma_run.Statement.{statement}
 use Rattle.roketuma.proofs.exported.roketuma_run.Tie as tie
 

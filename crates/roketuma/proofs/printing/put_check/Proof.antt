@@ -1,4 +1,4 @@
--- `roketuma::printing::put_check` meets its contract: the refusal's line, or the listing that `check` wrote. Assumes nothing.
+-- `roketuma::put_check` meets its contract: the refusal's line, or the listing that `check` wrote. Assumes nothing.
 use borrow.Author.Needs.{needs}
 use mathlib.Core.Logic.{inl, inr}
 use Rattle.roketuma.proofs.PrintLaws.{check-turned, check-listed}

@@ -1,4 +1,4 @@
--- `roketuma::printing::put_line` meets its contract: the word, the number behind it, the rest behind that. Assumes nothing.
+-- `roketuma::put_line` meets its contract: the word, the number behind it, the rest behind that. Assumes nothing.
 use native.Mathlib.Omega.{arith}
 use borrow.Author.Needs.{needs}
 use Rattle.roketuma.proofs.PrintLaws.{number-counted, rest-within, rest-counted, line-printed, line-few}

@@ -1,4 +1,4 @@
--- `roketuma::printing::put_refusal` meets its contract: the line with the letter of its text. Assumes nothing.
+-- `roketuma::put_refusal` meets its contract: the line with the letter of its text. Assumes nothing.
 use borrow.Author.Needs.{needs}
 use Rattle.roketuma.proofs.PrintLaws.{refusal-program, refusal-goal}
 use Rattle.roketuma.proofs.printing.put_refusal.Statement.{statement}

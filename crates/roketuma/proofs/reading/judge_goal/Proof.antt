@@ -1,9 +1,10 @@
--- `roketuma::reading::judge_goal` meets its contract: the reader's answer is the judgement's. Assumes nothing.
+-- `roketuma::judge_goal` meets its contract: the reader's answer is the judgement's. Assumes nothing.
 use native.Mathlib.Omega.{arith}
 use mathlib.Core.Path.{sym, _∙_}
 use lib.Seq.{length-take-le}
 use borrow.Author.Needs.{needs}
-use Rattle.roketuma.proofs.ReadLaws.{tabled-used, tabled-room, goal-unreadable, goal-readable}
+use Rattle.inputs.proofs.TabledLaws.{tabled-used, tabled-room}
+use Rattle.roketuma.proofs.ReadLaws.{goal-unreadable, goal-readable}
 use Rattle.roketuma.proofs.reading.judge_goal.Statement.{statement}
 use Rattle.roketuma.proofs.reading.judge_goal.Tie as tie
 

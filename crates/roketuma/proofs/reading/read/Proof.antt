@@ -1,8 +1,9 @@
--- `roketuma::reading::read` meets its contract: the program is refused, or the goal's judgement is that of both.
+-- `roketuma::read` meets its contract: the program is refused, or the goal's judgement is that of both.
 -- Assumes nothing.
 use mathlib.Core.Path.{_∙_}
 use borrow.Author.Needs.{needs}
-use Rattle.roketuma.proofs.ReadLaws.{program-unreadable, program-tabled, program-goes-on}
+use Rattle.roketuma.proofs.ReadLaws.{program-unreadable, program-goes-on}
+use Rattle.inputs.proofs.TabledLaws.{program-tabled}
 use Rattle.roketuma.proofs.reading.read.Statement.{statement}
 use Rattle.roketuma.proofs.reading.read.Tie as tie
 

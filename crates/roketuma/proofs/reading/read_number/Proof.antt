@@ -1,4 +1,4 @@
--- `roketuma::reading::read_number` meets its contract: a refusal's number is that of a run's. Assumes nothing.
+-- `roketuma::read_number` meets its contract: a refusal's number is that of a run's. Assumes nothing.
 use mathlib.Core.Path.{_∙_, ap, sym}
 use borrow.Author.Needs.{needs}
 use Rattle.roketuma.specs.Readings.{readMeant, judgementNumber}

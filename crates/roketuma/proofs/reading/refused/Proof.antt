@@ -1,4 +1,4 @@
--- `roketuma::reading::refused` meets its contract. Assumes nothing.
+-- `roketuma::refused` meets its contract. Assumes nothing.
 use mathlib.Core.Path.{refl}
 use Rattle.roketuma.specs.Readings.{readMeant}
 use Rattle.roketuma.proofs.reading.refused.Statement.{statement}

@@ -1,4 +1,4 @@
--- `roketuma::reading::roketuma_read` meets its contract: the answer of `read`, as a number. Assumes nothing.
+-- `roketuma::roketuma_read` meets its contract: the answer of `read`, as a number. Assumes nothing.
 use mathlib.Core.Path.{_∙_, ap}
 use borrow.Author.Needs.{needs}
 use Rattle.roketuma.specs.Readings.{judgementNumber}

@@ -1,0 +1,248 @@
+-- Demand 3 of an answer to a text and of the bytes that it leaves, from its reply and its kind: `demand-of`.
+--   refusal-answer, listing-answer     the answer of a refusal, and of a listing
+--   checked-as                         demand 3 of the answer to a text that reads
+--   demand-of                          demand 3 of the answer to any text (the main law)
+-- Assumes nothing.
+use Prim.Native.Nat.{ℕ, _≤_, _<_}
+use native.Mathlib.Omega.{arith}
+use mathlib.Core.Bool.{Bool, true, false, cond}
+use mathlib.Core.List.{List}
+use mathlib.Core.Logic.{_⊎_, inl, inr, ⊎-elim}
+use mathlib.Core.Path.{_≡_, refl, sym, ap, _∙_}
+use lib.Dec.{ltb}
+use lib.ListN.{length, take}
+use borrow.Author.Tests.{ltb-true, lt-ltb}
+use Rattle.semantics.specs.Overlaps.{overlaps}
+use Rattle.semantics.specs.Verdict.{Verdict, verdict, confluent, unjoined}
+use Rattle.semantics.specs.Claims.{Demand3}
+use Rattle.semantics.proofs.Demand3.{verdict-exact}
+use Rattle.syntax.specs.Answers.{Answer, refused, accepted}
+use Rattle.syntax.specs.Programs.{Reading, readProgram}
+use Rattle.syntax.proofs.WellFormed.{read-wellFormed}
+use Rattle.listing.proofs.Decimals.{decimal-exact}
+use Rattle.replies.specs.Replies.{Text, programText, Reply, refusal, listing, replyOf, fitted, checkListing, checkReply}
+use Rattle.replies.specs.Replies.{outputAfter}
+use Rattle.replies.specs.Claims.{verdictReply}
+use Rattle.replies.proofs.Demand3.{check-listed, verdict-one}
+use Rattle.replies.proofs.LineNumbers.{program-number}
+use Rattle.answers.specs.Answers.{textMeant}
+use Rattle.answers.specs.Outcomes.{OneOutcome}
+use Rattle.answers.specs.Promises.{checkMeant, CheckReplied, Told, CheckedAs, ofProgram, Demand3Of}
+use Rattle.answers.specs.declared.TextName.{TextName}
+use Rattle.answers.specs.declared.TextName.the-variants.{S, G}
+use Rattle.answers.specs.declared.Refusal.{Refusal}
+use Rattle.answers.specs.declared.CheckReply.{CheckReply}
+use Rattle.answers.specs.declared.CheckReply.the-variants.{Refused, Confluent, Unjoined}
+use Rattle.answers.proofs.OutcomeLaws.{outcome-claim, appearance-claim, counterexample-claim}
+
+-- an answer that means a refusal of the program's text
+pub refusal-answer :
+    (number line : ℕ) (output : List ℕ) (r : CheckReply) → checkMeant r output ≡ refusal number programText line
+    → r ≡ ofProgram number line
+unfolding checkMeant textMeant ofProgram
+refusal-answer number line output (Refused f) e = go (f .number) (f .text) (f .line) e
+  where
+    go :
+        (n : ℕ) (t : TextName) (l : ℕ) → refusal n (textMeant t) l ≡ refusal number programText line
+        → Refused (record { number = n; text = t; line = l }) ≡ ofProgram number line
+    go n S l k =
+        let a : n ≡ number = cc in
+        let b : l ≡ line = cc in
+        rw (a, b)
+    go n G l k = absurd (let z : _≡_ {A = ℕ} 0 1 = cc in omega arith)
+refusal-answer number line output (Confluent n) e = absurd (let z : _≡_ {A = ℕ} 0 1 = cc in omega arith)
+refusal-answer number line output (Unjoined n) e = absurd (let z : _≡_ {A = ℕ} 0 1 = cc in omega arith)
+
+-- an answer that means a listing
+pub listing-answer :
+    (bytes output : List ℕ) (r : CheckReply) → checkMeant r output ≡ listing bytes
+    → ((n : ℕ) × (r ≡ Confluent n)) ⊎ ((n : ℕ) × (r ≡ Unjoined n))
+unfolding checkMeant
+listing-answer bytes output (Refused f) e = absurd (let z : _≡_ {A = ℕ} 0 1 = cc in omega arith)
+listing-answer bytes output (Confluent n) e = inl (n, refl)
+listing-answer bytes output (Unjoined n) e = inr (n, refl)
+
+-- a listing that fits or not, as a reply: number 11 where it does not
+fitted-refused :
+    (text : Text) (room : ℕ) (bytes : List ℕ) (number line : ℕ) → fitted text room bytes ≡ refusal number text line
+    → (number ≡ 11) × (line ≡ 0) × (room < length bytes)
+unfolding fitted
+fitted-refused text room bytes number line e = go (ltb room (length bytes)) refl e
+  where
+    go :
+        (b : Bool) → ltb room (length bytes) ≡ b → cond b (refusal 11 text 0) (listing bytes) ≡ refusal number text line
+        → (number ≡ 11) × (line ≡ 0) × (room < length bytes)
+    go true h k =
+        let a : number ≡ 11 = cc in
+        let b : line ≡ 0 = cc in
+        (a, b, ltb-true room (length bytes) h)
+    go false h k = absurd (let z : _≡_ {A = ℕ} 0 1 = cc in omega arith)
+
+fitted-short : (text : Text) (room : ℕ) (bytes : List ℕ) → room < length bytes → fitted text room bytes ≡ refusal 11 text 0
+unfolding fitted
+fitted-short text room bytes h = rw (lt-ltb room (length bytes) h)
+
+fitted-is : (text : Text) (room : ℕ) (bytes l : List ℕ) → fitted text room bytes ≡ listing l → listing l ≡ listing bytes
+unfolding fitted
+fitted-is text room bytes l e = go (ltb room (length bytes)) e
+  where
+    go : (b : Bool) → cond b (refusal 11 text 0) (listing bytes) ≡ listing l → listing l ≡ listing bytes
+    go true k = absurd (let z : _≡_ {A = ℕ} 0 1 = cc in omega arith)
+    go false k = sym k
+
+module _ (s before after : List ℕ) (r : CheckReply) (c : CheckReplied (checkReply s (length before)) before after r) where
+  -- what the answer means, by its form
+  meant-by : (q : CheckReply) → r ≡ q → checkReply s (length before) ≡ checkMeant q after
+  meant-by q e = sym (c .meant) ∙ ap (λ (x : CheckReply). checkMeant x after) e
+
+  -- the reply to a text that reads
+  read-reply :
+      (p : Reading) → readProgram s ≡ accepted p
+      → checkReply s (length before) ≡ fitted programText (length before) (checkListing p)
+  unfolding checkReply replyOf
+  read-reply p e = rw e
+
+  -- and to one that does not
+  turned-reply :
+      (number line : ℕ) → readProgram s ≡ refused number line
+      → checkReply s (length before) ≡ refusal number programText line
+  unfolding checkReply replyOf
+  turned-reply number line e = rw e
+
+  -- a listing left by an answer is the verdict's
+  listed-verdict :
+      (p : Reading) → readProgram s ≡ accepted p → (n : ℕ) → checkReply s (length before) ≡ listing (take n after)
+      → (v : Verdict) → verdict (p .program) ≡ v → listing (take n after) ≡ verdictReply p v
+  unfolding verdictReply checkListing
+  listed-verdict p e n h v k =
+      fitted-is programText (length before) (checkListing p) (take n after) (sym (read-reply p e) ∙ h) ∙ ap (verdictReply p) k
+
+  module _ (told : Told s r) (p : Reading) (e : readProgram s ≡ accepted p) where
+    demand : Demand3 (p .program)
+    demand = verdict-exact (p .program) (read-wellFormed s e)
+
+    no-outcome : (n : ℕ) → r ≡ Unjoined n → OneOutcome (p .program) → ⊥
+    no-outcome n h one =
+        let (o, a, b, v) = told .fail p e n h in
+        verdict-one (demand .exact .1 (outcome-claim (p .program) .0 one) .1) v
+
+    decided : length (checkListing p) ≤ length before → ((n : ℕ) × (r ≡ Confluent n)) ⊎ ((n : ℕ) × (r ≡ Unjoined n))
+    decided fits = listing-answer (checkListing p) after r (c .meant ∙ check-listed s (length before) p e fits)
+
+    one-outcome : (n : ℕ) → r ≡ Confluent n → OneOutcome (p .program)
+    one-outcome n h = outcome-claim (p .program) .1 (demand .exact .0 (told .pass p e n h))
+
+    -- demand 3 of the answer to a text that reads
+    checked-as : CheckedAs p before after r
+    unfolding checkMeant
+    checked-as =
+        record {
+          decided = decided;
+          exact = λ fits. (
+            λ (n, h). one-outcome n h,
+            λ one. ⊎-elim (λ y. y) (λ (n, h). absurd (no-outcome n h one)) (decided fits),
+          );
+          passed = λ n h.
+              let (k, v) = told .pass p e n h in (
+                listed-verdict p e n (meant-by (Confluent n) h) (confluent (length (overlaps (p .program))))
+                    (v ∙ ap confluent (demand .counted k v)),
+                one-outcome n h,
+              );
+          failed = λ n h.
+              let (o, one, two, v) = told .fail p e n h in (
+                o,
+                one,
+                two,
+                listed-verdict p e n (meant-by (Unjoined n) h) (unjoined o one two) v,
+                counterexample-claim (p .program) o one two (demand .shown o one two v),
+                no-outcome n h,
+              );
+          enough = λ h.
+              outcome-claim (p .program) .1 (demand .enough (appearance-claim (p .program) .0 h));
+          bounded = demand .bounded;
+          decimals = decimal-exact;
+        }
+
+  -- the text of a refusal, and the output that it leaves
+  refusing : (f : Refusal) → r ≡ Refused f → (f .text ≡ S) × (after ≡ before)
+  unfolding checkMeant textMeant outputAfter checkReply replyOf fitted
+  refusing f h = (named (f .text) text, c .output ∙ ap (λ (x : Reply). outputAfter x before) (meant-by (Refused f) h))
+    where
+      -- the text that a reply's refusal names
+      textOf : Reply → Text
+      textOf (refusal number t line) = t
+      textOf (listing bytes) = programText
+
+      fits : (b : Bool) (bytes : List ℕ) → textOf (cond b (refusal 11 programText 0) (listing bytes)) ≡ programText
+      fits true bytes = refl
+      fits false bytes = refl
+
+      always :
+          (a : Answer Reading)
+          → textOf (replyOf programText a (λ p. fitted programText (length before) (checkListing p))) ≡ programText
+      always (refused number line) = refl
+      always (accepted p) = fits (ltb (length before) (length (checkListing p))) (checkListing p)
+
+      text : textMeant (f .text) ≡ programText
+      text = sym (ap textOf (meant-by (Refused f) h)) ∙ always (readProgram s)
+
+      named : (t : TextName) → textMeant t ≡ programText → t ≡ S
+      named S k = refl
+      named G k = absurd (let z : _≡_ {A = ℕ} 0 1 = cc in omega arith)
+
+  -- the reply of a refusal of the program's text
+  of-program : (number line : ℕ) → r ≡ ofProgram number line → checkReply s (length before) ≡ refusal number programText line
+  unfolding ofProgram checkMeant textMeant
+  of-program number line h = meant-by (ofProgram number line) h
+
+  turned-back : (number line : ℕ) → number < 11 → r ≡ ofProgram number line → readProgram s ≡ refused number line
+  turned-back number line few h = go (readProgram s) refl
+    where
+      go : (a : Answer Reading) → readProgram s ≡ a → readProgram s ≡ refused number line
+      go (refused n l) k =
+          let e = sym (turned-reply n l k) ∙ of-program number line h in
+          let same : n ≡ number = cc in
+          let line′ : l ≡ line = cc in
+          rw (sym same, sym line′) k
+      go (accepted p) k =
+          let (eleven, zero, short) =
+          fitted-refused programText (length before) (checkListing p) number line
+          (sym (read-reply p k) ∙ of-program number line h) in
+          absurd (omega (arith, eleven, few))
+
+  -- number 11
+  eleven-short :
+      r ≡ ofProgram 11 0 → (p : Reading) × (readProgram s ≡ accepted p) × (length before < length (checkListing p))
+  eleven-short h = go (readProgram s) refl
+    where
+      go :
+          (a : Answer Reading) → readProgram s ≡ a
+          → (p : Reading) × (readProgram s ≡ accepted p) × (length before < length (checkListing p))
+      go (refused n l) k =
+          let e = sym (turned-reply n l k) ∙ of-program 11 0 h in
+          let same : n ≡ 11 = cc in
+          absurd (omega (arith, same, program-number s k .1))
+      go (accepted p) k =
+          let (eleven, zero, short) =
+          fitted-refused programText (length before) (checkListing p) 11 0 (sym (read-reply p k) ∙ of-program 11 0 h) in
+          (p, k, short)
+
+-- demand 3 of the answer to any text, and of the bytes that it leaves
+pub demand-of :
+    (s before after : List ℕ) (r : CheckReply) → CheckReplied (checkReply s (length before)) before after r → Told s r
+    → Demand3Of s before after r
+demand-of s before after r c told =
+    record {
+      numbers = λ number line e. program-number s e;
+      turned = λ number line few. (
+        λ e. refusal-answer number line after r (c .meant ∙ turned-reply s before after r c number line e),
+        turned-back s before after r c number line few,
+      );
+      eleven = (
+        λ (p, e, short). refusal-answer 11 0 after r (c .meant ∙ (read-reply s before after r c p e
+            ∙ fitted-short programText (length before) (checkListing p) short)),
+        eleven-short s before after r c,
+      );
+      untouched = refusing s before after r c;
+      read = λ p e. checked-as s before after r c told p e;
+    }

@@ -1,0 +1,143 @@
+-- The number that a C export returns decodes to its answer, of which holds all that `run` and `check` promise.
+--   refusal-read                 the refusal read off its number
+--   run-read, check-read         so is every answer of a run, and of a check
+--   run-number-decodes           the number of `roketuma_run` (the main law for runs)
+--   check-number-decodes         the number of `roketuma_check` (the main law for checks)
+--   check-answer-decodes         the number of an answer of a check decodes to it
+--   run-number-one, check-number-one   one number, one answer
+--   check-few                    an answer of a check lists less than 2^31 bytes
+-- Assumes nothing.
+use Prim.Native.Nat.{ℕ, _+_, _-_, _*_, _/_, _%_, _≤_, _<_}
+use native.Mathlib.Omega.{arith}
+use mathlib.Core.List.{List}
+use mathlib.Core.Path.{_≡_, refl, sym, ap, subst, _∙_}
+use lib.ListN.{length, drop}
+use lib.Seq.{length-take-le, take-at}
+use borrow.Author.Tests.{lt-ltb, le-ltb}
+use Rattle.replies.specs.Replies.{Text, programText, goalText, Reply, refusal, listing, runReply, checkReply, outputAfter}
+use Rattle.replies.proofs.LineNumbers.{Within, run-within, check-within}
+use Rattle.answers.specs.Answers.{textMeant, letterOf, replyMeant, answerOf, nameByte, answerNumber}
+use Rattle.answers.specs.Answers.{Replied, Returned}
+use Rattle.answers.specs.Promises.{checkMeant, listedBytes, CheckReplied, Demand3Of, checkNumber, CheckReturned}
+use Rattle.answers.specs.Numbers.{letterRead, refusalRead, runRead, checkRead}
+use Rattle.answers.specs.declared.TextName.{TextName}
+use Rattle.answers.specs.declared.TextName.the-variants.{S, G}
+use Rattle.answers.specs.declared.RunReply.the-variants.{Refused as RunRefused}
+use Rattle.answers.specs.declared.CheckReply.{CheckReply}
+use Rattle.answers.specs.declared.CheckReply.the-variants.{Refused, Confluent, Unjoined}
+use Rattle.answers.proofs.ReplyLaws.{reply-number}
+
+-- the refusal read off its number
+pub refusal-read :
+    (number line : ℕ) (t : TextName) → line < 65536
+    → refusalRead (4294967296 * number + 65536 * nameByte t + line) ≡ record { number = number; text = t; line = line }
+unfolding refusalRead letterRead nameByte
+refusal-read number line S few =
+    let n = 4294967296 * number + 65536 * 83 + line in
+    let a : n / 4294967296 ≡ number = omega (arith, few) in
+    let b : n / 65536 % 65536 ≡ 83 = omega (arith, few) in
+    let c : n % 65536 ≡ line = omega (arith, few) in
+    rw (a, b, c)
+refusal-read number line G few =
+    let n = 4294967296 * number + 65536 * 71 + line in
+    let a : n / 4294967296 ≡ number = omega (arith, few) in
+    let b : n / 65536 % 65536 ≡ 71 = omega (arith, few) in
+    let c : n % 65536 ≡ line = omega (arith, few) in
+    rw (a, b, c)
+
+-- an answer within the bounds, of a run
+run-read : (reply : Reply) → Within reply → runRead (answerNumber (answerOf reply)) ≡ answerOf reply
+unfolding runRead answerNumber answerOf
+run-read (refusal number text line) (least, most, few) =
+    rw (le-ltb (4294967296 * number + 65536 * nameByte (letterOf text) + line) 4294967296 (omega (arith, least)))
+    (ap RunRefused (refusal-read number line (letterOf text) few))
+run-read (listing bytes) few = rw (lt-ltb (length bytes) 4294967296 (omega (arith, few)))
+
+-- the letter of a text names it
+letter-meant : (t : Text) → textMeant (letterOf t) ≡ t
+unfolding textMeant letterOf
+letter-meant programText = refl
+letter-meant goalText = refl
+
+-- the answer of a reply, with an output that is left as the reply says
+replied-of :
+    (reply : Reply) (before after : List ℕ) → after ≡ outputAfter reply before → Replied reply before after (answerOf reply)
+unfolding replyMeant answerOf outputAfter
+replied-of (refusal number text line) before after h =
+    record { meant = ap (λ (t : Text). refusal number t line) (letter-meant text); answer = refl; output = h }
+replied-of (listing bytes) before after h =
+    record {
+      meant = rw h (ap listing (take-at bytes (drop (length bytes) before) (length bytes) refl));
+      answer = refl;
+      output = h;
+    }
+
+-- the number of `roketuma_run` decodes to an answer of which holds what `run` promises
+pub run-number-decodes :
+    (program goal before after : List ℕ) (n : ℕ) → Returned (runReply program goal (length before)) before after n
+    → Replied (runReply program goal (length before)) before after (runRead n)
+run-number-decodes program goal before after n r =
+    let reply = runReply program goal (length before) in
+    let same : runRead n ≡ answerOf reply =
+    ap runRead (r .answer ∙ sym (reply-number reply)) ∙ run-read reply (run-within program goal (length before)) in
+    subst (Replied reply before after) (sym same) (replied-of reply before after (r .output))
+
+-- an answer within the bounds, of a check: it lists no more bytes than there are
+check-read :
+    (r : CheckReply) (after : List ℕ) → Within (checkMeant r after) → listedBytes r ≤ length after → checkRead (checkNumber r) ≡ r
+unfolding checkRead checkNumber checkMeant listedBytes
+check-read (Refused f) after (least, most, few) h =
+    let n = 4294967296 * f .number + 65536 * nameByte (f .text) + f .line in
+    rw (le-ltb n 2147483648 (omega (arith, least)), le-ltb n 4294967296 (omega (arith, least)))
+    (ap Refused (refusal-read (f .number) (f .line) (f .text) few))
+check-read (Confluent n) after few h = rw (lt-ltb n 2147483648 (omega (arith, few, length-take-le n after h)))
+check-read (Unjoined n) after few h =
+    let low : n < 2147483648 = omega (arith, few, length-take-le n after h) in
+    let back : 2147483648 + n - 2147483648 ≡ n = omega arith in
+    rw (le-ltb (2147483648 + n) 2147483648 (omega arith), lt-ltb (2147483648 + n) 4294967296 (omega (arith, low)), back)
+
+-- the number of an answer of a check decodes to it
+pub check-answer-decodes :
+    (s before after : List ℕ) (r : CheckReply) → CheckReplied (checkReply s (length before)) before after r
+    → checkRead (checkNumber r) ≡ r
+check-answer-decodes s before after r c =
+    check-read r after (subst Within (sym (c .meant)) (check-within s (length before))) (c .counted)
+
+-- the number of `roketuma_check` decodes to an answer of which holds what `check` promises
+pub check-number-decodes :
+    (s before after : List ℕ) (n : ℕ) → CheckReturned s before after n
+    → CheckReplied (checkReply s (length before)) before after (checkRead n) × Demand3Of s before after (checkRead n)
+check-number-decodes s before after n r =
+    let same : checkRead n ≡ r .answer =
+    ap checkRead (r .number) ∙ check-answer-decodes s before after (r .answer) (r .replied) in (
+      subst (CheckReplied (checkReply s (length before)) before after) (sym same) (r .replied),
+      subst (Demand3Of s before after) (sym same) (r .demand),
+    )
+
+-- runs that return one number have one answer, and so have checks
+pub run-number-one :
+    (program goal before after program′ goal′ before′ after′ : List ℕ) (n : ℕ)
+    → Returned (runReply program goal (length before)) before after n
+    → Returned (runReply program′ goal′ (length before′)) before′ after′ n
+    → answerOf (runReply program goal (length before)) ≡ answerOf (runReply program′ goal′ (length before′))
+run-number-one program goal before after program′ goal′ before′ after′ n r q =
+    sym (run-number-decodes program goal before after n r .answer) ∙ run-number-decodes program′ goal′ before′ after′ n q .answer
+
+pub check-number-one :
+    (s before after s′ before′ after′ : List ℕ) (a b : CheckReply) → CheckReplied (checkReply s (length before)) before after a
+    → CheckReplied (checkReply s′ (length before′)) before′ after′ b → checkNumber a ≡ checkNumber b → a ≡ b
+check-number-one s before after s′ before′ after′ a b c d e =
+    sym (check-answer-decodes s before after a c) ∙ (ap checkRead e ∙ check-answer-decodes s′ before′ after′ b d)
+
+-- an answer of a check lists less than 2^31 bytes
+pub check-few :
+    (s : List ℕ) {before after : List ℕ} {r : CheckReply} → CheckReplied (checkReply s (length before)) before after r
+    → listedBytes r < 2147483648
+unfolding checkMeant listedBytes
+check-few s {before} {after} {r} c =
+    go r (subst Within (sym (c .meant)) (check-within s (length before))) (c .counted)
+  where
+    go : (q : CheckReply) → Within (checkMeant q after) → listedBytes q ≤ length after → listedBytes q < 2147483648
+    go (Refused f) w h = omega arith
+    go (Confluent n) w h = omega (arith, length-take-le n after h)
+    go (Unjoined n) w h = omega (arith, length-take-le n after h)

@@ -1,0 +1,2 @@
+-- A program as read, in its tables. Assumes nothing.
+pub mod Inputs

@@ -1,0 +1,3 @@
+-- Laws of the stages of a run. Assumes nothing.
+pub mod ReadyLaws
+pub mod ReadingLaws

@@ -1,0 +1,28 @@
+-- `running::derive` meets its contract: the goal enters, and its derivation ends. Assumes nothing.
+use borrow.Author.Needs.{needs}
+use Rattle.running.proofs.ReadyLaws.{entered-ended}
+use Rattle.running.proofs.derive.Statement.{statement}
+use Rattle.running.proofs.derive.Tie as tie
+
+start-bound-requires : tie.Need-start-bound-requires
+start-bound-requires c κs = search needs
+
+cast-v : tie.Need-cast-v
+cast-v c = search needs
+
+normalise-requires : tie.Need-normalise-requires
+normalise-requires c κs = search needs
+
+same-length : tie.Need-same-length
+same-length c = search needs
+
+same-length-2 : tie.Need-same-length-2
+same-length-2 c = search needs
+
+returns : tie.Need-returns
+returns c = search (needs, entered-ended)
+
+pub derive-spec : {M : Type 1} → statement M
+derive-spec =
+    tie.close
+    (tie.spec start-bound-requires cast-v normalise-requires same-length same-length-2 returns)

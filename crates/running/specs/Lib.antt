@@ -1,0 +1,2 @@
+-- What the stages of a run ask. Assumes nothing.
+pub mod Stages
