@@ -22,25 +22,14 @@ begin-requires-2 c κs =
     side-begins _ _ _ _ _ _ _ _ pre _ _ (omega (arith, pre .first, pre .second)) (pre .positions-size) _ _
     (start .pre .second-bound) (start .pre .second-room)
 
-same-length : tie.Need-same-length
-same-length c = search needs
-
-same-length-2 : tie.Need-same-length-2
-same-length-2 c = search needs
-
-same-length-3 : tie.Need-same-length-3
-same-length-3 c = search needs
-
-same-length-4 : tie.Need-same-length-4
-same-length-4 c = search needs
-
 returns : tie.Need-returns
 returns c =
-    let two = c .before .before .before .before in
-    let one = two .before .before .before .before .before .before .before in
-    let start = one .before .before .before .before .before .before .before .before .before .before in
+    let at-begin2 = c .before .before .before .before in
+    let at-begin = at-begin2 .before .before .before .before .before .before .before in
+    let at-positions = at-begin .before .before .before in
+    let start = at-positions .before .before .before .before .before .before .before in
     both-begun _ _ _ _ _ _ _ _ (start .pre .overlapping) _ _ _ _ _ _ _ _ _ _ _ _ (start .pre .first-bound)
-    (start .pre .second-bound) (one .begin .ensures) (two .begin2 .ensures)
+    (start .pre .second-bound) (at-begin .begin .ensures) (at-begin2 .begin2 .ensures)
 
 pub begin-both-spec : {M : Type 1} → statement M
 begin-both-spec =
@@ -48,8 +37,5 @@ begin-both-spec =
     (tie.spec
     begin-requires
     begin-requires-2
-    same-length
-    same-length-2
-    same-length-3
-    same-length-4
+    (λ c. search needs) (λ c. search needs) (λ c. search needs) (λ c. search needs)
     returns)

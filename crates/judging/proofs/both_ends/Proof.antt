@@ -7,30 +7,21 @@ use Rattle.judging.proofs.both_ends.Tie as tie
 
 begin-both-requires : tie.Need-begin-both-requires
 begin-both-requires c κs =
-    let start = c .before .before .before .before .before .before .before .before .before .before in
+    let lent = c .before .before .before .before .before in
+    let start = lent .before .before .before .before .before in
     start .pre
 
 follow-both-requires : tie.Need-follow-both-requires
 follow-both-requires c κs =
-    let began = c .before .before .before .before .before .before .before .before .before .before .before .before in
-    let start = began .before .before .before .before .before .before .before .before .before .before .before in (
+    let at-two = c .before .before .before .before .before in
+    let began = at-two .before .before .before .before .before .before .before in
+    let lent = began .before .before .before .before .before in
+    let start = lent .before .before .before .before .before .before in (
       lent-kept _ _ _ _ _ _ _ _ _ _ _ _ _ _ _ _ (start .pre) (began .begin-both .kept .1 .1 .1 .0)
           (began .begin-both .kept .1 .1 .1 .1 .0) (began .begin-both .kept .1 .1 .1 .1 .1 .0)
           (began .begin-both .kept .1 .1 .1 .1 .1 .1 .0),
       began .begin-both .ensures,
     )
-
-same-length : tie.Need-same-length
-same-length c = search needs
-
-same-length-2 : tie.Need-same-length-2
-same-length-2 c = search needs
-
-same-length-3 : tie.Need-same-length-3
-same-length-3 c = search needs
-
-same-length-4 : tie.Need-same-length-4
-same-length-4 c = search needs
 
 returns : tie.Need-returns
 returns c =
@@ -43,8 +34,5 @@ both-ends-spec =
     (tie.spec
     begin-both-requires
     follow-both-requires
-    same-length
-    same-length-2
-    same-length-3
-    same-length-4
+    (λ c. search needs) (λ c. search needs) (λ c. search needs) (λ c. search needs)
     returns)

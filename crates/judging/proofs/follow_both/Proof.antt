@@ -19,18 +19,6 @@ follow-requires-2 c κs =
     second-follows _ _ _ _ _ _ _ _ (start .pre .0 .overlapping) _ _ _ _ _ _ (start .pre .0 .second-bound)
     (start .pre .0 .second-room) (start .pre .1 .second)
 
-same-length : tie.Need-same-length
-same-length c = search needs
-
-same-length-2 : tie.Need-same-length-2
-same-length-2 c = search needs
-
-same-length-3 : tie.Need-same-length-3
-same-length-3 c = search needs
-
-same-length-4 : tie.Need-same-length-4
-same-length-4 c = search needs
-
 returns : tie.Need-returns
 returns c =
     let two = c .before .before .before .before in
@@ -48,8 +36,5 @@ follow-both-spec =
     (tie.spec
     follow-requires
     follow-requires-2
-    same-length
-    same-length-2
-    same-length-3
-    same-length-4
+    (λ c. search needs) (λ c. search needs) (λ c. search needs) (λ c. search needs)
     returns)

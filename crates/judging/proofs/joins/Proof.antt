@@ -6,16 +6,10 @@ use borrow.Author.Needs.{needs}
 use Rattle.judging.proofs.joins.Statement.{statement}
 use Rattle.judging.proofs.joins.Tie as tie
 
-array-borrow-prefix-bound-one : tie.Need-array-borrow-prefix-bound-one
-array-borrow-prefix-bound-one c = search needs
-
 slice-aggregate-judge : tie.Need-slice-aggregate-judge
 slice-aggregate-judge c =
     let start = c .before .before .before .before .before in
     sym (lent-length _ (start .pre .0 .variables))
-
-array-borrow-prefix-bound-two : tie.Need-array-borrow-prefix-bound-two
-array-borrow-prefix-bound-two c = search needs
 
 slice-aggregate-judge-2 : tie.Need-slice-aggregate-judge-2
 slice-aggregate-judge-2 c =
@@ -33,24 +27,13 @@ judge-requires c κs =
       second-room = start .pre .2;
     }
 
-same-length : tie.Need-same-length
-same-length c = search needs
-
-same-length-2 : tie.Need-same-length-2
-same-length-2 c = search needs
-
-returns : tie.Need-returns
-returns c = search needs
-
 pub joins-spec : {M : Type 1} → statement M
 joins-spec =
     tie.close
     (tie.spec
-    array-borrow-prefix-bound-one
+    (λ c. search needs)
     slice-aggregate-judge
-    array-borrow-prefix-bound-two
+    (λ c. search needs)
     slice-aggregate-judge-2
     judge-requires
-    same-length
-    same-length-2
-    returns)
+    (λ c. search needs) (λ c. search needs) (λ c. search needs))

@@ -5,18 +5,6 @@ use borrow.Author.Needs.{needs}
 use Rattle.judging.proofs.same_ends.Statement.{statement}
 use Rattle.judging.proofs.same_ends.Tie as tie
 
-same-cells-requires : tie.Need-same-cells-requires
-same-cells-requires c κs = search needs
-
-same-cells-requires-2 : tie.Need-same-cells-requires-2
-same-cells-requires-2 c κs = search needs
-
-same-length : tie.Need-same-length
-same-length c = search needs
-
-same-length-2 : tie.Need-same-length-2
-same-length-2 c = search needs
-
 returns : tie.Need-returns
 returns c =
     let rows = c .before in
@@ -33,7 +21,8 @@ tidy-requires c κs =
 
 tidy-requires-2 : tie.Need-tidy-requires-2
 tidy-requires-2 c κs =
-    let start = c .before .before .before .before .before .before .before .before .before .before .before in
+    let at-if1 = c .before .before .before .before .before in
+    let start = at-if1 .before .before .before .before .before .before in
     start .pre .1 .size
 
 same-state-requires : tie.Need-same-state-requires
@@ -44,12 +33,6 @@ same-state-requires c κs =
       ends-side _ _ _ _ (start .pre .0) (first .tidy .ensures) (first .tidy .kept .0),
       ends-side _ _ _ _ (start .pre .1) (second .tidy2 .ensures) (second .tidy2 .kept .0),
     )
-
-same-length-3 : tie.Need-same-length-3
-same-length-3 c = search needs
-
-same-length-4 : tie.Need-same-length-4
-same-length-4 c = search needs
 
 returns-2 : tie.Need-returns-2
 returns-2 c =
@@ -63,14 +46,10 @@ pub same-ends-spec : {M : Type 1} → statement M
 same-ends-spec =
     tie.close
     (tie.spec
-    same-cells-requires
-    same-cells-requires-2
-    same-length
-    same-length-2
+    (λ c κs. search needs) (λ c κs. search needs) (λ c. search needs) (λ c. search needs)
     returns
     tidy-requires
     tidy-requires-2
     same-state-requires
-    same-length-3
-    same-length-4
+    (λ c. search needs) (λ c. search needs)
     returns-2)

@@ -34,23 +34,25 @@ mul-e c = search needs
 
 slice-aggregate-same-cells : tie.Need-slice-aggregate-same-cells
 slice-aggregate-same-cells c =
-    let at-if1 = c .before .before .before .before .before .before .before .before .before .before .before in
+    let at-if2 = c .before .before .before .before .before .before .before .before .before in
+    let at-if1 = at-if2 .before .before in
     let start = at-if1 .before .before .before .before .before .before .before .before in
     sym (length-take-le _ _ (start .pre .first))
 
 slice-aggregate-same-cells-2 : tie.Need-slice-aggregate-same-cells-2
 slice-aggregate-same-cells-2 c =
     let counts = c .before .before .before .before in
-    let at-first = counts .before .before .before .before .before .before .before .before .before .before .before in
-    let start = at-first .before .before .before .before .before in
+    let at-if1 = counts .before .before .before .before .before .before .before .before in
+    let start = at-if1 .before .before .before .before .before .before .before .before in
     sym (length-take-le _ _ (second-room _ _ _ _ _ _ (start .pre) (counts .if5 .left)))
 
 same-cells-requires-2 : tie.Need-same-cells-requires-2
 same-cells-requires-2 c κs =
     let counts = c .before .before .before .before in
-    let at-first = counts .before .before .before .before .before .before .before .before .before .before .before in
-    let start = at-first .before .before .before .before .before in
-    length-take-le _ _ (start .pre .first) ∙ sym (length-take-le _ _ (second-room _ _ _ _ _ _ (start .pre) (counts .if5 .left)))
+    let at-if1 = counts .before .before .before .before .before .before .before .before in
+    let start = at-if1 .before .before .before .before .before .before .before .before in
+    length-take-le _ _ (start .pre .first) ∙ sym
+    (length-take-le _ _ (second-room _ _ _ _ _ _ (start .pre) (counts .if5 .left)))
 
 returns-7 : tie.Need-returns-7
 returns-7 c =

@@ -20,68 +20,29 @@ abbrev μ-loop : tie.MeasureT-loop
 loop-holds : tie.Need-loop-holds Inv-loop μ-loop
 loop-holds c = search bound-start
 
-mul-pair : tie.Need-mul-pair Inv-loop μ-loop
-mul-pair c = omega arith
-
-shared-slice-read-pair : tie.Need-shared-slice-read-pair Inv-loop μ-loop
-shared-slice-read-pair c = omega arith
-
-mul-pair-2 : tie.Need-mul-pair-2 Inv-loop μ-loop
-mul-pair-2 c = omega arith
-
-shared-slice-read-pair-2 : tie.Need-shared-slice-read-pair-2 Inv-loop μ-loop
-shared-slice-read-pair-2 c = omega arith
-
 pair-requires : tie.Need-pair-requires Inv-loop μ-loop
 pair-requires c κs =
-    let pre′ = (c .before .before .before .before .before .before .before .before .before .before .pre) in
-    let loop′ = (c .before .before .before .before .before .loop) in
-    (omega (arith, pre′ .0 .below (loop′ .i)), omega (arith, pre′ .1 .below (loop′ .i)))
-
-same-length : tie.Need-same-length Inv-loop μ-loop
-same-length c = search needs
-
-same-length-2 : tie.Need-same-length-2 Inv-loop μ-loop
-same-length-2 c = search needs
+    let at-loop = c .before .before .before .before .before in
+    let start = at-loop .before .before .before .before .before in
+    (omega (arith, start .pre .0 .below (at-loop .loop .i)), omega (arith, start .pre .1 .below (at-loop .loop .i)))
 
 returns : tie.Need-returns Inv-loop μ-loop
 returns c =
-    let if1′ = c .if1 in
-    let p1 = c .before .before .before .before .before .before in
-    let pair′ = p1 .pair in
-    let p2 = p1 .before .before .before .before .before in
-    let loop-test′ = p2 .loop-test in
-    let p3 = p2 .before in
-    let loop′ = p3 .loop in
-    let p4 = p3 .before .before .before .before .before in
-    let pre′ = p4 .pre in
-    bound-apart _ _ _ _ _ _ _ (pre′ .2) (loop′ .inv) (loop-test′ .taken) _ _ _ _ (pair′ .ensures) (not-true _ (if1′ .taken))
-
-add-i : tie.Need-add-i Inv-loop μ-loop
-add-i c = omega arith
-
-loop-less : tie.Need-loop-less Inv-loop μ-loop
-loop-less c = omega arith
+    let at-pair = c .before .before .before .before .before .before in
+    let at-loop-test = at-pair .before .before .before .before .before in
+    let at-loop = at-loop-test .before in
+    let start = at-loop .before .before .before .before .before in
+    bound-apart _ _ _ _ _ _ _ (start .pre .2) (at-loop .loop .inv) (at-loop-test .loop-test .taken) _ _ _ _
+    (at-pair .pair .ensures) (not-true _ (c .if1 .taken))
 
 loop-again : tie.Need-loop-again Inv-loop μ-loop
 loop-again c =
-    let if1′ = c .if1 in
-    let p1 = c .before .before .before .before .before .before in
-    let pair′ = p1 .pair in
-    let p2 = p1 .before .before .before .before .before in
-    let loop-test′ = p2 .loop-test in
-    let p3 = p2 .before in
-    let loop′ = p3 .loop in
-    let p4 = p3 .before .before .before .before .before in
-    let pre′ = p4 .pre in
-    bound-next _ _ _ _ _ _ _ (pre′ .2) (loop′ .inv) (loop-test′ .taken) _ _ _ _ (pair′ .ensures) (not-false _ (if1′ .left))
-    (pair′ .kept .1 .1 .0) (pair′ .kept .1 .1 .1 .0)
-
-same-length-3 : tie.Need-same-length-3 Inv-loop μ-loop
-same-length-3 c = search needs
-
-same-length-4 : tie.Need-same-length-4 Inv-loop μ-loop
-same-length-4 c = search needs
+    let at-pair = c .before .before .before .before .before .before in
+    let at-loop-test = at-pair .before .before .before .before .before in
+    let at-loop = at-loop-test .before in
+    let start = at-loop .before .before .before .before .before in
+    bound-next _ _ _ _ _ _ _ (start .pre .2) (at-loop .loop .inv) (at-loop-test .loop-test .taken) _ _ _ _
+    (at-pair .pair .ensures) (not-false _ (c .if1 .left)) (at-pair .pair .kept .1 .1 .0) (at-pair .pair .kept .1 .1 .1 .0)
 
 returns-2 : tie.Need-returns-2 Inv-loop μ-loop
 returns-2 c = search bound-done
@@ -93,17 +54,11 @@ pair-bound-spec =
     Inv-loop
     μ-loop
     loop-holds
-    mul-pair
-    shared-slice-read-pair
-    mul-pair-2
-    shared-slice-read-pair-2
+    (λ c. omega arith) (λ c. omega arith) (λ c. omega arith) (λ c. omega arith)
     pair-requires
-    same-length
-    same-length-2
+    (λ c. search needs) (λ c. search needs)
     returns
-    add-i
-    loop-less
+    (λ c. omega arith) (λ c. omega arith)
     loop-again
-    same-length-3
-    same-length-4
+    (λ c. search needs) (λ c. search needs)
     returns-2)

@@ -20,108 +20,44 @@ abbrev μ-loop : tie.MeasureT-loop
 loop-holds : tie.Need-loop-holds Inv-loop μ-loop
 loop-holds c = search columns-start
 
-add-x : tie.Need-add-x Inv-loop μ-loop
-add-x c = omega arith
-
-mul-x : tie.Need-mul-x Inv-loop μ-loop
-mul-x c = omega arith
-
-shared-slice-read-x : tie.Need-shared-slice-read-x Inv-loop μ-loop
-shared-slice-read-x c = omega arith
-
-add-y : tie.Need-add-y Inv-loop μ-loop
-add-y c = omega arith
-
-mul-y : tie.Need-mul-y Inv-loop μ-loop
-mul-y c = omega arith
-
-shared-slice-read-y : tie.Need-shared-slice-read-y Inv-loop μ-loop
-shared-slice-read-y c = omega arith
-
-same-length : tie.Need-same-length Inv-loop μ-loop
-same-length c = search needs
-
-same-length-2 : tie.Need-same-length-2 Inv-loop μ-loop
-same-length-2 c = search needs
-
 returns : tie.Need-returns Inv-loop μ-loop
 returns c = search columns-end
-
-same-length-3 : tie.Need-same-length-3 Inv-loop μ-loop
-same-length-3 c = search needs
-
-same-length-4 : tie.Need-same-length-4 Inv-loop μ-loop
-same-length-4 c = search needs
 
 returns-2 : tie.Need-returns-2 Inv-loop μ-loop
 returns-2 c = search columns-short
 
 pair-requires : tie.Need-pair-requires Inv-loop μ-loop
 pair-requires c κs =
-    let pre′ = (c .before .before .before .before .before .before .before .before .before .before .before .before .pre) in
-    let loop′ = (c .before .before .before .before .before .before .before .loop) in
-    let loop-test′ = (c .before .before .before .before .before .before .loop-test) in
-    let if1′ = (c .before .before .before .if1) in (
-      columns-left _ _ _ _ _ _ _ _ pre′ (loop′ .inv) (loop-test′ .taken) (if1′ .left),
-      columns-right _ _ _ _ _ _ _ _ pre′ (loop′ .inv) (loop-test′ .taken) (if1′ .left),
+    let at-if1 = c .before .before .before in
+    let at-loop-test = at-if1 .before .before .before in
+    let at-loop = at-loop-test .before in
+    let start = at-loop .before .before .before .before .before in (
+      columns-left _ _ _ _ _ _ _ _ (start .pre) (at-loop .loop .inv) (at-loop-test .loop-test .taken) (at-if1 .if1 .left),
+      columns-right _ _ _ _ _ _ _ _ (start .pre) (at-loop .loop .inv) (at-loop-test .loop-test .taken) (at-if1 .if1 .left),
     )
-
-array-write-fresh : tie.Need-array-write-fresh Inv-loop μ-loop
-array-write-fresh c = omega arith
-
-same-length-5 : tie.Need-same-length-5 Inv-loop μ-loop
-same-length-5 c = search needs
-
-same-length-6 : tie.Need-same-length-6 Inv-loop μ-loop
-same-length-6 c = search needs
 
 returns-3 : tie.Need-returns-3 Inv-loop μ-loop
 returns-3 c =
-    let if3′ = c .if3 in
-    let p1 = c .before .before .before .before .before .before in
-    let pair′ = p1 .pair in
-    let p2 = p1 .before .before .before in
-    let if2′ = p2 .if2 in
-    let p3 = p2 .before in
-    let if1′ = p3 .if1 in
-    let p4 = p3 .before .before .before in
-    let loop-test′ = p4 .loop-test in
-    let p5 = p4 .before in
-    let loop′ = p5 .loop in
-    let p6 = p5 .before .before .before .before .before in
-    let pre′ = p6 .pre in
-    columns-apart _ _ _ _ _ _ _ _ pre′ (loop′ .inv) (loop-test′ .taken) (if1′ .left) (if2′ .left) _ _ _ _ (pair′ .ensures)
-    (not-true _ (if3′ .taken))
-
-add-i : tie.Need-add-i Inv-loop μ-loop
-add-i c = omega arith
-
-loop-less : tie.Need-loop-less Inv-loop μ-loop
-loop-less c = omega arith
+    let at-pair = c .before .before .before .before .before .before in
+    let at-if2 = at-pair .before .before .before in
+    let at-if1 = at-if2 .before in
+    let at-loop-test = at-if1 .before .before .before in
+    let at-loop = at-loop-test .before in
+    let start = at-loop .before .before .before .before .before in
+    columns-apart _ _ _ _ _ _ _ _ (start .pre) (at-loop .loop .inv) (at-loop-test .loop-test .taken) (at-if1 .if1 .left)
+    (at-if2 .if2 .left) _ _ _ _ (at-pair .pair .ensures) (not-true _ (c .if3 .taken))
 
 loop-again : tie.Need-loop-again Inv-loop μ-loop
 loop-again c =
-    let if3′ = c .if3 in
-    let p1 = c .before .before .before .before .before .before in
-    let pair′ = p1 .pair in
-    let p2 = p1 .before .before .before in
-    let if2′ = p2 .if2 in
-    let p3 = p2 .before in
-    let if1′ = p3 .if1 in
-    let p4 = p3 .before .before .before in
-    let loop-test′ = p4 .loop-test in
-    let p5 = p4 .before in
-    let loop′ = p5 .loop in
-    let p6 = p5 .before .before .before .before .before in
-    let pre′ = p6 .pre in
-    columns-next _ _ _ _ _ _ _ _ pre′ (loop′ .inv) (loop-test′ .taken) (if1′ .left) (if2′ .left) _ _ _ _ (pair′ .ensures)
-    (not-false _ (if3′ .left)) (pair′ .kept .1 .1 .0) (pair′ .kept .1 .1 .1 .0)
-
-same-length-7 : tie.Need-same-length-7 Inv-loop μ-loop
-same-length-7 c = search needs
-
-same-length-8 : tie.Need-same-length-8 Inv-loop μ-loop
-same-length-8 c = search needs
+    let at-pair = c .before .before .before .before .before .before in
+    let at-if2 = at-pair .before .before .before in
+    let at-if1 = at-if2 .before in
+    let at-loop-test = at-if1 .before .before .before in
+    let at-loop = at-loop-test .before in
+    let start = at-loop .before .before .before .before .before in
+    columns-next _ _ _ _ _ _ _ _ (start .pre) (at-loop .loop .inv) (at-loop-test .loop-test .taken) (at-if1 .if1 .left)
+    (at-if2 .if2 .left) _ _ _ _ (at-pair .pair .ensures) (not-false _ (c .if3 .left)) (at-pair .pair .kept .1 .1 .0)
+    (at-pair .pair .kept .1 .1 .1 .0)
 
 returns-4 : tie.Need-returns-4 Inv-loop μ-loop
 returns-4 c = search columns-done
@@ -133,26 +69,15 @@ pair-rows-spec =
     Inv-loop
     μ-loop
     loop-holds
-    add-x
-    mul-x
-    shared-slice-read-x
-    add-y
-    mul-y
-    shared-slice-read-y
-    same-length
-    same-length-2
+    (λ c. omega arith) (λ c. omega arith) (λ c. omega arith) (λ c. omega arith) (λ c. omega arith) (λ c. omega arith)
+    (λ c. search needs) (λ c. search needs)
     returns
-    same-length-3
-    same-length-4
+    (λ c. search needs) (λ c. search needs)
     returns-2
     pair-requires
-    array-write-fresh
-    same-length-5
-    same-length-6
+    (λ c. omega arith) (λ c. search needs) (λ c. search needs)
     returns-3
-    add-i
-    loop-less
+    (λ c. omega arith) (λ c. omega arith)
     loop-again
-    same-length-7
-    same-length-8
+    (λ c. search needs) (λ c. search needs)
     returns-4)

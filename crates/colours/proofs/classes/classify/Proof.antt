@@ -9,45 +9,28 @@ use Rattle.colours.proofs.classes.classify.Reads as reads
 use Rattle.colours.proofs.classes.classify.Lts as lts
 use Rattle.colours.proofs.classes.classify_by.Reads as classify-by-reads
 
-array-borrow-prefix-own : tie.Need-array-borrow-prefix-own
-array-borrow-prefix-own c = search needs
-
 slice-aggregate-classify-by : tie.Need-slice-aggregate-classify-by
-slice-aggregate-classify-by c =
-    let pre′ = (c .before .before .before .before .before .before .before .pre) in
-    sym (zeros-length _ 512 (pre′ .2))
-
-array-borrow-prefix-other : tie.Need-array-borrow-prefix-other
-array-borrow-prefix-other c = search needs
+slice-aggregate-classify-by c = sym (zeros-length _ 512 (c .before .before .before .before .before .before .before .pre .2))
 
 slice-aggregate-classify-by-2 : tie.Need-slice-aggregate-classify-by-2
 slice-aggregate-classify-by-2 c =
-    let pre′ = (c .before .before .before .before .before .before .before .before .pre) in
-    sym (zeros-length _ 512 (pre′ .2))
+    sym (zeros-length _ 512 (c .before .before .before .before .before .before .before .before .pre .2))
 
 classify-by-requires : tie.Need-classify-by-requires
 classify-by-requires c κs =
-    let pre′ = (c .before .before .before .before .before .before .before .before .pre) in
-    (make-keys _ _ _ _ (pre′ .0) (pre′ .2), make-keys _ _ _ _ (pre′ .1) (pre′ .2), rw (zeros-length _ 512 (pre′ .2)) (pre′ .2))
-
-same-length : tie.Need-same-length
-same-length c = search needs
-
-same-length-2 : tie.Need-same-length-2
-same-length-2 c = search needs
-
-returns : tie.Need-returns
-returns c = search needs
+    let start = c .before .before .before .before .before .before .before .before in (
+      make-keys _ _ _ _ (start .pre .0) (start .pre .2),
+      make-keys _ _ _ _ (start .pre .1) (start .pre .2),
+      rw (zeros-length _ 512 (start .pre .2)) (start .pre .2),
+    )
 
 pub classify-spec : {M : Type 1} → statement M
 classify-spec =
     tie.close
     (tie.spec
-    array-borrow-prefix-own
+    (λ c. search needs)
     slice-aggregate-classify-by
-    array-borrow-prefix-other
+    (λ c. search needs)
     slice-aggregate-classify-by-2
     classify-by-requires
-    same-length
-    same-length-2
-    returns)
+    (λ c. search needs) (λ c. search needs) (λ c. search needs))

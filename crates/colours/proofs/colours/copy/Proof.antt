@@ -18,48 +18,33 @@ abbrev μ-loop : tie.MeasureT-loop
 loop-holds : tie.Need-loop-holds Inv-loop μ-loop
 loop-holds c = copy-start _ _
 
-mul-out : tie.Need-mul-out Inv-loop μ-loop
-mul-out c = omega arith
-
-shared-slice-read-out : tie.Need-shared-slice-read-out Inv-loop μ-loop
-shared-slice-read-out c = omega arith
-
 mul-out-2 : tie.Need-mul-out-2 Inv-loop μ-loop
 mul-out-2 c =
-    let loop′ = (c .before .before .loop) in
-    let pre′ = (c .before .before .before .pre) in
-    omega (arith, loop′ .inv .size, pre′)
+    let at-loop = c .before .before in
+    let start = at-loop .before in
+    omega (arith, at-loop .loop .inv .size, start .pre)
 
 slice-write-out : tie.Need-slice-write-out Inv-loop μ-loop
 slice-write-out c =
-    let loop′ = (c .before .before .loop) in
-    let pre′ = (c .before .before .before .pre) in
-    omega (arith, loop′ .inv .size, pre′)
-
-add-x : tie.Need-add-x Inv-loop μ-loop
-add-x c = omega arith
-
-loop-less : tie.Need-loop-less Inv-loop μ-loop
-loop-less c = omega arith
+    let at-loop = c .before .before in
+    let start = at-loop .before in
+    omega (arith, at-loop .loop .inv .size, start .pre)
 
 loop-again : tie.Need-loop-again Inv-loop μ-loop
 loop-again c =
-    let pre′ = (c .before .before .before .pre) in
-    let loop′ = (c .before .before .loop) in
-    let loop-test′ = (c .before .loop-test) in
-    copy-next _ _ _ _ pre′ (loop′ .inv) (loop-test′ .taken)
+    let at-loop-test = c .before in
+    let at-loop = at-loop-test .before in
+    let start = at-loop .before in
+    copy-next _ _ _ _ (start .pre) (at-loop .loop .inv) (at-loop-test .loop-test .taken)
 
 same-length : tie.Need-same-length Inv-loop μ-loop
-same-length c =
-    let loop′ = (c .before .loop) in
-    loop′ .inv .size
+same-length c = c .before .loop .inv .size
 
 returns : tie.Need-returns Inv-loop μ-loop
 returns c =
-    let pre′ = (c .before .before .pre) in
-    let loop′ = (c .before .loop) in
-    let loop-test′ = (c .loop-test) in
-    copy-done _ _ _ _ pre′ (loop′ .inv) (loop-test′ .left)
+    let at-loop = c .before in
+    let start = at-loop .before in
+    copy-done _ _ _ _ (start .pre) (at-loop .loop .inv) (c .loop-test .left)
 
 pub copy-spec : {M : Type 1} → statement M
 copy-spec =
@@ -68,12 +53,10 @@ copy-spec =
     Inv-loop
     μ-loop
     loop-holds
-    mul-out
-    shared-slice-read-out
+    (λ c. omega arith) (λ c. omega arith)
     mul-out-2
     slice-write-out
-    add-x
-    loop-less
+    (λ c. omega arith) (λ c. omega arith)
     loop-again
     same-length
     returns)

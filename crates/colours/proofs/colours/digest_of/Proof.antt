@@ -24,96 +24,62 @@ abbrev μ-loop : tie.MeasureT-loop
 loop-holds : tie.Need-loop-holds Inv-loop μ-loop
 loop-holds c = digest-start _ _ _
 
-mul-p : tie.Need-mul-p Inv-loop μ-loop
-mul-p c = omega arith
-
-add-e : tie.Need-add-e Inv-loop μ-loop
-add-e c = omega arith
-
-mul-row : tie.Need-mul-row Inv-loop μ-loop
-mul-row c = omega arith
-
-sub-row : tie.Need-sub-row Inv-loop μ-loop
-sub-row c = omega arith
-
-part-row-start : tie.Need-part-row-start Inv-loop μ-loop
-part-row-start c = omega arith
-
-part-row-end : tie.Need-part-row-end Inv-loop μ-loop
-part-row-end c = omega arith
-
 shared-slice-read-widened : tie.Need-shared-slice-read-widened Inv-loop μ-loop
 shared-slice-read-widened c =
-    let args′ = (c .before .before .before .before .before .before .args) in
-    let loop′ = (c .before .before .before .loop) in
-    let pre′ = (c .before .before .before .before .before .before .pre) in
-    let loop-test′ = (c .before .before .loop-test) in
-    omega (arith, lent-length (args′ .cells .now) (loop′ .i) _ (pre′ .0) (loop-test′ .taken))
-
-widened-requires : tie.Need-widened-requires Inv-loop μ-loop
-widened-requires c κs = search needs
+    let at-loop-test = c .before .before in
+    let at-loop = at-loop-test .before in
+    let start = at-loop .before .before .before in
+    omega
+    (arith, lent-length (start .args .cells .now) (at-loop .loop .i) _ (start .pre .0) (at-loop-test .loop-test .taken))
 
 sub-sign : tie.Need-sub-sign Inv-loop μ-loop
 sub-sign c =
-    let args′ = (c .before .before .before .before .before .before .before .args) in
-    let loop′ = (c .before .before .before .before .loop) in
-    let pre′ = (c .before .before .before .before .before .before .before .pre) in
-    let loop-test′ = (c .before .before .before .loop-test) in
-    omega (arith, lent-length (args′ .cells .now) (loop′ .i) _ (pre′ .0) (loop-test′ .taken))
+    let at-loop-test = c .before .before .before in
+    let at-loop = at-loop-test .before in
+    let start = at-loop .before .before .before in
+    omega
+    (arith, lent-length (start .args .cells .now) (at-loop .loop .i) _ (start .pre .0) (at-loop-test .loop-test .taken))
 
 part-sign-start : tie.Need-part-sign-start Inv-loop μ-loop
 part-sign-start c =
-    let args′ = (c .before .before .before .before .before .before .before .args) in
-    let loop′ = (c .before .before .before .before .loop) in
-    let pre′ = (c .before .before .before .before .before .before .before .pre) in
-    let loop-test′ = (c .before .before .before .loop-test) in
-    omega (arith, lent-length (args′ .cells .now) (loop′ .i) _ (pre′ .0) (loop-test′ .taken))
+    let at-loop-test = c .before .before .before in
+    let at-loop = at-loop-test .before in
+    let start = at-loop .before .before .before in
+    omega
+    (arith, lent-length (start .args .cells .now) (at-loop .loop .i) _ (start .pre .0) (at-loop-test .loop-test .taken))
 
 part-sign-end : tie.Need-part-sign-end Inv-loop μ-loop
 part-sign-end c =
-    let args′ = (c .before .before .before .before .before .before .before .args) in
-    let loop′ = (c .before .before .before .before .loop) in
-    let pre′ = (c .before .before .before .before .before .before .before .pre) in
-    let loop-test′ = (c .before .before .before .loop-test) in
-    omega (arith, lent-length (args′ .cells .now) (loop′ .i) _ (pre′ .0) (loop-test′ .taken))
+    let at-loop-test = c .before .before .before in
+    let at-loop = at-loop-test .before in
+    let start = at-loop .before .before .before in
+    omega
+    (arith, lent-length (start .args .cells .now) (at-loop .loop .i) _ (start .pre .0) (at-loop-test .loop-test .taken))
 
 sign-requires : tie.Need-sign-requires Inv-loop μ-loop
 sign-requires c κs =
-    let loop′ = (c .before .before .before .before .before .loop) in
-    let pre′ = (c .before .before .before .before .before .before .before .before .pre) in
-    lent-below _ _ (loop′ .i) (pre′ .1)
-
-mix-requires : tie.Need-mix-requires Inv-loop μ-loop
-mix-requires c κs = search needs
-
-wrapping-add-u32-requires : tie.Need-wrapping-add-u32-requires Inv-loop μ-loop
-wrapping-add-u32-requires c κs = search needs
-
-add-i : tie.Need-add-i Inv-loop μ-loop
-add-i c = omega arith
-
-loop-less : tie.Need-loop-less Inv-loop μ-loop
-loop-less c = omega arith
+    let at-loop = c .before .before .before .before .before in
+    let start = at-loop .before .before .before in
+    lent-below _ _ (at-loop .loop .i) (start .pre .1)
 
 loop-again : tie.Need-loop-again Inv-loop μ-loop
 unfolding plus
 loop-again c =
-    let pre′ = (c .before .before .before .before .before .before .before .before .before .before .before .pre) in
-    let loop′ = (c .before .before .before .before .before .before .before .before .loop) in
-    let loop-test′ = (c .before .before .before .before .before .before .before .loop-test) in
-    let sign′ = (c .before .before .sign) in
-    let mix′ = (c .before .mix) in
-    let wrapping-add-u32′ = (c .wrapping-add-u32) in
-    let widened′ = (c .before .before .before .before .widened) in
-    digest-next _ _ _ _ _ (pre′ .0) (loop′ .inv) (loop-test′ .taken) _ (sign′ .result) (mix′ .result)
-    (wrapping-add-u32′ .result) (widened′ .ensures) (sign′ .ensures) (mix′ .ensures) (wrapping-add-u32′ .ensures)
+    let at-mix = c .before in
+    let at-sign = at-mix .before in
+    let at-widened = at-sign .before .before in
+    let at-loop-test = at-widened .before .before .before in
+    let at-loop = at-loop-test .before in
+    let start = at-loop .before .before .before in
+    digest-next _ _ _ _ _ (start .pre .0) (at-loop .loop .inv) (at-loop-test .loop-test .taken) _ (at-sign .sign .result)
+    (at-mix .mix .result) (c .wrapping-add-u32 .result) (at-widened .widened .ensures) (at-sign .sign .ensures)
+    (at-mix .mix .ensures) (c .wrapping-add-u32 .ensures)
 
 returns : tie.Need-returns Inv-loop μ-loop
 returns c =
-    let pre′ = (c .before .before .before .before .pre) in
-    let loop′ = (c .before .loop) in
-    let loop-test′ = (c .loop-test) in
-    digest-done _ _ _ _ _ (pre′ .0) (loop′ .inv) (loop-test′ .left)
+    let at-loop = c .before in
+    let start = at-loop .before .before .before in
+    digest-done _ _ _ _ _ (start .pre .0) (at-loop .loop .inv) (c .loop-test .left)
 
 pub digest-of-spec : {M : Type 1} → statement M
 digest-of-spec =
@@ -122,21 +88,13 @@ digest-of-spec =
     Inv-loop
     μ-loop
     loop-holds
-    mul-p
-    add-e
-    mul-row
-    sub-row
-    part-row-start
-    part-row-end
+    (λ c. omega arith) (λ c. omega arith) (λ c. omega arith) (λ c. omega arith) (λ c. omega arith) (λ c. omega arith)
     shared-slice-read-widened
-    widened-requires
+    (λ c κs. search needs)
     sub-sign
     part-sign-start
     part-sign-end
     sign-requires
-    mix-requires
-    wrapping-add-u32-requires
-    add-i
-    loop-less
+    (λ c κs. search needs) (λ c κs. search needs) (λ c. omega arith) (λ c. omega arith)
     loop-again
     returns)

@@ -10,26 +10,18 @@ use Rattle.colours.proofs.colours.sign.Reads as sign-reads
 use Rattle.colours.proofs.colours.spread.Reads as spread-reads
 use Rattle.colours.proofs.colours.widened.Reads as widened-reads
 
-widened-requires : tie.Need-widened-requires
-widened-requires c κs = search needs
-
-sign-requires : tie.Need-sign-requires
-sign-requires c κs = search needs
-
 spread-requires : tie.Need-spread-requires
 spread-requires c κs =
-    let pre′ = (c .before .before .before .before .before .before .pre) in
-    rw (pre′ .1) (pre′ .0)
-
-same-length : tie.Need-same-length
-same-length c = search needs
+    let start = c .before .before .before .before .before .before in
+    rw (start .pre .1) (start .pre .0)
 
 returns : tie.Need-returns
 returns c =
-    let widened′ = (c .before .before .before .before .before .widened) in
-    let sign′ = (c .before .before .before .before .sign) in
-    let spread′ = (c .before .before .spread) in
-    give-one _ _ _ _ _ _ _ (widened′ .ensures) (sign′ .ensures) (spread′ .ensures)
+    let at-spread = c .before .before in
+    let at-sign = at-spread .before .before in
+    let at-widened = at-sign .before in
+    give-one _ _ _ _ _ _ _ (at-widened .widened .ensures) (at-sign .sign .ensures) (at-spread .spread .ensures)
 
 pub give-spec : {M : Type 1} → statement M
-give-spec = tie.close (tie.spec widened-requires sign-requires spread-requires same-length returns)
+give-spec = tie.close
+    (tie.spec (λ c κs. search needs) (λ c κs. search needs) spread-requires (λ c. search needs) returns)

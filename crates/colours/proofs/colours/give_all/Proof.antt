@@ -18,87 +18,61 @@ abbrev μ-loop : tie.MeasureT-loop
 loop-holds : tie.Need-loop-holds Inv-loop μ-loop
 loop-holds c = give-start _ _ _ _
 
-mul-p : tie.Need-mul-p Inv-loop μ-loop
-mul-p c = omega arith
-
-add-e : tie.Need-add-e Inv-loop μ-loop
-add-e c = omega arith
-
-mul-row : tie.Need-mul-row Inv-loop μ-loop
-mul-row c = omega arith
-
-sub-row : tie.Need-sub-row Inv-loop μ-loop
-sub-row c = omega arith
-
-part-row-start : tie.Need-part-row-start Inv-loop μ-loop
-part-row-start c = omega arith
-
-part-row-end : tie.Need-part-row-end Inv-loop μ-loop
-part-row-end c = omega arith
-
 shared-slice-read-give : tie.Need-shared-slice-read-give Inv-loop μ-loop
 shared-slice-read-give c =
-    let args′ = (c .before .before .before .before .before .before .before .args) in
-    let loop′ = (c .before .before .before .loop) in
-    let pre′ = (c .before .before .before .before .before .before .before .pre) in
-    let loop-test′ = (c .before .before .loop-test) in
-    omega (arith, lent-length (args′ .cells .now) (loop′ .i) _ (pre′ .0) (loop-test′ .taken))
+    let at-loop-test = c .before .before in
+    let at-loop = at-loop-test .before in
+    let start = at-loop .before .before .before .before in
+    omega
+    (arith, lent-length (start .args .cells .now) (at-loop .loop .i) _ (start .pre .0) (at-loop-test .loop-test .taken))
 
 sub-give : tie.Need-sub-give Inv-loop μ-loop
 sub-give c =
-    let args′ = (c .before .before .before .before .before .before .before .args) in
-    let loop′ = (c .before .before .before .loop) in
-    let pre′ = (c .before .before .before .before .before .before .before .pre) in
-    let loop-test′ = (c .before .before .loop-test) in
-    omega (arith, lent-length (args′ .cells .now) (loop′ .i) _ (pre′ .0) (loop-test′ .taken))
+    let at-loop-test = c .before .before in
+    let at-loop = at-loop-test .before in
+    let start = at-loop .before .before .before .before in
+    omega
+    (arith, lent-length (start .args .cells .now) (at-loop .loop .i) _ (start .pre .0) (at-loop-test .loop-test .taken))
 
 part-give-start : tie.Need-part-give-start Inv-loop μ-loop
 part-give-start c =
-    let args′ = (c .before .before .before .before .before .before .before .args) in
-    let loop′ = (c .before .before .before .loop) in
-    let pre′ = (c .before .before .before .before .before .before .before .pre) in
-    let loop-test′ = (c .before .before .loop-test) in
-    omega (arith, lent-length (args′ .cells .now) (loop′ .i) _ (pre′ .0) (loop-test′ .taken))
+    let at-loop-test = c .before .before in
+    let at-loop = at-loop-test .before in
+    let start = at-loop .before .before .before .before in
+    omega
+    (arith, lent-length (start .args .cells .now) (at-loop .loop .i) _ (start .pre .0) (at-loop-test .loop-test .taken))
 
 part-give-end : tie.Need-part-give-end Inv-loop μ-loop
 part-give-end c =
-    let args′ = (c .before .before .before .before .before .before .before .args) in
-    let loop′ = (c .before .before .before .loop) in
-    let pre′ = (c .before .before .before .before .before .before .before .pre) in
-    let loop-test′ = (c .before .before .loop-test) in
-    omega (arith, lent-length (args′ .cells .now) (loop′ .i) _ (pre′ .0) (loop-test′ .taken))
+    let at-loop-test = c .before .before in
+    let at-loop = at-loop-test .before in
+    let start = at-loop .before .before .before .before in
+    omega
+    (arith, lent-length (start .args .cells .now) (at-loop .loop .i) _ (start .pre .0) (at-loop-test .loop-test .taken))
 
 give-requires : tie.Need-give-requires Inv-loop μ-loop
 give-requires c κs =
-    let loop′ = (c .before .before .before .before .before .loop) in
-    let pre′ = (c .before .before .before .before .before .before .before .before .before .pre) in
-    (lent-below _ _ (loop′ .i) (pre′ .1), loop′ .inv .size ∙ pre′ .2)
-
-add-i : tie.Need-add-i Inv-loop μ-loop
-add-i c = omega arith
-
-loop-less : tie.Need-loop-less Inv-loop μ-loop
-loop-less c = omega arith
+    let at-loop = c .before .before .before .before .before in
+    let start = at-loop .before .before .before .before in
+    (lent-below _ _ (at-loop .loop .i) (start .pre .1), at-loop .loop .inv .size ∙ start .pre .2)
 
 loop-again : tie.Need-loop-again Inv-loop μ-loop
 loop-again c =
-    let pre′ = (c .before .before .before .before .before .before .before .before .before .before .before .before .pre) in
-    let loop′ = (c .before .before .before .before .before .before .before .before .loop) in
-    let loop-test′ = (c .before .before .before .before .before .before .before .loop-test) in
-    let give′ = (c .before .before .give) in
-    give-next _ _ _ _ _ _ (pre′ .0) (loop′ .inv) (loop-test′ .taken) _ (give′ .kept .1 .1 .1 .0) (give′ .ensures)
+    let at-give = c .before .before in
+    let at-loop-test = at-give .before .before .before .before .before in
+    let at-loop = at-loop-test .before in
+    let start = at-loop .before .before .before .before in
+    give-next _ _ _ _ _ _ (start .pre .0) (at-loop .loop .inv) (at-loop-test .loop-test .taken) _
+    (at-give .give .kept .1 .1 .1 .0) (at-give .give .ensures)
 
 same-length : tie.Need-same-length Inv-loop μ-loop
-same-length c =
-    let loop′ = (c .before .loop) in
-    loop′ .inv .size
+same-length c = c .before .loop .inv .size
 
 returns : tie.Need-returns Inv-loop μ-loop
 returns c =
-    let pre′ = (c .before .before .before .before .before .pre) in
-    let loop′ = (c .before .loop) in
-    let loop-test′ = (c .loop-test) in
-    give-done _ _ _ _ _ _ (pre′ .0) (loop′ .inv) (loop-test′ .left)
+    let at-loop = c .before in
+    let start = at-loop .before .before .before .before in
+    give-done _ _ _ _ _ _ (start .pre .0) (at-loop .loop .inv) (c .loop-test .left)
 
 pub give-all-spec : {M : Type 1} → statement M
 give-all-spec =
@@ -107,19 +81,13 @@ give-all-spec =
     Inv-loop
     μ-loop
     loop-holds
-    mul-p
-    add-e
-    mul-row
-    sub-row
-    part-row-start
-    part-row-end
+    (λ c. omega arith) (λ c. omega arith) (λ c. omega arith) (λ c. omega arith) (λ c. omega arith) (λ c. omega arith)
     shared-slice-read-give
     sub-give
     part-give-start
     part-give-end
     give-requires
-    add-i
-    loop-less
+    (λ c. omega arith) (λ c. omega arith)
     loop-again
     same-length
     returns)

@@ -11,18 +11,6 @@ use Rattle.colours.proofs.colours.mix.Tie as tie
 use Rattle.colours.proofs.colours.mix.Reads as reads
 use Rattle.colours.proofs.colours.mix.Lts as lts
 
-mul-t : tie.Need-mul-t
-mul-t c = search needs
-
-add-t : tie.Need-add-t
-add-t c = search needs
-
-mul-l : tie.Need-mul-l
-mul-l c = search needs
-
-sub-l : tie.Need-sub-l
-sub-l c = search needs
-
 mul-q : tie.Need-mul-q
 mul-q c = omega (arith, square-small (c .args .s * 2654435761 + c .args .c))
 
@@ -32,12 +20,6 @@ add-q c = omega (arith, square-small (c .args .s * 2654435761 + c .args .c))
 mul-result : tie.Need-mul-result
 mul-result c = omega (arith, square-small (c .args .s * 2654435761 + c .args .c))
 
-sub-result : tie.Need-sub-result
-sub-result c = search needs
-
-cast-result : tie.Need-cast-result
-cast-result c = search needs
-
 returns : tie.Need-returns
 unfolding mixed lowest
 returns c = refl
@@ -45,4 +27,5 @@ returns c = refl
 pub mix-spec : {M : Type 1} → statement M
 mix-spec =
     tie.close
-    (tie.spec mul-t add-t mul-l sub-l mul-q add-q mul-result sub-result cast-result returns)
+    (tie.spec (λ c. search needs) (λ c. search needs) (λ c. search needs) (λ c. search needs) mul-q add-q mul-result
+    (λ c. search needs) (λ c. search needs) returns)

@@ -17,15 +17,13 @@ abbrev μ-loop : tie.MeasureT-loop
 μ-loop k cells n colours₀ received₀ i₀ colours received i = i
 
 loop-holds : tie.Need-loop-holds Inv-loop μ-loop
-loop-holds c =
-    let pre′ = (c .before .before .before .pre) in
-    rounds-start _ _ _ _ _ pre′
+loop-holds c = rounds-start _ _ _ _ _ (c .before .before .before .pre)
 
 refine-requires : tie.Need-refine-requires Inv-loop μ-loop
 refine-requires c κs =
-    let pre′ = (c .before .before .before .before .before .before .before .pre) in
-    let loop′ = (c .before .before .before .loop) in
-    rounds-ready _ _ _ _ _ pre′ _ _ _ (loop′ .inv)
+    let at-loop = c .before .before .before in
+    let start = at-loop .before .before .before .before in
+    rounds-ready _ _ _ _ _ (start .pre) _ _ _ (at-loop .loop .inv)
 
 sub-i : tie.Need-sub-i Inv-loop μ-loop
 sub-i c = omega arith
@@ -35,29 +33,25 @@ loop-less c = omega arith
 
 loop-again : tie.Need-loop-again Inv-loop μ-loop
 loop-again c =
-    let pre′ = (c .before .before .before .before .before .before .before .before .before .before .before .before .pre) in
-    let loop′ = (c .before .before .before .before .before .before .before .before .loop) in
-    let loop-test′ = (c .before .before .before .before .before .before .before .loop-test) in
-    let refine′ = (c .before .before .before .before .refine) in
-    rounds-next _ _ _ _ _ pre′ _ _ _ (loop′ .inv) (loop-test′ .taken) _ _ (refine′ .kept .1 .1 .0)
-    (refine′ .kept .1 .1 .1 .0) (refine′ .ensures .0) (refine′ .ensures .1)
+    let at-refine = c .before .before .before .before in
+    let at-loop-test = at-refine .before .before .before in
+    let at-loop = at-loop-test .before in
+    let start = at-loop .before .before .before .before in
+    rounds-next _ _ _ _ _ (start .pre) _ _ _ (at-loop .loop .inv) (at-loop-test .loop-test .taken) _ _
+    (at-refine .refine .kept .1 .1 .0) (at-refine .refine .kept .1 .1 .1 .0) (at-refine .refine .ensures .0)
+    (at-refine .refine .ensures .1)
 
 same-length : tie.Need-same-length Inv-loop μ-loop
-same-length c =
-    let loop′ = (c .before .loop) in
-    loop′ .inv .size
+same-length c = c .before .loop .inv .size
 
 same-length-2 : tie.Need-same-length-2 Inv-loop μ-loop
-same-length-2 c =
-    let loop′ = (c .before .loop) in
-    loop′ .inv .received-size
+same-length-2 c = c .before .loop .inv .received-size
 
 returns : tie.Need-returns Inv-loop μ-loop
 returns c =
-    let pre′ = (c .before .before .before .before .before .pre) in
-    let loop′ = (c .before .loop) in
-    let loop-test′ = (c .loop-test) in
-    rounds-done _ _ _ _ _ pre′ _ _ _ (loop′ .inv) (loop-test′ .left)
+    let at-loop = c .before in
+    let start = at-loop .before .before .before .before in
+    rounds-done _ _ _ _ _ (start .pre) _ _ _ (at-loop .loop .inv) (c .loop-test .left)
 
 pub refine-times-spec : {M : Type 1} → statement M
 refine-times-spec =

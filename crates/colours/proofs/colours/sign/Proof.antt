@@ -20,63 +20,44 @@ abbrev μ-loop : tie.MeasureT-loop
 loop-holds : tie.Need-loop-holds Inv-loop μ-loop
 loop-holds c = sign-start _ _ _
 
-mul-x : tie.Need-mul-x Inv-loop μ-loop
-mul-x c = omega arith
-
-shared-slice-read-x : tie.Need-shared-slice-read-x Inv-loop μ-loop
-shared-slice-read-x c = omega arith
-
 returns : tie.Need-returns Inv-loop μ-loop
 returns c =
-    let loop′ = (c .before .before .before .loop) in
-    let loop-test′ = (c .before .before .loop-test) in
-    let if1′ = (c .if1) in
-    sign-end _ _ _ _ _ (loop′ .inv) (loop-test′ .taken) (if1′ .taken)
-
-wide-requires : tie.Need-wide-requires Inv-loop μ-loop
-wide-requires c κs = search needs
+    let at-loop-test = c .before .before in
+    let at-loop = at-loop-test .before in
+    sign-end _ _ _ _ _ (at-loop .loop .inv) (at-loop-test .loop-test .taken) (c .if1 .taken)
 
 mul-mix : tie.Need-mul-mix Inv-loop μ-loop
 mul-mix c =
-    let loop′ = (c .before .before .before .before .loop) in
-    let loop-test′ = (c .before .before .before .loop-test) in
-    let pre′ = (c .before .before .before .before .before .before .before .pre) in
-    let wide′ = (c .wide) in
-    omega (arith, sign-room _ _ _ _ _ (loop′ .inv) (loop-test′ .taken) pre′ (wide′ .result) (wide′ .ensures .0))
+    let at-loop-test = c .before .before .before in
+    let at-loop = at-loop-test .before in
+    let start = at-loop .before .before .before in
+    omega (
+      arith,
+      sign-room _ _ _ _ _ (at-loop .loop .inv) (at-loop-test .loop-test .taken) (start .pre) (c .wide .result)
+          (c .wide .ensures .0),
+    )
 
 shared-slice-read-mix : tie.Need-shared-slice-read-mix Inv-loop μ-loop
 shared-slice-read-mix c =
-    let loop′ = (c .before .before .before .before .before .loop) in
-    let loop-test′ = (c .before .before .before .before .loop-test) in
-    let pre′ = (c .before .before .before .before .before .before .before .before .pre) in
-    let wide′ = (c .before .wide) in
-    sign-room _ _ _ _ _ (loop′ .inv) (loop-test′ .taken) pre′ (wide′ .result) (wide′ .ensures .0)
-
-mix-requires : tie.Need-mix-requires Inv-loop μ-loop
-mix-requires c κs = search needs
-
-add-i : tie.Need-add-i Inv-loop μ-loop
-add-i c = omega arith
-
-loop-less : tie.Need-loop-less Inv-loop μ-loop
-loop-less c = omega arith
+    let at-wide = c .before in
+    let at-loop-test = at-wide .before .before .before in
+    let at-loop = at-loop-test .before in
+    let start = at-loop .before .before .before in
+    sign-room _ _ _ _ _ (at-loop .loop .inv) (at-loop-test .loop-test .taken) (start .pre) (at-wide .wide .result)
+    (at-wide .wide .ensures .0)
 
 loop-again : tie.Need-loop-again Inv-loop μ-loop
 loop-again c =
-    let loop′ = (c .before .before .before .before .before .before .loop) in
-    let loop-test′ = (c .before .before .before .before .before .loop-test) in
-    let if1′ = (c .before .before .before .if1) in
-    let pre′ = (c .before .before .before .before .before .before .before .before .before .pre) in
-    let wide′ = (c .before .before .wide) in
-    let mix′ = (c .mix) in
-    sign-next _ _ _ _ _ (loop′ .inv) (loop-test′ .taken) (if1′ .left) pre′ (wide′ .result) (wide′ .ensures .0)
-    (mix′ .result) (mix′ .ensures)
+    let at-wide = c .before .before in
+    let at-if1 = at-wide .before in
+    let at-loop-test = at-if1 .before .before in
+    let at-loop = at-loop-test .before in
+    let start = at-loop .before .before .before in
+    sign-next _ _ _ _ _ (at-loop .loop .inv) (at-loop-test .loop-test .taken) (at-if1 .if1 .left) (start .pre)
+    (at-wide .wide .result) (at-wide .wide .ensures .0) (c .mix .result) (c .mix .ensures)
 
 returns-2 : tie.Need-returns-2 Inv-loop μ-loop
-returns-2 c =
-    let loop′ = (c .before .loop) in
-    let loop-test′ = (c .loop-test) in
-    sign-done _ _ _ _ _ (loop′ .inv) (loop-test′ .left)
+returns-2 c = sign-done _ _ _ _ _ (c .before .loop .inv) (c .loop-test .left)
 
 pub sign-spec : {M : Type 1} → statement M
 sign-spec =
@@ -85,14 +66,11 @@ sign-spec =
     Inv-loop
     μ-loop
     loop-holds
-    mul-x
-    shared-slice-read-x
+    (λ c. omega arith) (λ c. omega arith)
     returns
-    wide-requires
+    (λ c κs. search needs)
     mul-mix
     shared-slice-read-mix
-    mix-requires
-    add-i
-    loop-less
+    (λ c κs. search needs) (λ c. omega arith) (λ c. omega arith)
     loop-again
     returns-2)

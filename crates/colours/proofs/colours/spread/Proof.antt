@@ -22,94 +22,75 @@ abbrev μ-loop : tie.MeasureT-loop
 loop-holds : tie.Need-loop-holds Inv-loop μ-loop
 loop-holds c = spread-start _ _ _
 
-mul-x : tie.Need-mul-x Inv-loop μ-loop
-mul-x c = omega arith
-
-shared-slice-read-x : tie.Need-shared-slice-read-x Inv-loop μ-loop
-shared-slice-read-x c = omega arith
-
 same-length : tie.Need-same-length Inv-loop μ-loop
-same-length c =
-    let loop′ = (c .before .before .before .loop) in
-    loop′ .inv .size
+same-length c = c .before .before .before .loop .inv .size
 
 returns : tie.Need-returns Inv-loop μ-loop
 returns c =
-    let loop′ = (c .before .before .before .loop) in
-    let loop-test′ = (c .before .before .loop-test) in
-    let if1′ = (c .if1) in
-    spread-end _ _ _ _ _ _ (loop′ .inv) (loop-test′ .taken) (if1′ .taken)
-
-wide-requires : tie.Need-wide-requires Inv-loop μ-loop
-wide-requires c κs = search needs
-
-mix-requires : tie.Need-mix-requires Inv-loop μ-loop
-mix-requires c κs = search needs
+    let at-loop-test = c .before .before in
+    let at-loop = at-loop-test .before in
+    spread-end _ _ _ _ _ _ (at-loop .loop .inv) (at-loop-test .loop-test .taken) (c .if1 .taken)
 
 mul-wrapping-add-u32 : tie.Need-mul-wrapping-add-u32 Inv-loop μ-loop
 mul-wrapping-add-u32 c =
-    let loop′ = (c .before .before .before .before .before .loop) in
-    let loop-test′ = (c .before .before .before .before .loop-test) in
-    let pre′ = (c .before .before .before .before .before .before .before .before .pre) in
-    let wide′ = (c .before .wide) in
-    omega (arith, spread-room _ _ _ _ _ _ (loop′ .inv) (loop-test′ .taken) pre′ (wide′ .result) (wide′ .ensures .0))
+    let at-wide = c .before in
+    let at-loop-test = at-wide .before .before .before in
+    let at-loop = at-loop-test .before in
+    let start = at-loop .before .before .before in
+    omega (
+      arith,
+      spread-room _ _ _ _ _ _ (at-loop .loop .inv) (at-loop-test .loop-test .taken) (start .pre)
+          (at-wide .wide .result) (at-wide .wide .ensures .0),
+    )
 
 slice-read-wrapping-add-u32 : tie.Need-slice-read-wrapping-add-u32 Inv-loop μ-loop
 slice-read-wrapping-add-u32 c =
-    let loop′ = (c .before .before .before .before .before .before .loop) in
-    let loop-test′ = (c .before .before .before .before .before .loop-test) in
-    let pre′ = (c .before .before .before .before .before .before .before .before .before .pre) in
-    let wide′ = (c .before .before .wide) in
-    spread-room _ _ _ _ _ _ (loop′ .inv) (loop-test′ .taken) pre′ (wide′ .result) (wide′ .ensures .0)
-
-wrapping-add-u32-requires : tie.Need-wrapping-add-u32-requires Inv-loop μ-loop
-wrapping-add-u32-requires c κs = search needs
+    let at-wide = c .before .before in
+    let at-loop-test = at-wide .before .before .before in
+    let at-loop = at-loop-test .before in
+    let start = at-loop .before .before .before in
+    spread-room _ _ _ _ _ _ (at-loop .loop .inv) (at-loop-test .loop-test .taken) (start .pre) (at-wide .wide .result)
+    (at-wide .wide .ensures .0)
 
 mul-received : tie.Need-mul-received Inv-loop μ-loop
 mul-received c =
-    let loop′ = (c .before .before .before .before .before .before .before .loop) in
-    let loop-test′ = (c .before .before .before .before .before .before .loop-test) in
-    let pre′ = (c .before .before .before .before .before .before .before .before .before .before .pre) in
-    let wide′ = (c .before .before .before .wide) in
-    omega (arith, spread-room _ _ _ _ _ _ (loop′ .inv) (loop-test′ .taken) pre′ (wide′ .result) (wide′ .ensures .0))
+    let at-wide = c .before .before .before in
+    let at-loop-test = at-wide .before .before .before in
+    let at-loop = at-loop-test .before in
+    let start = at-loop .before .before .before in
+    omega (
+      arith,
+      spread-room _ _ _ _ _ _ (at-loop .loop .inv) (at-loop-test .loop-test .taken) (start .pre)
+          (at-wide .wide .result) (at-wide .wide .ensures .0),
+    )
 
 slice-write-received : tie.Need-slice-write-received Inv-loop μ-loop
 slice-write-received c =
-    let loop′ = (c .before .before .before .before .before .before .before .loop) in
-    let loop-test′ = (c .before .before .before .before .before .before .loop-test) in
-    let pre′ = (c .before .before .before .before .before .before .before .before .before .before .pre) in
-    let wide′ = (c .before .before .before .wide) in
-    spread-room _ _ _ _ _ _ (loop′ .inv) (loop-test′ .taken) pre′ (wide′ .result) (wide′ .ensures .0)
-
-add-i : tie.Need-add-i Inv-loop μ-loop
-add-i c = omega arith
-
-loop-less : tie.Need-loop-less Inv-loop μ-loop
-loop-less c = omega arith
+    let at-wide = c .before .before .before in
+    let at-loop-test = at-wide .before .before .before in
+    let at-loop = at-loop-test .before in
+    let start = at-loop .before .before .before in
+    spread-room _ _ _ _ _ _ (at-loop .loop .inv) (at-loop-test .loop-test .taken) (start .pre) (at-wide .wide .result)
+    (at-wide .wide .ensures .0)
 
 loop-again : tie.Need-loop-again Inv-loop μ-loop
 unfolding plus
 loop-again c =
-    let loop′ = (c .before .before .before .before .before .before .before .loop) in
-    let loop-test′ = (c .before .before .before .before .before .before .loop-test) in
-    let if1′ = (c .before .before .before .before .if1) in
-    let pre′ = (c .before .before .before .before .before .before .before .before .before .before .pre) in
-    let wide′ = (c .before .before .before .wide) in
-    let mix′ = (c .before .before .mix) in
-    let wrapping-add-u32′ = (c .wrapping-add-u32) in
-    spread-next _ _ _ _ _ _ (loop′ .inv) (loop-test′ .taken) (if1′ .left) pre′ (wide′ .result) (wide′ .ensures .0)
-    (mix′ .result) (wrapping-add-u32′ .result) (mix′ .ensures) (wrapping-add-u32′ .ensures)
+    let at-mix = c .before .before in
+    let at-wide = at-mix .before in
+    let at-if1 = at-wide .before in
+    let at-loop-test = at-if1 .before .before in
+    let at-loop = at-loop-test .before in
+    let start = at-loop .before .before .before in
+    spread-next _ _ _ _ _ _ (at-loop .loop .inv) (at-loop-test .loop-test .taken) (at-if1 .if1 .left) (start .pre)
+    (at-wide .wide .result) (at-wide .wide .ensures .0) (at-mix .mix .result) (c .wrapping-add-u32 .result)
+    (at-mix .mix .ensures) (c .wrapping-add-u32 .ensures)
 
 same-length-2 : tie.Need-same-length-2 Inv-loop μ-loop
-same-length-2 c =
-    let loop′ = (c .before .loop) in
-    loop′ .inv .size
+same-length-2 c = c .before .loop .inv .size
 
 returns-2 : tie.Need-returns-2 Inv-loop μ-loop
-returns-2 c =
-    let loop′ = (c .before .loop) in
-    let loop-test′ = (c .loop-test) in
-    spread-done _ _ _ _ _ _ (loop′ .inv) (loop-test′ .left)
+returns-2 c = spread-done _ _ _ _ _ _ (c .before .loop .inv) (c .loop-test .left)
 
 pub spread-spec : {M : Type 1} → statement M
 spread-spec =
@@ -118,19 +99,16 @@ spread-spec =
     Inv-loop
     μ-loop
     loop-holds
-    mul-x
-    shared-slice-read-x
+    (λ c. omega arith) (λ c. omega arith)
     same-length
     returns
-    wide-requires
-    mix-requires
+    (λ c κs. search needs) (λ c κs. search needs)
     mul-wrapping-add-u32
     slice-read-wrapping-add-u32
-    wrapping-add-u32-requires
+    (λ c κs. search needs)
     mul-received
     slice-write-received
-    add-i
-    loop-less
+    (λ c. omega arith) (λ c. omega arith)
     loop-again
     same-length-2
     returns-2)

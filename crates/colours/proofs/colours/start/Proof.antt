@@ -21,39 +21,22 @@ loop-holds c = start-start _
 
 start-colour-requires : tie.Need-start-colour-requires Inv-loop μ-loop
 start-colour-requires c κs =
-    let loop′ = (c .before .loop) in
-    let pre′ = (c .before .before .before .pre) in
-    omega (arith, loop′ .inv .size, pre′)
-
-mul-colours : tie.Need-mul-colours Inv-loop μ-loop
-mul-colours c = omega arith
-
-slice-write-colours : tie.Need-slice-write-colours Inv-loop μ-loop
-slice-write-colours c = omega arith
-
-add-x : tie.Need-add-x Inv-loop μ-loop
-add-x c = omega arith
-
-loop-less : tie.Need-loop-less Inv-loop μ-loop
-loop-less c = omega arith
+    let at-loop = c .before in
+    let start = at-loop .before .before in
+    omega (arith, at-loop .loop .inv .size, start .pre)
 
 loop-again : tie.Need-loop-again Inv-loop μ-loop
 loop-again c =
-    let loop′ = (c .before .before .loop) in
-    let loop-test′ = (c .before .loop-test) in
-    let start-colour′ = (c .start-colour) in
-    start-next _ _ _ (loop′ .inv) (loop-test′ .taken) (start-colour′ .result) (start-colour′ .ensures)
+    let at-loop-test = c .before in
+    let at-loop = at-loop-test .before in
+    start-next _ _ _ (at-loop .loop .inv) (at-loop-test .loop-test .taken) (c .start-colour .result)
+    (c .start-colour .ensures)
 
 same-length : tie.Need-same-length Inv-loop μ-loop
-same-length c =
-    let loop′ = (c .before .loop) in
-    loop′ .inv .size
+same-length c = c .before .loop .inv .size
 
 returns : tie.Need-returns Inv-loop μ-loop
-returns c =
-    let loop′ = (c .before .loop) in
-    let loop-test′ = (c .loop-test) in
-    start-done _ _ _ (loop′ .inv) (loop-test′ .left)
+returns c = start-done _ _ _ (c .before .loop .inv) (c .loop-test .left)
 
 pub start-spec : {M : Type 1} → statement M
 start-spec =
@@ -63,10 +46,7 @@ start-spec =
     μ-loop
     loop-holds
     start-colour-requires
-    mul-colours
-    slice-write-colours
-    add-x
-    loop-less
+    (λ c. omega arith) (λ c. omega arith) (λ c. omega arith) (λ c. omega arith)
     loop-again
     same-length
     returns)

@@ -18,37 +18,20 @@ abbrev μ-loop : tie.MeasureT-loop
 loop-holds : tie.Need-loop-holds Inv-loop μ-loop
 loop-holds c = class-start _ _
 
-mul-if1 : tie.Need-mul-if1 Inv-loop μ-loop
-mul-if1 c = omega arith
-
-shared-slice-read-if1 : tie.Need-shared-slice-read-if1 Inv-loop μ-loop
-shared-slice-read-if1 c = omega arith
-
 returns : tie.Need-returns Inv-loop μ-loop
 returns c =
-    let loop′ = (c .before .before .before .loop) in
-    let loop-test′ = (c .before .before .loop-test) in
-    let if1′ = (c .if1) in
-    class-found _ _ _ (loop′ .inv) (loop-test′ .taken) (if1′ .taken)
-
-add-i : tie.Need-add-i Inv-loop μ-loop
-add-i c = omega arith
-
-loop-less : tie.Need-loop-less Inv-loop μ-loop
-loop-less c = omega arith
+    let at-loop-test = c .before .before in
+    let at-loop = at-loop-test .before in
+    class-found _ _ _ (at-loop .loop .inv) (at-loop-test .loop-test .taken) (c .if1 .taken)
 
 loop-again : tie.Need-loop-again Inv-loop μ-loop
 loop-again c =
-    let loop′ = (c .before .before .before .loop) in
-    let loop-test′ = (c .before .before .loop-test) in
-    let if1′ = (c .if1) in
-    class-next _ _ _ (loop′ .inv) (loop-test′ .taken) (if1′ .left)
+    let at-loop-test = c .before .before in
+    let at-loop = at-loop-test .before in
+    class-next _ _ _ (at-loop .loop .inv) (at-loop-test .loop-test .taken) (c .if1 .left)
 
 returns-2 : tie.Need-returns-2 Inv-loop μ-loop
-returns-2 c =
-    let loop′ = (c .before .loop) in
-    let loop-test′ = (c .loop-test) in
-    class-none _ _ _ (loop′ .inv) (loop-test′ .left)
+returns-2 c = class-none _ _ _ (c .before .loop .inv) (c .loop-test .left)
 
 pub class-spec : {M : Type 1} → statement M
 class-spec =
@@ -57,10 +40,8 @@ class-spec =
     Inv-loop
     μ-loop
     loop-holds
-    mul-if1
-    shared-slice-read-if1
+    (λ c. omega arith) (λ c. omega arith)
     returns
-    add-i
-    loop-less
+    (λ c. omega arith) (λ c. omega arith)
     loop-again
     returns-2)

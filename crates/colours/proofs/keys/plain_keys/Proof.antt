@@ -23,118 +23,83 @@ abbrev μ-loop : tie.MeasureT-loop
 loop-holds : tie.Need-loop-holds Inv-loop μ-loop
 loop-holds c = keys-start _ _ _ _ _ _
 
-mul-p : tie.Need-mul-p Inv-loop μ-loop
-mul-p c = omega arith
-
-add-e : tie.Need-add-e Inv-loop μ-loop
-add-e c = omega arith
-
-mul-row : tie.Need-mul-row Inv-loop μ-loop
-mul-row c = omega arith
-
-sub-row : tie.Need-sub-row Inv-loop μ-loop
-sub-row c = omega arith
-
-part-row-start : tie.Need-part-row-start Inv-loop μ-loop
-part-row-start c = omega arith
-
-part-row-end : tie.Need-part-row-end Inv-loop μ-loop
-part-row-end c = omega arith
-
 shared-slice-read-widened : tie.Need-shared-slice-read-widened Inv-loop μ-loop
 shared-slice-read-widened c =
-    let args′ = (c .before .before .before .before .before .before .before .args) in
-    let loop′ = (c .before .before .before .loop) in
-    let pre′ = (c .before .before .before .before .before .before .before .pre) in
-    let loop-test′ = (c .before .before .loop-test) in
-    omega (arith, lent-length (args′ .cells .now) (loop′ .i) _ (pre′ .0) (loop-test′ .taken))
-
-widened-requires : tie.Need-widened-requires Inv-loop μ-loop
-widened-requires c κs = search needs
+    let at-loop-test = c .before .before in
+    let at-loop = at-loop-test .before in
+    let start = at-loop .before .before .before .before in
+    omega
+    (arith, lent-length (start .args .cells .now) (at-loop .loop .i) _ (start .pre .0) (at-loop-test .loop-test .taken))
 
 sub-sign : tie.Need-sub-sign Inv-loop μ-loop
 sub-sign c =
-    let args′ = (c .before .before .before .before .before .before .before .before .args) in
-    let loop′ = (c .before .before .before .before .loop) in
-    let pre′ = (c .before .before .before .before .before .before .before .before .pre) in
-    let loop-test′ = (c .before .before .before .loop-test) in
-    omega (arith, lent-length (args′ .cells .now) (loop′ .i) _ (pre′ .0) (loop-test′ .taken))
+    let at-loop-test = c .before .before .before in
+    let at-loop = at-loop-test .before in
+    let start = at-loop .before .before .before .before in
+    omega
+    (arith, lent-length (start .args .cells .now) (at-loop .loop .i) _ (start .pre .0) (at-loop-test .loop-test .taken))
 
 part-sign-start : tie.Need-part-sign-start Inv-loop μ-loop
 part-sign-start c =
-    let args′ = (c .before .before .before .before .before .before .before .before .args) in
-    let loop′ = (c .before .before .before .before .loop) in
-    let pre′ = (c .before .before .before .before .before .before .before .before .pre) in
-    let loop-test′ = (c .before .before .before .loop-test) in
-    omega (arith, lent-length (args′ .cells .now) (loop′ .i) _ (pre′ .0) (loop-test′ .taken))
+    let at-loop-test = c .before .before .before in
+    let at-loop = at-loop-test .before in
+    let start = at-loop .before .before .before .before in
+    omega
+    (arith, lent-length (start .args .cells .now) (at-loop .loop .i) _ (start .pre .0) (at-loop-test .loop-test .taken))
 
 part-sign-end : tie.Need-part-sign-end Inv-loop μ-loop
 part-sign-end c =
-    let args′ = (c .before .before .before .before .before .before .before .before .args) in
-    let loop′ = (c .before .before .before .before .loop) in
-    let pre′ = (c .before .before .before .before .before .before .before .before .pre) in
-    let loop-test′ = (c .before .before .before .loop-test) in
-    omega (arith, lent-length (args′ .cells .now) (loop′ .i) _ (pre′ .0) (loop-test′ .taken))
+    let at-loop-test = c .before .before .before in
+    let at-loop = at-loop-test .before in
+    let start = at-loop .before .before .before .before in
+    omega
+    (arith, lent-length (start .args .cells .now) (at-loop .loop .i) _ (start .pre .0) (at-loop-test .loop-test .taken))
 
 sign-requires : tie.Need-sign-requires Inv-loop μ-loop
 sign-requires c κs =
-    let loop′ = (c .before .before .before .before .before .loop) in
-    let pre′ = (c .before .before .before .before .before .before .before .before .before .pre) in
-    lent-below _ _ (loop′ .i) (pre′ .1)
+    let at-loop = c .before .before .before .before .before in
+    let start = at-loop .before .before .before .before in
+    lent-below _ _ (at-loop .loop .i) (start .pre .1)
 
 shared-slice-read-code : tie.Need-shared-slice-read-code Inv-loop μ-loop
 shared-slice-read-code c =
-    let args′ = (c .before .before .before .before .before .before .before .before .before .before .before .args) in
-    let loop′ = (c .before .before .before .before .before .before .before .loop) in
-    let pre′ = (c .before .before .before .before .before .before .before .before .before .before .before .pre) in
-    let loop-test′ = (c .before .before .before .before .before .before .loop-test) in
-    omega (arith, lent-length (args′ .cells .now) (loop′ .i) _ (pre′ .0) (loop-test′ .taken))
-
-code-requires : tie.Need-code-requires Inv-loop μ-loop
-code-requires c κs = search needs
+    let at-loop-test = c .before .before .before .before .before .before in
+    let at-loop = at-loop-test .before in
+    let start = at-loop .before .before .before .before in
+    omega
+    (arith, lent-length (start .args .cells .now) (at-loop .loop .i) _ (start .pre .0) (at-loop-test .loop-test .taken))
 
 mul-keys : tie.Need-mul-keys Inv-loop μ-loop
 mul-keys c =
-    let loop′ = (c .before .before .before .before .before .before .before .before .loop) in
-    let pre′ = (c .before .before .before .before .before .before .before .before .before .before .before .before .pre) in
-    omega (arith, loop′ .inv .size, pre′ .2)
+    let at-loop = c .before .before .before .before .before .before .before .before in
+    let start = at-loop .before .before .before .before in
+    omega (arith, at-loop .loop .inv .size, start .pre .2)
 
 slice-write-keys : tie.Need-slice-write-keys Inv-loop μ-loop
 slice-write-keys c =
-    let loop′ = (c .before .before .before .before .before .before .before .before .loop) in
-    let pre′ = (c .before .before .before .before .before .before .before .before .before .before .before .before .pre) in
-    omega (arith, loop′ .inv .size, pre′ .2)
-
-add-i : tie.Need-add-i Inv-loop μ-loop
-add-i c = omega arith
-
-loop-less : tie.Need-loop-less Inv-loop μ-loop
-loop-less c = omega arith
+    let at-loop = c .before .before .before .before .before .before .before .before in
+    let start = at-loop .before .before .before .before in
+    omega (arith, at-loop .loop .inv .size, start .pre .2)
 
 loop-again : tie.Need-loop-again Inv-loop μ-loop
 loop-again c =
-    let pre′ = (c .before .before .before .before .before .before .before .before .before .before .before .before .pre) in
-    let loop′ = (c .before .before .before .before .before .before .before .before .loop) in
-    let loop-test′ = (c .before .before .before .before .before .before .before .loop-test) in
-    let args′ = (c .before .before .before .before .before .before .before .before .before .before .before .before .args) in
-    let widened′ = (c .before .before .before .before .widened) in
-    let sign′ = (c .before .before .sign) in
-    let code′ = (c .code) in
-    keys-next _ _ _ _ _ _ _ _ (pre′ .0) (pre′ .2) (loop′ .inv) (loop-test′ .taken) _
-    (key-plain (args′ .cells .now) _ (loop′ .i) _ _ _ _ (pre′ .0) (loop-test′ .taken) (widened′ .ensures) (sign′ .ensures)
-    (code′ .ensures))
+    let at-sign = c .before .before in
+    let at-widened = at-sign .before .before in
+    let at-loop-test = at-widened .before .before .before in
+    let at-loop = at-loop-test .before in
+    let start = at-loop .before .before .before .before in
+    keys-next _ _ _ _ _ _ _ _ (start .pre .0) (start .pre .2) (at-loop .loop .inv) (at-loop-test .loop-test .taken) _
+    (key-plain (start .args .cells .now) _ (at-loop .loop .i) _ _ _ _ (start .pre .0) (at-loop-test .loop-test .taken)
+    (at-widened .widened .ensures) (at-sign .sign .ensures) (c .code .ensures))
 
 same-length : tie.Need-same-length Inv-loop μ-loop
-same-length c =
-    let loop′ = (c .before .loop) in
-    loop′ .inv .size
+same-length c = c .before .loop .inv .size
 
 returns : tie.Need-returns Inv-loop μ-loop
 returns c =
-    let pre′ = (c .before .before .before .before .before .pre) in
-    let loop′ = (c .before .loop) in
-    let loop-test′ = (c .loop-test) in
-    keys-done _ _ _ _ _ _ _ _ (pre′ .0) (pre′ .2) (loop′ .inv) (loop-test′ .left)
+    let at-loop = c .before in
+    let start = at-loop .before .before .before .before in
+    keys-done _ _ _ _ _ _ _ _ (start .pre .0) (start .pre .2) (at-loop .loop .inv) (c .loop-test .left)
 
 pub plain-keys-spec : {M : Type 1} → statement M
 plain-keys-spec =
@@ -143,24 +108,18 @@ plain-keys-spec =
     Inv-loop
     μ-loop
     loop-holds
-    mul-p
-    add-e
-    mul-row
-    sub-row
-    part-row-start
-    part-row-end
+    (λ c. omega arith) (λ c. omega arith) (λ c. omega arith) (λ c. omega arith) (λ c. omega arith) (λ c. omega arith)
     shared-slice-read-widened
-    widened-requires
+    (λ c κs. search needs)
     sub-sign
     part-sign-start
     part-sign-end
     sign-requires
     shared-slice-read-code
-    code-requires
+    (λ c κs. search needs)
     mul-keys
     slice-write-keys
-    add-i
-    loop-less
+    (λ c. omega arith) (λ c. omega arith)
     loop-again
     same-length
     returns)

@@ -20,64 +20,42 @@ abbrev μ-loop : tie.MeasureT-loop
 loop-holds : tie.Need-loop-holds Inv-loop μ-loop
 loop-holds c = relabel-start _ _ _
 
-mul-class : tie.Need-mul-class Inv-loop μ-loop
-mul-class c = omega arith
-
-shared-slice-read-class : tie.Need-shared-slice-read-class Inv-loop μ-loop
-shared-slice-read-class c = omega arith
-
-class-requires : tie.Need-class-requires Inv-loop μ-loop
-class-requires c κs = search needs
-
 cast-cells : tie.Need-cast-cells Inv-loop μ-loop
-cast-cells c =
-    let class′ = (c .class) in
-    let pre′ = (c .before .before .before .before .before .before .before .pre) in
-    omega (arith, class′ .ensures .1, pre′ .1)
+cast-cells c = omega (arith, c .class .ensures .1, c .before .before .before .before .before .before .before .pre .1)
 
 mul-cells : tie.Need-mul-cells Inv-loop μ-loop
 mul-cells c =
-    let pre′ = (c .before .before .before .before .before .before .before .pre) in
-    let loop′ = (c .before .before .before .loop) in
-    omega (arith, pre′ .0, loop′ .inv .size)
+    let at-loop = c .before .before .before in
+    let start = at-loop .before .before .before .before in
+    omega (arith, start .pre .0, at-loop .loop .inv .size)
 
 mul-cells-2 : tie.Need-mul-cells-2 Inv-loop μ-loop
 mul-cells-2 c =
-    let pre′ = (c .before .before .before .before .before .before .before .pre) in
-    let loop′ = (c .before .before .before .loop) in
-    omega (arith, pre′ .0, loop′ .inv .size)
+    let at-loop = c .before .before .before in
+    let start = at-loop .before .before .before .before in
+    omega (arith, start .pre .0, at-loop .loop .inv .size)
 
 slice-write-cells : tie.Need-slice-write-cells Inv-loop μ-loop
 slice-write-cells c =
-    let pre′ = (c .before .before .before .before .before .before .before .pre) in
-    let loop′ = (c .before .before .before .loop) in
-    omega (arith, pre′ .0, loop′ .inv .size)
-
-add-i : tie.Need-add-i Inv-loop μ-loop
-add-i c = omega arith
-
-loop-less : tie.Need-loop-less Inv-loop μ-loop
-loop-less c = omega arith
+    let at-loop = c .before .before .before in
+    let start = at-loop .before .before .before .before in
+    omega (arith, start .pre .0, at-loop .loop .inv .size)
 
 loop-again : tie.Need-loop-again Inv-loop μ-loop
 loop-again c =
-    let pre′ = (c .before .before .before .before .before .before .before .pre) in
-    let loop′ = (c .before .before .before .loop) in
-    let loop-test′ = (c .before .before .loop-test) in
-    let class′ = (c .class) in
-    relabel-next _ _ _ _ _ (pre′ .0) (loop′ .inv) (loop-test′ .taken) _ (class′ .ensures .0)
+    let at-loop-test = c .before .before in
+    let at-loop = at-loop-test .before in
+    let start = at-loop .before .before .before .before in
+    relabel-next _ _ _ _ _ (start .pre .0) (at-loop .loop .inv) (at-loop-test .loop-test .taken) _ (c .class .ensures .0)
 
 same-length : tie.Need-same-length Inv-loop μ-loop
-same-length c =
-    let loop′ = (c .before .loop) in
-    loop′ .inv .size
+same-length c = c .before .loop .inv .size
 
 returns : tie.Need-returns Inv-loop μ-loop
 returns c =
-    let pre′ = (c .before .before .before .before .before .pre) in
-    let loop′ = (c .before .loop) in
-    let loop-test′ = (c .loop-test) in
-    relabel-done _ _ _ _ _ (pre′ .0) (loop′ .inv) (loop-test′ .left)
+    let at-loop = c .before in
+    let start = at-loop .before .before .before .before in
+    relabel-done _ _ _ _ _ (start .pre .0) (at-loop .loop .inv) (c .loop-test .left)
 
 pub relabel-spec : {M : Type 1} → statement M
 relabel-spec =
@@ -86,15 +64,12 @@ relabel-spec =
     Inv-loop
     μ-loop
     loop-holds
-    mul-class
-    shared-slice-read-class
-    class-requires
+    (λ c. omega arith) (λ c. omega arith) (λ c κs. search needs)
     cast-cells
     mul-cells
     mul-cells-2
     slice-write-cells
-    add-i
-    loop-less
+    (λ c. omega arith) (λ c. omega arith)
     loop-again
     same-length
     returns)

@@ -20,33 +20,14 @@ abbrev μ-loop : tie.MeasureT-loop
 loop-holds : tie.Need-loop-holds Inv-loop μ-loop
 loop-holds c = sum-start _
 
-mul-wrapping-add-u64 : tie.Need-mul-wrapping-add-u64 Inv-loop μ-loop
-mul-wrapping-add-u64 c = omega arith
-
-shared-slice-read-wrapping-add-u64 : tie.Need-shared-slice-read-wrapping-add-u64 Inv-loop μ-loop
-shared-slice-read-wrapping-add-u64 c = omega arith
-
-wrapping-add-u64-requires : tie.Need-wrapping-add-u64-requires Inv-loop μ-loop
-wrapping-add-u64-requires c κs = search needs
-
-add-i : tie.Need-add-i Inv-loop μ-loop
-add-i c = omega arith
-
-loop-less : tie.Need-loop-less Inv-loop μ-loop
-loop-less c = omega arith
-
 loop-again : tie.Need-loop-again Inv-loop μ-loop
 loop-again c =
-    let loop′ = (c .before .before .before .loop) in
-    let loop-test′ = (c .before .before .loop-test) in
-    let wrapping-add-u64′ = (c .wrapping-add-u64) in
-    sum-next _ _ _ (loop′ .inv) (loop-test′ .taken) _ (wrapping-add-u64′ .ensures)
+    let at-loop-test = c .before .before in
+    let at-loop = at-loop-test .before in
+    sum-next _ _ _ (at-loop .loop .inv) (at-loop-test .loop-test .taken) _ (c .wrapping-add-u64 .ensures)
 
 returns : tie.Need-returns Inv-loop μ-loop
-returns c =
-    let loop′ = (c .before .loop) in
-    let loop-test′ = (c .loop-test) in
-    sum-done _ _ _ (loop′ .inv) (loop-test′ .left)
+returns c = sum-done _ _ _ (c .before .loop .inv) (c .loop-test .left)
 
 pub sum-spec : {M : Type 1} → statement M
 sum-spec =
@@ -55,10 +36,6 @@ sum-spec =
     Inv-loop
     μ-loop
     loop-holds
-    mul-wrapping-add-u64
-    shared-slice-read-wrapping-add-u64
-    wrapping-add-u64-requires
-    add-i
-    loop-less
+    (λ c. omega arith) (λ c. omega arith) (λ c κs. search needs) (λ c. omega arith) (λ c. omega arith)
     loop-again
     returns)

@@ -17,65 +17,48 @@ abbrev μ-loop : tie.MeasureT-loop
 μ-loop cells out₀ numbers₀ first next₀ i₀ out numbers next i = length cells - i
 
 loop-holds : tie.Need-loop-holds Inv-loop μ-loop
-loop-holds c =
-    let pre′ = (c .before .before .before .pre) in
-    cells-start _ _ _ _ (pre′ .0)
-
-mul-number-cell : tie.Need-mul-number-cell Inv-loop μ-loop
-mul-number-cell c = omega arith
-
-shared-slice-read-number-cell : tie.Need-shared-slice-read-number-cell Inv-loop μ-loop
-shared-slice-read-number-cell c = omega arith
+loop-holds c = cells-start _ _ _ _ (c .before .before .before .pre .0)
 
 number-cell-requires : tie.Need-number-cell-requires Inv-loop μ-loop
 number-cell-requires c κs =
-    let pre′ = (c .before .before .before .before .before .before .before .pre) in
-    let loop′ = (c .before .before .before .loop) in
-    let loop-test′ = (c .before .before .loop-test) in
-    cells-one _ _ _ _ _ _ _ _ (pre′ .2) (loop′ .inv) (loop-test′ .taken) (pre′ .1) (pre′ .3)
+    let at-loop-test = c .before .before in
+    let at-loop = at-loop-test .before in
+    let start = at-loop .before .before .before .before in
+    cells-one _ _ _ _ _ _ _ _ (start .pre .2) (at-loop .loop .inv) (at-loop-test .loop-test .taken) (start .pre .1)
+    (start .pre .3)
 
 mul-out : tie.Need-mul-out Inv-loop μ-loop
 mul-out c =
-    let loop′ = (c .before .before .before .before .before .before .loop) in
-    let pre′ = (c .before .before .before .before .before .before .before .before .before .before .pre) in
-    omega (arith, loop′ .inv .size, pre′ .2)
+    let at-loop = c .before .before .before .before .before .before in
+    let start = at-loop .before .before .before .before in
+    omega (arith, at-loop .loop .inv .size, start .pre .2)
 
 slice-write-out : tie.Need-slice-write-out Inv-loop μ-loop
 slice-write-out c =
-    let loop′ = (c .before .before .before .before .before .before .loop) in
-    let pre′ = (c .before .before .before .before .before .before .before .before .before .before .pre) in
-    omega (arith, loop′ .inv .size, pre′ .2)
-
-add-i : tie.Need-add-i Inv-loop μ-loop
-add-i c = omega arith
-
-loop-less : tie.Need-loop-less Inv-loop μ-loop
-loop-less c = omega arith
+    let at-loop = c .before .before .before .before .before .before in
+    let start = at-loop .before .before .before .before in
+    omega (arith, at-loop .loop .inv .size, start .pre .2)
 
 loop-again : tie.Need-loop-again Inv-loop μ-loop
 loop-again c =
-    let pre′ = (c .before .before .before .before .before .before .before .before .before .before .pre) in
-    let loop′ = (c .before .before .before .before .before .before .loop) in
-    let loop-test′ = (c .before .before .before .before .before .loop-test) in
-    let number-cell′ = (c .before .before .number-cell) in
-    cells-next _ _ _ _ _ _ _ _ (pre′ .2) (loop′ .inv) (loop-test′ .taken) _ _ _ (number-cell′ .kept .1 .0) (number-cell′ .ensures)
+    let at-number-cell = c .before .before in
+    let at-loop-test = at-number-cell .before .before .before in
+    let at-loop = at-loop-test .before in
+    let start = at-loop .before .before .before .before in
+    cells-next _ _ _ _ _ _ _ _ (start .pre .2) (at-loop .loop .inv) (at-loop-test .loop-test .taken) _ _ _
+    (at-number-cell .number-cell .kept .1 .0) (at-number-cell .number-cell .ensures)
 
 same-length : tie.Need-same-length Inv-loop μ-loop
-same-length c =
-    let loop′ = (c .before .loop) in
-    loop′ .inv .size
+same-length c = c .before .loop .inv .size
 
 same-length-2 : tie.Need-same-length-2 Inv-loop μ-loop
-same-length-2 c =
-    let loop′ = (c .before .loop) in
-    loop′ .inv .table-size
+same-length-2 c = c .before .loop .inv .table-size
 
 returns : tie.Need-returns Inv-loop μ-loop
 returns c =
-    let pre′ = (c .before .before .before .before .before .pre) in
-    let loop′ = (c .before .loop) in
-    let loop-test′ = (c .loop-test) in
-    cells-done _ _ _ _ _ _ _ _ (pre′ .2) (loop′ .inv) (loop-test′ .left)
+    let at-loop = c .before in
+    let start = at-loop .before .before .before .before in
+    cells-done _ _ _ _ _ _ _ _ (start .pre .2) (at-loop .loop .inv) (c .loop-test .left)
 
 pub number-cells-spec : {M : Type 1} → statement M
 number-cells-spec =
@@ -84,13 +67,11 @@ number-cells-spec =
     Inv-loop
     μ-loop
     loop-holds
-    mul-number-cell
-    shared-slice-read-number-cell
+    (λ c. omega arith) (λ c. omega arith)
     number-cell-requires
     mul-out
     slice-write-out
-    add-i
-    loop-less
+    (λ c. omega arith) (λ c. omega arith)
     loop-again
     same-length
     same-length-2

@@ -13,47 +13,38 @@ use Rattle.colours.proofs.numbering.number_state.Reads as reads
 use Rattle.colours.proofs.numbering.number_state.Lts as lts
 use Rattle.colours.proofs.numbering.number_cells.Reads as number-cells-reads
 
-slice-aggregate-number-cells : tie.Need-slice-aggregate-number-cells
-slice-aggregate-number-cells c = search needs
-
 number-cells-requires : tie.Need-number-cells-requires
 number-cells-requires c κs =
-    let pre′ = (c .before .before .before .before .before .before .pre) in
-    (numbering-none 13596, rw (length-replicate {A = ℕ} 13596 0) (pre′ .1), pre′ .3, omega (arith, pre′ .5))
-
-slice-aggregate-number-cells-2 : tie.Need-slice-aggregate-number-cells-2
-slice-aggregate-number-cells-2 c = search needs
+    let start = c .before .before .before .before .before .before in (
+      numbering-none 13596,
+      rw (length-replicate {A = ℕ} 13596 0) (start .pre .1),
+      start .pre .3,
+      omega (arith, start .pre .5),
+    )
 
 number-cells-requires-2 : tie.Need-number-cells-requires-2
 number-cells-requires-2 c κs =
-    let number-cells′ = (c .before .before .before .before .before .number-cells) in
-    let pre′ = (c .before .before .before .before .before .before .before .before .before .before .before .before .pre) in (
-      number-cells′ .ensures .numbering,
-      rw (number-cells′ .kept .1 .1 .0 ∙ length-replicate {A = ℕ} 13596 0) (pre′ .0),
-      pre′ .2,
-      omega (arith, number-cells′ .ensures .most, pre′ .4, pre′ .5),
+    let at-number-cells = c .before .before .before .before .before in
+    let start = at-number-cells .before .before .before .before .before .before .before in (
+      at-number-cells .number-cells .ensures .numbering,
+      rw (at-number-cells .number-cells .kept .1 .1 .0 ∙ length-replicate {A = ℕ} 13596 0) (start .pre .0),
+      start .pre .2,
+      omega (arith, at-number-cells .number-cells .ensures .most, start .pre .4, start .pre .5),
     )
-
-same-length : tie.Need-same-length
-same-length c = search needs
-
-same-length-2 : tie.Need-same-length-2
-same-length-2 c = search needs
 
 returns : tie.Need-returns
 returns c =
-    let number-cells′ = (c .before .before .before .before .before .before .before .before .before .number-cells) in
-    let number-cells2′ = (c .before .before .before .number-cells2) in
-    state-numbered _ _ _ _ _ _ _ _ _ (number-cells′ .ensures) (number-cells2′ .ensures)
+    let at-number-cells2 = c .before .before .before in
+    let at-number-cells = at-number-cells2 .before .before .before .before .before .before in
+    state-numbered _ _ _ _ _ _ _ _ _ (at-number-cells .number-cells .ensures) (at-number-cells2 .number-cells2 .ensures)
 
 pub number-state-spec : {M : Type 1} → statement M
 number-state-spec =
     tie.close
     (tie.spec
-    slice-aggregate-number-cells
+    (λ c. search needs)
     number-cells-requires
-    slice-aggregate-number-cells-2
+    (λ c. search needs)
     number-cells-requires-2
-    same-length
-    same-length-2
+    (λ c. search needs) (λ c. search needs)
     returns)

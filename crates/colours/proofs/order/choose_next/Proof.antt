@@ -19,25 +19,9 @@ loop-holds : tie.Need-loop-holds Inv-loop μ-loop
 loop-holds c = omega (arith, (c .before .before .before .pre) .1)
 
 rank-requires : tie.Need-rank-requires Inv-loop μ-loop
-rank-requires c κs = ((c .before .before .before .before .before .pre) .0 .terms, omega (arith, (c .before .before .before .before .before .pre) .0 .size, (c .loop-test) .taken), (c .before .before .before .before .before .pre) .2)
-
-add-i : tie.Need-add-i Inv-loop μ-loop
-add-i c = omega arith
-
-loop-less : tie.Need-loop-less Inv-loop μ-loop
-loop-less c = omega arith
-
-loop-again : tie.Need-loop-again Inv-loop μ-loop
-loop-again c = omega arith
-
-loop-less-2 : tie.Need-loop-less-2 Inv-loop μ-loop
-loop-less-2 c = omega arith
-
-loop-again-2 : tie.Need-loop-again-2 Inv-loop μ-loop
-loop-again-2 c = omega arith
-
-returns : tie.Need-returns Inv-loop μ-loop
-returns c = search needs
+rank-requires c κs =
+    let start = c .before .before .before .before .before in
+    (start .pre .0 .terms, omega (arith, start .pre .0 .size, c .loop-test .taken), start .pre .2)
 
 pub choose-next-spec : {M : Type 1} → statement M
 choose-next-spec =
@@ -47,9 +31,4 @@ choose-next-spec =
     μ-loop
     loop-holds
     rank-requires
-    add-i
-    loop-less
-    loop-again
-    loop-less-2
-    loop-again-2
-    returns)
+    (λ c. omega arith) (λ c. omega arith) (λ c. omega arith) (λ c. omega arith) (λ c. omega arith) (λ c. search needs))

@@ -17,38 +17,14 @@ Inv-loop cells i seen counts p least₀ j₀ least j = j ≤ 4
 abbrev μ-loop : tie.MeasureT-loop
 μ-loop cells i seen counts p least₀ j₀ least j = 4 - j
 
-mul-p : tie.Need-mul-p Inv-loop μ-loop
-mul-p c = omega arith
-
-add-p : tie.Need-add-p Inv-loop μ-loop
-add-p c = omega arith
-
-loop-holds : tie.Need-loop-holds Inv-loop μ-loop
-loop-holds c = omega arith
-
-add-smaller : tie.Need-add-smaller Inv-loop μ-loop
-add-smaller c = omega arith
-
-mul-smaller : tie.Need-mul-smaller Inv-loop μ-loop
-mul-smaller c = omega arith
-
-shared-slice-read-smaller : tie.Need-shared-slice-read-smaller Inv-loop μ-loop
-shared-slice-read-smaller c = omega arith
-
 smaller-requires : tie.Need-smaller-requires Inv-loop μ-loop
-smaller-requires c κs = (term-room _ _ ((c .before .before .before .before .before .before .args) .i) ((c .before .before .loop) .j) _ ((c .before .before .before .before .before .before .pre) .0) ((c .before .loop-test) .taken) refl, (c .before .before .before .before .before .before .pre) .2)
-
-add-j : tie.Need-add-j Inv-loop μ-loop
-add-j c = omega arith
-
-loop-less : tie.Need-loop-less Inv-loop μ-loop
-loop-less c = omega arith
-
-loop-again : tie.Need-loop-again Inv-loop μ-loop
-loop-again c = omega arith
-
-returns : tie.Need-returns Inv-loop μ-loop
-returns c = search needs
+smaller-requires c κs =
+    let at-loop-test = c .before in
+    let at-loop = at-loop-test .before in
+    let start = at-loop .before .before .before .before in (
+      term-room _ _ (start .args .i) (at-loop .loop .j) _ (start .pre .0) (at-loop-test .loop-test .taken) refl,
+      start .pre .2,
+    )
 
 pub least-count-spec : {M : Type 1} → statement M
 least-count-spec =
@@ -56,14 +32,6 @@ least-count-spec =
     (tie.spec
     Inv-loop
     μ-loop
-    mul-p
-    add-p
-    loop-holds
-    add-smaller
-    mul-smaller
-    shared-slice-read-smaller
+    (λ c. omega arith) (λ c. omega arith) (λ c. omega arith) (λ c. omega arith) (λ c. omega arith) (λ c. omega arith)
     smaller-requires
-    add-j
-    loop-less
-    loop-again
-    returns)
+    (λ c. omega arith) (λ c. omega arith) (λ c. omega arith) (λ c. search needs))

@@ -19,53 +19,80 @@ Inv-loop cells i seen₀ counts₀ p j₀ seen counts j = (j ≤ 4) × (length s
 abbrev μ-loop : tie.MeasureT-loop
 μ-loop cells i seen₀ counts₀ p j₀ seen counts j = 4 - j
 
-mul-p : tie.Need-mul-p Inv-loop μ-loop
-mul-p c = omega arith
-
-add-p : tie.Need-add-p Inv-loop μ-loop
-add-p c = omega arith
-
 loop-holds : tie.Need-loop-holds Inv-loop μ-loop
 loop-holds c = (omega arith, refl, refl)
 
-add-c : tie.Need-add-c Inv-loop μ-loop
-add-c c = omega arith
-
-mul-c : tie.Need-mul-c Inv-loop μ-loop
-mul-c c = omega arith
-
-shared-slice-read-c : tie.Need-shared-slice-read-c Inv-loop μ-loop
-shared-slice-read-c c = omega arith
-
-wide-requires : tie.Need-wide-requires Inv-loop μ-loop
-wide-requires c κs = search needs
-
 slice-write-seen : tie.Need-slice-write-seen Inv-loop μ-loop
-slice-write-seen c = omega (arith, term-room _ _ ((c .before .before .before .before .before .before .before .args) .i) ((c .before .before .before .loop) .j) _ ((c .before .before .before .before .before .before .before .pre) .0) ((c .before .before .loop-test) .taken) ((c .wide) .ensures .0), (c .before .before .before .loop) .inv .1)
+slice-write-seen c =
+    let at-loop-test = c .before .before in
+    let at-loop = at-loop-test .before in
+    let start = at-loop .before .before .before .before in
+    omega (
+      arith,
+      term-room _ _ (start .args .i) (at-loop .loop .j) _ (start .pre .0) (at-loop-test .loop-test .taken)
+          (c .wide .ensures .0),
+      at-loop .loop .inv .1,
+    )
 
 mul-wrapping-sub-u16 : tie.Need-mul-wrapping-sub-u16 Inv-loop μ-loop
-mul-wrapping-sub-u16 c = omega (arith, term-room _ _ ((c .before .before .before .before .before .before .before .args) .i) ((c .before .before .before .loop) .j) _ ((c .before .before .before .before .before .before .before .pre) .0) ((c .before .before .loop-test) .taken) ((c .wide) .ensures .0), (c .before .before .before .loop) .inv .2, (c .before .before .before .before .before .before .before .pre) .2)
+mul-wrapping-sub-u16 c =
+    let at-loop-test = c .before .before in
+    let at-loop = at-loop-test .before in
+    let start = at-loop .before .before .before .before in
+    omega (
+      arith,
+      term-room _ _ (start .args .i) (at-loop .loop .j) _ (start .pre .0) (at-loop-test .loop-test .taken)
+          (c .wide .ensures .0),
+      at-loop .loop .inv .2,
+      start .pre .2,
+    )
 
 slice-read-wrapping-sub-u16 : tie.Need-slice-read-wrapping-sub-u16 Inv-loop μ-loop
-slice-read-wrapping-sub-u16 c = omega (arith, term-room _ _ ((c .before .before .before .before .before .before .before .before .args) .i) ((c .before .before .before .before .loop) .j) _ ((c .before .before .before .before .before .before .before .before .pre) .0) ((c .before .before .before .loop-test) .taken) ((c .before .wide) .ensures .0), (c .before .before .before .before .loop) .inv .2, (c .before .before .before .before .before .before .before .before .pre) .2)
-
-wrapping-sub-u16-requires : tie.Need-wrapping-sub-u16-requires Inv-loop μ-loop
-wrapping-sub-u16-requires c κs = search needs
+slice-read-wrapping-sub-u16 c =
+    let at-wide = c .before in
+    let at-loop-test = at-wide .before .before in
+    let at-loop = at-loop-test .before in
+    let start = at-loop .before .before .before .before in
+    omega (
+      arith,
+      term-room _ _ (start .args .i) (at-loop .loop .j) _ (start .pre .0) (at-loop-test .loop-test .taken)
+          (at-wide .wide .ensures .0),
+      at-loop .loop .inv .2,
+      start .pre .2,
+    )
 
 mul-counts : tie.Need-mul-counts Inv-loop μ-loop
-mul-counts c = omega (arith, term-room _ _ ((c .before .before .before .before .before .before .before .before .before .args) .i) ((c .before .before .before .before .before .loop) .j) _ ((c .before .before .before .before .before .before .before .before .before .pre) .0) ((c .before .before .before .before .loop-test) .taken) ((c .before .before .wide) .ensures .0), (c .before .before .before .before .before .loop) .inv .2, (c .before .before .before .before .before .before .before .before .before .pre) .2)
+mul-counts c =
+    let at-wide = c .before .before in
+    let at-loop-test = at-wide .before .before in
+    let at-loop = at-loop-test .before in
+    let start = at-loop .before .before .before .before in
+    omega (
+      arith,
+      term-room _ _ (start .args .i) (at-loop .loop .j) _ (start .pre .0) (at-loop-test .loop-test .taken)
+          (at-wide .wide .ensures .0),
+      at-loop .loop .inv .2,
+      start .pre .2,
+    )
 
 slice-write-counts : tie.Need-slice-write-counts Inv-loop μ-loop
-slice-write-counts c = omega (arith, term-room _ _ ((c .before .before .before .before .before .before .before .before .before .args) .i) ((c .before .before .before .before .before .loop) .j) _ ((c .before .before .before .before .before .before .before .before .before .pre) .0) ((c .before .before .before .before .loop-test) .taken) ((c .before .before .wide) .ensures .0), (c .before .before .before .before .before .loop) .inv .2, (c .before .before .before .before .before .before .before .before .before .pre) .2)
-
-add-j : tie.Need-add-j Inv-loop μ-loop
-add-j c = omega arith
-
-loop-less : tie.Need-loop-less Inv-loop μ-loop
-loop-less c = omega arith
+slice-write-counts c =
+    let at-wide = c .before .before in
+    let at-loop-test = at-wide .before .before in
+    let at-loop = at-loop-test .before in
+    let start = at-loop .before .before .before .before in
+    omega (
+      arith,
+      term-room _ _ (start .args .i) (at-loop .loop .j) _ (start .pre .0) (at-loop-test .loop-test .taken)
+          (at-wide .wide .ensures .0),
+      at-loop .loop .inv .2,
+      start .pre .2,
+    )
 
 loop-again : tie.Need-loop-again Inv-loop μ-loop
-loop-again c = (omega arith, simp length-set ((c .before .before .before .before .before .loop) .inv .1), simp length-set ((c .before .before .before .before .before .loop) .inv .2))
+loop-again c =
+    let at-loop = c .before .before .before .before .before in
+    (omega arith, simp length-set (at-loop .loop .inv .1), simp length-set (at-loop .loop .inv .2))
 
 same-length : tie.Need-same-length Inv-loop μ-loop
 same-length c = (c .before .loop) .inv .1
@@ -82,21 +109,16 @@ see-spec =
     (tie.spec
     Inv-loop
     μ-loop
-    mul-p
-    add-p
+    (λ c. omega arith) (λ c. omega arith)
     loop-holds
-    add-c
-    mul-c
-    shared-slice-read-c
-    wide-requires
+    (λ c. omega arith) (λ c. omega arith) (λ c. omega arith) (λ c κs. search needs)
     slice-write-seen
     mul-wrapping-sub-u16
     slice-read-wrapping-sub-u16
-    wrapping-sub-u16-requires
+    (λ c κs. search needs)
     mul-counts
     slice-write-counts
-    add-j
-    loop-less
+    (λ c. omega arith) (λ c. omega arith)
     loop-again
     same-length
     same-length-2

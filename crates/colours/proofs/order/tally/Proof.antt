@@ -19,47 +19,59 @@ Inv-loop cells i counts₀ p j₀ counts j = (j ≤ 4) × (length counts ≡ len
 abbrev μ-loop : tie.MeasureT-loop
 μ-loop cells i counts₀ p j₀ counts j = 4 - j
 
-mul-p : tie.Need-mul-p Inv-loop μ-loop
-mul-p c = omega arith
-
-add-p : tie.Need-add-p Inv-loop μ-loop
-add-p c = omega arith
-
 loop-holds : tie.Need-loop-holds Inv-loop μ-loop
 loop-holds c = (omega arith, refl)
 
-add-wide : tie.Need-add-wide Inv-loop μ-loop
-add-wide c = omega arith
-
-mul-wide : tie.Need-mul-wide Inv-loop μ-loop
-mul-wide c = omega arith
-
-shared-slice-read-wide : tie.Need-shared-slice-read-wide Inv-loop μ-loop
-shared-slice-read-wide c = omega arith
-
-wide-requires : tie.Need-wide-requires Inv-loop μ-loop
-wide-requires c κs = search needs
-
 mul-wrapping-add-u16 : tie.Need-mul-wrapping-add-u16 Inv-loop μ-loop
-mul-wrapping-add-u16 c = omega (arith, term-room _ _ ((c .before .before .before .before .before .before .args) .i) ((c .before .before .before .loop) .j) _ ((c .before .before .before .before .before .before .pre) .0) ((c .before .before .loop-test) .taken) ((c .wide) .ensures .0), (c .before .before .before .loop) .inv .1)
+mul-wrapping-add-u16 c =
+    let at-loop-test = c .before .before in
+    let at-loop = at-loop-test .before in
+    let start = at-loop .before .before .before in
+    omega (
+      arith,
+      term-room _ _ (start .args .i) (at-loop .loop .j) _ (start .pre .0) (at-loop-test .loop-test .taken)
+          (c .wide .ensures .0),
+      at-loop .loop .inv .1,
+    )
 
 slice-read-wrapping-add-u16 : tie.Need-slice-read-wrapping-add-u16 Inv-loop μ-loop
-slice-read-wrapping-add-u16 c = omega (arith, term-room _ _ ((c .before .before .before .before .before .before .before .args) .i) ((c .before .before .before .before .loop) .j) _ ((c .before .before .before .before .before .before .before .pre) .0) ((c .before .before .before .loop-test) .taken) ((c .before .wide) .ensures .0), (c .before .before .before .before .loop) .inv .1)
-
-wrapping-add-u16-requires : tie.Need-wrapping-add-u16-requires Inv-loop μ-loop
-wrapping-add-u16-requires c κs = search needs
+slice-read-wrapping-add-u16 c =
+    let at-wide = c .before in
+    let at-loop-test = at-wide .before .before in
+    let at-loop = at-loop-test .before in
+    let start = at-loop .before .before .before in
+    omega (
+      arith,
+      term-room _ _ (start .args .i) (at-loop .loop .j) _ (start .pre .0) (at-loop-test .loop-test .taken)
+          (at-wide .wide .ensures .0),
+      at-loop .loop .inv .1,
+    )
 
 mul-counts : tie.Need-mul-counts Inv-loop μ-loop
-mul-counts c = omega (arith, term-room _ _ ((c .before .before .before .before .before .before .before .before .args) .i) ((c .before .before .before .before .before .loop) .j) _ ((c .before .before .before .before .before .before .before .before .pre) .0) ((c .before .before .before .before .loop-test) .taken) ((c .before .before .wide) .ensures .0), (c .before .before .before .before .before .loop) .inv .1)
+mul-counts c =
+    let at-wide = c .before .before in
+    let at-loop-test = at-wide .before .before in
+    let at-loop = at-loop-test .before in
+    let start = at-loop .before .before .before in
+    omega (
+      arith,
+      term-room _ _ (start .args .i) (at-loop .loop .j) _ (start .pre .0) (at-loop-test .loop-test .taken)
+          (at-wide .wide .ensures .0),
+      at-loop .loop .inv .1,
+    )
 
 slice-write-counts : tie.Need-slice-write-counts Inv-loop μ-loop
-slice-write-counts c = omega (arith, term-room _ _ ((c .before .before .before .before .before .before .before .before .args) .i) ((c .before .before .before .before .before .loop) .j) _ ((c .before .before .before .before .before .before .before .before .pre) .0) ((c .before .before .before .before .loop-test) .taken) ((c .before .before .wide) .ensures .0), (c .before .before .before .before .before .loop) .inv .1)
-
-add-j : tie.Need-add-j Inv-loop μ-loop
-add-j c = omega arith
-
-loop-less : tie.Need-loop-less Inv-loop μ-loop
-loop-less c = omega arith
+slice-write-counts c =
+    let at-wide = c .before .before in
+    let at-loop-test = at-wide .before .before in
+    let at-loop = at-loop-test .before in
+    let start = at-loop .before .before .before in
+    omega (
+      arith,
+      term-room _ _ (start .args .i) (at-loop .loop .j) _ (start .pre .0) (at-loop-test .loop-test .taken)
+          (at-wide .wide .ensures .0),
+      at-loop .loop .inv .1,
+    )
 
 loop-again : tie.Need-loop-again Inv-loop μ-loop
 loop-again c = (omega arith, simp length-set ((c .before .before .before .before .before .loop) .inv .1))
@@ -76,20 +88,15 @@ tally-spec =
     (tie.spec
     Inv-loop
     μ-loop
-    mul-p
-    add-p
+    (λ c. omega arith) (λ c. omega arith)
     loop-holds
-    add-wide
-    mul-wide
-    shared-slice-read-wide
-    wide-requires
+    (λ c. omega arith) (λ c. omega arith) (λ c. omega arith) (λ c κs. search needs)
     mul-wrapping-add-u16
     slice-read-wrapping-add-u16
-    wrapping-add-u16-requires
+    (λ c κs. search needs)
     mul-counts
     slice-write-counts
-    add-j
-    loop-less
+    (λ c. omega arith) (λ c. omega arith)
     loop-again
     same-length
     returns)

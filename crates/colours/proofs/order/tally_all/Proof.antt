@@ -21,7 +21,11 @@ loop-holds : tie.Need-loop-holds Inv-loop μ-loop
 loop-holds c = (omega arith, refl)
 
 tally-requires : tie.Need-tally-requires Inv-loop μ-loop
-tally-requires c κs = (rw ((c .before .before .loop) .inv .1) ((c .before .before .before .before .before .pre) .0), omega (arith, (c .before .before .before .before .before .pre) .1, (c .before .loop-test) .taken))
+tally-requires c κs =
+    let at-loop-test = c .before in
+    let at-loop = at-loop-test .before in
+    let start = at-loop .before .before .before in
+    (rw (at-loop .loop .inv .1) (start .pre .0), omega (arith, start .pre .1, at-loop-test .loop-test .taken))
 
 add-i : tie.Need-add-i Inv-loop μ-loop
 add-i c = omega arith
