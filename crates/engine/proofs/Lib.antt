@@ -1,7 +1,7 @@
 -- Laws of the engine's cells. Assumes nothing.
 pub mod Opened
 pub mod MatchLaws
-pub mod OpposeLaws
+pub mod WantedLaws
 pub mod BarrenLaws
 pub mod FireLaws
 pub mod GapLaws

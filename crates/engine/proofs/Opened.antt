@@ -1,7 +1,7 @@
 -- Opens every definition of this crate at once: a proof that says `unfolding opened` computes with all of them.
 -- Assumes nothing.
 use Prim.Native.Nat.{ℕ}
-use Rattle.engine.specs.Cells.{assigned, fitOf, opposed, mayTerms, mayFit, swap, clashes, merge}
+use Rattle.engine.specs.Cells.{assigned, fitOf, settledCell, wantedAt, agree, isWanted, swap, clashes, merge}
 use Rattle.engine.specs.Cells.{instanceCell, movedRow, closedGap}
 use Rattle.engine.specs.Positions.{isLettered, foundOf, isSide, choiceOf}
 use Rattle.engine.specs.Runs.{weightBy, storeOf}
@@ -10,6 +10,6 @@ use Rattle.engine.specs.Stated.{matchRow, fireRow}
 
 -- a name to say on an `unfolding` line
 unfoldable pub opened : ℕ
-unfolding assigned fitOf opposed mayTerms mayFit swap clashes merge instanceCell movedRow closedGap
+unfolding assigned fitOf settledCell wantedAt agree isWanted swap clashes merge instanceCell movedRow closedGap
     isLettered foundOf isSide choiceOf weightBy storeOf hasSymbol concerns loweredOf matchRow fireRow
 opened = 0

@@ -1,6 +1,6 @@
 -- The search over cells is the search over constraints: one law for each way that the code goes.
 -- Assumes nothing.
-use Prim.Native.Nat.{ℕ, suc, _+_, _-_, _*_, _≤_, _<_}
+use Prim.Native.Nat.{ℕ, zero, suc, _+_, _-_, _*_, _≤_, _<_}
 use native.Mathlib.Omega.{arith}
 use native.Mathlib.Numerals.{add-one}
 use mathlib.Core.Bool.{Bool, true, false, cond, _||_}
@@ -10,17 +10,17 @@ use mathlib.Core.Logic.{⊎-elim}
 use mathlib.Core.Path.{_≡_, refl, sym, ap, _∙_}
 use lib.Dec.{eqb, ltb}
 use lib.ListN.{length, getD, set, take, drop, length-set, drop-of-length-le, length-drop}
-use lib.Seq.{drop-cons, getD-take, length-take-le, take-suc-set}
+use lib.Seq.{drop-cons, getD-take, getD-drop, length-take-le, take-suc-set}
 use borrow.Author.Tests.{eq-eqb, ne-eqb, eqb-true}
 use Rattle.text.specs.Lists.{bind, orElse, has, every}
 use Rattle.semantics.specs.Terms.{Constraint, isBelow, alphabet}
 use Rattle.semantics.specs.Matching.{Assignment, matchConstraint}
 use Rattle.semantics.specs.Strategy.{Match, firstIn, find}
 use Rattle.tables.specs.Cells.{cellConstraints, rowConstraint}
-use Rattle.engine.specs.Cells.{assigned, fitOf, mayFit, Rows, Matched}
+use Rattle.engine.specs.Cells.{assigned, fitOf, wantedAt, isWanted, Rows, Matched, FirstWanted}
 use Rattle.engine.specs.Positions.{isLettered, foundOf, Seeking, Located}
 use Rattle.engine.specs.Known.{Barren}
-use Rattle.engine.proofs.OpposeLaws.{may-not}
+use Rattle.engine.proofs.WantedLaws.{unwanted-none}
 use Rattle.engine.proofs.GapLaws.{drop-constraints}
 use Rattle.engine.proofs.BarrenLaws.{barren-last, barren-next}
 use Rattle.tables.proofs.CellLaws.{either, every-first, every-rest, constraints-at, element-row}
@@ -133,6 +133,10 @@ module _ (n left : ℕ) where
       below : h < n
       below = omega (arith, s .there)
 
+      -- the head has five cells
+      pub head-size : length (lent heads h) ≡ 5
+      head-size = lent-size heads h (omega (arith, s .heads-size, below))
+
       heads-here : cellConstraints (drop (5 * h) heads) ≡ headAt heads h ∷ cellConstraints (drop (5 * suc h) heads)
       heads-here = constraints-at heads h (omega (arith, s .heads-size, below))
 
@@ -214,20 +218,28 @@ module _ (n left : ℕ) where
           skip : attempt heads h cells chosen bindings p this ≡ none → Sought heads h cells m chosen bindings (p + 1)
           skip e = rw (add-one p) (record { within = k; same = rw e at split })
 
-          -- the head does not fit the constraint there
-          pub seek-unfit :
-              (f : Bool) → f ≡ mayFit bindings (lent heads h) (lent cells p) → f ≡ false
+          -- the constraint there is not wanted
+          unwanted :
+              isWanted (getD (lent heads h) 0 0) (wantedAt bindings (lent heads h) 1) (wantedAt bindings (lent heads h) 2) cells p
+              ≡ false
               → Sought heads h cells m chosen bindings (p + 1)
-          seek-unfit f g e =
-              let none-here : matchConstraint (headAt heads h) this (assigned bindings) ≡ none =
-              rw (five h, five p) at (may-not (lent heads h) (lent cells p) bindings (sym g ∙ e)) in
-              skip (rw none-here (cond-none (has p (take h chosen))))
+          unfolding isWanted
+          unwanted e =
+              let cell-at : (i : ℕ) → i < 5 → getD (take 5 (drop (5 * p) cells)) i 0 ≡ getD cells (5 * p + i) 0 =
+              λ i l. getD-take 5 (drop (5 * p) cells) i 0 l ∙ getD-drop (5 * p) cells i 0 in
+              let first : 5 * p + 0 ≡ 5 * p = omega arith in
+              let none-here : matchConstraint (rowConstraint (lent heads h)) this (assigned bindings) ≡ none =
+              unwanted-none (lent heads h) (take 5 (drop (5 * p) cells)) bindings
+              (omega (arith, head-size))
+              (omega (arith, length-take-le 5 (drop (5 * p) cells) (omega (arith, length-drop (5 * p) cells, s .cells-size))))
+              (rw (cell-at 0 (omega arith), cell-at 1 (omega arith), cell-at 2 (omega arith), first) e) in
+              skip (rw (rw (five h) at none-here) (cond-none (has p (take h chosen))))
 
           -- what the match there asks
           pub seek-rows : Rows (lent heads h) (lent cells p) bindings
           seek-rows =
               record {
-                head-size = lent-size heads h (omega (arith, s .heads-size, below));
+                head-size = head-size;
                 constraint-size = lent-size cells p (omega (arith, s .cells-size));
                 bindings-size = s .bindings-size;
                 letters = rw (five h) letters-here;
@@ -290,6 +302,28 @@ module _ (n left : ℕ) where
                     positions-size = u .positions-size;
                     bindings-size = u .bindings-size;
                   }
+
+      -- a stretch of positions whose constraints are not wanted is passed over
+      past :
+          (p : ℕ) → Sought heads h cells m chosen bindings p → (k : ℕ) → p + k ≤ m
+          → ((q : ℕ) → p ≤ q → q < p + k
+          → isWanted (getD (lent heads h) 0 0) (wantedAt bindings (lent heads h) 1) (wantedAt bindings (lent heads h) 2) cells q
+          ≡ false)
+          → Sought heads h cells m chosen bindings (p + k)
+      past p w zero b f = let e : p + 0 ≡ p = omega arith in rw e w
+      past p w (suc k) b f =
+          let e : p + suc k ≡ p + k + 1 = omega arith in
+          rw e (unwanted (p + k) (past p w k (omega arith) (λ q c d. f q c (omega arith))) (omega arith)
+          (f (p + k) (omega arith) (omega arith)))
+
+      -- so the search goes on at the first that is
+      pub seek-past :
+          (p : ℕ) → Sought heads h cells m chosen bindings p → (one two r : ℕ) → one ≡ wantedAt bindings (lent heads h) 1
+          → two ≡ wantedAt bindings (lent heads h) 2 → FirstWanted (getD (lent heads h) 0 0) one two cells p m r
+          → Sought heads h cells m chosen bindings r
+      seek-past p w one two r a b f =
+          let e : p + (r - p) ≡ r = omega (arith, f .behind) in
+          rw e at (past p w (r - p) (omega (arith, f .within)) (λ q c d. rw (a, b) at (f .skipped q c (omega arith))))
 
 -- the last head fits, and all have their positions
 pub seek-fits :

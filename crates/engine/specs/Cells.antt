@@ -1,13 +1,14 @@
 -- How the engine's arrays decode; the cells are those of `tables`.
 --   assigned, fitOf      bindings of a rule's variables, and what matching answers
---   opposed, mayFit      what is settled speaks against a match, or not
+--   wantedAt, isWanted   what a head's first terms must be, and the constraints that have them
+--   FirstWanted          where the first of these stands
 --   Matched              what a match promises
 --   swap, merge          a variable's cell replaced; the solution of an equation between cells
 --   instanceCell         a cell of a rule's body, in the state
 --   movedRow, closedGap  a constraint copied, and all behind a position moved one forward
 -- Assumes nothing.
-use Prim.Native.Nat.{ℕ, _+_, _-_, _*_}
-use mathlib.Core.Bool.{Bool, true, false, cond, not, _&&_}
+use Prim.Native.Nat.{ℕ, _+_, _-_, _*_, _≤_, _<_}
+use mathlib.Core.Bool.{Bool, true, false, cond, _&&_}
 use mathlib.Core.List.{List, [], _∷_}
 use mathlib.Core.Option.{Option, none, some}
 use mathlib.Core.Path.{_≡_}
@@ -32,23 +33,30 @@ assigned bindings x = cond (eqb (getD bindings x 0) 0) none (some (cellTerm (get
 unfoldable pub fitOf : Bool → List ℕ → Option Assignment
 fitOf fits bindings = cond fits (some (assigned bindings)) none
 
--- whether what is settled speaks against a head's cell being a constraint's: another constant, or a variable settled otherwise
-unfoldable pub opposed : List ℕ → ℕ → ℕ → Bool
-opposed bindings h t =
-    cond (ltb h firstVariable) (not (eqb h t))
-    (cond (eqb (getD bindings (h - firstVariable) 0) 0) false (not (eqb (getD bindings (h - firstVariable) 0) t)))
+-- what a head's cell must be: a constant itself, a variable what it is bound to, and 0 where that is open
+unfoldable pub settledCell : List ℕ → ℕ → ℕ
+settledCell bindings h = cond (ltb h firstVariable) h (getD bindings (h - firstVariable) 0)
 
--- whether a head's cells may be a constraint's, column by column up to the first 0: nothing settled speaks against it
-unfoldable pub mayTerms : List ℕ → List ℕ → List ℕ → Bool
-mayTerms bindings [] ts = true
-mayTerms bindings (h ∷ hs) [] = true
-mayTerms bindings (h ∷ hs) (t ∷ ts) =
-    cond (eqb h 0) (eqb t 0) (cond (eqb t 0) false (cond (opposed bindings h t) false (mayTerms bindings hs ts)))
+-- what a head's first or second term must be; 0 too where the head has no terms
+unfoldable pub wantedAt : List ℕ → List ℕ → ℕ → ℕ
+wantedAt bindings head i = cond (eqb (getD head 1 0) 0) 0 (settledCell bindings (getD head i 0))
 
--- whether a head may be a constraint: the symbols are the same, and the terms may be
-unfoldable pub mayFit : List ℕ → List ℕ → List ℕ → Bool
-mayFit bindings head constraint =
-    cond (eqb (getD head 0 0) (getD constraint 0 0)) (mayTerms bindings (drop 1 head) (drop 1 constraint)) false
+-- whether a cell is what is wanted, where 0 wants nothing
+unfoldable pub agree : ℕ → ℕ → Bool
+agree want cell = cond (eqb want 0) true (eqb want cell)
+
+-- whether the constraint at a position has the symbol, and the first two terms that are wanted
+unfoldable pub isWanted : ℕ → ℕ → ℕ → List ℕ → ℕ → Bool
+isWanted symbol one two cells p =
+    let b = constraintSize * p in
+    eqb symbol (getD cells b 0) && (agree one (getD cells (b + 1) 0) && agree two (getD cells (b + 2) 0))
+
+-- r is the first position from p up to m that is wanted, or m where none is
+pub record FirstWanted (symbol one two : ℕ) (cells : List ℕ) (p m r : ℕ) : Type 0 where
+  pub behind : p ≤ r
+  pub within : r ≤ m
+  pub skipped : (q : ℕ) → p ≤ q → q < r → isWanted symbol one two cells q ≡ false
+  pub wanted : r < m → isWanted symbol one two cells r ≡ true
 
 -- what matching asks: a head and a constraint of five cells each, 26 bindings, and letters for the head's variables
 pub record Rows (head constraint bindings : List ℕ) : Type 0 where

@@ -2,11 +2,12 @@
 use tables::layout::CONSTRAINT_SIZE;
 use tables::layout::FIRST_VARIABLE;
 ghost use mathlib.Core.Path.{_≡_};
-ghost use Prim.Native.Nat.{_<_};
+ghost use Prim.Native.Nat.{_≤_, _<_, _+_, _*_};
 ghost use lib.ListN.{length};
 ghost use Rattle.semantics.specs.Matching.{matchTerm, matchTerms, matchConstraint};
+ghost use Rattle.tables.specs.Layout.{constraintSize};
 ghost use Rattle.tables.specs.Cells.{cellTerm, rowConstraint};
-ghost use Rattle.engine.specs.Cells.{afterLetters, assigned, opposed, mayFit, Matched, Rows};
+ghost use Rattle.engine.specs.Cells.{afterLetters, assigned, wantedAt, agree, isWanted, Matched, Rows};
 
 // Whether a match fits, and the bindings under which it does. The array stands first, so that copies of it are aligned.
 pub struct Fit {
@@ -70,44 +71,43 @@ pub fn match_constraint(head: &[u16], constraint: &[u16], bindings: &mut [u16]) 
     false
 }
 
-// Whether what is settled already speaks against a head's term being a constraint's.
-pub fn opposes(head: u16, term: u16, bindings: &[u16]) -> bool
-    requires { ⌜ (head < afterLetters) × (length (now bindings) ≡ 26) ⌝ }
-    ensures { λ r. ⌜ r ≡ opposed (now (bindings .entry)) head term ⌝ }
+// What a head's first or second term must be: a constant, or what its variable is bound to; 0 where that is open, or no term.
+pub fn wanted(head: &[u16], i: usize, bindings: &[u16]) -> u16
+    requires { ⌜ (length (now head) ≡ constraintSize) × (i < constraintSize) ⌝ }
+    ensures { λ r. ⌜ r ≡ wantedAt (now (bindings .entry)) (now (head .entry)) i ⌝ }
 {
-    if head < FIRST_VARIABLE {
-        return head != term;
+    if head[1] == 0 {
+        return 0;
     }
-    let x = (head - FIRST_VARIABLE) as usize;
-    let settled = bindings[x];
-    if settled == 0 {
-        return false;
+    let h = head[i];
+    if h < FIRST_VARIABLE {
+        return h;
     }
-    settled != term
+    let x = (h - FIRST_VARIABLE) as usize;
+    if x < bindings.len() { bindings[x] } else { 0 }
 }
 
-// Whether a head may be a constraint: false only where it does not fit. It copies nothing, so the search asks it first.
-pub fn may_fit(head: &[u16], constraint: &[u16], bindings: &[u16]) -> bool
-    requires { ⌜ Rows (now head) (now constraint) (now bindings) ⌝ }
-    ensures { λ r. ⌜ r ≡ mayFit (now (bindings .entry)) (now (head .entry)) (now (constraint .entry)) ⌝ }
+// Whether a cell is what is wanted, where 0 wants nothing.
+pub fn agrees(want: u16, cell: u16) -> bool
+    ensures { λ r. ⌜ r ≡ agree want cell ⌝ }
 {
-    if head[0] != constraint[0] {
+    if want == 0 {
+        return true;
+    }
+    want == cell
+}
+
+// Whether the constraint at a position has the symbol, and the first two terms that are wanted. The search asks it of each.
+pub fn is_wanted(cells: &[u16], p: usize, symbol: u16, one: u16, two: u16) -> bool
+    requires { ⌜ constraintSize * p + constraintSize ≤ length (now cells) ⌝ }
+    ensures { λ r. ⌜ r ≡ isWanted symbol one two (now (cells .entry)) p ⌝ }
+{
+    let b = CONSTRAINT_SIZE * p;
+    if symbol != cells[b] {
         return false;
     }
-    let mut i = 1;
-    while i < CONSTRAINT_SIZE {
-        let h = head[i];
-        let t = constraint[i];
-        if h == 0 {
-            return t == 0;
-        }
-        if t == 0 {
-            return false;
-        }
-        if opposes(h, t, bindings) {
-            return false;
-        }
-        i += 1;
+    if !agrees(one, cells[b + 1]) {
+        return false;
     }
-    true
+    agrees(two, cells[b + 2])
 }

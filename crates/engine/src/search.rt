@@ -1,8 +1,9 @@
 // The search for positions head by head, and the choice of a rule.
 use crate::known::known_at;
 use crate::known::note;
+use crate::matching::is_wanted;
 use crate::matching::match_constraint;
-use crate::matching::may_fit;
+use crate::matching::wanted;
 use tables::layout::CONSTRAINT_SIZE;
 use tables::layout::FIRST_HEAD;
 use tables::layout::HEADS_CELL;
@@ -21,7 +22,7 @@ ghost use Rattle.semantics.specs.Strategy.{find};
 ghost use Rattle.tables.specs.Layout.{constraintSize, headsCell};
 ghost use Rattle.tables.specs.Cells.{cellConstraints, rowConstraint};
 ghost use Rattle.tables.specs.Rows.{ruleOfRow};
-ghost use Rattle.engine.specs.Cells.{assigned, Rows, Matched};
+ghost use Rattle.engine.specs.Cells.{assigned, Rows, Matched, FirstWanted};
 ghost use Rattle.engine.specs.Positions.{Seeking, Located, Row, Table, Chosen};
 ghost use Rattle.engine.specs.Known.{Barren, Knows};
 
@@ -82,6 +83,21 @@ pub fn still(from: usize, p: usize) -> usize
     if p < from { from } else { 0 }
 }
 
+// The first position from p on whose constraint is wanted, or m.
+pub fn seek(cells: &[u16], p: usize, m: usize, symbol: u16, one: u16, two: u16) -> usize
+    requires { ⌜ (p ≤ m) × (length (now cells) ≡ constraintSize * m) ⌝ }
+    ensures { λ r. ⌜ FirstWanted symbol one two (now (cells .entry)) p m r ⌝ }
+{
+    let mut q = p;
+    while q < m {
+        if is_wanted(cells, q, symbol, one, two) {
+            return q;
+        }
+        q += 1;
+    }
+    m
+}
+
 // Positions for the heads that are left, each over the positions still free: the first that lets the later heads fit too.
 pub fn find(
     heads: &[u16],
@@ -111,13 +127,17 @@ pub fn find(
     let a = CONSTRAINT_SIZE * h;
     let e = a + CONSTRAINT_SIZE;
     let head = &heads[a..e];
+    let symbol = head[0];
+    let one = wanted(head, 1, &bindings);
+    let two = wanted(head, 2, &bindings);
     let mut p = start(left, from);
     while p < m {
-        let q = p;
-        let b = CONSTRAINT_SIZE * q;
-        let d = b + CONSTRAINT_SIZE;
-        p += 1;
-        if may_fit(head, &cells[b..d], &bindings) {
+        p = seek(cells, p, m, symbol, one, two);
+        if p < m {
+            let q = p;
+            p += 1;
+            let b = CONSTRAINT_SIZE * q;
+            let d = b + CONSTRAINT_SIZE;
             let mut settled = bindings;
             if fit_at(head, &cells[b..d], h, q, chosen, &mut settled) {
                 let mut more = chosen;
