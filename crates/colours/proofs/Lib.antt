@@ -6,4 +6,5 @@ pub mod AgreeLaws
 pub mod KeyLaws
 pub mod ClassLaws
 pub mod NumberLaws
+pub mod FirstLaws
 pub mod OrderLaws

@@ -1,24 +1,27 @@
 -- Variables numbered anew: one law for each way that the code goes.
 --   number-…        one cell
 --   cells-…         all cells
+--   below-…         cells below a size
 --   state-…         a state
 -- Assumes nothing.
 use Prim.Native.Nat.{ℕ, zero, suc, _+_, _-_, _≤_, _<_}
 use native.Mathlib.Omega.{arith}
 use native.Mathlib.Numerals.{add-one}
 use mathlib.Core.Bool.{true, false}
-use mathlib.Core.List.{List}
+use mathlib.Core.List.{List, _++_}
 use mathlib.Core.Logic.{_⊎_, inl, inr, ⊎-elim}
-use mathlib.Core.Path.{_≡_, refl, sym, _∙_}
+use mathlib.Core.Path.{_≡_, refl, sym, _∙_, subst}
 use lib.Dec.{eqb}
-use lib.ListN.{length, getD, set, replicate, length-set, List·getD-eq-default}
-use lib.Seq.{getD-set-same, getD-set-other}
+use lib.ListN.{length, getD, set, take, replicate, length-set, List·getD-eq-default}
+use lib.Seq.{getD-set-same, getD-set-other, take-suc-set, take-all}
 use borrow.Author.Tests.{eqb-true, eqb-false}
 use Rattle.semantics.specs.Variants.{TermVariant, sameCon, partners}
+use Rattle.semantics.proofs.Options.{true-false}
 use Rattle.tables.specs.Cells.{cellTerm}
 use Rattle.tables.proofs.CellLaws.{either, le-or-lt, cell-low, cell-high}
 use Rattle.colours.specs.Bounds.{Below}
-use Rattle.colours.specs.Numbering.{Renames, Numbering, Numbered, CellsNumbered, Renumbered}
+use Rattle.colours.specs.Numbering.{Renames, Numbering, Ascending, none, known, new, WithinSize}
+use Rattle.colours.specs.Numbering.{Numbered, CellsNumbered, Renumbered}
 
 -- a variable with its number, as terms
 renamed : (numbers : List ℕ) (x y : ℕ) → 256 ≤ x → 256 ≤ y → getD numbers x 0 ≡ y → TermVariant (Renames numbers)
@@ -49,6 +52,7 @@ module _ (x : ℕ) (numbers : List ℕ) (next : ℕ) (n : Numbering numbers next
         kept = λ z d. refl;
         same = rw (cell-low x h) sameCon;
         constant = λ l. refl;
+        ascending = known {next = next} {x = x} (omega (arith, n .low)) none;
         below = omega (arith, n .low);
         least = omega arith;
         most = omega arith;
@@ -63,6 +67,7 @@ module _ (x : ℕ) (numbers : List ℕ) (next : ℕ) (n : Numbering numbers next
           kept = λ z q. refl;
           same = renamed numbers x (getD numbers p 0) h (n .high p d) (rw e);
           constant = λ l. absurd (omega arith);
+          ascending = known (n .below p) none;
           below = n .below p;
           least = omega arith;
           most = omega arith;
@@ -114,10 +119,18 @@ module _ (x : ℕ) (numbers : List ℕ) (next : ℕ) (n : Numbering numbers next
             kept = λ z q. getD-set-other numbers p z next 0 (λ m. q (rw m d));
             same = renamed (set numbers p next) x next h (n .low) (rw (← e) (getD-set-same numbers p next 0 room));
             constant = λ k. absurd (omega arith);
+            ascending = rw (add-one next) (new refl none);
             below = omega arith;
             least = omega arith;
             most = omega arith;
           }
+
+-- numbers after numbers
+ascending-append :
+    {first middle end : ℕ} {l m : List ℕ} → Ascending first l middle → Ascending middle m end → Ascending first (l ++ m) end
+ascending-append none b = b
+ascending-append (known h a) b = known h (ascending-append a b)
+ascending-append (new e a) b = new e (ascending-append a b)
 
 -- the cells below i have their numbers
 pub record Progress (cells out₀ out numbers₀ : List ℕ) (first : ℕ) (numbers : List ℕ) (next i : ℕ) : Type 0 where
@@ -128,6 +141,7 @@ pub record Progress (cells out₀ out numbers₀ : List ℕ) (first : ℕ) (numb
   pub kept : (z : ℕ) → (getD numbers₀ z 0 ≡ 0 → ⊥) → getD numbers z 0 ≡ getD numbers₀ z 0
   pub same : (k : ℕ) → k < i → TermVariant (Renames numbers) (cellTerm (getD cells k 0)) (cellTerm (getD out k 0))
   pub constant : (k : ℕ) → k < i → getD cells k 0 < 256 → getD out k 0 ≡ getD cells k 0
+  pub ascending : Ascending first (take i out) next
   pub below : (k : ℕ) → k < i → getD out k 0 < next
   pub least : first ≤ next
   pub most : next ≤ first + i
@@ -143,6 +157,7 @@ cells-start cells out numbers first n =
       kept = λ z d. refl;
       same = λ k h. absurd (omega arith);
       constant = λ k h. absurd (omega arith);
+      ascending = none;
       below = λ k h. absurd (omega arith);
       least = omega arith;
       most = omega arith;
@@ -163,6 +178,7 @@ module _ (cells out₀ out numbers₀ : List ℕ) (first : ℕ) (numbers : List 
         kept = w .kept;
         same = λ k l. w .same k (omega arith);
         constant = λ k l. ⊎-elim (λ q. behind k q) (λ q. w .constant k (omega arith) l) (le-or-lt (length cells) k);
+        ascending = subst (λ l. Ascending first l next) (take-all i out (omega (arith, w .size))) (w .ascending);
         below = λ k. ⊎-elim (λ q. rw (out-behind k q) (omega (arith, w .numbering .low))) (λ q. w .below k (omega arith))
             (le-or-lt (length cells) k);
         least = w .least;
@@ -221,6 +237,7 @@ module _ (cells out₀ out numbers₀ : List ℕ) (first : ℕ) (numbers : List 
           kept = kept-on;
           same = λ k l. step-same k (either (eqb k i)) l;
           constant = λ k l. step-constant k (either (eqb k i)) l;
+          ascending = rw (take-suc-set out i y in-room) (ascending-append (w .ascending) (n .ascending));
           below = λ k l. step-below k (either (eqb k i)) l;
           least = omega (arith, w .least, n .least);
           most = omega (arith, w .most, n .most);
@@ -243,17 +260,46 @@ numbering-none m =
 
 -- both parts of a state are numbered
 pub state-numbered :
-    (cells bound out bound′ numbers₀ numbers₁ numbers₂ : List ℕ) (middle next : ℕ)
-    → CellsNumbered bound bound′ numbers₀ 256 numbers₁ middle → CellsNumbered cells out numbers₁ middle numbers₂ next
-    → Renumbered cells bound out bound′ next
-state-numbered cells bound out bound′ numbers₀ numbers₁ numbers₂ middle next f g =
+    (cells bound out bound′ numbers₀ numbers₁ numbers₂ : List ℕ) (limit next : ℕ)
+    → CellsNumbered bound bound′ numbers₀ 256 numbers₁ limit → CellsNumbered cells out numbers₁ limit numbers₂ next
+    → Renumbered cells bound out bound′ limit next
+state-numbered cells bound out bound′ numbers₀ numbers₁ numbers₂ limit next f g =
     record {
       numbers = numbers₂;
       numbering = g .numbering;
       same = g .same;
       same-bound = λ i h. kept-same numbers₁ numbers₂ (g .kept) (getD bound i 0) (getD bound′ i 0) (f .same i h);
       constant = g .constant;
+      ascending = f .ascending;
       below = g .below;
       bound-below = λ i. omega (arith, f .below i, g .least);
       most = omega (arith, f .most, g .most);
     }
+
+-- the cells before i lie below a size
+pub record BelowSoFar (size : ℕ) (cells : List ℕ) (i : ℕ) : Type 0 where
+  pub within : i ≤ length cells
+  pub so-far : (k : ℕ) → k < i → getD cells k 0 < size
+
+pub below-start : (size : ℕ) (cells : List ℕ) → BelowSoFar size cells 0
+below-start size cells = record { within = omega arith; so-far = λ k h. absurd (omega arith) }
+
+pub below-apart : (size : ℕ) (cells : List ℕ) → WithinSize false size cells
+below-apart size cells = record { below = λ z. true-false z refl }
+
+module _ (size : ℕ) (cells : List ℕ) (i : ℕ) (w : BelowSoFar size cells i) where
+  pub below-next : i < length cells → getD cells i 0 < size → BelowSoFar size cells (i + 1)
+  below-next h b = rw (add-one i) (record { within = h; so-far = λ k l. go k l (either (eqb k i)) })
+    where
+      go : (k : ℕ) → k < suc i → (eqb k i ≡ true) ⊎ (eqb k i ≡ false) → getD cells k 0 < size
+      go k l (inl e) = rw (eqb-true k i e) b
+      go k l (inr e) =
+          let d : k ≡ i → ⊥ = eqb-false k i e in
+          w .so-far k (omega (arith, d))
+
+  pub below-done : 0 < size → length cells ≤ i → WithinSize true size cells
+  below-done p h = record { below = λ z. record { below = λ k. go k (le-or-lt (length cells) k) } }
+    where
+      go : (k : ℕ) → (length cells ≤ k) ⊎ (k < length cells) → getD cells k 0 < size
+      go k (inl q) = rw (List·getD-eq-default cells 0 q) p
+      go k (inr q) = w .so-far k (omega arith)

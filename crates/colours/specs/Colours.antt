@@ -4,11 +4,12 @@
 --   gains, gathered          what a term receives from the constraints that it stands in
 --   refined, rounds          colours made finer by that, once and several times
 --   digest                   one number for all constraints
+--   clipped                  cells below a number as colours of their own
 --   Colours                  a table of colours
 --   Signed, Spread, Given, Absorbed, Recoloured, Summed      what the functions promise
 --   Empty, Ready             what they ask
 -- Assumes nothing.
-use Prim.Native.Nat.{ℕ, zero, suc, _+_, _-_, _*_, _/_, _%_, _^_, _<_}
+use Prim.Native.Nat.{ℕ, zero, suc, _+_, _-_, _*_, _/_, _%_, _^_, _<_, min}
 use mathlib.Core.Bool.{cond}
 use mathlib.Core.List.{List, [], _∷_, map}
 use mathlib.Core.Path.{_≡_}
@@ -73,6 +74,11 @@ digest κ cs = added 0 (map (λ c. mixed (signature κ c) 2) cs)
 unfoldable pub base : Term → ℕ
 base (con c) = c
 base (var x) = 256
+
+-- a cell for its colour where it lies below a number, and that number where it does not
+unfoldable pub clipped : ℕ → Term → ℕ
+clipped limit (con c) = min c limit
+clipped limit (var x) = min (x + 256) limit
 
 -- a symbol with the terms of cells
 unfoldable pub withTerms : ℕ → List ℕ → Constraint

@@ -2,6 +2,7 @@
 // cannot change, and the order in which constraints are placed.
 pub mod classes;
 pub mod colours;
+pub mod first;
 pub mod keys;
 pub mod numbering;
 pub mod order;

@@ -2,7 +2,7 @@
 --   cells-…               two lists of cells
 --   order-same            another order of the constraints
 --   renumbered-same       variables numbered anew
---   decide-…, compare-…   one step after the other
+--   decide-…, numbered-…, compare-…   one step after the other
 -- Assumes nothing.
 use Prim.Native.Nat.{ℕ, zero, suc, _+_, _*_, _≤_, _<_, max}
 use native.Mathlib.Omega.{arith}
@@ -29,15 +29,17 @@ use Rattle.tables.proofs.CellLaws.{le-or-lt, every-first, every-rest}
 use Rattle.colours.specs.Rows.{rowOf}
 use Rattle.colours.specs.Bounds.{Below, TermsBelow}
 use Rattle.colours.specs.Ends.{endOf}
-use Rattle.comparison.specs.Comparing.{Side, Alike, Comparable}
+use Rattle.comparison.specs.Comparing.{Side, Alike, Comparable, BothNumbered}
 use Rattle.colours.specs.Classes.{Colourable, Classified}
 use Rattle.comparison.specs.Settlements.{Found}
 use Rattle.colours.specs.Numbering.{Renames, Numbering, Renumbered}
 use Rattle.colours.specs.Order.{Reordered}
+use Rattle.colours.specs.Colours.{digest, clipped}
 use Rattle.comparison.proofs.NarrowLaws.{colourable-more, colourable-after}
 use Rattle.colours.proofs.RowLaws.{pointwise-at, rows-pointwise, row-at}
 use Rattle.colours.proofs.AgreeLaws.{prefix-agree}
 use Rattle.colours.proofs.ClassLaws.{same-iff}
+use Rattle.colours.proofs.FirstLaws.{bound-differs, first-differs}
 
 -- the cells before i are the same
 pub record Matching (a b : List ℕ) (i : ℕ) : Type 0 where
@@ -47,12 +49,13 @@ pub record Matching (a b : List ℕ) (i : ℕ) : Type 0 where
 pub cells-start : (a b : List ℕ) → Matching a b 0
 cells-start a b = record { within = omega arith; same = λ k h. absurd (omega arith) }
 
-pub cells-apart : (a b : List ℕ) → Alike false a b
-cells-apart a b = record { same = λ z. true-false z refl }
+pub cells-apart : (a b : List ℕ) (i : ℕ) → (getD a i 0 ≡ getD b i 0 → ⊥) → Alike false a b
+cells-apart a b i d = record { same = λ z. true-false z refl; apart = λ z e. d (ap (λ l. getD l i 0) e) }
 
 module _ (a b : List ℕ) (i : ℕ) (s : length a ≡ length b) (w : Matching a b i) where
   pub cells-done : length a ≤ i → Alike true a b
-  cells-done h = record { same = λ z. ext-getD 0 a b s (λ k l. w .same k (omega arith)) }
+  cells-done h =
+      record { same = λ z. ext-getD 0 a b s (λ k l. w .same k (omega arith)); apart = λ z. true-false refl z }
 
   pub cells-next : i < length a → getD a i 0 ≡ getD b i 0 → Matching a b (i + 1)
   cells-next h e = rw (add-one i) (record { within = h; same = λ k l. go k l (le-cases k l) })
@@ -105,9 +108,9 @@ renames-one numbers next n = (
       omega arith,
 )
 
-module _ (n : ℕ) (cells bound out bound′ : List ℕ) (next : ℕ) (s : length cells ≡ 5 * n) (l : length out ≡ length cells)
-    (q : length bound′ ≡ length bound) (low : every isLow (cellConstraints cells) ≡ true)
-    (r : Renumbered cells bound out bound′ next) where
+module _ (n : ℕ) (cells bound out bound′ : List ℕ) (limit next : ℕ) (s : length cells ≡ 5 * n)
+    (l : length out ≡ length cells) (q : length bound′ ≡ length bound) (low : every isLow (cellConstraints cells) ≡ true)
+    (r : Renumbered cells bound out bound′ limit next) where
   row-renumbered : (i : ℕ) → i < n → ConstraintVariant (Renames (r .numbers)) (rowOf cells i) (rowOf out i)
   unfolding rowOf
   row-renumbered i h =
@@ -181,6 +184,26 @@ module _ (f a g b : List ℕ) (size n : ℕ) (ca : Colourable a f size n) (cb : 
       pub decide-answer : (r : Bool) → r ≡ sameState (endOf f a₂) (endOf g b₁) → r ≡ sameState (endOf f a) (endOf g b)
       decide-answer r e = e ∙ so-far
 
+module _ (a f b g : List ℕ) (n limit size : ℕ) (p : BothNumbered a f b g n limit size) where
+  -- what the goal variables became differs
+  pub numbered-bound : (s : Bool) → Alike s f g → s ≡ false → false ≡ sameState (endOf f a) (endOf g b)
+  numbered-bound s u e = sym (bound-differs f a g b limit (p .limit-second) (p .ascending) (p .ascending-second) (u .apart e))
+
+  -- what deciding asks
+  pub numbered-ready : Colourable a f size n × Colourable b g size n × (length f ≡ length g) × (n ≤ 512)
+  numbered-ready = (p .first, p .second, p .bounds, p .few)
+
+  module _ (s : Bool) (u : Alike s f g) (e : s ≡ true) where
+    -- states in the same order
+    pub numbered-straight : (r : Bool) → Alike r a b → r ≡ true → true ≡ sameState (endOf f a) (endOf g b)
+    numbered-straight r v d = straight-same f a g b (u .same e) (v .same d)
+
+    -- the first digests differ
+    pub numbered-digest :
+        (x y : ℕ) → x ≡ digest (clipped limit) (cellConstraints a) → y ≡ digest (clipped limit) (cellConstraints b)
+        → (x ≡ y → ⊥) → false ≡ sameState (endOf f a) (endOf g b)
+    numbered-digest x y ex ey d = rw (← u .same e) (sym (first-differs f a b limit x y (p .ascending) ex ey d))
+
 module _ (a f ca₀ l₀ b g cb₀ r₀ : List ℕ) (p : Comparable a f ca₀ l₀ b g cb₀ r₀) where
   -- what numbering the second state asks
   pub compare-second :
@@ -198,37 +221,34 @@ module _ (a f ca₀ l₀ b g cb₀ r₀ : List ℕ) (p : Comparable a f ca₀ l�
   pub compare-count : length a ≡ 5 * length (cellConstraints a)
   compare-count = rw (constraints-length (p .count) a (p .first .size)) (p .first .size)
 
-  module _ (ca l : List ℕ) (x : ℕ) (cb r : List ℕ) (y : ℕ) (lca : length ca ≡ length ca₀) (ll : length l ≡ length l₀)
-      (lcb : length cb ≡ length cb₀) (lr : length r ≡ length r₀) (ra : Renumbered a f ca l x) (rb : Renumbered b g cb r y) where
+  module _ (ca l : List ℕ) (i x : ℕ) (cb r : List ℕ) (j y : ℕ) (lca : length ca ≡ length ca₀) (ll : length l ≡ length l₀)
+      (lcb : length cb ≡ length cb₀) (lr : length r ≡ length r₀) (ra : Renumbered a f ca l i x) (rb : Renumbered b g cb r j y) where
     -- the numbered states answer for the states
     pub compare-same : sameState (endOf l ca) (endOf r cb) ≡ sameState (endOf f a) (endOf g b)
     compare-same =
         variants-same (endOf f a) (endOf g b) (endOf l ca) (endOf r cb)
-        (renumbered-variant (p .count) a f ca l x (p .first .size) (lca ∙ p .room-a) (ll ∙ p .room-left) (p .first .low) ra)
-        (renumbered-variant (p .count) b g cb r y (p .second .size) (lcb ∙ p .room-b) (lr ∙ p .room-right) (p .second .low) rb)
-
-    -- states in the same order
-    pub compare-straight :
-        (s t : Bool) → Alike s l r → s ≡ true → Alike t ca cb → t ≡ true → true ≡ sameState (endOf f a) (endOf g b)
-    compare-straight s t u e v d = straight-same l ca r cb (u .same e) (v .same d) ∙ compare-same
+        (renumbered-variant (p .count) a f ca l i x (p .first .size) (lca ∙ p .room-a) (ll ∙ p .room-left) (p .first .low) ra)
+        (renumbered-variant (p .count) b g cb r j y (p .second .size) (lcb ∙ p .room-b) (lr ∙ p .room-right) (p .second .low) rb)
 
     -- what the later steps ask
-    pub compare-ready :
-        (n size : ℕ) → length a ≡ 5 * n → size ≡ max x y
-        → Colourable ca l size n × Colourable cb r size n × (length l ≡ length r) × (n ≤ 512)
+    pub compare-ready : (n size : ℕ) → length a ≡ 5 * n → size ≡ max x y → BothNumbered ca l cb r n i size
     compare-ready n size e m =
         let same : p .count ≡ n = omega (arith, p .first .size) in
         let left-room : x ≤ 2844 = omega (arith, ra .most, p .first .size, p .first .few, p .first .bound-few) in
-        let right-room : y ≤ 2844 = omega (arith, rb .most, p .second .size, p .second .few, p .second .bound-few) in (
-          rw same at (renumbered-colourable (p .count) a f ca l x (p .first .size) (lca ∙ p .room-a) (ll ∙ p .room-left)
+        let right-room : y ≤ 2844 = omega (arith, rb .most, p .second .size, p .second .few, p .second .bound-few) in
+        record {
+          first = rw same at (renumbered-colourable (p .count) a f ca l i x (p .first .size) (lca ∙ p .room-a) (ll ∙ p .room-left)
               (p .first .low) ra
-              size (omega arith) (omega arith)),
-          rw same at (renumbered-colourable (p .count) b g cb r y (p .second .size) (lcb ∙ p .room-b) (lr ∙ p .room-right)
-              (p .second .low) rb
-              size (omega arith) (omega arith)),
-          ll ∙ (p .room-left ∙ (p .bounds ∙ sym (lr ∙ p .room-right))),
-          omega (arith, p .first .few),
-        )
+              size (omega arith) (omega arith));
+          second = rw same at (renumbered-colourable (p .count) b g cb r j y (p .second .size) (lcb ∙ p .room-b)
+              (lr ∙ p .room-right) (p .second .low) rb
+              size (omega arith) (omega arith));
+          bounds = ll ∙ (p .room-left ∙ (p .bounds ∙ sym (lr ∙ p .room-right)));
+          few = omega (arith, p .first .few);
+          ascending = ra .ascending;
+          limit-second = j;
+          ascending-second = rb .ascending;
+        }
 
     -- and what they find
     pub compare-answer : (q : Bool) → q ≡ sameState (endOf l ca) (endOf r cb) → q ≡ sameState (endOf f a) (endOf g b)

@@ -2,9 +2,10 @@
 --   Side        one of the two states: its sizes, and room for its variables
 --   Alike       what comparing cells promises
 --   Comparable  two states of the same size, and room for their cells
+--   BothNumbered  two states with their variables numbered by first appearance
 -- Assumes nothing.
 use Prim.Native.Nat.{ℕ, _*_, _≤_}
-use mathlib.Core.Bool.{Bool, true}
+use mathlib.Core.Bool.{Bool, true, false}
 use mathlib.Core.List.{List}
 use mathlib.Core.Path.{_≡_}
 use lib.ListN.{length}
@@ -12,6 +13,8 @@ use Rattle.text.specs.Lists.{every}
 use Rattle.tables.specs.Cells.{cellConstraints}
 use Rattle.tables.specs.Cells.{isLow}
 use Rattle.colours.specs.Bounds.{Below}
+use Rattle.colours.specs.Classes.{Colourable}
+use Rattle.colours.specs.Numbering.{Ascending}
 
 -- a state of n constraints, at most 512, whose symbols lie below the variables. Goal variables are at most 28, and each
 -- firing makes
@@ -24,9 +27,10 @@ pub record Side (cells : List ℕ) (n : ℕ) (bound : List ℕ) : Type 0 where
   pub bound-few : length bound ≤ 28
   pub bound-below : Below 13596 bound
 
--- two lists that are found to be the same are
+-- two lists that are found to be the same are, and others are not
 pub record Alike (r : Bool) (a b : List ℕ) : Type 0 where
   pub same : r ≡ true → a ≡ b
+  pub apart : r ≡ false → a ≡ b → ⊥
 
 -- two states with as many constraints and goal variables, and room for the cells of each
 pub record Comparable (a f cells-a left b g cells-b right : List ℕ) : Type 0 where
@@ -38,3 +42,14 @@ pub record Comparable (a f cells-a left b g cells-b right : List ℕ) : Type 0 w
   pub room-left : length left ≡ length f
   pub room-b : length cells-b ≡ length b
   pub room-right : length right ≡ length g
+
+-- two states of n constraints whose cells lie below a size, what the goal variables became being numbered by first appearance,
+-- in the first state up to a limit
+pub record BothNumbered (a f b g : List ℕ) (n limit size : ℕ) : Type 0 where
+  pub first : Colourable a f size n
+  pub second : Colourable b g size n
+  pub bounds : length f ≡ length g
+  pub few : n ≤ 512
+  pub ascending : Ascending 256 f limit
+  pub limit-second : ℕ
+  pub ascending-second : Ascending 256 g limit-second

@@ -8,6 +8,7 @@ pub mod settling;
 
 use crate::search::decide;
 use crate::search::same_cells;
+use colours::first::first_digest;
 use colours::numbering::number_state;
 use tables::wide;
 ghost use mathlib.Core.Path.{_≡_};
@@ -16,7 +17,7 @@ ghost use lib.ListN.{length};
 ghost use Rattle.semantics.specs.Variants.{sameState};
 ghost use Rattle.tables.specs.Cells.{cellConstraints};
 ghost use Rattle.colours.specs.Ends.{endOf};
-ghost use Rattle.comparison.specs.Comparing.{Side, Comparable};
+ghost use Rattle.comparison.specs.Comparing.{Side, Comparable, BothNumbered};
 
 // The larger of two numbers.
 pub fn larger(x: u16, y: u16) -> usize
@@ -39,8 +40,33 @@ pub fn count(cells: &[u16]) -> usize
     n
 }
 
-// Whether two states are equal, in lent room for their cells: the variables are numbered anew by first appearance, so that
-// states in the same order become the same cells.
+// Whether two states with their variables numbered are equal. What the goal variables became must be the same then, and the
+// digest of the constraints in which it stands for itself; states in the same order are the same cells.
+pub fn compare_numbered(
+    a: &mut [u16],
+    left: &[u16],
+    b: &mut [u16],
+    right: &[u16],
+    n: usize,
+    limit: u16,
+    size: usize,
+) -> bool
+    requires { ⌜ BothNumbered (now a) (now left) (now b) (now right) n limit size ⌝ }
+    ensures { λ r. ⌜ r ≡ sameState (endOf (now (left .entry)) (now (a .entry))) (endOf (now (right .entry)) (now (b .entry))) ⌝ }
+{
+    if !same_cells(left, right) {
+        return false;
+    }
+    if same_cells(a, b) {
+        return true;
+    }
+    if first_digest(a, n, limit) != first_digest(b, n, limit) {
+        return false;
+    }
+    decide(a, left, b, right, n, size)
+}
+
+// Whether two states are equal, in lent room for their cells: the variables are numbered anew by first appearance.
 pub fn compare(
     a: &[u16],
     bound_a: &[u16],
@@ -58,14 +84,9 @@ pub fn compare(
 {
     let x = number_state(a, bound_a, cells_a, left);
     let y = number_state(b, bound_b, cells_b, right);
-    if same_cells(left, right) {
-        if same_cells(cells_a, cells_b) {
-            return true;
-        }
-    }
     let n = count(a);
-    let size = larger(x, y);
-    decide(cells_a, left, cells_b, right, n, size)
+    let size = larger(x.all, y.all);
+    compare_numbered(cells_a, left, cells_b, right, n, x.bound, size)
 }
 
 // Whether two final states are equal: a of n constraints, b of m, and what the goal variables became in each.

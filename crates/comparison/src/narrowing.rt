@@ -52,17 +52,24 @@ pub fn weigh(
     }
 }
 
-// The depth of a step: signatures after as many rounds as there are constraints, then constraints that stand out, for nine rounds and
-// for a quarter of the constraints more. A ring of constraints is told from a longer one by half as many rounds as it has, and
-// there is room for two such rings.
+// The depth of a step: constraints that stand out, for one round, which tells most of what signatures do not, at a ninth of the
+// cost of nine; signatures after as many rounds as there are constraints; then constraints that stand out, for nine rounds and for
+// a quarter of the constraints more. A ring of constraints is told from a longer one by half as many rounds as it has, and there
+// is room for two such rings.
 fn depth_at(step: usize, n: usize) -> Depth {
     if step == 0 {
+        return Depth {
+            rounds: 1,
+            deep: true,
+        };
+    }
+    if step == 1 {
         return Depth {
             rounds: n,
             deep: false,
         };
     }
-    if step == 1 {
+    if step == 2 {
         return Depth {
             rounds: 9,
             deep: true,
@@ -90,7 +97,7 @@ pub fn narrow(
         (endOf (now («bound_b» .entry)) (now (b .entry))) ⌝ }
 {
     let mut step = 0;
-    while step < 3 {
+    while step < 4 {
         let depth = depth_at(step, n);
         let verdict = weigh(a, bound_a, b, bound_b, n, size, depth);
         if verdict.decided {

@@ -15,10 +15,10 @@ use Rattle.comparison.proofs.narrowing.weigh.Reads as weigh-reads
 use Rattle.comparison.proofs.search.search.Reads as search-reads
 
 abbrev Inv-loop : tie.InvT-loop
-Inv-loop a₀ bound-a b₀ bound-b n size step₀ a b step = Narrowing bound-a a₀ bound-b b₀ a b size n × (step ≤ 3)
+Inv-loop a₀ bound-a b₀ bound-b n size step₀ a b step = Narrowing bound-a a₀ bound-b b₀ a b size n × (step ≤ 4)
 
 abbrev μ-loop : tie.MeasureT-loop
-μ-loop a₀ bound-a b₀ bound-b n size step₀ a b step = 3 - step
+μ-loop a₀ bound-a b₀ bound-b n size step₀ a b step = 4 - step
 
 loop-holds : tie.Need-loop-holds Inv-loop μ-loop
 loop-holds c = (narrowing-start _ _ _ _ _ _ ((c .before .before .before .before .pre) .0) ((c .before .before .before .before .pre) .1), omega arith)
