@@ -18,6 +18,8 @@ use lib.Seq.{drop-cons, take-at, drop-at, getD-take, getD-drop, length-take-le}
 use Rattle.text.specs.Bytes.{ascii}
 use Rattle.semantics.specs.Overlaps.{Overlap}
 use Rattle.semantics.specs.Verdict.{Verdict, confluent, unjoined}
+use Rattle.semantics.proofs.Configurations.{also}
+use Rattle.semantics.proofs.Configurations as C
 use Rattle.tables.specs.Cells.{cellConstraints}
 use Rattle.tables.specs.Names.{nameIn}
 use Rattle.tables.proofs.NameLaws.{lent-rest}
@@ -33,7 +35,7 @@ use Rattle.listing.specs.declared.checks.Shown.{Shown}
 use Rattle.listing.proofs.WriteLaws.{wrote-none, wrote-is, wrote-both, count-is, count-first}
 use Rattle.listing.proofs.WriteLaws.{Writing, writing-count, writing-line, writing-end, partFrom, partBack}
 use Rattle.listing.proofs.EndLaws.{end-numbered, listed-is}
-use Rattle.listing.proofs.SizeLaws.{Cells, decimal-short, rows-few, end-few, end-writable}
+use Rattle.listing.proofs.SizeLaws.{Short, Cells, machine-digits, line-few, cells-few, end-few, end-writable}
 
 -- the line of a pass
 abbrev pub passBytes : ℕ → List ℕ
@@ -44,7 +46,7 @@ unfolding lineOf fieldsBehind ascii
 pass-is n = refl
 
 pub pass-count : (n : ℕ) → n < 18446744073709551616 → Countable 0 (passBytes n)
-pass-count n h = record { few = omega (arith, decimal-short n, length-append (decimal n) (10 ∷ [])) }
+pass-count n h = record { few = omega (arith, machine-digits n h, length-append (decimal n) (10 ∷ [])) }
 
 -- it is that of the verdict
 pub pass-listed : (naming : Naming) (n : ℕ) → lineOf (ascii "CONFLUENT") (decimal n ∷ []) ≡ verdictListing naming (confluent n)
@@ -167,7 +169,7 @@ few-drop m n l h i = rw (getD-drop n l i 0) (h (n + i))
 
 -- the lines of joined pairs, and all in front of the ends
 pairs-few : (n : ℕ) (ds : List ℕ) → ((i : ℕ) → getD ds i 0 < 18446744073709551616) → n + length ds ≤ 100
-    → length (pairLines n ds) ≤ 1900000000000000000 * length ds
+    → length (pairLines n ds) ≤ 44 * length ds
 unfolding pairLines lineOf fieldsBehind ascii
 pairs-few n [] h k = omega arith
 pairs-few n (zero ∷ ds) h k = omega (arith, pairs-few (suc n) ds (λ i. h (suc i)) (omega arith))
@@ -178,29 +180,19 @@ pairs-few n (suc d ∷ ds) h k =
       length-append (decimal n ++ (44 ∷ last)) (pairLines (suc n) ds),
       length-append (decimal n) (44 ∷ last),
       length-append (decimal (suc d)) (10 ∷ []),
-      decimal-short n,
-      decimal-short (suc d),
-      h 0,
+      machine-digits n (omega arith),
+      machine-digits (suc d) (h 0),
       pairs-few (suc n) ds (λ i. h (suc i)) (omega arith),
     )
 
-module _ (naming : Naming) (short : (n : ℕ) → length (naming n) ≤ 8) where
-  rules-few : (first second : ℕ) → length (rulesLine naming first second) ≤ 30
-  rules-few first second =
-      let one = naming (192 + first) in
-      let two = naming (192 + second) in
-      rw (rules-is naming first second refl refl)
-      (omega (
-        arith,
-        length-append one ((44 ∷ []) ++ (two ++ (10 ∷ []))),
-        length-append two (10 ∷ []),
-        short (192 + first),
-        short (192 + second),
-      ))
+module _ (naming : Naming) (short : (n : ℕ) → Short (naming n)) where
+  rules-few : (first second : ℕ) → length (rulesLine naming first second) ≤ 27
+  unfolding rulesLine ascii
+  rules-few first second = line-few (ascii "UNJOINED") _ (also (short _) (also (short _) C.none))
 
-  front-few : (goal : List ℕ) (s : Shown) → Shaped s → Cells goal → length goal ≤ 65000
-      → ((i : ℕ) → getD (s .partners) i 0 < 18446744073709551616) → length (frontBytes naming goal s) ≤ 7700000000000000000
-  front-few goal s h c k d =
+  front-few : (goal : List ℕ) (s : Shown) → Shaped s → Cells goal
+      → ((i : ℕ) → getD (s .partners) i 0 < 18446744073709551616) → length (frontBytes naming goal s) ≤ 203 + 10 * length goal
+  front-few goal s h c d =
       let ds = take (s .heads) (s .partners) in
       let size : length ds ≤ 4 = omega (arith, length-take (s .heads) (s .partners), h .heads-few) in
       let pairs = pairLines 1 ds in
@@ -213,7 +205,7 @@ module _ (naming : Naming) (short : (n : ℕ) → length (naming n) ≤ 8) where
         length-append pairs rows,
         rules-few (s .first) (s .second),
         pairs-few 1 ds (few-take 18446744073709551616 (s .heads) (s .partners) d) (omega arith),
-        rows-few naming short 71 86 goal c,
+        cells-few naming short 86 71 goal c,
         size,
       ))
 
@@ -246,14 +238,17 @@ module _ (naming : Naming) (short : (n : ℕ) → length (naming n) ≤ 8) where
                     arith,
                     length-append (frontBytes naming goal s) (a ++ z),
                     length-append a z,
-                    front-few goal s (h .shaped) (λ i l. cg i) (h .goal-few) cp,
-                    end-few naming short [] first one′ (s .one) firstCells (λ i l. co i) firstFew ko,
-                    end-few naming short [] second two′ (s .two) secondCells (λ i l. ct i) secondFew kt,
+                    front-few goal s (h .shaped) (λ i l. cg i) cp,
+                    h .goal-few,
+                    end-few naming short [] first one′ firstCells (λ i l. co i) (s .one) 65000 65000 (omega arith)
+                        (λ l. (omega (arith, firstFew l), omega (arith, firstFew l))) ko,
+                    end-few naming short [] second two′ secondCells (λ i l. ct i) (s .two) 65000 65000 (omega arith)
+                        (λ l. (omega (arith, secondFew l), omega (arith, secondFew l))) kt,
                   );
             };
         within = omega (arith, h .within, b);
-        first-end = end-writable naming short [] first one′ (s .one) firstCells (λ i l. co i) firstFew ko;
-        second-end = end-writable naming short [] second two′ (s .two) secondCells (λ i l. ct i) secondFew kt;
+        first-end = end-writable naming short [] first one′ firstCells (λ i l. co i) (s .one) firstFew ko;
+        second-end = end-writable naming short [] second two′ secondCells (λ i l. ct i) (s .two) secondFew kt;
       }
 
 -- `bounds` while the first v of its cells, and then those behind them, are numbered

@@ -5,6 +5,7 @@
 --   numberedEnd      the listing of an end whose variables are numbered
 --   endBytes         the listing of a final state
 --   Listable, EndNumbered, Writable     what listing a final state, numbering its variables and writing it ask and promise
+--   Ample            an output that every listing of so many goal variables and cells fits
 -- Assumes nothing.
 use Prim.Native.Nat.{ℕ, _≤_, _<_}
 use mathlib.Core.Bool.{Bool, true, cond}
@@ -17,7 +18,7 @@ use Rattle.tables.specs.Names.{nameIn}
 use Rattle.tables.specs.Numbers.{Renumberable, Renumbered}
 use Rattle.listing.specs.Listing.{Naming, decimal, lineOf, termShown, constraintLines, numberedAs, variableName, boundLines}
 use Rattle.listing.specs.Listing.{endListing}
-use Rattle.listing.specs.Writing.{Countable}
+use Rattle.listing.specs.Writing.{Countable, ample}
 use Rattle.listing.specs.declared.End.{End}
 
 -- a cell as a field, its variable by a letter and its number
@@ -59,3 +60,16 @@ pub record EndNumbered (alive : Bool) (bound cells bound′ cells′ : List ℕ)
 pub record Writable (naming : Naming) (letters bound cells : List ℕ) (e : End) : Type 0 where
   pub counted : Countable 0 (numberedEnd naming letters bound cells e)
   pub few : e .alive ≡ true → length bound < 65536
+
+-- the goal variables and the cells up to which every listing fits an ample output
+unfoldable pub maxBound : ℕ
+maxBound = 28
+
+unfoldable pub maxCells : ℕ
+maxCells = 2590
+
+-- an output that is ample for every listing of so many goal variables and cells
+pub record Ample (room variables cells : ℕ) : Type 0 where
+  pub wide : ample ≤ room
+  pub few-bound : variables ≤ maxBound
+  pub few-cells : cells ≤ maxCells

@@ -3,6 +3,7 @@
 --   Countable    bytes whose end the machine can count to
 --   Writes       what a function that writes promises
 --   listedIn, listedOver, ListedAs     the reply of a listing, and every byte of the output afterwards
+--   ample        room for every listing of a run and of a check
 -- A writer asks no room: where its bytes do not fit it only counts them, so that counting is writing into no output.
 -- Assumes nothing.
 use Prim.Native.Nat.{ℕ, _+_, _≤_, _<_}
@@ -40,3 +41,7 @@ listedOver bytes before = cond (ltb (length before) (length bytes)) before (over
 pub record ListedAs (bytes before after : List ℕ) (reply : Listed) : Type 0 where
   pub answer : reply ≡ listedIn (length before) bytes
   pub output : after ≡ listedOver bytes before
+
+-- room for every listing of a run and of a check (`end-ample` in proofs/SizeLaws.antt; `run-fits` and `check-fits` in replies)
+unfoldable pub ample : ℕ
+ample = 32768

@@ -188,6 +188,40 @@ pub fn put_overlap<'a>(
     put_ends(out, at, program, places, bounds, one, two, shown)
 }
 
+// The listing of an overlap, the variables of whose ends are numbered: it is counted first.
+fn list_shown<'a>(
+    out: &mut [u8],
+    program: &'a [u8],
+    places: &[u16],
+    goal: &[u16],
+    bounds: &[u16],
+    one: &[u16],
+    two: &[u16],
+    shown: Shown,
+) -> Listed
+    requires { ⌜ OverlapWritable (nameIn (now program) [] (now places)) (now goal) (now bounds) (now one) (now two) shown ⌝ }
+    ensures { λ r. ⌜ ListedAs
+        (shownBytes (nameIn (now (program .entry)) [] (now (places .entry))) (now (goal .entry)) (now (bounds .entry))
+        (now (one .entry)) (now (two .entry)) shown) (now (out .entry)) (now (out .exit)) r ⌝ }
+{
+    let mut none = [0; 1];
+    let size = put_overlap(
+        &mut none[..0],
+        program,
+        places,
+        goal,
+        bounds,
+        one,
+        two,
+        shown,
+    );
+    if out.len() < size {
+        return Listed::TooShort;
+    }
+    put_overlap(out, program, places, goal, bounds, one, two, shown);
+    Listed::Written(size)
+}
+
 // The listing of an unjoined overlap; the variables of its ends are numbered in place, by first appearance.
 pub fn list_overlap<'a>(
     out: &mut [u8],
@@ -206,20 +240,5 @@ pub fn list_overlap<'a>(
     let v = shown.variables;
     number_end(&mut bounds[..v], one, shown.one);
     number_end(&mut bounds[v..], two, shown.two);
-    let mut none = [0; 1];
-    let size = put_overlap(
-        &mut none[..0],
-        program,
-        places,
-        goal,
-        bounds,
-        one,
-        two,
-        shown,
-    );
-    if out.len() < size {
-        return Listed::TooShort;
-    }
-    put_overlap(out, program, places, goal, bounds, one, two, shown);
-    Listed::Written(size)
+    list_shown(out, program, places, goal, bounds, one, two, shown)
 }

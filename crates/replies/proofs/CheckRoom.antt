@@ -43,13 +43,13 @@ use Rattle.syntax.proofs.WellFormed.{read-wellFormed}
 use Rattle.syntax.proofs.Vocabulary.{SymbolSmall, ReadSmall, read-small}
 use Rattle.listing.specs.Listing.{decimal, lineOf, Naming, namingOf, termShown, constraintLines, variableName, endListing}
 use Rattle.listing.specs.Listing.{pairLines, verdictListing}
+use Rattle.listing.proofs.SizeLaws.{Short, decimal-short, number-short, line-few, ShortRow, rows-few}
 use Rattle.replies.specs.Replies.{Text, programText, refusal, listing, replyOf, fitted, checkListing, checkReply}
 use Rattle.replies.specs.Replies.{printed, ample, sheetcheck}
 use Rattle.replies.proofs.Demand3.{fitted-listed}
-use Rattle.replies.proofs.ShortNames.{Short, ShortProgram, program-short, reads-accepted, reads-refused}
-use Rattle.replies.proofs.Room.{digits-more, four-digits, order-few, number-short, line-few, naming-short, ShortRow}
-use Rattle.replies.proofs.Room.{declared-small, declared-few, AnyConstant, constraints-any, rules-any, reach-weighs}
-use Rattle.replies.proofs.Room.{rows-few, final-few, Answered, refusedBy, listed, eleven}
+use Rattle.replies.proofs.ShortNames.{ShortProgram, program-short, reads-accepted, reads-refused}
+use Rattle.replies.proofs.Room.{order-few, naming-short, declared-small, declared-few, AnyConstant, constraints-any}
+use Rattle.replies.proofs.Room.{rules-any, reach-weighs, final-few, Answered, refusedBy, listed, eleven}
 
 -- how many answers there are, and elements of lists one behind the other
 answers-few : {A B : Type 0} (f : A → Option B) (l : List A) → length (answers f l) ≤ length l
@@ -218,7 +218,7 @@ overlap-few p {o} few l =
     }
 
 -- the name of a goal variable without a letter
-goal-variable-short : (x : ℕ) → x < 9999 → Short (variableName [] x)
+goal-variable-short : (x : ℕ) → x < 9999999 → Short (variableName [] x)
 unfolding variableName ascii
 goal-variable-short x h = rw (le-ltb x 0 (omega arith)) (number-short 86 x h)
 
@@ -249,12 +249,11 @@ unfolding pairLines ascii
 pairs-few n [] h C.none = omega arith
 pairs-few n (zero ∷ ds) h (also low all) = omega (arith, pairs-few (suc n) ds (omega arith) all)
 pairs-few n (suc d ∷ ds) h (also low all) =
-    let digits : (m : ℕ) → m ≤ 100 → Short (decimal m) = λ m k. omega (arith, four-digits m (omega arith)) in
     let fields = decimal n ∷ decimal (suc d) ∷ [] in
     omega (
       arith,
       length-append (lineOf (ascii "P") fields) (pairLines (suc n) ds),
-      line-few (ascii "P") fields (also (digits n (omega arith)) (also (digits (suc d) (omega arith)) C.none)),
+      line-few (ascii "P") fields (also (decimal-short n (omega arith)) (also (decimal-short (suc d) (omega arith)) C.none)),
       pairs-few (suc n) ds (omega arith) all,
     )
 
@@ -319,9 +318,7 @@ module _ (naming : Naming) (names : (n : ℕ) → Short (naming n)) where
   pass-few : (n : ℕ) → n ≤ 640000 → length (verdictListing naming (confluent n)) ≤ 25101
   unfolding verdictListing ascii
   pass-few n h =
-      let six : length (decimal n) ≤ 6 = digits-more 5 100000 (digits-more 4 10000 four-digits) n (omega arith) in
-      let digits : Short (decimal n) = omega (arith, six) in
-      omega (arith, line-few (ascii "CONFLUENT") (decimal n ∷ []) (also digits C.none))
+      omega (arith, line-few (ascii "CONFLUENT") (decimal n ∷ []) (also (decimal-short n (omega arith)) C.none))
 
 -- the listing of a check has at most 27 + 80 + 376 + 2 · (13 + 32 · 20 + 248 · 47) bytes
 pub check-few : (program : List ℕ) (p : Reading) → readProgram program ≡ accepted p → length (checkListing p) ≤ 25101

@@ -1,7 +1,6 @@
 -- Every listing of a run fits the room that the programs lend: `run-fits`. So `sheetrun` never prints number 11: `never-eleven`.
---   line-few                      a line of n fields behind its first has at most 9 n + 1 bytes more than that
---   order-few, number-short       how many variables appear; a variable by a letter and its number has at most 8 bytes
---   naming-short                  so has every name of a reading
+--   order-few                     how many variables appear
+--   naming-short                  every name of a reading has at most 8 bytes
 --   end-few, final-few            the bytes of an end, by the counts of its lines; by its goal variables and its weight
 --   run-weighs                    firings and the weight of the end are within the goal's weight
 --   run-few, run-fits             the listing of a run has at most 24,597 bytes, and fits
@@ -41,28 +40,13 @@ use Rattle.syntax.proofs.GoalVocabulary.{ReadGoal, goal-small}
 use Rattle.listing.specs.Listing.{decimalFrom, decimal, fieldsBehind, lineOf, Naming, namingOf, termShown, constraintShown}
 use Rattle.listing.specs.Listing.{constraintLines, numberedAs, unbound, boundLines, stateListing, endListing}
 use Rattle.listing.proofs.Decimals.{decimal-low, decimal-high}
+use Rattle.listing.proofs.SizeLaws.{Short, decimal-short, number-short, line-few, rows-few, bounds-few}
 use Rattle.replies.specs.Replies.{Text, programText, goalText, Reply, refusal, listing, replyOf, fitted}
 use Rattle.replies.specs.Replies.{runListing, runReply, printed, ample, sheetrun}
 use Rattle.replies.proofs.Elements.{all-at}
 use Rattle.replies.proofs.Demand3.{fitted-listed}
-use Rattle.replies.proofs.ShortNames.{Short, ShortProgram, ShortGoal, program-short, goal-short, reads-accepted}
+use Rattle.replies.proofs.ShortNames.{ShortProgram, ShortGoal, program-short, goal-short, reads-accepted}
 use Rattle.replies.proofs.ShortNames.{TermedProgram, program-termed, reads-refused}
-
--- ten times as many numbers have one digit more
-pub digits-more :
-    (k b : ℕ) → ((m : ℕ) → m < b → length (decimal m) ≤ k) → (n : ℕ) → n < 10 * b → length (decimal n) ≤ suc k
-digits-more k b few n h = go (ltb n 10) refl
-  where
-    go : (t : Bool) → ltb n 10 ≡ t → length (decimal n) ≤ suc k
-    go true e = rw (decimal-low n (ltb-true n 10 e)) (omega arith)
-    go false e =
-        rw (decimal-high n (ltb-false n 10 e))
-        (omega (arith, length-append (decimal (n / 10)) ((48 + n % 10) ∷ []), few (n / 10) (omega arith)))
-
--- a number below 10,000 has at most 4 digits
-pub four-digits : (n : ℕ) → n < 10000 → length (decimal n) ≤ 4
-four-digits n h =
-    digits-more 3 1000 (digits-more 2 100 (digits-more 1 10 (λ m k. rw (decimal-low m k) (omega arith)))) n (omega arith)
 
 -- a place is at most behind the last
 index-few : (t : ℕ → Bool) (i : ℕ) (xs : List ℕ) → indexFrom t i xs ≤ i + length xs
@@ -93,26 +77,10 @@ order-few seen [] few = omega arith
 order-few seen (c ∷ cs) (also h few) =
     omega (arith, order-few (appearingIn seen (c .terms)) cs few, terms-few seen (c .terms))
 
--- a variable's number of at most 4 digits, behind its letter
-pub number-short : (letter x : ℕ) → x < 9999 → Short (numberedAs (letter ∷ []) x)
-unfolding numberedAs
-number-short letter x h = omega (arith, four-digits (suc x) (omega arith))
-
--- so are the U numbers
+-- the U numbers
 unbound-short : (order : List ℕ) (x : ℕ) → length order < 9999 → Short (unbound order x)
 unfolding unbound ascii
 unbound-short order x h = number-short 85 (indexFrom (eqb x) 0 order) (omega (arith, index-few (eqb x) 0 order))
-
--- a line of short fields behind its first
-behind-few : (fs : List (List ℕ)) → All Short fs → length (fieldsBehind fs) ≤ 9 * length fs + 1
-unfolding fieldsBehind
-behind-few [] C.none = omega arith
-behind-few (f ∷ fs) (also h all) = omega (arith, length-append f (fieldsBehind fs), behind-few fs all)
-
-pub line-few :
-    (first : List ℕ) (fs : List (List ℕ)) → All Short fs → length (lineOf first fs) ≤ length first + (9 * length fs + 1)
-unfolding lineOf
-line-few first fs all = omega (arith, length-append first (fieldsBehind fs), behind-few fs all)
 
 -- a name by its number, where all are short
 short-at : {l : List (List ℕ)} (i : ℕ) → All Short l → Short (getD l i [])
@@ -137,57 +105,12 @@ naming-short symbols constants short all n = go (ltb n firstConstant)
     go true = symbol-short n short
     go false = short-at (n - firstConstant) all
 
--- lines, where all names are short
-module _ (naming : Naming) (shown : ℕ → List ℕ) (names : (n : ℕ) → Short (naming n)) where
-  -- a constraint of at most 4 terms, which are shown short
-  abbrev pub ShortRow : Constraint → Type 0
-  ShortRow c = (length (c .terms) ≤ 4) × All (λ t. Short (termShown naming shown t)) (c .terms)
-
-  row-few :
-      (first : List ℕ) (c : Constraint) → length first ≤ 1 → ShortRow c
-      → length (lineOf first (constraintShown naming shown c)) ≤ 47
-  unfolding constraintShown
-  row-few first c one (few, short) =
-      let terms = map (termShown naming shown) (c .terms) in
-      omega (
-        arith,
-        length-map (c .terms) (termShown naming shown),
-        line-few first (naming (c .symbol) ∷ terms) (also (names (c .symbol)) (all-map _ short)),
-      )
-
-  pub rows-few :
-      (first : List ℕ) (cs : List Constraint) → length first ≤ 1 → All ShortRow cs
-      → length (constraintLines first naming shown cs) ≤ 47 * length cs
-  unfolding constraintLines
-  rows-few first [] one short = omega arith
-  rows-few first (c ∷ cs) one (also h short) =
-      omega (
-        arith,
-        length-append (lineOf first (constraintShown naming shown c)) (constraintLines first naming shown cs),
-        row-few first c one h,
-        rows-few first cs one short,
-      )
-
-  module _ (variables : (x : ℕ) → Short (shown x)) where
-    shown-short : (t : Term) → Short (termShown naming shown t)
-    unfolding termShown
-    shown-short (con c) = names c
-    shown-short (var x) = variables x
-
-    bounds-few :
-        (variable : ℕ → List ℕ) (x : ℕ) (ts : List Term) → ((y : ℕ) → y < x + length ts → Short (variable y))
-        → length (boundLines naming shown variable x ts) ≤ 20 * length ts
-    unfolding boundLines ascii
-    bounds-few variable x [] short = omega arith
-    bounds-few variable x (t ∷ ts) short =
-        let line = lineOf (ascii "A") (variable x ∷ termShown naming shown t ∷ []) in
-        omega (
-          arith,
-          length-append line (boundLines naming shown variable (suc x) ts),
-          line-few (ascii "A") (variable x ∷ termShown naming shown t ∷ [])
-              (also (short x (omega arith)) (also (shown-short t) C.none)),
-          bounds-few variable (suc x) ts (λ y h. short y (omega arith)),
-        )
+-- a term, where all names and variables are shown short
+shown-short : (naming : Naming) (shown : ℕ → List ℕ) → ((n : ℕ) → Short (naming n)) → ((x : ℕ) → Short (shown x)) → (t : Term)
+    → Short (termShown naming shown t)
+unfolding termShown
+shown-short naming shown names variables (con c) = names c
+shown-short naming shown names variables (var x) = variables x
 
 -- the bytes of an end, by the counts of its lines
 end-few :
@@ -204,23 +127,22 @@ end-few naming variable f next bound cs names short few low room =
     let head = lineOf (ascii "END") (decimal f ∷ []) in
     let bounds = boundLines naming shown variable 0 bound in
     let rows = constraintLines (ascii "S") naming shown cs in
-    let digits : Short (decimal f) = omega (arith, four-digits f low) in
+    let terms : (ts : List Term) → All (λ t. Short (termShown naming shown t)) ts = λ ts.
+    all-of-members ts (λ t _. shown-short naming shown names variables t) in
     omega (
       arith,
       length-append head (bounds ++ rows),
       length-append bounds rows,
-      line-few (ascii "END") (decimal f ∷ []) (also digits C.none),
-      bounds-few naming shown names variables variable 0 bound (λ x h. short x (omega arith)),
-      rows-few naming shown names (ascii "S") cs (omega arith)
-          (all-mono (λ c h. (h, all-of-members (c .terms) (λ t _. shown-short naming shown names variables t))) few),
+      line-few (ascii "END") (decimal f ∷ []) (also (decimal-short f (omega arith)) C.none),
+      bounds-few naming shown names variable 0 bound (λ x h. short x (omega arith)) (terms bound),
+      rows-few naming shown names (ascii "S") cs (omega arith) (all-mono (λ c h. (h, terms (c .terms))) few),
     )
 
 failed-few :
     (naming : Naming) (variable : ℕ → List ℕ) (f : ℕ) → f < 10000 → length (stateListing naming variable f failed) ≤ 16
 unfolding stateListing ascii
 failed-few naming variable f low =
-    let digits : Short (decimal f) = omega (arith, four-digits f low) in
-    omega (arith, line-few (ascii "FAILED") (decimal f ∷ []) (also digits C.none))
+    line-few (ascii "FAILED") (decimal f ∷ []) (also (decimal-short f (omega arith)) C.none)
 
 -- the symbol of a declared constraint is one of the declared, and it has at most 4 terms
 pub declared-small :

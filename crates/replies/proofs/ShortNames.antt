@@ -1,6 +1,5 @@
 -- What reading a text answers: a refusal by a number from 1 to 9, and a goal's to 10, at a line of at most 16,384; or names of at
 -- most 8 bytes.
---   Short             at most 8 bytes
 --   Turned            a refusal that reading may answer
 --   Reads             what holds of an answer: of a refusal that it is such, or something of the value
 --   program-termed    the names of symbols, rules and constants are terms (the main law for programs)
@@ -36,12 +35,9 @@ use Rattle.syntax.specs.Goals.{GoalDraft, GoalReading, maxGoal, maxWeight, lett
 use Rattle.syntax.specs.Goals.{readGoalFields, readGoalLine, readGoalLines, readGoal}
 use Rattle.text.proofs.Bools.{and-true}
 use Rattle.syntax.proofs.WellFormed.{or-neither, not-false}
+use Rattle.listing.proofs.SizeLaws.{Short}
 
--- at most 8 bytes
-abbrev pub Short : List ℕ → Type 0
-Short f = length f ≤ 8
-
--- so has a name, and a term
+-- a name has at most 8 bytes, and so has a term
 name-short : (f : List ℕ) → isName f ≡ true → Short f
 unfolding isName between
 name-short f h =

@@ -19,6 +19,7 @@ use Rattle.syntax.specs.Answers.{Answer, refused, accepted}
 use Rattle.syntax.specs.Programs.{Reading, readProgram}
 use Rattle.syntax.specs.Goals.{GoalReading, readGoal}
 use Rattle.listing.specs.Listing.{decimal, lineOf, namingOf, endListing, verdictListing}
+unfoldable pub use Rattle.listing.specs.Writing.{ample}
 
 -- the text that a refusal names: S for a program's (document 01: the sheet's), G for a goal's
 pub data Text : Type 0 where
@@ -71,10 +72,6 @@ textLetter goalText = ascii "G"
 unfoldable pub printed : Reply → List ℕ
 printed (refusal number text line) = lineOf (ascii "REFUSED") (decimal number ∷ textLetter text ∷ decimal line ∷ [])
 printed (listing bytes) = bytes
-
--- enough room for every listing of a run (`run-fits` in proofs/Room.antt), and of a check (`check-fits` in proofs/CheckRoom.antt)
-unfoldable pub ample : ℕ
-ample = 32768
 
 -- all that `sheetrun` prints on an input: a program, then optionally the line `GOAL` and a goal
 unfoldable pub sheetrun : List ℕ → List ℕ
