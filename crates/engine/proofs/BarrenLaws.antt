@@ -2,6 +2,7 @@
 --   embedded           every constraint stands among the first ones too, or has no symbol of the heads
 --   barren-fired       the first of the constraints, after a firing
 --   barren-strange     all of them, where no constraint of the body has a symbol of the heads
+--   absent-first       heads fit nowhere where the first one's symbol stands nowhere
 --   barren-last        the search for the last head starts behind such constraints
 --   barren-first       where heads fit at the smallest positions, they fit nowhere before the first of them
 --   barren-next        where a head is placed among them, the later ones fit nowhere among them
@@ -267,6 +268,17 @@ symbol-stands [] i c s = none-some refl s
 symbol-stands (b ∷ body) zero c s = let same : b ≡ c = cc in rw (same, equal-eqb {m = c .symbol} refl)
 symbol-stands (b ∷ body) (suc i) c s = or-right (eqb (b .symbol) (c .symbol)) (hasSymbol (c .symbol) body)
     (symbol-stands body i c s)
+
+-- heads fit nowhere if no constraint has the first one's symbol
+pub absent-first :
+    (h : Constraint) (hs cs : List Constraint) (chosen : List ℕ) (θ : Assignment) → hasSymbol (h .symbol) cs ≡ false
+    → find (h ∷ hs) cs chosen θ ≡ none
+unfolding find matchConstraint
+absent-first h hs cs chosen θ e =
+    firstIn-nothing 0 cs _ (λ i c s.
+    let other : eqb (h .symbol) (c .symbol) ≡ false =
+    apart-eqb (λ (same : h .symbol ≡ c .symbol). true-false (symbol-stands cs i c s) (rw same at e)) in
+    rw (other, tested-nothing (has (0 + i) chosen)))
 
 -- a constraint of a body that has no symbol of the heads
 strange-stands :

@@ -21,7 +21,7 @@ use Rattle.tables.specs.Cells.{cellConstraints}
 use Rattle.tables.specs.Rows.{ruleOfRow, ruleOf, rulesOf, rowOf}
 use Rattle.engine.specs.Cells.{assigned}
 use Rattle.engine.specs.Positions.{foundOf, Seeking, Located, Row, Table, choiceOf, Chosen}
-use Rattle.engine.specs.Known.{Barren, Knows}
+use Rattle.engine.specs.Known.{Barren, Knows, Possible}
 use Rattle.tables.proofs.CellLaws.{constraints-length}
 use Rattle.tables.proofs.CellLaws.{either, le-or-lt}
 use Rattle.engine.proofs.BarrenLaws.{barren-first}
@@ -275,6 +275,14 @@ module _ (rules : List ℕ) (n : ℕ) (cells : List ℕ) (m i : ℕ) (given : Ta
             positions-size = t .positions-size;
             bindings-size = t .bindings-size;
           }
+
+-- where a rule is found not to be possible, the search for it finds nothing
+pub impossible-located :
+    (row cells : List ℕ) (r : Bool) → Possible r row cells → r ≡ false
+    → Located false (getD row 3 0) (replicate 4 0) (replicate 26 0) (find (ruleOfRow [] row .heads) (cellConstraints cells) []
+    unassigned)
+unfolding foundOf
+impossible-located row cells r p z = record { same = sym (p .nowhere z); positions-size = refl; bindings-size = refl }
 
 -- the loop of `choose`: the choice is among the rules from i on, and what is known is true
 pub record Noting (rules : List ℕ) (n : ℕ) (start cells known : List ℕ) (i : ℕ) : Type 0 where

@@ -29,8 +29,8 @@ use Rattle.engine.specs.Cells.{assigned}
 use Rattle.engine.specs.Positions.{Row, Table}
 use Rattle.engine.specs.States.{Fired}
 use Rattle.engine.specs.Runs.{storeOf}
-use Rattle.engine.specs.Known.{Barren, Knows, hasSymbol, concerns, Marks, Clear, loweredOf, Lowered, Keeps}
-use Rattle.engine.proofs.BarrenLaws.{barren-fired, barren-strange}
+use Rattle.engine.specs.Known.{Barren, Knows, hasSymbol, concerns, Possible, Marks, Clear, loweredOf, Lowered, Keeps}
+use Rattle.engine.proofs.BarrenLaws.{absent-first, barren-fired, barren-strange}
 use Rattle.engine.proofs.GapLaws.{take-constraints, drop-constraints}
 use Rattle.engine.proofs.ChooseLaws.{lentRow, row-cells, noted-at, zeros-zero}
 use Rattle.engine.proofs.FiredLaws.{fired-plain}
@@ -116,6 +116,32 @@ module _ (heads body : List ℕ) (i : ℕ) (w : Meeting heads body i) where
 
     pub meeting-next : r ≡ false → Meeting heads body (i + 1)
     meeting-next z = rw (add-one i) (record { within = omega arith; same = rw z at split-heads })
+
+-- a rule that is not found impossible
+pub possible-still : (row cells : List ℕ) → Possible true row cells
+possible-still row cells =
+    record { nowhere = λ (z : true ≡ false). let y : _≡_ {A = ℕ} 0 1 = cc in absurd (omega arith) }
+
+-- a rule with heads, whose first one's symbol stands nowhere, fits nowhere
+pub absent-rule :
+    (row cells : List ℕ) (r : Bool) → length row ≡ 64 → getD row 3 0 ≤ 4 → (getD row 3 0 ≡ 0 → ⊥)
+    → r ≡ hasSymbol (getD row 6 0) (cellConstraints cells) → Possible r row cells
+unfolding ruleOfRow
+absent-rule row cells r size few some-heads e =
+    let heads = take (5 * getD row 3 0) (drop 6 row) in
+    let one : 1 ≤ getD row 3 0 = positive (getD row 3 0) some-heads in
+    let long : 5 ≤ length heads =
+    omega (arith, length-take-le (5 * getD row 3 0) (drop 6 row) (omega (arith, length-drop 6 row))) in
+    let symbol : getD heads 0 0 ≡ getD row 6 0 =
+    getD-take (5 * getD row 3 0) (drop 6 row) 0 0 (omega arith) ∙ getD-drop 6 row 0 0 in
+    record {
+      nowhere = λ z. rw (constraints-at heads 0 long) (absent-first _ _ (cellConstraints cells) [] unassigned
+          (rw (row-symbol heads 0, symbol, ← e) z));
+    }
+  where
+    positive : (k : ℕ) → (k ≡ 0 → ⊥) → 1 ≤ k
+    positive zero h = absurd (h refl)
+    positive (suc k) h = omega arith
 
 -- a symbol among constraints with one more
 symbol-last :

@@ -2,6 +2,7 @@
 --   Barren                   heads fit nowhere among the first constraints
 --   Knows                    the same for each rule, by a table of numbers
 --   hasSymbol, concerns      whether constraints of one list have a symbol of another's
+--   Possible                 what a first look at a rule promises
 --   Marks, Clear             the symbols of constraints as a table
 --   loweredOf, Lowered       the table after a firing
 --   Keeps                    a firing keeps what is known
@@ -17,6 +18,7 @@ use Rattle.semantics.specs.Terms.{Constraint}
 use Rattle.semantics.specs.Matching.{Assignment, unassigned}
 use Rattle.semantics.specs.Strategy.{find}
 use Rattle.tables.specs.Layout.{headsCell, equationsCell}
+use Rattle.tables.specs.Cells.{cellConstraints}
 use Rattle.tables.specs.Rows.{ruleOfRow, rowOf}
 use Rattle.engine.specs.Runs.{storeOf}
 
@@ -37,6 +39,10 @@ hasSymbol s (h ∷ hs) = eqb (h .symbol) s || hasSymbol s hs
 unfoldable pub concerns : List Constraint → List Constraint → Bool
 concerns [] cs = false
 concerns (h ∷ hs) cs = hasSymbol (h .symbol) cs || concerns hs cs
+
+-- a rule that is found not to be possible fits nowhere
+pub record Possible (r : Bool) (row cells : List ℕ) : Type 0 where
+  pub nowhere : r ≡ false → find (ruleOfRow [] row .heads) (cellConstraints cells) [] unassigned ≡ none
 
 -- a table of the symbols of constraints, as far as it goes: 1 at those that stand there, 0 at the others
 pub record Marks (fresh : List ℕ) (cs : List Constraint) : Type 0 where

@@ -1,4 +1,5 @@
 // The search for positions head by head, and the choice of a rule.
+use crate::known::has_symbol;
 use crate::known::known_at;
 use crate::known::note;
 use crate::matching::is_wanted;
@@ -24,7 +25,7 @@ ghost use Rattle.tables.specs.Cells.{cellConstraints, rowConstraint};
 ghost use Rattle.tables.specs.Rows.{ruleOfRow};
 ghost use Rattle.engine.specs.Cells.{assigned, Rows, Matched, FirstWanted};
 ghost use Rattle.engine.specs.Positions.{Seeking, Located, Row, Table, Chosen};
-ghost use Rattle.engine.specs.Known.{Barren, Knows};
+ghost use Rattle.engine.specs.Known.{Barren, Knows, Possible};
 
 // Whether positions were found, with them and the bindings under which the heads fit there.
 pub struct Found {
@@ -196,6 +197,20 @@ pub fn leading(row: &[u16], positions: [usize; 4]) -> usize
     }
 }
 
+// A first look at a rule of which nothing is known yet: it fits nowhere if no constraint has its first head's symbol.
+pub fn is_possible(row: &[u16], cells: &[u16], from: usize) -> bool
+    requires { ⌜ Row (now row) ⌝ }
+    ensures { λ r. ⌜ Possible r (now (row .entry)) (now (cells .entry)) ⌝ }
+{
+    if 0 < from {
+        return true;
+    }
+    if row[HEADS_CELL] == 0 {
+        return true;
+    }
+    has_symbol(row[FIRST_HEAD], cells)
+}
+
 // The first rule that fits; what is known of it and of the rules before it is noted.
 pub fn choose(rules: &[u16], n: usize, known: &mut [usize], cells: &[u16], m: usize) -> Choice
     requires { ⌜ Table (now rules) n × (length (now cells) ≡ constraintSize * m)
@@ -211,19 +226,23 @@ pub fn choose(rules: &[u16], n: usize, known: &mut [usize], cells: &[u16], m: us
         if from <= m {
             let a = ROW_SIZE * q;
             let e = a + ROW_SIZE;
-            let place = find_rule(&rules[a..e], cells, m, from);
-            if place.found {
-                let positions = place.positions;
-                let bindings = place.bindings;
-                note(known, q, leading(&rules[a..e], positions));
-                return Choice {
-                    found: true,
-                    number: q,
-                    positions,
-                    bindings,
-                };
+            if is_possible(&rules[a..e], cells, from) {
+                let place = find_rule(&rules[a..e], cells, m, from);
+                if place.found {
+                    let positions = place.positions;
+                    let bindings = place.bindings;
+                    note(known, q, leading(&rules[a..e], positions));
+                    return Choice {
+                        found: true,
+                        number: q,
+                        positions,
+                        bindings,
+                    };
+                }
+                note(known, q, m + 1);
+            } else {
+                note(known, q, m + 1);
             }
-            note(known, q, m + 1);
         }
     }
     Choice {

@@ -1,6 +1,7 @@
 -- `choose` meets its contract: the rules from i on give the choice among all of them, and what is known stays true.
 -- Assumes nothing.
 use borrow.Author.Needs.{needs}
+use mathlib.Core.Path.{refl}
 use Prim.Native.Nat.{_-_}
 use native.Mathlib.Omega.{arith}
 use Rattle.engine.proofs.ChooseLaws.{
@@ -13,6 +14,7 @@ use Rattle.engine.proofs.ChooseLaws.{
   choosing-found,
   choosing-first,
   choosing-leads,
+  impossible-located,
 }
 use Rattle.engine.proofs.search.choose.Statement.{statement}
 use Rattle.engine.proofs.search.choose.Tie as tie
@@ -26,33 +28,18 @@ abbrev μ-loop : tie.MeasureT-loop
 loop-holds : tie.Need-loop-holds Inv-loop μ-loop
 loop-holds c = noting-start _ _ _ _ (c .before .before .before .pre .2)
 
-known-at-requires : tie.Need-known-at-requires Inv-loop μ-loop
-known-at-requires c κs = search needs
-
-add-i : tie.Need-add-i Inv-loop μ-loop
-add-i c = omega arith
-
-mul-a : tie.Need-mul-a Inv-loop μ-loop
-mul-a c = omega arith
-
-add-e : tie.Need-add-e Inv-loop μ-loop
-add-e c = omega arith
-
-mul-find-rule : tie.Need-mul-find-rule Inv-loop μ-loop
-mul-find-rule c = omega arith
-
-sub-find-rule : tie.Need-sub-find-rule Inv-loop μ-loop
-sub-find-rule c = omega arith
-
-part-find-rule-start : tie.Need-part-find-rule-start Inv-loop μ-loop
-part-find-rule-start c = omega arith
-
-part-find-rule-end : tie.Need-part-find-rule-end Inv-loop μ-loop
-part-find-rule-end c = omega arith
+is-possible-requires : tie.Need-is-possible-requires Inv-loop μ-loop
+is-possible-requires c κs =
+    let at-known-at = c .before .before in
+    let at-loop-test = at-known-at .before .before in
+    let at-loop = at-loop-test .before in
+    let at-pre = at-loop .before .before .before .before in
+    choosing-row _ _ _ _ _ (at-pre .pre .0) (at-loop .loop .inv .choosing) (at-loop-test .loop-test .taken) _
+    (at-loop .loop .inv .knows) _ (at-known-at .known-at .ensures) (at-pre .pre .1) (c .before .if1 .taken) .0
 
 find-rule-requires : tie.Need-find-rule-requires Inv-loop μ-loop
 find-rule-requires c κs =
-    let at-if1 = c .before in
+    let at-if1 = c .before .before .before .before in
     let at-known-at = at-if1 .before in
     let at-loop-test = at-known-at .before .before in
     let at-loop = at-loop-test .before in
@@ -60,75 +47,55 @@ find-rule-requires c κs =
     choosing-row _ _ _ _ _ (at-pre .pre .0) (at-loop .loop .inv .choosing) (at-loop-test .loop-test .taken) _
     (at-loop .loop .inv .knows) _ (at-known-at .known-at .ensures) (at-pre .pre .1) (at-if1 .if1 .taken)
 
-mul-leading : tie.Need-mul-leading Inv-loop μ-loop
-mul-leading c = omega arith
-
-sub-leading : tie.Need-sub-leading Inv-loop μ-loop
-sub-leading c = omega arith
-
-part-leading-start : tie.Need-part-leading-start Inv-loop μ-loop
-part-leading-start c = omega arith
-
-part-leading-end : tie.Need-part-leading-end Inv-loop μ-loop
-part-leading-end c = omega arith
-
 leading-requires : tie.Need-leading-requires Inv-loop μ-loop
 leading-requires c κs =
     let at-find-rule = c .before .before .before .before .before in
-    let at-loop-test = at-find-rule .before .before .before .before .before in
+    let at-loop-test = at-find-rule .before .before .before .before .before .before .before .before in
     let at-loop = at-loop-test .before in
     let at-args = at-loop .before .before .before .before in
     choosing-leads _ _ _ (at-args .args .m) _ (at-args .pre .0) (at-loop .loop .inv .choosing) (at-loop-test
     .loop-test .taken) _ _ _ (at-find-rule .find-rule .ensures)
 
-note-requires : tie.Need-note-requires Inv-loop μ-loop
-note-requires c κs = search needs
-
-same-length : tie.Need-same-length Inv-loop μ-loop
-same-length c = search needs
-
 returns : tie.Need-returns Inv-loop μ-loop
 returns c =
     let at-note = c .before .before in
     let at-leading = at-note .before in
-    let at-if2 = at-leading .before .before .before .before .before in
-    let at-find-rule = at-if2 .before in
-    let at-loop-test = at-find-rule .before .before .before .before .before in
+    let at-found = at-leading .before .before .before .before .before in
+    let at-find-rule = at-found .before in
+    let at-loop-test = at-find-rule .before .before .before .before .before .before .before .before in
     let at-loop = at-loop-test .before in
     let at-args = at-loop .before .before .before .before in (
       choosing-found _ _ _ (at-args .args .m) _ (at-args .pre .0) (at-loop .loop .inv .choosing) (at-loop-test
-          .loop-test .taken) _ _ _ (at-find-rule .find-rule .ensures) (at-if2 .if2 .taken),
+          .loop-test .taken) _ _ _ (at-find-rule .find-rule .ensures) (at-found .if3 .taken),
       choosing-first _ _ _ (at-args
           .args .m) _ (at-args .pre .0) (at-loop .loop .inv .choosing) (at-loop-test .loop-test .taken) _ _ _
-          (at-find-rule .find-rule .ensures) (at-if2 .if2 .taken) _ _ _ (at-loop .loop .inv .knows) (at-leading .leading
+          (at-find-rule .find-rule .ensures) (at-found .if3 .taken) _ _ _ (at-loop .loop .inv .knows) (at-leading .leading
           .ensures) (at-note .note .ensures),
     )
 
-add-note : tie.Need-add-note Inv-loop μ-loop
-add-note c = omega arith
-
-note-requires-2 : tie.Need-note-requires-2 Inv-loop μ-loop
-note-requires-2 c κs = search needs
-
-loop-less : tie.Need-loop-less Inv-loop μ-loop
-loop-less c = omega arith
-
 loop-again : tie.Need-loop-again Inv-loop μ-loop
 loop-again c =
-    let at-note2 = c .before .before in
-    let at-if2 = at-note2 .before .before in
-    let at-find-rule = at-if2 .before in
-    let at-loop-test = at-find-rule .before .before .before .before .before in
+    let at-note = c .before .before in
+    let at-found = at-note .before .before in
+    let at-find-rule = at-found .before in
+    let at-loop-test = at-find-rule .before .before .before .before .before .before .before .before in
     let at-loop = at-loop-test .before in
     let at-pre = at-loop .before .before .before .before in
     noting-next _ _ _ _ _ _ _ (at-pre .pre .0) (at-loop .loop .inv) (at-loop-test .loop-test .taken) (at-pre .pre
-    .1) _ _ _ (at-find-rule .find-rule .ensures) (at-if2 .if2 .left) _ (at-note2 .note2 .ensures)
-
-loop-less-2 : tie.Need-loop-less-2 Inv-loop μ-loop
-loop-less-2 c = omega arith
+    .1) _ _ _ (at-find-rule .find-rule .ensures) (at-found .if3 .left) _ (at-note .note2 .ensures)
 
 loop-again-2 : tie.Need-loop-again-2 Inv-loop μ-loop
 loop-again-2 c =
+    let at-note = c .before .before in
+    let at-possible = at-note .before .before in
+    let at-loop-test = at-possible .before .before .before .before .before .before in
+    let at-loop = at-loop-test .before in
+    let at-pre = at-loop .before .before .before .before in
+    noting-next _ _ _ _ _ _ _ (at-pre .pre .0) (at-loop .loop .inv) (at-loop-test .loop-test .taken) (at-pre .pre .1) _ _ _
+    (impossible-located _ _ _ (at-possible .before .is-possible .ensures) (at-possible .if2 .left)) refl _ (at-note .note3 .ensures)
+
+loop-again-3 : tie.Need-loop-again-3 Inv-loop μ-loop
+loop-again-3 c =
     let at-known-at = c .before in
     let at-loop-test = at-known-at .before .before in
     let at-loop = at-loop-test .before in
@@ -154,28 +121,37 @@ choose-spec =
     Inv-loop
     μ-loop
     loop-holds
-    known-at-requires
-    add-i
-    mul-a
-    add-e
-    mul-find-rule
-    sub-find-rule
-    part-find-rule-start
-    part-find-rule-end
+    (λ c κs. search needs)
+    (λ c. omega arith)
+    (λ c. omega arith)
+    (λ c. omega arith)
+    (λ c. omega arith)
+    (λ c. omega arith)
+    (λ c. omega arith)
+    (λ c. omega arith)
+    is-possible-requires
+    (λ c. omega arith)
+    (λ c. omega arith)
+    (λ c. omega arith)
+    (λ c. omega arith)
     find-rule-requires
-    mul-leading
-    sub-leading
-    part-leading-start
-    part-leading-end
+    (λ c. omega arith)
+    (λ c. omega arith)
+    (λ c. omega arith)
+    (λ c. omega arith)
     leading-requires
-    note-requires
-    same-length
+    (λ c κs. search needs)
+    (λ c. search needs)
     returns
-    add-note
-    note-requires-2
-    loop-less
+    (λ c. omega arith)
+    (λ c κs. search needs)
+    (λ c. omega arith)
     loop-again
-    loop-less-2
+    (λ c. omega arith)
+    (λ c κs. search needs)
+    (λ c. omega arith)
     loop-again-2
+    (λ c. omega arith)
+    loop-again-3
     same-length-2
     returns-2)
