@@ -18,12 +18,11 @@ use lib.Seq.{paste, take-paste, take-suc, take-all, drop-at, length-take-le}
 use Rattle.text.specs.Lists.{has, upTo}
 use Rattle.semantics.specs.Terms.{Constraint}
 use Rattle.semantics.specs.Firing.{without}
-use Rattle.semantics.proofs.Bools.{or-right}
-use Rattle.semantics.proofs.Removal.{has-last, has-other, has-front}
+use Rattle.semantics.proofs.Removal.{has-last, has-other}
 use Rattle.tables.specs.Cells.{cellConstraints}
 use Rattle.tables.proofs.CellLaws.{le-or-lt, constraints-length}
 use Rattle.engine.specs.States.{Equated, Fires, Fired, Skips, Placed}
-use Rattle.engine.proofs.FireLaws.{Moving, moving-start, moving-next, moving-end}
+use Rattle.engine.proofs.FireLaws.{Moving, moving-next, moving-end}
 use Rattle.engine.proofs.GapLaws.{drop-constraints, drop-part}
 use Rattle.engine.proofs.RuleLaws.{kept-equated, kept-fired}
 
@@ -83,7 +82,7 @@ without-next (suc d) p ps (c ∷ cs) t f l =
     rw (t p (omega arith)) (without-next d (suc p) ps cs (λ q h. t q (omega arith)) (λ q h. f q (omega arith)) (omega arith))
 
 -- the first constraints are removed
-pub without-front : (n : ℕ) (cs : List Constraint) → n ≤ length cs → without 0 (upTo n) cs ≡ drop n cs
+without-front : (n : ℕ) (cs : List Constraint) → n ≤ length cs → without 0 (upTo n) cs ≡ drop n cs
 without-front n cs l =
     without-next n 0 (upTo n) cs (λ q h. has-below q n (omega arith)) (λ q h. has-above q n (omega arith)) l
 
@@ -139,8 +138,8 @@ module _ (row positions bindings : List ℕ) (next : ℕ) (cells : List ℕ) (m 
       pub front-done : Fired row positions bindings next bound cells m b (drop (5 * w) (returned (5 * w) cells c)) alive n
       front-done =
           rw (returned-part (5 * w) cells c (omega (arith, f .space)))
-          (kept-fired row positions bindings next cells m f (drop (5 * w) cells) (m - w) (omega arith) front-same bound b c alive n
-          (rw (behind-all (5 * w) cells) at done))
+          (kept-fired row positions bindings next cells m f (drop (5 * w) cells) (m - w) (omega arith) front-same
+          bound b c alive n (rw (behind-all (5 * w) cells) at done))
 
       pub front-skips : Skips m w n
       front-skips = record { few = omega (arith, f .given .heads-few); within = omega (arith, done .few) }

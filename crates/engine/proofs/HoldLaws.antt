@@ -1,15 +1,15 @@
 -- The loop of `normalise`: the state begins at a row of the cells, behind those that were removed at the front.
---   Holding                       the state at its row, and what is known of it
---   holding-start, holding-next    the first state, and the next
---   holding-rests, holding-failed   the end
+--   Holding                          the state at its row, and what is known of it
+--   holding-start, holding-next      the first state, and the next
+--   holding-rests, holding-failed    the end
 -- Assumes nothing.
 use Prim.Native.Nat.{ℕ, _+_, _-_, _*_, _≤_, _<_}
 use native.Mathlib.Omega.{arith}
 use mathlib.Core.Bool.{Bool, true, false}
-use mathlib.Core.List.{List, _++_}
+use mathlib.Core.List.{List}
 use mathlib.Core.Path.{_≡_, refl, ap, sym, _∙_}
 use lib.ListN.{length, take, drop, replicate, length-drop}
-use lib.Seq.{drop-drop, take-all}
+use lib.Seq.{drop-drop}
 use Rattle.engine.specs.States.{Skips, Placed}
 use Rattle.engine.specs.Runs.{storeOf, Live, Stepped, Startable, Ended}
 use Rattle.engine.specs.Known.{Knows, Keeps}
@@ -44,7 +44,8 @@ module _ (rules : List ℕ) (n : ℕ) (bound cells : List ℕ) (m next : ℕ) wh
       -- the state has failed
       pub holding-failed : alive ≡ false → Ended rules n bound cells m next bound′ cells′ false count number firings
       holding-failed z =
-          running-failed rules n bound cells m next s bound′ (drop (5 * at) cells′) alive count number firings (h .running) cells′ z
+          running-failed rules n bound cells m next s bound′ (drop (5 * at) cells′) alive count number firings (h .running)
+          cells′ z
 
       module _ (z : alive ≡ true) where
         few : count ≤ 512
@@ -70,7 +71,7 @@ module _ (rules : List ℕ) (n : ℕ) (bound cells : List ℕ) (m next : ℕ) wh
               running-placed rules n bound cells m next s bound′ (drop (5 * at) cells′) alive count number firings (h .running)
               (behind (5 * a) c) lent (omega (arith, lent-room))
 
-          pub holding-within : 5 * a ≤ length c
+          holding-within : 5 * a ≤ length c
           holding-within = omega (arith, there)
 
           -- what a step asks
@@ -82,9 +83,10 @@ module _ (rules : List ℕ) (n : ℕ) (bound cells : List ℕ) (m next : ℕ) wh
             few,
           )
 
-          module _ (b g : List ℕ) (f x : Bool) (k skip : ℕ)
-              (t : Stepped rules n bound′ (behind (5 * a) c) count number b (drop (5 * skip) g) f x k)
-              (skips : Skips count skip k) (same-size : length g ≡ length (behind (5 * a) c)) where
+          module _ (b g known′ : List ℕ) (f x : Bool) (k skip : ℕ)
+              (t : Stepped rules n bound′ (behind (5 * a) c) count number b (drop (5 * skip) g) f x k
+              × Keeps rules n known′ (drop (5 * skip) g) f x k × Skips count skip k)
+              (same-size : length g ≡ length (behind (5 * a) c)) where
             size-now : length (returned (5 * a) c g) ≡ length c
             size-now = returned-size (5 * a) c g holding-within same-size
 
@@ -97,43 +99,38 @@ module _ (rules : List ℕ) (n : ℕ) (bound cells : List ℕ) (m next : ℕ) wh
 
             -- what moving it to the front asks
             pub holding-down : 5 * (a + skip + count) ≤ length (returned (5 * a) c g)
-            holding-down = omega (arith, size-now, there, skips .few)
+            holding-down = omega (arith, size-now, there, t .2 .few)
 
             -- no rule fits
             pub holding-rests :
-                f ≡ false → (d : List ℕ) → take (5 * count) d ≡ take (5 * count) (drop (5 * (a + skip)) (returned (5 * a) c g))
+                f ≡ false → (d : List ℕ)
+                → take (5 * count) d ≡ take (5 * count) (drop (5 * (a + skip)) (returned (5 * a) c g))
                 → Ended rules n bound cells m next b d true count number firings
             holding-rests y d e =
                 ended-placed rules n bound cells m next b (drop (5 * skip) g) true count number firings
                 (running-rests rules n bound cells m next s bound′ (behind (5 * a) c) alive count number firings here z
-                b (drop (5 * skip) g) f x k t y) d (e ∙ ap (take (5 * count)) state-now)
+                b (drop (5 * skip) g) f x k (t .0) y) d (e ∙ ap (take (5 * count)) state-now)
 
             module _ (y : f ≡ true) where
               pub holding-less : 512 - (firings + 1) < 512 - firings
               holding-less =
                   running-less rules n bound cells m next s bound′ (behind (5 * a) c) alive count number firings here z
-                  b (drop (5 * skip) g) f x k t y
+                  b (drop (5 * skip) g) f x k (t .0) y
 
               -- a rule has fired
               pub holding-next :
-                  (known′ : List ℕ) → length b ≡ length bound′ → Keeps rules n known′ (drop (5 * skip) g) f x k → length known′ ≡ 32
+                  length b ≡ length bound′ → length known′ ≡ length known
                   → Holding b (returned (5 * a) c g) x k (number + 26) (firings + 1) known′ (a + skip)
-              holding-next known′ o kept l =
+              holding-next o l =
+                  let lent-size : length (behind (5 * a) c) ≡ length c - 5 * a =
+                  ap length (behind-all (5 * a) c) ∙ length-drop (5 * a) c in
                   record {
                     running = rw state-now
                         (running-next rules n bound cells m next s bound′ (behind (5 * a) c) alive count number firings here z
-                        b (drop (5 * skip) g) f x k t y o
-                        (omega (
-                          arith,
-                          length-drop (5 * skip) g,
-                          same-size,
-                          ap length (behind-all (5 * a) c),
-                          length-drop (5 * a) c,
-                          there,
-                          skips .within,
-                        )));
-                    keeps = rw state-now (keeps-on rules n known′ (drop (5 * skip) g) f x k kept y);
-                    known-size = l;
+                        b (drop (5 * skip) g) f x k (t .0) y o
+                        (omega (arith, length-drop (5 * skip) g, same-size, there, t .2 .within)));
+                    keeps = rw state-now (keeps-on rules n known′ (drop (5 * skip) g) f x k (t .1) y);
+                    known-size = l ∙ h .known-size;
                     cells-size = size-now ∙ size ∙ h .cells-size;
-                    within = omega (arith, size-now, there, skips .within);
+                    within = omega (arith, size-now, there, t .2 .within);
                   }

@@ -210,10 +210,6 @@ low-body (c ∷ cs) h =
 
 module _ (row bindings : List ℕ) (next : ℕ) (cells : List ℕ) (k : ℕ) (q : Equated row bindings next (take (5 * k) cells))
     (space : 5 * k + 30 ≤ length cells) where
-  -- what appending the body asks
-  pub complete-appends : Row row × (length bindings ≡ 26) × (next ≤ 65000) × (5 * k + 30 ≤ length cells)
-  complete-appends = (q .given, q .bindings-size, q .room, space)
-
   module _ (c : List ℕ) (n : ℕ) (same-size : length c ≡ length cells) (appended : Appended row bindings next cells c k n) where
     few-after : n ≤ k + 6
     few-after = omega (arith, appended .count, q .given .body-few)

@@ -89,8 +89,8 @@ module _ (rules : List ℕ) (n : ℕ) (cells : List ℕ) (m next : ℕ) (s : Liv
           omega (
             arith,
             match-few (ruleOfRow [] row .heads) (take (getD row 3 0) ps) (storeOf cells m) (assigned b) fits,
-            constraints-length (getD row 3 0) (take (5 * getD row 3 0) (drop 6 row))
-                (length-take-le (5 * getD row 3 0) (drop 6 row) (omega (arith, given .size, given .heads-few, length-drop 6 row))),
+            constraints-length (getD row 3 0) (take (5 * getD row 3 0) (drop 6 row)) (length-take-le (5 * getD row 3 0)
+                (drop 6 row) (omega (arith, given .size, given .heads-few, length-drop 6 row))),
             constraints-length m (take (5 * m) cells) (sym step-lent),
           )
 

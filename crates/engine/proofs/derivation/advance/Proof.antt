@@ -15,9 +15,7 @@ slice-reshare-prefix-choose : tie.Need-slice-reshare-prefix-choose
 slice-reshare-prefix-choose c = search needs
 
 slice-aggregate-choose : tie.Need-slice-aggregate-choose
-slice-aggregate-choose c =
-    let start = c .before .before .before .before .before .before in
-    step-lent _ _ _ _ _ (start .pre .0)
+slice-aggregate-choose c = step-lent _ _ _ _ _ (c .before .before .before .before .before .before .pre .0)
 
 choose-requires : tie.Need-choose-requires
 choose-requires c κs =
@@ -120,7 +118,8 @@ returns-2 c =
     let fits′ = not-false _ (at-if1 .if1 .left) in
     let fired′ = at-fire-front .fire-front .ensures in (
       step-moves _ _ _ _ _ (start .pre .0) _ _ _ _ (chosen′ .0) fits′ _ _ _ _ _ (fired′ .0),
-      step-keeps _ _ _ _ _ (start .pre .0) _ _ _ _ (chosen′ .0) fits′ _ _ _ _ _ (fired′ .0) _ _ (chosen′ .1) (at-lower .lower .ensures),
+      step-keeps _ _ _ _ _ (start .pre .0) _ _ _ _ (chosen′ .0) fits′ _ _ _ _ _ (fired′ .0)
+          _ _ (chosen′ .1) (at-lower .lower .ensures),
       fired′ .1,
     )
 

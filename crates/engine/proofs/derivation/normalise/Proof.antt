@@ -4,8 +4,7 @@ use borrow.Author.Needs.{needs}
 use Prim.Native.Nat.{_-_}
 use borrow.Author.Tests.{not-true, not-false}
 use native.Mathlib.Omega.{arith}
-use mathlib.Core.Path.{_∙_}
-use Rattle.engine.proofs.HoldLaws.{Holding, holding-start, holding-failed, holding-room, holding-within, holding-live}
+use Rattle.engine.proofs.HoldLaws.{Holding, holding-start, holding-failed, holding-room, holding-live}
 use Rattle.engine.proofs.HoldLaws.{holding-down, holding-rests, holding-less, holding-next}
 use Rattle.engine.proofs.derivation.normalise.Statement.{statement}
 use Rattle.engine.proofs.derivation.normalise.Tie as tie
@@ -19,9 +18,7 @@ abbrev μ-loop : tie.MeasureT-loop
     512 - firings
 
 loop-holds : tie.Need-loop-holds Inv-loop μ-loop
-loop-holds c =
-    let start = c .before .before .before in
-    holding-start _ _ _ _ _ _ (start .pre)
+loop-holds c = search holding-start
 
 make-room-requires : tie.Need-make-room-requires Inv-loop μ-loop
 make-room-requires c κs =
@@ -31,34 +28,22 @@ make-room-requires c κs =
     holding-room _ _ _ _ _ _ (start .pre) _ _ _ _ _ _ _ _ (at-loop .loop .inv) (at-loop-test .loop-test .taken)
 
 mul-a : tie.Need-mul-a Inv-loop μ-loop
-mul-a c =
-    let at-make-room = c .before .before in
-    omega (arith, at-make-room .make-room .ensures .space)
+mul-a c = omega (arith, c .before .before .make-room .ensures .space)
 
 slice-aggregate-advance : tie.Need-slice-aggregate-advance Inv-loop μ-loop
-slice-aggregate-advance c =
-    let at-loop = c .before .before .before .before .before .before in
-    omega (arith, at-loop .loop .inv .known-size)
+slice-aggregate-advance c = omega (arith, c .before .before .before .before .before .before .loop .inv .known-size)
 
 mul-advance : tie.Need-mul-advance Inv-loop μ-loop
-mul-advance c =
-    let at-make-room = c .before .before .before .before in
-    omega (arith, at-make-room .make-room .ensures .space)
+mul-advance c = omega (arith, c .before .before .before .before .make-room .ensures .space)
 
 sub-advance : tie.Need-sub-advance Inv-loop μ-loop
-sub-advance c =
-    let at-make-room = c .before .before .before .before in
-    omega (arith, at-make-room .make-room .ensures .space)
+sub-advance c = omega (arith, c .before .before .before .before .make-room .ensures .space)
 
 part-advance-start : tie.Need-part-advance-start Inv-loop μ-loop
-part-advance-start c =
-    let at-make-room = c .before .before .before .before in
-    omega (arith, at-make-room .make-room .ensures .space)
+part-advance-start c = omega (arith, c .before .before .before .before .make-room .ensures .space)
 
 part-advance-end : tie.Need-part-advance-end Inv-loop μ-loop
-part-advance-end c =
-    let at-make-room = c .before .before .before .before in
-    omega (arith, at-make-room .make-room .ensures .space)
+part-advance-end c = omega (arith, c .before .before .before .before .make-room .ensures .space)
 
 advance-requires : tie.Need-advance-requires Inv-loop μ-loop
 advance-requires c κs =
@@ -66,8 +51,9 @@ advance-requires c κs =
     let at-loop-test = at-make-room .before .before in
     let at-loop = at-loop-test .before in
     let start = at-loop .before .before .before .before in
-    holding-live _ _ _ _ _ _ (start .pre) _ _ _ _ _ _ _ _ (at-loop .loop .inv) (at-loop-test .loop-test .taken) _ _ (at-make-room .make-room .kept .0)
-    (at-make-room .make-room .ensures)
+    let room = at-make-room .make-room in
+    holding-live _ _ _ _ _ _ (start .pre) _ _ _ _ _ _ _ _ (at-loop .loop .inv) (at-loop-test .loop-test .taken) _ _
+    (room .kept .0) (room .ensures)
 
 add-at : tie.Need-add-at Inv-loop μ-loop
 add-at c =
@@ -82,8 +68,10 @@ move-down-requires c κs =
     let at-loop-test = at-make-room .before .before in
     let at-loop = at-loop-test .before in
     let start = at-loop .before .before .before .before in
-    holding-down _ _ _ _ _ _ (start .pre) _ _ _ _ _ _ _ _ (at-loop .loop .inv) (at-loop-test .loop-test .taken) _ _ (at-make-room .make-room .kept .0)
-    (at-make-room .make-room .ensures) _ _ _ _ _ _ (at-advance .advance .ensures .0) (at-advance .advance .ensures .2) (at-advance .advance .kept .1 .1 .1 .1 .0)
+    let step = at-advance .advance in
+    let room = at-make-room .make-room in
+    holding-down _ _ _ _ _ _ (start .pre) _ _ _ _ _ _ _ _ (at-loop .loop .inv) (at-loop-test .loop-test .taken) _ _
+    (room .kept .0) (room .ensures) _ _ _ _ _ _ _ (step .ensures) (step .kept .1 .1 .1 .1 .0)
 
 same-length : tie.Need-same-length Inv-loop μ-loop
 same-length c = search needs
@@ -100,8 +88,10 @@ returns c =
     let at-loop-test = at-make-room .before .before in
     let at-loop = at-loop-test .before in
     let start = at-loop .before .before .before .before in
-    holding-rests _ _ _ _ _ _ (start .pre) _ _ _ _ _ _ _ _ (at-loop .loop .inv) (at-loop-test .loop-test .taken) _ _ (at-make-room .make-room .kept .0)
-    (at-make-room .make-room .ensures) _ _ _ _ _ _ (at-advance .advance .ensures .0) (at-advance .advance .ensures .2) (at-advance .advance .kept .1 .1 .1 .1 .0)
+    let step = at-advance .advance in
+    let room = at-make-room .make-room in
+    holding-rests _ _ _ _ _ _ (start .pre) _ _ _ _ _ _ _ _ (at-loop .loop .inv) (at-loop-test .loop-test .taken) _ _
+    (room .kept .0) (room .ensures) _ _ _ _ _ _ _ (step .ensures) (step .kept .1 .1 .1 .1 .0)
     (not-true _ (at-if1 .if1 .taken)) _ (at-move-down .move-down .ensures)
 
 loop-less : tie.Need-loop-less Inv-loop μ-loop
@@ -111,8 +101,10 @@ loop-less c =
     let at-loop-test = at-make-room .before .before in
     let at-loop = at-loop-test .before in
     let start = at-loop .before .before .before .before in
-    holding-less _ _ _ _ _ _ (start .pre) _ _ _ _ _ _ _ _ (at-loop .loop .inv) (at-loop-test .loop-test .taken) _ _ (at-make-room .make-room .kept .0)
-    (at-make-room .make-room .ensures) _ _ _ _ _ _ (at-advance .advance .ensures .0) (at-advance .advance .ensures .2) (at-advance .advance .kept .1 .1 .1 .1 .0)
+    let step = at-advance .advance in
+    let room = at-make-room .make-room in
+    holding-less _ _ _ _ _ _ (start .pre) _ _ _ _ _ _ _ _ (at-loop .loop .inv) (at-loop-test .loop-test .taken) _ _
+    (room .kept .0) (room .ensures) _ _ _ _ _ _ _ (step .ensures) (step .kept .1 .1 .1 .1 .0)
     (not-false _ (c .if1 .left))
 
 add-number : tie.Need-add-number Inv-loop μ-loop
@@ -128,24 +120,20 @@ loop-again c =
     let at-loop-test = at-make-room .before .before in
     let at-loop = at-loop-test .before in
     let start = at-loop .before .before .before .before in
-    holding-next _ _ _ _ _ _ (start .pre) _ _ _ _ _ _ _ _ (at-loop .loop .inv) (at-loop-test .loop-test .taken) _ _ (at-make-room .make-room .kept .0)
-    (at-make-room .make-room .ensures) _ _ _ _ _ _ (at-advance .advance .ensures .0) (at-advance .advance .ensures .2) (at-advance .advance .kept .1 .1 .1 .1 .0)
-    (not-false _ (c .if1 .left)) _ (at-advance .advance .kept .1 .1 .1 .0) (at-advance .advance .ensures .1)
-    (at-advance .advance .kept .1 .1 .0 ∙ at-loop .loop .inv .known-size)
+    let step = at-advance .advance in
+    let room = at-make-room .make-room in
+    holding-next _ _ _ _ _ _ (start .pre) _ _ _ _ _ _ _ _ (at-loop .loop .inv) (at-loop-test .loop-test .taken) _ _
+    (room .kept .0) (room .ensures) _ _ _ _ _ _ _ (step .ensures) (step .kept .1 .1 .1 .1 .0)
+    (not-false _ (c .if1 .left)) (step .kept .1 .1 .1 .0) (step .kept .1 .1 .0)
 
 same-length-3 : tie.Need-same-length-3 Inv-loop μ-loop
 same-length-3 c = search needs
 
 same-length-4 : tie.Need-same-length-4 Inv-loop μ-loop
-same-length-4 c =
-    let at-loop = c .before in
-    at-loop .loop .inv .cells-size
+same-length-4 c = c .before .loop .inv .cells-size
 
 returns-2 : tie.Need-returns-2 Inv-loop μ-loop
-returns-2 c =
-    let at-loop = c .before in
-    let start = at-loop .before .before .before .before in
-    holding-failed _ _ _ _ _ _ (start .pre) _ _ _ _ _ _ _ _ (at-loop .loop .inv) (c .loop-test .left)
+returns-2 c = search holding-failed
 
 pub normalise-spec : {M : Type 1} → statement M
 normalise-spec =

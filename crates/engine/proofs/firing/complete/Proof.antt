@@ -1,7 +1,7 @@
 -- `complete` meets its contract: append, solve.
 -- Assumes nothing.
 use borrow.Author.Needs.{needs}
-use Rattle.engine.proofs.RuleLaws.{complete-appends, complete-within, complete-lends, complete-equated, complete-done}
+use Rattle.engine.proofs.RuleLaws.{complete-within, complete-lends, complete-equated, complete-done}
 use Rattle.engine.proofs.firing.complete.Statement.{statement}
 use Rattle.engine.proofs.firing.complete.Tie as tie
 use Rattle.engine.proofs.firing.append_body.Reads as append-body-reads

@@ -33,7 +33,8 @@ complete-requires c κs =
     let at-remove = c .before .before .before .before in
     let at-wide = at-remove .before .before in
     let start = at-wide .before .before .before .before .before .before in
-    fire-completes _ _ _ _ _ _ (start .pre) _ (at-wide .wide .ensures .0) _ _ (at-remove .remove .kept .0) (at-remove .remove .ensures)
+    fire-completes _ _ _ _ _ _ (start .pre) _ (at-wide .wide .ensures .0) _ _
+    (at-remove .remove .kept .0) (at-remove .remove .ensures)
 
 same-length : tie.Need-same-length
 same-length c = search needs
@@ -47,8 +48,8 @@ returns c =
     let at-remove = at-complete .before .before .before .before .before in
     let at-wide = at-remove .before .before in
     let start = at-wide .before .before .before .before .before .before in
-    fire-done _ _ _ _ _ _ (start .pre) _ (at-wide .wide .ensures .0) _ _ (at-remove .remove .kept .0) (at-remove .remove .ensures) _ _ _ _ _
-    (at-complete .complete .ensures)
+    fire-done _ _ _ _ _ _ (start .pre) _ (at-wide .wide .ensures .0) _ _
+    (at-remove .remove .kept .0) (at-remove .remove .ensures) _ _ _ _ _ (at-complete .complete .ensures)
 
 pub fire-spec : {M : Type 1} → statement M
 fire-spec =

@@ -1,7 +1,6 @@
 -- `fire_front` meets its contract: behind the first constraints, or as `fire` does.
 -- Assumes nothing.
 use borrow.Author.Needs.{needs}
-use native.Mathlib.Omega.{arith}
 use Rattle.engine.proofs.FrontLaws.{front-asks, front-completes, front-done, front-skips, none-skipped}
 use Rattle.engine.proofs.firing.fire_front.Statement.{statement}
 use Rattle.engine.proofs.firing.fire_front.Tie as tie
@@ -44,7 +43,8 @@ complete-requires c κs =
     let at-is-front = at-if1 .before in
     let at-wide = at-is-front .before in
     let start = at-wide .before .before .before .before .before .before in
-    front-completes _ _ _ _ _ _ (start .pre .0) (start .pre .1) _ (at-wide .wide .ensures .0) (at-is-front .is-front .ensures (at-if1 .if1 .taken))
+    front-completes _ _ _ _ _ _ (start .pre .0) (start .pre .1) _ (at-wide .wide .ensures .0)
+    (at-is-front .is-front .ensures (at-if1 .if1 .taken))
 
 same-length : tie.Need-same-length
 same-length c = search needs
@@ -76,9 +76,7 @@ same-length-4 : tie.Need-same-length-4
 same-length-4 c = search needs
 
 returns-2 : tie.Need-returns-2
-returns-2 c =
-    let at-fire = c .before .before .before .before in
-    (at-fire .fire .ensures, none-skipped _ _ _ _ _ _ _ _ _ _ _ (at-fire .fire .ensures))
+returns-2 c = (c .before .before .before .before .fire .ensures, search none-skipped)
 
 pub fire-front-spec : {M : Type 1} → statement M
 fire-front-spec =

@@ -1,7 +1,6 @@
 -- `make_room` meets its contract: the constraints stay where they are, or are copied to the front.
 -- Assumes nothing.
 use borrow.Author.Needs.{needs}
-use native.Mathlib.Omega.{arith}
 use Rattle.engine.proofs.FrontLaws.{placed-here, placed-down}
 use Rattle.engine.proofs.firing.make_room.Statement.{statement}
 use Rattle.engine.proofs.firing.make_room.Tie as tie
