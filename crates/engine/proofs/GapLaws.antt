@@ -154,7 +154,7 @@ pub topping-end : (positions : List ℕ) (n p top i : ℕ) → Topping positions
 topping-end positions n p top i w h = let e : i ≡ n = omega (arith, w .within) in rw e at (w .same)
 
 -- part of a part
-drop-part : (a n : ℕ) (l : List ℕ) → a + n ≤ length l → drop a (take (a + n) l) ≡ take n (drop a l)
+pub drop-part : (a n : ℕ) (l : List ℕ) → a + n ≤ length l → drop a (take (a + n) l) ≡ take n (drop a l)
 drop-part a n l h = rw (take-add a n l) (drop-at (take a l) (take n (drop a l)) a (length-take-le a l (omega arith)))
 
 -- the constraints after a gap is closed

@@ -352,6 +352,13 @@ pub keeps-on :
     → f ≡ true → Keeps rules n known cells true alive count
 keeps-on rules n known cells f alive count k e = rw e at k
 
+-- the same constraints in other cells
+pub keeps-placed :
+    (rules : List ℕ) (n : ℕ) (known cells cells′ : List ℕ) (f alive : Bool) (count : ℕ) → Keeps rules n known cells f alive count
+    → take (5 * count) cells′ ≡ take (5 * count) cells → Keeps rules n known cells′ f alive count
+unfolding storeOf
+keeps-placed rules n known cells cells′ f alive count k e = record { knows = λ y z. rw e (k .knows y z) }
+
 -- terms do not concern
 symbol-mapped : (s : ℕ) (σ : Term → Term) (cs : List Constraint) → hasSymbol s (map (mapTerms σ) cs) ≡ hasSymbol s cs
 unfolding hasSymbol mapTerms

@@ -9,11 +9,13 @@ pub mod SearchLaws
 pub mod ChooseLaws
 pub mod SolveLaws
 pub mod RuleLaws
+pub mod FrontLaws
 pub mod WeightLaws
 pub mod FiredLaws
 pub mod KnownLaws
 pub mod StepLaws
 pub mod StatedLaws
 pub mod RunLaws
+pub mod HoldLaws
 pub mod EnterLaws
 pub mod GoalLaws

@@ -8,11 +8,12 @@ use mathlib.Core.Logic.{⊎-elim}
 use mathlib.Core.Path.{_≡_, refl, ap, sym, _∙_}
 use lib.Dec.{leb}
 use lib.ListN.{length, getD, take, drop, replicate, length-append, length-drop, length-map}
-use lib.Seq.{take-append-le, take-all, length-take-le, take-at}
+use lib.Seq.{take-append-le, take-all, length-take-le, take-at, take-nil}
 use borrow.Author.Tests.{le-leb}
 use Rattle.text.specs.Lists.{has, every}
 use Rattle.semantics.specs.Terms.{Term, con, var, Constraint, Equation, mapTerms, mapSides, isBelow, alphabet}
 use Rattle.semantics.specs.Firing.{without, instance, fired}
+use Rattle.semantics.proofs.Removal.{without-none}
 use Rattle.tables.specs.Cells.{cellTerm, cellConstraints, cellEquations, isLow}
 use Rattle.tables.specs.Rows.{ruleOfRow}
 use Rattle.engine.specs.Cells.{assigned, instanceCell}
@@ -207,87 +208,103 @@ low-body (c ∷ cs) h =
       low-body cs (and-true (isLow c && isLettered c) (every (λ (c : Constraint). isLow c && isLettered c) cs) h .1),
     )
 
-module _ (row positions bindings : List ℕ) (next : ℕ) (cells : List ℕ) (m w : ℕ) (f : Fires row positions bindings next cells m)
-    (z : w ≡ getD row 3 0) where
-  -- the constraints that there are
-  pub fire-lent : 5 * m ≡ length (take (5 * m) cells)
-  fire-lent = sym (length-take-le (5 * m) cells (omega (arith, f .space)))
+module _ (row bindings : List ℕ) (next : ℕ) (cells : List ℕ) (k : ℕ) (q : Equated row bindings next (take (5 * k) cells))
+    (space : 5 * k + 30 ≤ length cells) where
+  module _ (c : List ℕ) (n : ℕ) (same-size : length c ≡ length cells) (appended : Appended row bindings next cells c k n) where
+    few-after : n ≤ k + 6
+    few-after = omega (arith, appended .count, q .given .body-few)
 
-  pub fire-removes : (length (take (5 * m) cells) ≡ 5 * m) × (w ≤ 4) × (length positions ≡ 4)
-  fire-removes = (sym fire-lent, omega (arith, f .given .heads-few), f .positions-size)
+    pub complete-within : 5 * n ≤ length c
+    complete-within = omega (arith, few-after)
 
-  module _ (left : List ℕ) (k : ℕ) (kept : length left ≡ length (take (5 * m) cells))
-      (removed : Removed m (take w positions) (take (5 * m) cells) left k) where
-    size-left : length left ≡ 5 * m
-    size-left = kept ∙ sym fire-lent
+    pub complete-lends : 5 * n ≡ length (take (5 * n) c)
+    complete-lends = sym (length-take-le (5 * n) c complete-within)
 
-    -- what appending the body asks
-    pub fire-appends :
-        Row row × (length bindings ≡ 26) × (next ≤ 65000) × (5 * k + 30 ≤ length (left ++ drop (5 * m) cells))
-    fire-appends = (
-      f .given,
-      f .bindings-size,
-      f .room,
-      omega (arith, removed .few, f .space, length-append left (drop (5 * m) cells), length-drop (5 * m) cells, size-left),
-    )
+    -- what solving the equations asks
+    pub complete-equated : Equated row bindings next (take (5 * n) c)
+    complete-equated =
+        record {
+          given = q .given;
+          bindings-size = q .bindings-size;
+          room = q .room;
+          low = rw (appended .same) (every-append isLow (cellConstraints (take (5 * k) cells))
+              (map (mapTerms (instance next (assigned bindings))) (ruleOfRow [] row .body)) (q .low)
+              (low-kept (instance next (assigned bindings)) (ruleOfRow [] row .body) ∙ low-body (ruleOfRow [] row .body)
+              (q .given .body)));
+        }
 
-    module _ (c : List ℕ) (n : ℕ) (same-size : length c ≡ length (left ++ drop (5 * m) cells))
-        (appended : Appended row bindings next (left ++ drop (5 * m) cells) c k n) where
-      -- the constraints before the equations
-      before :
-          cellConstraints (take (5 * n) c)
-          ≡ without 0 (take (getD row 3 0) positions) (cellConstraints (take (5 * m) cells))
-          ++ map (mapTerms (instance next (assigned bindings))) (ruleOfRow [] row .body)
-      before =
-          appended .same
-          ∙ rw (take-append-le (5 * k) left (drop (5 * m) cells) (omega (arith, removed .few, size-left)), removed .same, z)
+    -- the state after all: nothing is removed
+    pub complete-done :
+        (alive : Bool) (bound b s : List ℕ) → length s ≡ length (take (5 * n) c)
+        → SolvedRule alive row bindings next bound (take (5 * n) c) b s
+        → Fired row [] bindings next bound cells k b (s ++ drop (5 * n) c) alive n
+    unfolding fired alphabet ruleOfRow
+    complete-done alive bound b s l solved =
+        record {
+          same = λ names.
+              rw (
+                take-at s (drop (5 * n) c) (5 * n) (l ∙ sym complete-lends),
+                take-nil (getD row 3 0),
+                without-none 0 (cellConstraints (take (5 * k) cells)),
+              ) (solved .same (next + 26) ∙ rw (appended .same));
+          few = few-after;
+        }
 
-      few-after : n ≤ m + 6
-      few-after = omega (arith, appended .count, removed .few, f .given .body-few)
-
-      within : 5 * n ≤ length c
-      within =
-          omega (
-            arith,
-            few-after,
-            f .space,
-            same-size,
-            length-append left (drop (5 * m) cells),
-            length-drop
-                (5 * m) cells,
-            size-left,
-          )
-
-      pub fire-lends : 5 * n ≡ length (take (5 * n) c)
-      fire-lends = sym (length-take-le (5 * n) c within)
-
-      pub fire-within : 5 * n ≤ length c
-      fire-within = within
-
-      -- what solving the equations asks
-      pub fire-equated : Equated row bindings next (take (5 * n) c)
-      fire-equated =
+module _ (row positions bindings : List ℕ) (next : ℕ) (cells : List ℕ) (m : ℕ) (f : Fires row positions bindings next cells m)
+  where
+    -- the constraints that are kept, wherever they stand
+    module _ (left : List ℕ) (k : ℕ) (few-left : k ≤ m)
+        (same : cellConstraints (take (5 * k) left)
+        ≡ without 0 (take (getD row 3 0) positions) (cellConstraints (take (5 * m) cells))) where
+      pub kept-equated : Equated row bindings next (take (5 * k) left)
+      kept-equated =
           record {
             given = f .given;
             bindings-size = f .bindings-size;
             room = f .room;
-            low = rw before (every-append isLow (without 0 (take (getD row 3 0) positions) (cellConstraints (take
-                (5 * m) cells)))
-                (map (mapTerms (instance next (assigned bindings))) (ruleOfRow [] row .body))
-                (low-without 0 (take (getD row 3 0) positions) (cellConstraints (take (5 * m) cells)) (f .low))
-                (low-kept (instance next (assigned bindings)) (ruleOfRow [] row .body) ∙ low-body (ruleOfRow [] row .body)
-                (f .given .body)));
+            low = rw same (low-without 0 (take (getD row 3 0) positions) (cellConstraints (take (5 * m) cells)) (f .low));
           }
 
-      -- the state after all
-      pub fire-done :
-          (alive : Bool) (bound b s : List ℕ) → length s ≡ length (take (5 * n) c)
-          → SolvedRule alive row bindings next bound (take (5 * n) c) b s
-          → Fired row positions bindings next bound cells m b (s ++ drop (5 * n) c) alive n
-      unfolding fired alphabet ruleOfRow
-      fire-done alive bound b s l solved =
+      pub kept-fired :
+          (bound b c : List ℕ) (alive : Bool) (n : ℕ) → Fired row [] bindings next bound left k b c alive n
+          → Fired row positions bindings next bound cells m b c alive n
+      unfolding fired
+      kept-fired bound b c alive n done =
           record {
             same = λ names.
-                rw (take-at s (drop (5 * n) c) (5 * n) (l ∙ sym fire-lends)) (solved .same (next + 26) ∙ rw before);
-            few = few-after;
+                rw (take-nil (getD row 3 0), without-none 0 (cellConstraints (take (5 * k) left)), same) at (done .same names);
+            few = omega (arith, done .few);
           }
+
+    module _ (w : ℕ) (z : w ≡ getD row 3 0) where
+      -- the constraints that there are
+      pub fire-lent : 5 * m ≡ length (take (5 * m) cells)
+      fire-lent = sym (length-take-le (5 * m) cells (omega (arith, f .space)))
+
+      pub fire-removes : (length (take (5 * m) cells) ≡ 5 * m) × (w ≤ 4) × (length positions ≡ 4)
+      fire-removes = (sym fire-lent, omega (arith, f .given .heads-few), f .positions-size)
+
+      module _ (left : List ℕ) (k : ℕ) (kept : length left ≡ length (take (5 * m) cells))
+          (removed : Removed m (take w positions) (take (5 * m) cells) left k) where
+        size-left : length left ≡ 5 * m
+        size-left = kept ∙ sym fire-lent
+
+        same-left : cellConstraints (take (5 * k) (left ++ drop (5 * m) cells))
+            ≡ without 0 (take (getD row 3 0) positions) (cellConstraints (take (5 * m) cells))
+        same-left =
+            rw (take-append-le (5 * k) left (drop (5 * m) cells) (omega (arith, removed .few, size-left)), ← z) (removed .same)
+
+        -- what the rest of the firing asks
+        pub fire-completes : Equated row bindings next (take (5 * k) (left ++ drop (5 * m) cells))
+            × (5 * k + 30 ≤ length (left ++ drop (5 * m) cells))
+        fire-completes = (
+          kept-equated (left ++ drop (5 * m) cells) k (removed .few) same-left,
+          omega (arith, removed .few, f .space, length-append left (drop (5 * m) cells), length-drop (5 * m) cells, size-left),
+        )
+
+        -- the state after all
+        pub fire-done :
+            (bound b c : List ℕ) (alive : Bool) (n : ℕ)
+            → Fired row [] bindings next bound (left ++ drop (5 * m) cells) k b c alive n
+            → Fired row positions bindings next bound cells m b c alive n
+        fire-done = kept-fired (left ++ drop (5 * m) cells) k (removed .few) same-left

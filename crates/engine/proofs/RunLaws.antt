@@ -54,8 +54,7 @@ module _ (rules : List ℕ) (n : ℕ) (bound cells : List ℕ) (m next : ℕ) wh
   -- the state so far, after some firings, has the end of the state at the start
   pub record Running (bound′ cells′ : List ℕ) (alive : Bool) (count number firings : ℕ) : Type 0 where
     pub bound-size : length bound′ ≡ length bound
-    pub cells-size : length cells′ ≡ length cells
-    pub there : count ≤ 518
+    pub there : 5 * count ≤ length cells′
     pub numbered : number ≡ next + 26 * firings
     pub low : alive ≡ true → every isLow (storeOf cells′ count) ≡ true
     pub lighter :
@@ -72,8 +71,7 @@ module _ (rules : List ℕ) (n : ℕ) (bound cells : List ℕ) (m next : ℕ) wh
     running-start =
         record {
           bound-size = refl;
-          cells-size = refl;
-          there = s .there;
+          there = omega (arith, s .there, s .space);
           numbered = omega arith;
           low = λ z. s .runs .low;
           lighter = λ w lw. omega arith;
@@ -82,10 +80,26 @@ module _ (rules : List ℕ) (n : ℕ) (bound cells : List ℕ) (m next : ℕ) wh
 
     module _ (bound′ cells′ : List ℕ) (alive : Bool) (count number firings : ℕ)
         (r : Running bound′ cells′ alive count number firings) where
-      -- the state has failed
-      pub running-failed : alive ≡ false → Ended rules n bound cells m next bound′ cells′ false count number firings
+      -- the same constraints in other cells
+      pub running-placed :
+          (c : List ℕ) → take (5 * count) c ≡ take (5 * count) cells′ → 5 * count ≤ length c
+          → Running bound′ c alive count number firings
+      unfolding storeOf
+      running-placed c e l =
+          record {
+            bound-size = r .bound-size;
+            there = l;
+            numbered = r .numbered;
+            low = λ z. rw e (r .low z);
+            lighter = λ w lw. rw e (r .lighter w lw);
+            same = λ names fuel h. rw e (r .same names fuel h);
+          }
+
+      -- the state has failed: no cell counts
+      pub running-failed :
+          (c : List ℕ) → alive ≡ false → Ended rules n bound cells m next bound′ c false count number firings
       unfolding stateOf
-      running-failed z =
+      running-failed c z =
           record {
             same = λ names fuel h.
                 sym (normalise-rests (fuel - firings) (rulesOf names rules n) failed firings (failed-rests
@@ -108,15 +122,15 @@ module _ (rules : List ℕ) (n : ℕ) (bound cells : List ℕ) (m next : ℕ) wh
             omega (
               arith,
               weight-left,
-              count-weight (s .runs .weigh) cells′ count (s .runs .positive) (omega (arith, r .there, r .cells-size, s .space)),
+              count-weight (s .runs .weigh) cells′ count (s .runs .positive) (r .there),
             )
 
         -- what a step asks
-        pub running-live : Live rules n cells′ count number
-        running-live =
+        pub running-live : 5 * count + 30 ≤ length cells′ → Live rules n cells′ count number
+        running-live l =
             record {
               table = s .runs .table;
-              space = omega (arith, few-now, r .cells-size, s .space);
+              space = l;
               room = omega (arith, r .numbered, s .room, weight-left);
               low = r .low z;
             }
@@ -153,12 +167,11 @@ module _ (rules : List ℕ) (n : ℕ) (bound cells : List ℕ) (m next : ℕ) wh
                 rw e (rw z at (r .same names fuel (omega arith)))
 
             -- a rule has fired
-            pub running-next : length b ≡ length bound′ → length c ≡ length cells′ → Running b c a k (number + 26) (firings + 1)
+            pub running-next : length b ≡ length bound′ → 5 * k ≤ length c → Running b c a k (number + 26) (firings + 1)
             running-next p q =
                 record {
                   bound-size = p ∙ r .bound-size;
-                  cells-size = q ∙ r .cells-size;
-                  there = omega (arith, t .few, few-now);
+                  there = q;
                   numbered = omega (arith, r .numbered);
                   low = t .low y;
                   lighter = λ w lw.
@@ -195,6 +208,12 @@ module _ (rules : List ℕ) (n : ℕ) (bound cells : List ℕ) (m next : ℕ) (b
   -- a derivation has few firings
   pub ended-few : Startable rules n cells m next → firings ≤ 512
   ended-few s = omega (arith, e .bounded (s .runs .weigh) (s .runs .lowers), s .runs .light)
+
+  -- the same constraints in other cells
+  pub ended-placed :
+      (c : List ℕ) → take (5 * count) c ≡ take (5 * count) cells′
+      → Ended rules n bound cells m next bound′ c alive count number firings
+  ended-placed c p = record { same = λ names fuel h. rw p (e .same names fuel h); bounded = e .bounded; few = e .few }
 
   -- the end counts the firings before
   pub ended-later :

@@ -6,7 +6,7 @@ use mathlib.Core.Bool.{Bool, true, false}
 use mathlib.Core.List.{List, []}
 use mathlib.Core.Option.{some}
 use mathlib.Core.Path.{_≡_, refl, ap, sym}
-use lib.ListN.{length, getD, take}
+use lib.ListN.{length, getD, take, drop, length-drop}
 use lib.Seq.{length-take-le}
 use Rattle.semantics.specs.Matching.{unassigned, matchAt}
 use Rattle.semantics.specs.Strategy.{advance}
@@ -16,12 +16,14 @@ use Rattle.tables.specs.Cells.{cellConstraints}
 use Rattle.tables.specs.Rows.{nameOf, ruleOfRow, rowOf, ruleOf}
 use Rattle.engine.specs.Cells.{assigned}
 use Rattle.engine.specs.Positions.{foundOf, Row, Table, choiceOf, Chosen}
-use Rattle.engine.specs.States.{Fires, Fired}
+use Rattle.engine.specs.States.{Fires, Fired, Skips}
 use Rattle.engine.specs.Runs.{storeOf, Live, Stepped}
 use Rattle.engine.specs.Known.{Knows, Lowered, Keeps}
 use Rattle.engine.proofs.ChooseLaws.{lentRow, row-cells}
 use Rattle.engine.proofs.FiredLaws.{fired-lighter, fired-low}
 use Rattle.engine.proofs.KnownLaws.{knows-fired}
+use Rattle.engine.proofs.WeightLaws.{match-few}
+use Rattle.tables.proofs.CellLaws.{constraints-length}
 
 -- from nothing
 pub no-way : {A : Type 0} → false ≡ true → A
@@ -59,6 +61,10 @@ module _ (rules : List ℕ) (n : ℕ) (cells : List ℕ) (m next : ℕ) (s : Liv
           few = omega arith;
         }
 
+    -- and nothing is skipped
+    pub step-skips : Skips m 0 m
+    step-skips = record { few = omega arith; within = omega arith }
+
     -- and nothing is kept
     pub step-keeps-none : (known cells′ : List ℕ) (alive : Bool) (count : ℕ) → Keeps rules n known cells′ false alive count
     step-keeps-none known cells′ alive count = record { knows = λ y. no-way y }
@@ -67,32 +73,46 @@ module _ (rules : List ℕ) (n : ℕ) (cells : List ℕ) (m next : ℕ) (s : Liv
       pub step-row : 64 * i + 64 ≤ length rules
       step-row = omega (arith, chosen .within z, s .table .size)
 
+      abbrev row : List ℕ
+      row = rowOf rules i
+
+      -- the rule matches where it fires
+      fits : matchAt (ruleOfRow [] row .heads) (take (getD row 3 0) ps) (storeOf cells m) [] unassigned ≡ some (assigned b)
+      unfolding foundOf storeOf
+      fits = find-sound (ruleOfRow [] row .heads) (cellConstraints (take (5 * m) cells)) _ (sym (chosen .fits z))
+
+      -- its heads are no more than the constraints
+      heads-there : getD row 3 0 ≤ m
+      unfolding ruleOfRow storeOf
+      heads-there =
+          let given : Row row = s .table .rows i (chosen .within z) in
+          omega (
+            arith,
+            match-few (ruleOfRow [] row .heads) (take (getD row 3 0) ps) (storeOf cells m) (assigned b) fits,
+            constraints-length (getD row 3 0) (take (5 * getD row 3 0) (drop 6 row)) (length-take-le (5 * getD row 3 0)
+                (drop 6 row) (omega (arith, given .size, given .heads-few, length-drop 6 row))),
+            constraints-length m (take (5 * m) cells) (sym step-lent),
+          )
+
       -- what firing asks
-      pub step-fires : Fires (lentRow rules i) ps b next cells m
+      pub step-fires : Fires (lentRow rules i) ps b next cells m × (getD (lentRow rules i) 3 0 ≤ m)
       unfolding storeOf
-      step-fires =
-          record {
-            given = rw (row-cells i) (s .table .rows i (chosen .within z));
-            positions-size = chosen .positions-size;
-            bindings-size = chosen .bindings-size;
-            room = s .room;
-            space = s .space;
-            low = s .low;
-          }
+      step-fires = (
+        record {
+          given = rw (row-cells i) (s .table .rows i (chosen .within z));
+          positions-size = chosen .positions-size;
+          bindings-size = chosen .bindings-size;
+          room = s .room;
+          space = s .space;
+          low = s .low;
+        },
+        rw (row-cells i) heads-there,
+      )
 
       module _ (bound bound′ cells′ : List ℕ) (alive : Bool) (count : ℕ)
           (given : Fired (lentRow rules i) ps b next bound cells m bound′ cells′ alive count) where
-        abbrev row : List ℕ
-        row = rowOf rules i
-
         done : Fired row ps b next bound cells m bound′ cells′ alive count
         done = rw (row-cells i) at given
-
-        -- the rule matches where it fires
-        fits :
-            matchAt (ruleOfRow [] row .heads) (take (getD row 3 0) ps) (storeOf cells m) [] unassigned ≡ some (assigned b)
-        unfolding foundOf storeOf
-        fits = find-sound (ruleOfRow [] row .heads) (cellConstraints (take (5 * m) cells)) _ (sym (chosen .fits z))
 
         -- what lowering asks
         pub step-lowers : m ≤ 512 → Table rules n × Row (lentRow rules i) × (count ≤ 65000)

@@ -1,6 +1,7 @@
 -- The constraints at matched positions weigh what the heads do.
 --   weight-append, weight-map      the weight of lists of constraints
 --   weight-length                  no more constraints than weight
+--   match-few                      no more heads than constraints
 --   match-lighter                  what is left beside the matched positions, and the heads, weigh as much as all
 -- Assumes nothing.
 use Prim.Native.Nat.{ℕ, _+_, _≤_}
@@ -11,11 +12,11 @@ use mathlib.Core.Option.{some}
 use mathlib.Core.Path.{_≡_, refl, ap}
 use lib.ListN.{length}
 use Rattle.semantics.specs.Terms.{Term, Constraint, mapTerms}
-use Rattle.semantics.specs.Matching.{Assignment, matchAt}
+use Rattle.semantics.specs.Matching.{Assignment, unassigned, matchAt}
 use Rattle.semantics.specs.Firing.{without}
 use Rattle.semantics.specs.Variants.{Inserted, here, there}
 use Rattle.semantics.proofs.Options.{none-some}
-use Rattle.semantics.proofs.Removal.{without-one}
+use Rattle.semantics.proofs.Removal.{without-one, without-none}
 use Rattle.semantics.proofs.Search.{matchAt-cons}
 use Rattle.semantics.proofs.Weights.{matchConstraint-symbol}
 use Rattle.engine.specs.Runs.{weightBy}
@@ -59,3 +60,22 @@ module _ (w : ℕ → ℕ) where
       let more = rw append-assoc at (match-lighter hs ps cs (chosen ++ (p ∷ [])) (f .next) end (f .rest)) in
       let same = ap w (matchConstraint-symbol h (f .constraint) θ (f .next) (f .fits)) in
       omega (arith, one, more, same)
+
+-- where every symbol weighs 1, the weight is the number of constraints
+weight-one : (l : List Constraint) → weightBy (λ k. 1) l ≡ length l
+unfolding weightBy
+weight-one [] = refl
+weight-one (c ∷ l) = omega (arith, weight-one l)
+
+-- heads that match are no more than the constraints
+pub match-few :
+    (hs : List Constraint) (ps : List ℕ) (cs : List Constraint) (end : Assignment) → matchAt hs ps cs [] unassigned ≡ some end
+    → length hs ≤ length cs
+match-few hs ps cs end e =
+    omega (
+      arith,
+      match-lighter (λ k. 1) hs ps cs [] unassigned end e,
+      weight-one hs,
+      weight-one (without 0 [] cs),
+      ap length (without-none 0 cs),
+    )

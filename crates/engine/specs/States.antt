@@ -3,13 +3,14 @@
 --   Highest, Removed, Appended  the constraints behind a firing
 --   Equated, SolvedRule         a rule's equations
 --   Fires, Fired                a firing
+--   Skips, Placed               where the state begins in its cells
 -- Assumes nothing.
 use Prim.Native.Nat.{ℕ, _+_, _-_, _*_, _≤_, _<_}
 use mathlib.Core.Bool.{Bool, true, false, cond, not}
 use mathlib.Core.List.{List, [], _++_, map}
 use mathlib.Core.Path.{_≡_}
 use lib.Dec.{leb}
-use lib.ListN.{length, take, getD}
+use lib.ListN.{length, take, drop, getD}
 use Rattle.text.specs.Lists.{every, has}
 use Rattle.semantics.specs.Terms.{State, failed, live, mapTerms, mapSides}
 use Rattle.semantics.specs.Solving.{solve}
@@ -89,3 +90,15 @@ pub record Fired (row positions bindings : List ℕ) (next : ℕ) (bound cells :
       ≡ fired (ruleOfRow name row) (take (getD row headsCell 0) positions) (assigned bindings) next (map cellTerm bound)
       (cellConstraints (take (constraintSize * m) cells))
   pub few : after ≤ m + 6
+
+-- a state of m constraints begins `skip` rows later, with count constraints there, all within six more than the m
+pub record Skips (m skip count : ℕ) : Type 0 where
+  pub few : skip ≤ 4
+  pub within : skip + count ≤ m + 6
+
+-- count constraints that stood from one position on stand from another on, with room for six more
+pub record Placed (cells : List ℕ) (at count : ℕ) (cells′ : List ℕ) (at′ : ℕ) : Type 0 where
+  pub same :
+      take (constraintSize * count) (drop (constraintSize * at′) cells′)
+      ≡ take (constraintSize * count) (drop (constraintSize * at) cells)
+  pub space : constraintSize * (at′ + count) + 30 ≤ length cells′

@@ -1,10 +1,15 @@
 // The derivation by the strategy: the lowest-numbered rule that fits fires at the smallest positions, until none fits.
-use crate::firing::fire;
+use crate::firing::fire_front;
+use crate::firing::make_room;
+use crate::firing::move_down;
 use crate::known::lower;
 use crate::search::choose;
 use tables::layout::CONSTRAINT_SIZE;
 use tables::layout::ROW_SIZE;
-ghost use Prim.Native.Nat.{_≤_};
+ghost use Prim.Native.Nat.{_*_, _≤_};
+ghost use lib.ListN.{drop};
+ghost use Rattle.tables.specs.Layout.{constraintSize};
+ghost use Rattle.engine.specs.States.{Skips};
 ghost use Rattle.engine.specs.Runs.{Live, Stepped, Startable, Ended, Continued, storeOf};
 ghost use Rattle.engine.specs.Known.{Knows, Keeps};
 
@@ -13,6 +18,14 @@ pub struct Step {
     pub fired: bool,
     pub alive: bool,
     pub count: usize,
+}
+
+// The same, and how many rows before the state are no longer its own.
+pub struct Forward {
+    pub fired: bool,
+    pub alive: bool,
+    pub count: usize,
+    pub skip: usize,
 }
 
 // The strategy's firing, if a rule fits.
@@ -24,19 +37,22 @@ pub fn advance(
     cells: &mut [u16],
     m: usize,
     next: u16,
-) -> Step
+) -> Forward
     requires { ⌜ Live (now rules) n (now cells) m next × Knows (now rules) n (now known) (storeOf (now cells) m) × (m ≤ 512) ⌝ }
     ensures { λ r. ⌜ Stepped (now (rules .entry)) n (now (bound .entry)) (now (cells .entry)) m next
-        (now (bound .exit)) (now (cells .exit)) (r .fired) (r .alive) (r .count)
-        × Keeps (now (rules .entry)) n (now (known .exit)) (now (cells .exit)) (r .fired) (r .alive) (r .count) ⌝ }
+        (now (bound .exit)) (drop (constraintSize * r .skip) (now (cells .exit))) (r .fired) (r .alive) (r .count)
+        × Keeps (now (rules .entry)) n (now (known .exit)) (drop (constraintSize * r .skip) (now (cells .exit)))
+        (r .fired) (r .alive) (r .count)
+        × Skips m (r .skip) (r .count) ⌝ }
 {
     let e = CONSTRAINT_SIZE * m;
     let choice = choose(rules, n, known, &cells[..e], m);
     if !choice.found {
-        return Step {
+        return Forward {
             fired: false,
             alive: true,
             count: m,
+            skip: 0,
         };
     }
     let number = choice.number;
@@ -44,14 +60,16 @@ pub fn advance(
     let bindings = choice.bindings;
     let a = ROW_SIZE * number;
     let b = a + ROW_SIZE;
-    let after = fire(&rules[a..b], positions, &bindings, next, bound, cells, m);
+    let after = fire_front(&rules[a..b], positions, &bindings, next, bound, cells, m);
     let alive = after.alive;
     let count = after.count;
+    let skip = after.skip;
     lower(rules, n, &rules[a..b], known, m, count);
-    Step {
+    Forward {
         fired: true,
         alive,
         count,
+        skip,
     }
 }
 
@@ -81,9 +99,14 @@ pub fn normalise(
     let mut number = next;
     let mut firings = 0;
     let mut known = [0usize; 32];
+    let mut at = 0;
     while alive {
-        let step = advance(rules, n, &mut known, bound, cells, count, number);
+        at = make_room(cells, at, count);
+        let a = CONSTRAINT_SIZE * at;
+        let step = advance(rules, n, &mut known, bound, &mut cells[a..], count, number);
+        at += step.skip;
         if !step.fired {
+            move_down(cells, at, count);
             return Final {
                 alive: true,
                 count,

@@ -8,14 +8,16 @@ use tables::layout::FIRST_EQUATION;
 use tables::layout::FIRST_VARIABLE;
 use tables::layout::HEADS_CELL;
 use tables::wide;
-ghost use mathlib.Core.List.{map};
+ghost use mathlib.Core.Bool.{true};
+ghost use mathlib.Core.List.{[], map};
 ghost use mathlib.Core.Path.{_≡_};
 ghost use Prim.Native.Nat.{_+_, _*_, _≤_, _<_, min};
-ghost use lib.ListN.{length, take};
-ghost use Rattle.tables.specs.Layout.{constraintSize};
+ghost use lib.ListN.{length, take, drop, getD};
+ghost use Rattle.text.specs.Lists.{upTo};
+ghost use Rattle.tables.specs.Layout.{constraintSize, headsCell};
 ghost use Rattle.engine.specs.Cells.{instanceCell, movedRow, closedGap};
 ghost use Rattle.engine.specs.Positions.{Row};
-ghost use Rattle.engine.specs.States.{Highest, Removed, Appended, Equated, SolvedRule, Fires, Fired};
+ghost use Rattle.engine.specs.States.{Highest, Removed, Appended, Equated, SolvedRule, Fires, Fired, Skips, Placed};
 
 // A cell of a rule's body: what the rule's variable is bound to, or a new variable.
 pub fn instance(cell: u16, bindings: &[u16], next: u16) -> u16
@@ -157,6 +159,26 @@ pub struct After {
     pub count: usize,
 }
 
+// The rest of a firing, behind the constraints that are kept: the body is appended and the equations are solved.
+pub fn complete(
+    row: &[u16],
+    bindings: &[u16],
+    next: u16,
+    bound: &mut [u16],
+    cells: &mut [u16],
+    kept: usize,
+) -> After
+    requires { ⌜ Equated (now row) (now bindings) next (take (constraintSize * kept) (now cells))
+        × (constraintSize * kept + 30 ≤ length (now cells)) ⌝ }
+    ensures { λ r. ⌜ Fired (now (row .entry)) [] (now (bindings .entry)) next (now (bound .entry)) (now (cells .entry)) kept
+        (now (bound .exit)) (now (cells .exit)) (r .alive) (r .count) ⌝ }
+{
+    let count = append_body(row, bindings, next, cells, kept);
+    let end = CONSTRAINT_SIZE * count;
+    let alive = solve_rule(row, bindings, next, bound, &mut cells[..end]);
+    After { alive, count }
+}
+
 // The state after firing a rule at positions that fit.
 pub fn fire(
     row: &[u16],
@@ -174,8 +196,87 @@ pub fn fire(
     let n = wide(row[HEADS_CELL]);
     let old = CONSTRAINT_SIZE * m;
     let kept = remove(&mut cells[..old], m, positions, n);
-    let count = append_body(row, bindings, next, cells, kept);
-    let end = CONSTRAINT_SIZE * count;
-    let alive = solve_rule(row, bindings, next, bound, &mut cells[..end]);
-    After { alive, count }
+    complete(row, bindings, next, bound, cells, kept)
+}
+
+// Whether the first n positions are 0, 1 and on.
+pub fn is_front(positions: [usize; 4], n: usize) -> bool
+    requires { ⌜ (n ≤ 4) × (length positions ≡ 4) ⌝ }
+    ensures { λ r. ⌜ (r ≡ true → take n positions ≡ upTo n) ⌝ }
+{
+    let mut i = 0;
+    while i < n {
+        if positions[i] != i {
+            return false;
+        }
+        i += 1;
+    }
+    true
+}
+
+// Whether a state lives on, how many constraints it has then, and how many rows before it are no longer its own.
+pub struct Front {
+    pub alive: bool,
+    pub count: usize,
+    pub skip: usize,
+}
+
+// The same firing; where it removes the first constraints, the state begins behind them, and nothing is moved.
+pub fn fire_front(
+    row: &[u16],
+    positions: [usize; 4],
+    bindings: &[u16],
+    next: u16,
+    bound: &mut [u16],
+    cells: &mut [u16],
+    m: usize,
+) -> Front
+    requires { ⌜ Fires (now row) positions (now bindings) next (now cells) m × (getD (now row) headsCell 0 ≤ m) ⌝ }
+    ensures { λ r. ⌜ Fired (now (row .entry)) positions (now (bindings .entry)) next (now (bound .entry)) (now (cells .entry)) m
+        (now (bound .exit)) (drop (constraintSize * r .skip) (now (cells .exit))) (r .alive) (r .count)
+        × Skips m (r .skip) (r .count) ⌝ }
+{
+    let heads = wide(row[HEADS_CELL]);
+    if is_front(positions, heads) {
+        let s = CONSTRAINT_SIZE * heads;
+        let after = complete(row, bindings, next, bound, &mut cells[s..], m - heads);
+        return Front {
+            alive: after.alive,
+            count: after.count,
+            skip: heads,
+        };
+    }
+    let after = fire(row, positions, bindings, next, bound, cells, m);
+    Front {
+        alive: after.alive,
+        count: after.count,
+        skip: 0,
+    }
+}
+
+// Copies the constraints from a position on to the front.
+pub fn move_down(cells: &mut [u16], from: usize, count: usize)
+    requires { ⌜ constraintSize * (from + count) ≤ length (now cells) ⌝ }
+    ensures { λ _. ⌜ take (constraintSize * count) (now (cells .exit))
+        ≡ take (constraintSize * count) (drop (constraintSize * from) (now (cells .entry))) ⌝ }
+{
+    let g = CONSTRAINT_SIZE * from;
+    let e = CONSTRAINT_SIZE * count;
+    let mut i = 0;
+    while i < e {
+        cells[i] = cells[g + i];
+        i += 1;
+    }
+}
+
+// Where the constraints stand that stood from a position on: at the front, if there was no room behind them for six more.
+pub fn make_room(cells: &mut [u16], at: usize, count: usize) -> usize
+    requires { ⌜ (constraintSize * (at + count) ≤ length (now cells)) × (constraintSize * count + 30 ≤ length (now cells)) ⌝ }
+    ensures { λ r. ⌜ Placed (now (cells .entry)) at count (now (cells .exit)) r ⌝ }
+{
+    if cells.len() < CONSTRAINT_SIZE * (at + count) + 30 {
+        move_down(cells, at, count);
+        return 0;
+    }
+    at
 }

@@ -2,8 +2,8 @@
 -- Assumes nothing.
 use borrow.Author.Tests.{not-true, not-false}
 use native.Mathlib.Omega.{arith}
-use Rattle.engine.proofs.StepLaws.{step-lent, step-chooses, step-rests, step-keeps-none, step-row, step-fires, step-moves}
-use Rattle.engine.proofs.StepLaws.{step-lowers, step-keeps}
+use Rattle.engine.proofs.StepLaws.{step-lent, step-chooses, step-rests, step-keeps-none, step-skips, step-row}
+use Rattle.engine.proofs.StepLaws.{step-fires, step-moves, step-lowers, step-keeps}
 use borrow.Author.Needs.{needs}
 use Rattle.engine.proofs.derivation.advance.Statement.{statement}
 use Rattle.engine.proofs.derivation.advance.Tie as tie
@@ -19,8 +19,8 @@ slice-aggregate-choose c = step-lent _ _ _ _ _ (c .before .before .before .befor
 
 choose-requires : tie.Need-choose-requires
 choose-requires c κs =
-    let at-pre = c .before .before .before .before .before .before in
-    step-chooses _ _ _ _ _ (at-pre .pre .0) _ (at-pre .pre .1) _ (omega arith)
+    let start = c .before .before .before .before .before .before in
+    step-chooses _ _ _ _ _ (start .pre .0) _ (start .pre .1) _ (omega arith)
 
 same-length : tie.Need-same-length
 same-length c = search needs
@@ -31,53 +31,57 @@ same-length-2 c = search needs
 returns : tie.Need-returns
 returns c =
     let at-choose = c .before .before .before .before in
-    let at-pre = at-choose .before .before .before .before .before .before .before in (
-      step-rests _ _ _ _ _ (at-pre .pre .0) _ _ _ _ (at-choose .choose .ensures .0) _ (not-true _ (c .if1 .taken)),
-      step-keeps-none _ _ _ _ _ (at-pre .pre .0) _ _ _ _ (at-choose .choose .ensures .0) _ _ _ _,
+    let start = at-choose .before .before .before .before .before .before .before in
+    let chosen′ = at-choose .choose .ensures .0 in (
+      step-rests _ _ _ _ _ (start .pre .0) _ _ _ _ chosen′ _ (not-true _ (c .if1 .taken)),
+      step-keeps-none _ _ _ _ _ (start .pre .0) _ _ _ _ chosen′ _ _ _ _,
+      step-skips _ _ _ _ _ (start .pre .0) _ _ _ _ chosen′,
     )
 
-part-fire-end : tie.Need-part-fire-end
-part-fire-end c =
+part-fire-front-end : tie.Need-part-fire-front-end
+part-fire-front-end c =
     let at-if1 = c .before .before in
     let at-choose = at-if1 .before .before .before .before in
-    let at-pre = at-choose .before .before .before .before .before .before .before in
-    step-row _ _ _ _ _ (at-pre .pre .0) _ _ _ _ (at-choose .choose .ensures .0) (not-false _ (at-if1 .if1 .left))
+    let start = at-choose .before .before .before .before .before .before .before in
+    step-row _ _ _ _ _ (start .pre .0) _ _ _ _ (at-choose .choose .ensures .0) (not-false _ (at-if1 .if1 .left))
 
 mul-a : tie.Need-mul-a
-mul-a c = omega (arith, part-fire-end c)
+mul-a c = omega (arith, part-fire-front-end c)
 
 add-b : tie.Need-add-b
-add-b c = omega (arith, part-fire-end c)
+add-b c = omega (arith, part-fire-front-end c)
 
-mul-fire : tie.Need-mul-fire
-mul-fire c = omega (arith, part-fire-end c)
+mul-fire-front : tie.Need-mul-fire-front
+mul-fire-front c = omega (arith, part-fire-front-end c)
 
-sub-fire : tie.Need-sub-fire
-sub-fire c = search needs
+sub-fire-front : tie.Need-sub-fire-front
+sub-fire-front c = search needs
 
-part-fire-start : tie.Need-part-fire-start
-part-fire-start c = search needs
+part-fire-front-start : tie.Need-part-fire-front-start
+part-fire-front-start c = search needs
 
-slice-aggregate-fire : tie.Need-slice-aggregate-fire
-slice-aggregate-fire c = search needs
+slice-aggregate-fire-front : tie.Need-slice-aggregate-fire-front
+slice-aggregate-fire-front c = search needs
 
-fire-requires : tie.Need-fire-requires
-fire-requires c κs =
+fire-front-requires : tie.Need-fire-front-requires
+fire-front-requires c κs =
     let at-if1 = c .before .before .before .before .before .before in
     let at-choose = at-if1 .before .before .before .before in
-    let at-pre = at-choose .before .before .before .before .before .before .before in
-    step-fires _ _ _ _ _ (at-pre .pre .0) _ _ _ _ (at-choose .choose .ensures .0) (not-false _ (at-if1 .if1 .left))
+    let start = at-choose .before .before .before .before .before .before .before in
+    step-fires _ _ _ _ _ (start .pre .0) _ _ _ _ (at-choose .choose .ensures .0) (not-false _ (at-if1 .if1 .left))
 
 part-lower-end : tie.Need-part-lower-end
 part-lower-end c =
-    let at-fire = c .before .before .before .before in
-    let at-if1 = at-fire .before .before .before .before .before .before .before in
+    let at-bindings2 = c .before .before .before .before .before .before .before in
+    let at-if1 = at-bindings2 .before .before .before .before in
     let at-choose = at-if1 .before .before .before .before in
-    let at-pre = at-choose .before .before .before .before .before .before .before in
-    step-row _ _ _ _ _ (at-pre .pre .0) _ _ _ _ (at-choose .choose .ensures .0) (not-false _ (at-if1 .if1 .left))
+    let start = at-choose .before .before .before .before .before .before .before in
+    step-row _ _ _ _ _ (start .pre .0) _ _ _ _ (at-choose .choose .ensures .0) (not-false _ (at-if1 .if1 .left))
 
 mul-lower : tie.Need-mul-lower
-mul-lower c = omega (arith, part-lower-end c)
+mul-lower c =
+    let at-bindings = c .before .before .before .before .before .before .before .before .before in
+    omega (arith, mul-fire-front (at-bindings))
 
 sub-lower : tie.Need-sub-lower
 sub-lower c = search needs
@@ -87,12 +91,12 @@ part-lower-start c = search needs
 
 lower-requires : tie.Need-lower-requires
 lower-requires c κs =
-    let at-fire = c .before .before .before .before .before .before in
-    let at-if1 = at-fire .before .before .before .before .before .before .before in
+    let at-fire-front = c .before .before .before .before .before .before in
+    let at-if1 = at-fire-front .before .before .before .before .before .before .before in
     let at-choose = at-if1 .before .before .before .before in
-    let at-pre = at-choose .before .before .before .before .before .before .before in
-    step-lowers _ _ _ _ _ (at-pre .pre .0) _ _ _ _ (at-choose .choose .ensures .0) (not-false _ (at-if1 .if1 .left))
-    _ _ _ _ _ (at-fire .fire .ensures) (at-pre .pre .2)
+    let start = at-choose .before .before .before .before .before .before .before in
+    step-lowers _ _ _ _ _ (start .pre .0) _ _ _ _ (at-choose .choose .ensures .0) (not-false _ (at-if1 .if1 .left))
+    _ _ _ _ _ (at-fire-front .fire-front .ensures .0) (start .pre .2)
 
 same-length-3 : tie.Need-same-length-3
 same-length-3 c = search needs
@@ -106,15 +110,17 @@ same-length-5 c = search needs
 returns-2 : tie.Need-returns-2
 returns-2 c =
     let at-lower = c .before .before in
-    let at-fire = at-lower .before .before .before .before .before .before .before in
-    let at-if1 = at-fire .before .before .before .before .before .before .before in
+    let at-fire-front = at-lower .before .before .before .before .before .before .before in
+    let at-if1 = at-fire-front .before .before .before .before .before .before .before in
     let at-choose = at-if1 .before .before .before .before in
-    let at-pre = at-choose .before .before .before .before .before .before .before in (
-      step-moves _ _ _ _ _ (at-pre .pre .0) _ _ _ _ (at-choose .choose .ensures .0) (not-false _ (at-if1 .if1 .left))
-          _ _ _ _ _ (at-fire .fire .ensures),
-      step-keeps _ _ _ _ _ (at-pre .pre .0) _ _ _ _ (at-choose .choose .ensures
-          .0) (not-false _ (at-if1 .if1 .left)) _ _ _ _ _ (at-fire .fire .ensures) _ _ (at-choose .choose .ensures .1)
-          (at-lower .lower .ensures),
+    let start = at-choose .before .before .before .before .before .before .before in
+    let chosen′ = at-choose .choose .ensures in
+    let fits′ = not-false _ (at-if1 .if1 .left) in
+    let fired′ = at-fire-front .fire-front .ensures in (
+      step-moves _ _ _ _ _ (start .pre .0) _ _ _ _ (chosen′ .0) fits′ _ _ _ _ _ (fired′ .0),
+      step-keeps _ _ _ _ _ (start .pre .0) _ _ _ _ (chosen′ .0) fits′ _ _ _ _ _ (fired′ .0)
+          _ _ (chosen′ .1) (at-lower .lower .ensures),
+      fired′ .1,
     )
 
 pub advance-spec : {M : Type 1} → statement M
@@ -130,12 +136,12 @@ advance-spec =
     returns
     mul-a
     add-b
-    mul-fire
-    sub-fire
-    part-fire-start
-    part-fire-end
-    slice-aggregate-fire
-    fire-requires
+    mul-fire-front
+    sub-fire-front
+    part-fire-front-start
+    part-fire-front-end
+    slice-aggregate-fire-front
+    fire-front-requires
     mul-lower
     sub-lower
     part-lower-start

@@ -4,65 +4,108 @@ use borrow.Author.Needs.{needs}
 use Prim.Native.Nat.{_-_}
 use borrow.Author.Tests.{not-true, not-false}
 use native.Mathlib.Omega.{arith}
-use mathlib.Core.Bool.{true}
-use mathlib.Core.Path.{_≡_, refl}
-use lib.ListN.{length}
-use Rattle.engine.specs.Known.{Keeps}
-use Rattle.engine.proofs.KnownLaws.{keeps-start, keeps-on}
-use Rattle.engine.proofs.RunLaws.{Running, running-start, running-failed, running-live, running-rests, running-less}
-use Rattle.engine.proofs.RunLaws.{running-next, few-now}
+use Rattle.engine.proofs.HoldLaws.{Holding, holding-start, holding-failed, holding-room, holding-live}
+use Rattle.engine.proofs.HoldLaws.{holding-down, holding-rests, holding-less, holding-next}
 use Rattle.engine.proofs.derivation.normalise.Statement.{statement}
 use Rattle.engine.proofs.derivation.normalise.Tie as tie
 
 abbrev Inv-loop : tie.InvT-loop
-Inv-loop rules n bound₀ cells₀ m next alive₀ count₀ number₀ firings₀ known₀ bound cells alive count number firings known =
-    Running rules n bound₀ cells₀ m next bound cells alive count number firings × Keeps rules n known cells true alive
-    count × (length known ≡ 32)
+Inv-loop rules n bound₀ cells₀ m next alive₀ count₀ number₀ firings₀ known₀ at₀ bound cells alive count number firings known at =
+    Holding rules n bound₀ cells₀ m next bound cells alive count number firings known at
 
 abbrev μ-loop : tie.MeasureT-loop
-μ-loop rules n bound₀ cells₀ m next alive₀ count₀ number₀ firings₀ known₀ bound cells alive count number firings known =
+μ-loop rules n bound₀ cells₀ m next alive₀ count₀ number₀ firings₀ known₀ at₀ bound cells alive count number firings known at =
     512 - firings
 
 loop-holds : tie.Need-loop-holds Inv-loop μ-loop
-loop-holds c = (running-start _ _ _ _ _ _ ((c .before .before .before .pre)), keeps-start _ _ 32 _ _, refl)
+loop-holds c = search holding-start
+
+make-room-requires : tie.Need-make-room-requires Inv-loop μ-loop
+make-room-requires c κs =
+    let at-loop-test = c .before in
+    let at-loop = at-loop-test .before in
+    let start = at-loop .before .before .before .before in
+    holding-room _ _ _ _ _ _ (start .pre) _ _ _ _ _ _ _ _ (at-loop .loop .inv) (at-loop-test .loop-test .taken)
+
+mul-a : tie.Need-mul-a Inv-loop μ-loop
+mul-a c = omega (arith, c .before .before .make-room .ensures .space)
 
 slice-aggregate-advance : tie.Need-slice-aggregate-advance Inv-loop μ-loop
-slice-aggregate-advance c = omega arith
+slice-aggregate-advance c = omega (arith, c .before .before .before .before .before .before .loop .inv .known-size)
+
+mul-advance : tie.Need-mul-advance Inv-loop μ-loop
+mul-advance c = omega (arith, c .before .before .before .before .make-room .ensures .space)
+
+sub-advance : tie.Need-sub-advance Inv-loop μ-loop
+sub-advance c = omega (arith, c .before .before .before .before .make-room .ensures .space)
+
+part-advance-start : tie.Need-part-advance-start Inv-loop μ-loop
+part-advance-start c = omega (arith, c .before .before .before .before .make-room .ensures .space)
+
+part-advance-end : tie.Need-part-advance-end Inv-loop μ-loop
+part-advance-end c = omega (arith, c .before .before .before .before .make-room .ensures .space)
 
 advance-requires : tie.Need-advance-requires Inv-loop μ-loop
 advance-requires c κs =
-    let at-loop-test = c .before .before .before in
+    let at-make-room = c .before .before .before .before .before in
+    let at-loop-test = at-make-room .before .before in
     let at-loop = at-loop-test .before in
-    let at-pre = at-loop .before .before .before .before in (
-      running-live _ _ _ _ _ _ ((at-pre .pre)) _ _ _ _ _ _ (at-loop .loop .inv .0) (at-loop-test .loop-test .taken),
-      at-loop .loop .inv .1 .knows refl (at-loop-test .loop-test .taken),
-      few-now _ _ _ _ _ _ ((at-pre .pre)) _ _ _ _
-          _ _ (at-loop .loop .inv .0) (at-loop-test .loop-test .taken),
-    )
+    let start = at-loop .before .before .before .before in
+    let room = at-make-room .make-room in
+    holding-live _ _ _ _ _ _ (start .pre) _ _ _ _ _ _ _ _ (at-loop .loop .inv) (at-loop-test .loop-test .taken) _ _
+    (room .kept .0) (room .ensures)
+
+add-at : tie.Need-add-at Inv-loop μ-loop
+add-at c =
+    let at-advance = c .before .before .before .before .before .before in
+    let at-slice-known3 = at-advance .before .before .before .before in
+    omega (arith, mul-a (at-slice-known3), at-advance .advance .ensures .2 .few)
+
+move-down-requires : tie.Need-move-down-requires Inv-loop μ-loop
+move-down-requires c κs =
+    let at-advance = c .before .before .before .before .before .before .before .before .before in
+    let at-make-room = at-advance .before .before .before .before .before .before in
+    let at-loop-test = at-make-room .before .before in
+    let at-loop = at-loop-test .before in
+    let start = at-loop .before .before .before .before in
+    let step = at-advance .advance in
+    let room = at-make-room .make-room in
+    holding-down _ _ _ _ _ _ (start .pre) _ _ _ _ _ _ _ _ (at-loop .loop .inv) (at-loop-test .loop-test .taken) _ _
+    (room .kept .0) (room .ensures) _ _ _ _ _ _ _ (step .ensures) (step .kept .1 .1 .1 .1 .0)
 
 same-length : tie.Need-same-length Inv-loop μ-loop
-same-length c = omega arith
+same-length c = search needs
 
 same-length-2 : tie.Need-same-length-2 Inv-loop μ-loop
-same-length-2 c = omega arith
+same-length-2 c = search needs
 
 returns : tie.Need-returns Inv-loop μ-loop
 returns c =
-    let at-advance = c .before .before .before .before .before .before .before in
-    let at-loop-test = at-advance .before .before .before .before in
+    let at-move-down = c .before .before in
+    let at-if1 = at-move-down .before .before in
+    let at-advance = at-if1 .before .before .before .before .before .before .before .before in
+    let at-make-room = at-advance .before .before .before .before .before .before in
+    let at-loop-test = at-make-room .before .before in
     let at-loop = at-loop-test .before in
-    let at-pre = at-loop .before .before .before .before in
-    running-rests _ _ _ _ _ _ ((at-pre .pre)) _ _ _ _ _ _ (at-loop .loop .inv .0) (at-loop-test .loop-test .taken) _
-    _ _ _ _ (at-advance .advance .ensures .0) (not-true _ (c .if1 .taken))
+    let start = at-loop .before .before .before .before in
+    let step = at-advance .advance in
+    let room = at-make-room .make-room in
+    holding-rests _ _ _ _ _ _ (start .pre) _ _ _ _ _ _ _ _ (at-loop .loop .inv) (at-loop-test .loop-test .taken) _ _
+    (room .kept .0) (room .ensures) _ _ _ _ _ _ _ (step .ensures) (step .kept .1 .1 .1 .1 .0)
+    (not-true _ (at-if1 .if1 .taken)) _ (at-move-down .move-down .ensures)
 
 loop-less : tie.Need-loop-less Inv-loop μ-loop
 loop-less c =
-    let at-advance = c .before .before .before .before .before .before .before in
-    let at-loop-test = at-advance .before .before .before .before in
+    let at-advance = c .before .before .before .before .before .before .before .before in
+    let at-make-room = at-advance .before .before .before .before .before .before in
+    let at-loop-test = at-make-room .before .before in
     let at-loop = at-loop-test .before in
-    let at-pre = at-loop .before .before .before .before in
-    running-less _ _ _ _ _ _ ((at-pre .pre)) _ _ _ _ _ _ (at-loop .loop .inv .0) (at-loop-test .loop-test .taken) _
-    _ _ _ _ (at-advance .advance .ensures .0) (not-false _ (c .if1 .left))
+    let start = at-loop .before .before .before .before in
+    let step = at-advance .advance in
+    let room = at-make-room .make-room in
+    holding-less _ _ _ _ _ _ (start .pre) _ _ _ _ _ _ _ _ (at-loop .loop .inv) (at-loop-test .loop-test .taken) _ _
+    (room .kept .0) (room .ensures) _ _ _ _ _ _ _ (step .ensures) (step .kept .1 .1 .1 .1 .0)
+    (not-false _ (c .if1 .left))
 
 add-number : tie.Need-add-number Inv-loop μ-loop
 add-number c = omega (arith, loop-less c)
@@ -72,25 +115,25 @@ add-firings c = omega (arith, loop-less c)
 
 loop-again : tie.Need-loop-again Inv-loop μ-loop
 loop-again c =
-    let at-advance = c .before .before .before .before .before .before .before in
-    let at-loop-test = at-advance .before .before .before .before in
+    let at-advance = c .before .before .before .before .before .before .before .before in
+    let at-make-room = at-advance .before .before .before .before .before .before in
+    let at-loop-test = at-make-room .before .before in
     let at-loop = at-loop-test .before in
-    let at-pre = at-loop .before .before .before .before in (
-      running-next _ _ _ _ _ _ ((at-pre .pre)) _ _ _ _ _ _ (at-loop .loop .inv .0) (at-loop-test .loop-test .taken) _
-          _ _ _ _ (at-advance .advance .ensures .0) (not-false _ (c .if1 .left)) (omega arith) (omega arith),
-      keeps-on _ _
-          _ _ _ _ _ (at-advance .advance .ensures .1) (not-false _ (c .if1 .left)),
-      search needs,
-    )
+    let start = at-loop .before .before .before .before in
+    let step = at-advance .advance in
+    let room = at-make-room .make-room in
+    holding-next _ _ _ _ _ _ (start .pre) _ _ _ _ _ _ _ _ (at-loop .loop .inv) (at-loop-test .loop-test .taken) _ _
+    (room .kept .0) (room .ensures) _ _ _ _ _ _ _ (step .ensures) (step .kept .1 .1 .1 .1 .0)
+    (not-false _ (c .if1 .left)) (step .kept .1 .1 .1 .0) (step .kept .1 .1 .0)
 
 same-length-3 : tie.Need-same-length-3 Inv-loop μ-loop
-same-length-3 c = omega arith
+same-length-3 c = search needs
 
 same-length-4 : tie.Need-same-length-4 Inv-loop μ-loop
-same-length-4 c = omega arith
+same-length-4 c = c .before .loop .inv .cells-size
 
 returns-2 : tie.Need-returns-2 Inv-loop μ-loop
-returns-2 c = search (needs, running-failed)
+returns-2 c = search holding-failed
 
 pub normalise-spec : {M : Type 1} → statement M
 normalise-spec =
@@ -99,8 +142,16 @@ normalise-spec =
     Inv-loop
     μ-loop
     loop-holds
+    make-room-requires
+    mul-a
     slice-aggregate-advance
+    mul-advance
+    sub-advance
+    part-advance-start
+    part-advance-end
     advance-requires
+    add-at
+    move-down-requires
     same-length
     same-length-2
     returns

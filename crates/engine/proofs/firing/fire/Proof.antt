@@ -1,20 +1,11 @@
--- `fire` meets its contract: remove, append, solve.
+-- `fire` meets its contract: remove, and the rest of the firing.
 -- Assumes nothing.
 use borrow.Author.Needs.{needs}
-use Rattle.engine.proofs.RuleLaws.{
-  fire-lent,
-  fire-removes,
-  fire-appends,
-  fire-lends,
-  fire-within,
-  fire-equated,
-  fire-done,
-}
+use Rattle.engine.proofs.RuleLaws.{fire-lent, fire-removes, fire-completes, fire-done}
 use Rattle.engine.proofs.firing.fire.Statement.{statement}
 use Rattle.engine.proofs.firing.fire.Tie as tie
-use Rattle.engine.proofs.firing.append_body.Reads as append-body-reads
+use Rattle.engine.proofs.firing.complete.Reads as complete-reads
 use Rattle.engine.proofs.firing.remove.Reads as remove-reads
-use Rattle.engine.proofs.firing.solve_rule.Reads as solve-rule-reads
 
 shared-slice-read-wide : tie.Need-shared-slice-read-wide
 shared-slice-read-wide c = search needs
@@ -29,54 +20,21 @@ slice-relend-prefix-remove : tie.Need-slice-relend-prefix-remove
 slice-relend-prefix-remove c = search needs
 
 slice-aggregate-remove : tie.Need-slice-aggregate-remove
-slice-aggregate-remove c =
-    let pre′ = c .before .before .before .before .before .before .before .pre in
-    let wide′ = c .before .wide in
-    fire-lent _ _ _ _ _ _ _ pre′ (wide′ .ensures .0)
+slice-aggregate-remove c = search fire-lent
 
 remove-requires : tie.Need-remove-requires
 remove-requires c κs =
-    let pre′ = c .before .before .before .before .before .before .before .pre in
-    let wide′ = c .before .wide in
-    fire-removes _ _ _ _ _ _ _ pre′ (wide′ .ensures .0)
+    let at-wide = c .before in
+    let start = at-wide .before .before .before .before .before .before in
+    fire-removes _ _ _ _ _ _ (start .pre) _ (at-wide .wide .ensures .0)
 
-append-body-requires : tie.Need-append-body-requires
-append-body-requires c κs =
-    let at-remove = c .before .before .before in
+complete-requires : tie.Need-complete-requires
+complete-requires c κs =
+    let at-remove = c .before .before .before .before in
     let at-wide = at-remove .before .before in
     let start = at-wide .before .before .before .before .before .before in
-    fire-appends _ _ _ _ _ _ _ (start .pre) (at-wide .wide .ensures .0) _ _ (at-remove .remove .kept .0)
-    (at-remove .remove .ensures)
-
-mul-end : tie.Need-mul-end
-mul-end c = search needs
-
-slice-relend-prefix-solve-rule : tie.Need-slice-relend-prefix-solve-rule
-slice-relend-prefix-solve-rule c =
-    let at-append-body = c .before .before .before in
-    let at-remove = at-append-body .before .before .before .before in
-    let at-wide = at-remove .before .before in
-    let start = at-wide .before .before .before .before .before .before in
-    fire-within _ _ _ _ _ _ _ (start .pre) (at-wide .wide .ensures .0) _ _ (at-remove .remove .kept .0)
-    (at-remove .remove .ensures) _ _ (at-append-body .append-body .kept .1 .1 .1 .0) (at-append-body .append-body .ensures)
-
-slice-aggregate-solve-rule : tie.Need-slice-aggregate-solve-rule
-slice-aggregate-solve-rule c =
-    let at-append-body = c .before .before .before .before in
-    let at-remove = at-append-body .before .before .before .before in
-    let at-wide = at-remove .before .before in
-    let start = at-wide .before .before .before .before .before .before in
-    fire-lends _ _ _ _ _ _ _ (start .pre) (at-wide .wide .ensures .0) _ _ (at-remove .remove .kept .0)
-    (at-remove .remove .ensures) _ _ (at-append-body .append-body .kept .1 .1 .1 .0) (at-append-body .append-body .ensures)
-
-solve-rule-requires : tie.Need-solve-rule-requires
-solve-rule-requires c κs =
-    let at-append-body = c .before .before .before .before in
-    let at-remove = at-append-body .before .before .before .before in
-    let at-wide = at-remove .before .before in
-    let start = at-wide .before .before .before .before .before .before in
-    fire-equated _ _ _ _ _ _ _ (start .pre) (at-wide .wide .ensures .0) _ _ (at-remove .remove .kept .0)
-    (at-remove .remove .ensures) _ _ (at-append-body .append-body .kept .1 .1 .1 .0) (at-append-body .append-body .ensures)
+    fire-completes _ _ _ _ _ _ (start .pre) _ (at-wide .wide .ensures .0) _ _
+    (at-remove .remove .kept .0) (at-remove .remove .ensures)
 
 same-length : tie.Need-same-length
 same-length c = search needs
@@ -86,14 +44,12 @@ same-length-2 c = search needs
 
 returns : tie.Need-returns
 returns c =
-    let at-solve-rule = c .before .before .before .before in
-    let at-append-body = at-solve-rule .before .before .before .before .before in
-    let at-remove = at-append-body .before .before .before .before in
+    let at-complete = c .before .before .before .before in
+    let at-remove = at-complete .before .before .before .before .before in
     let at-wide = at-remove .before .before in
     let start = at-wide .before .before .before .before .before .before in
-    fire-done _ _ _ _ _ _ _ (start .pre) (at-wide .wide .ensures .0) _ _ (at-remove .remove .kept .0)
-    (at-remove .remove .ensures) _ _ (at-append-body .append-body .kept .1 .1 .1 .0) (at-append-body .append-body .ensures)
-    _ _ _ _ (at-solve-rule .solve-rule .kept .1 .1 .1 .1 .0) (at-solve-rule .solve-rule .ensures)
+    fire-done _ _ _ _ _ _ (start .pre) _ (at-wide .wide .ensures .0) _ _
+    (at-remove .remove .kept .0) (at-remove .remove .ensures) _ _ _ _ _ (at-complete .complete .ensures)
 
 pub fire-spec : {M : Type 1} → statement M
 fire-spec =
@@ -105,11 +61,7 @@ fire-spec =
     slice-relend-prefix-remove
     slice-aggregate-remove
     remove-requires
-    append-body-requires
-    mul-end
-    slice-relend-prefix-solve-rule
-    slice-aggregate-solve-rule
-    solve-rule-requires
+    complete-requires
     same-length
     same-length-2
     returns)
