@@ -154,7 +154,7 @@ module _ (s before after : List ℕ) (r : CheckReply) (c : CheckReplied (checkRe
                 one,
                 two,
                 listed-verdict p e n (meant-by (Unjoined n) h) (unjoined o one two) v,
-                counterexample-claim (p .program) o one two (demand .shown o one two v),
+                counterexample-claim (p .program) o one two .1 (demand .shown o one two v),
                 no-outcome n h,
               );
           enough = λ h.

@@ -2,6 +2,7 @@
 --   equal-variant, variant-equal     equal states
 --   outcome-claim                    each goal has one outcome
 --   appearance-claim                 so does each goal by first appearance
+--   joins-claim                      an overlap joins
 --   counterexample-claim             an overlap that does not join
 -- Assumes nothing.
 use Prim.Native.Nat.{ℕ}
@@ -70,19 +71,31 @@ appearance-claim p = (
 )
 
 -- an overlap that joins, and one that does not
-joins-claim : (p : Program) (o : Overlap) → claims.Joins p o → Joins p o
-joins-claim p o j =
-    record { one = j .one; two = j .two; ends = j .ends; equal = variant-equal (j .one .state) (j .two .state) (j .equal) }
+pub joins-claim : (p : Program) (o : Overlap) → Joins p o ↔ claims.Joins p o
+joins-claim p o = (
+  λ j. record { one = j .one; two = j .two; ends = j .ends; equal = equal-variant (j .one .state) (j .two .state) (j .equal) },
+  λ j. record { one = j .one; two = j .two; ends = j .ends; equal = variant-equal (j .one .state) (j .two .state) (j .equal) },
+)
 
-pub counterexample-claim : (p : Program) (o : Overlap) (one two : Final) → claims.Counterexample p o one two
-    → Counterexample p o one two
-counterexample-claim p o one two c =
-    record {
-      number = c .number;
-      listed = c .listed;
-      earlier = λ k u l e. joins-claim p u (c .earlier k u l e);
-      goal = c .goal;
-      appearance = c .appearance;
-      ends = c .ends;
-      differ = λ e. c .differ (equal-variant (one .state) (two .state) e);
-    }
+pub counterexample-claim : (p : Program) (o : Overlap) (one two : Final)
+    → Counterexample p o one two ↔ claims.Counterexample p o one two
+counterexample-claim p o one two = (
+  λ c. record {
+    number = c .number;
+    listed = c .listed;
+    earlier = λ k u l e. joins-claim p u .0 (c .earlier k u l e);
+    goal = c .goal;
+    appearance = c .appearance;
+    ends = c .ends;
+    differ = λ e. c .differ (variant-equal (one .state) (two .state) e);
+  },
+  λ c. record {
+    number = c .number;
+    listed = c .listed;
+    earlier = λ k u l e. joins-claim p u .1 (c .earlier k u l e);
+    goal = c .goal;
+    appearance = c .appearance;
+    ends = c .ends;
+    differ = λ e. c .differ (equal-variant (one .state) (two .state) e);
+  },
+)

@@ -3,8 +3,7 @@
 --   HasOneOutcome, OneOutcome, OneOutcomeByAppearance       each goal has one outcome
 --   Joins, Counterexample                                   an overlap that joins, and one that does not, with both ends
 -- Each has the words of the claim of its name in specs/Claims.antt of crate semantics, with `EqualStates` for `Variant`.
--- proofs/OutcomeLaws.antt proves both directions for equal states and one outcome, and for the last two that those of semantics
--- give these. Assumes nothing.
+-- proofs/OutcomeLaws.antt proves of each that it says the same as that of semantics. Assumes nothing.
 use Prim.Native.Nat.{ℕ, _<_}
 use mathlib.Core.Bool.{Bool, true}
 use mathlib.Core.List.{List}

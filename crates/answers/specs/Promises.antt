@@ -27,6 +27,7 @@ use Rattle.answers.specs.declared.Refusal.{Refusal}
 use Rattle.answers.specs.declared.CheckReply.{CheckReply}
 use Rattle.answers.specs.declared.CheckReply.the-variants.{Refused, Confluent, Unjoined}
 use Rattle.answers.specs.Answers.{textMeant, nameByte}
+use Rattle.answers.specs.Numbers.{checkRead}
 use Rattle.answers.specs.Outcomes.{OneOutcome, OneOutcomeByAppearance, Counterexample}
 
 -- an answer as a reply: a refusal's number, text and line; or the listing that the output holds
@@ -97,9 +98,9 @@ checkNumber (Refused f) = 4294967296 * f .number + 65536 * nameByte (f .text) + 
 checkNumber (Confluent n) = n
 checkNumber (Unjoined n) = 2147483648 + n
 
--- the number of an answer of which all this holds
+-- a number of which all this holds: it is the number of the answer that is read off it (Numbers.antt), and `check` promises of this
+-- answer what it promises of its own
 pub record CheckReturned (s before after : List ℕ) (r : ℕ) : Type 0 where
-  pub answer : CheckReply
-  pub number : r ≡ checkNumber answer
-  pub replied : CheckReplied (checkReply s (length before)) before after answer
-  pub demand : Demand3Of s before after answer
+  pub number : r ≡ checkNumber (checkRead r)
+  pub replied : CheckReplied (checkReply s (length before)) before after (checkRead r)
+  pub demand : Demand3Of s before after (checkRead r)

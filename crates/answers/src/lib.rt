@@ -1,5 +1,10 @@
 // What the public functions answer. What an answer means and promises is in specs/; the functions are in the crates running, checking
 // and roketuma.
+mod numbers;
+mod refusals;
+
+pub use numbers::refusal_number;
+pub use refusals::put_refusal;
 
 // The letter of a text: S for a program's, G for a goal's.
 pub enum TextName {

@@ -1,3 +1,2 @@
--- Laws of what is printed and of reading texts. Assumes nothing.
-pub mod PrintLaws
+-- Laws of reading texts. Assumes nothing.
 pub mod ReadLaws

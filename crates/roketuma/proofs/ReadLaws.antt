@@ -2,7 +2,7 @@
 --   program-unreadable, goal-unreadable    the judgement of a text that is refused
 --   goal-readable                          the judgement of a goal that is read
 --   program-goes-on                        where a program is read, the goal's judgement is that of both
---   refused-number                         the number of a refusal is that of a run's
+--   returned-unreadable, returned-readable   the number that is returned
 --   read-refused, read-readable            a run's reply where the texts are refused, and where they are read
 --   read-exact                             reading refuses exactly where a run does by a number below 11 (the main law)
 --   read-numbers                           a refusal is by a number from 1 to 10, its line at most 16,384
@@ -32,17 +32,16 @@ use Rattle.goals.specs.declared.GoalRead.{GoalRead}
 use Rattle.goals.specs.declared.GoalRead.the-variants as goal-read
 use Rattle.replies.specs.Replies.{Text, programText, goalText, refusal, listing, replyOf, fitted, runListing, runReply}
 use Rattle.replies.proofs.ShortNames.{Turned, Reads, ShortProgram, ShortGoal, program-short, goal-short}
-use Rattle.answers.specs.Answers.{textMeant, textByte, nameByte, answerNumber, replyNumber}
+use Rattle.answers.specs.Answers.{textMeant, textByte, nameByte, replyNumber}
 use Rattle.roketuma.specs.Readings.{Judgement, readable, unreadable, judged, goalReply, readReply, readMeant}
 use Rattle.roketuma.specs.Readings.{judgementNumber, readRead}
 use Rattle.inputs.specs.Inputs.{Tabled}
 use Rattle.answers.specs.declared.TextName.{TextName}
 use Rattle.answers.specs.declared.TextName.the-variants.{S, G}
 use Rattle.answers.specs.declared.Refusal.{Refusal}
-use Rattle.answers.specs.declared.RunReply.the-variants.{Refused as RunRefused}
 use Rattle.roketuma.specs.declared.reading.ReadReply.{ReadReply}
 use Rattle.roketuma.specs.declared.reading.ReadReply.the-variants.{Refused, Readable}
-use Rattle.answers.proofs.Numbers.{refusal-read}
+use Rattle.answers.proofs.NumberLaws.{refusal-read}
 use Rattle.inputs.proofs.TabledLaws.{goal-answers}
 
 module _ {program names places names′ places′ symbols′ rules′ : List ℕ} {reply : ProgramRead}
@@ -96,12 +95,18 @@ unfolding nameByte textByte textMeant
 meant-byte S = refl
 meant-byte G = refl
 
--- the number of a refusal is that of a run's
-pub refused-number :
-    (f : Refusal) (a : ReadReply) → a ≡ Refused f → answerNumber (RunRefused f) ≡ judgementNumber (readMeant a)
-unfolding answerNumber judgementNumber readMeant replyNumber
-refused-number f a e =
-    rw e (ap (λ (b : ℕ). 4294967296 * f .number + 65536 * b + f .line) (meant-byte (f .text)))
+-- the number that is returned: a refusal's as of a run, and 0 where the texts can be read
+module _ {j : Judgement} {a : ReadReply} (meant : readMeant a ≡ j) where
+  pub returned-unreadable : {f : Refusal} {n : ℕ} → a ≡ Refused f
+      → n ≡ 4294967296 * f .number + 65536 * nameByte (f .text) + f .line → n ≡ judgementNumber j
+  unfolding judgementNumber readMeant replyNumber
+  returned-unreadable {f} e h =
+      h ∙ ap (λ (b : ℕ). 4294967296 * f .number + 65536 * b + f .line) (meant-byte (f .text))
+      ∙ ap judgementNumber (ap readMeant (sym e) ∙ meant)
+
+  pub returned-readable : a ≡ Readable → 0 ≡ judgementNumber j
+  unfolding judgementNumber readMeant
+  returned-readable e = ap judgementNumber (ap readMeant (sym e) ∙ meant)
 
 -- where the texts are refused, a run of them is, for an output of any room
 pub read-refused :

@@ -1,9 +1,8 @@
 // Whether texts can be read: a program's and a goal's, with nothing lent to write into. So an editor can judge a text while it
 // is typed. Its promises are the definitions of specs/Readings.antt.
-use crate::exported::answer_number;
 use answers::Refusal;
-use answers::RunReply;
 use answers::TextName;
+use answers::refusal_number;
 use goals::GoalRead;
 use goals::read_goal;
 use programs::Counts;
@@ -78,20 +77,13 @@ pub fn read(program: &[u8], goal: &[u8]) -> ReadReply
     }
 }
 
-// The answer of reading as one number.
-fn read_number(reply: ReadReply) -> u64
-    ensures { λ r. ⌜ r ≡ judgementNumber (readMeant reply) ⌝ }
-{
-    match reply {
-        ReadReply::Refused(refusal) => answer_number(RunReply::Refused(refusal)),
-        ReadReply::Readable => 0,
-    }
-}
-
 // Reading for C: 0 where both texts can be read, or a refusal as `roketuma_run` has it.
 #[no_mangle]
 pub extern "C" fn roketuma_read(program: &[u8], goal: &[u8]) -> u64
     ensures { λ r. ⌜ r ≡ judgementNumber (readReply (now (program .entry)) (now (goal .entry))) ⌝ }
 {
-    read_number(read(program, goal))
+    match read(program, goal) {
+        ReadReply::Refused(refusal) => refusal_number(refusal),
+        ReadReply::Readable => 0,
+    }
 }

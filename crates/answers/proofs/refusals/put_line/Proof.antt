@@ -1,9 +1,9 @@
--- `roketuma::put_line` meets its contract: the word, the number behind it, the rest behind that. Assumes nothing.
+-- `answers::put_line` meets its contract: the word, the number behind it, the rest behind that. Assumes nothing.
 use native.Mathlib.Omega.{arith}
 use borrow.Author.Needs.{needs}
-use Rattle.roketuma.proofs.PrintLaws.{number-counted, rest-within, rest-counted, line-printed, line-few}
-use Rattle.roketuma.proofs.printing.put_line.Statement.{statement}
-use Rattle.roketuma.proofs.printing.put_line.Tie as tie
+use Rattle.answers.proofs.PrintLaws.{number-counted, rest-within, rest-counted, line-printed, line-few}
+use Rattle.answers.proofs.refusals.put_line.Statement.{statement}
+use Rattle.answers.proofs.refusals.put_line.Tie as tie
 
 slice-aggregate-copy : tie.Need-slice-aggregate-copy
 slice-aggregate-copy c = search needs

@@ -1,9 +1,9 @@
 -- `roketuma::refusal_number` meets its contract. Assumes nothing.
 use borrow.Author.Needs.{needs}
 use native.Mathlib.Omega.{arith}
 use Rattle.answers.proofs.ReplyLaws.{byte-few}
-use Rattle.roketuma.proofs.exported.refusal_number.Statement.{statement}
-use Rattle.roketuma.proofs.exported.refusal_number.Tie as tie
+use Rattle.answers.proofs.numbers.refusal_number.Statement.{statement}
+use Rattle.answers.proofs.numbers.refusal_number.Tie as tie
 
 cast-number : tie.Need-cast-number
 cast-number c = search needs

@@ -1,8 +1,8 @@
 -- `roketuma::name_byte` meets its contract. Assumes nothing.
 use borrow.Author.Needs.{needs}
 use Rattle.answers.specs.Answers.{nameByte}
-use Rattle.roketuma.proofs.exported.name_byte.Statement.{statement}
-use Rattle.roketuma.proofs.exported.name_byte.Tie as tie
+use Rattle.answers.proofs.numbers.name_byte.Statement.{statement}
+use Rattle.answers.proofs.numbers.name_byte.Tie as tie
 
 enum-told : tie.Need-enum-told
 enum-told c = search needs

@@ -1,8 +1,8 @@
--- `roketuma::put_refusal` meets its contract: the line with the letter of its text. Assumes nothing.
+-- `answers::put_refusal` meets its contract: the line with the letter of its text. Assumes nothing.
 use borrow.Author.Needs.{needs}
-use Rattle.roketuma.proofs.PrintLaws.{refusal-program, refusal-goal}
-use Rattle.roketuma.proofs.printing.put_refusal.Statement.{statement}
-use Rattle.roketuma.proofs.printing.put_refusal.Tie as tie
+use Rattle.answers.proofs.PrintLaws.{refusal-program, refusal-goal}
+use Rattle.answers.proofs.refusals.put_refusal.Statement.{statement}
+use Rattle.answers.proofs.refusals.put_refusal.Tie as tie
 
 enum-told : tie.Need-enum-told
 enum-told c = search needs

@@ -2,8 +2,9 @@
 --   refusal-read                 the refusal read off its number
 --   run-read, check-read         so is every answer of a run, and of a check
 --   run-number-decodes           the number of `roketuma_run` (the main law for runs)
---   check-number-decodes         the number of `roketuma_check` (the main law for checks)
---   check-answer-decodes         the number of an answer of a check decodes to it
+--   check-answer-decodes         the number of an answer of a check decodes to it (the main law for checks)
+--   returned-…                   the numbers that the exports return, answer by answer
+--   overlap-few                  an unjoined overlap's listing has less than 2^31 bytes
 --   run-number-one, check-number-one   one number, one answer
 --   check-few                    an answer of a check lists less than 2^31 bytes
 -- Assumes nothing.
@@ -22,7 +23,9 @@ use Rattle.answers.specs.Promises.{checkMeant, listedBytes, CheckReplied
 use Rattle.answers.specs.Numbers.{letterRead, refusalRead, runRead, checkRead}
 use Rattle.answers.specs.declared.TextName.{TextName}
 use Rattle.answers.specs.declared.TextName.the-variants.{S, G}
-use Rattle.answers.specs.declared.RunReply.the-variants.{Refused as RunRefused}
+use Rattle.answers.specs.declared.Refusal.{Refusal}
+use Rattle.answers.specs.declared.RunReply.{RunReply}
+use Rattle.answers.specs.declared.RunReply.the-variants.{Refused as RunRefused, Listed as RunListed}
 use Rattle.answers.specs.declared.CheckReply.{CheckReply}
 use Rattle.answers.specs.declared.CheckReply.the-variants.{Refused, Confluent, Unjoined}
 use Rattle.answers.proofs.ReplyLaws.{reply-number}
@@ -103,16 +106,64 @@ pub check-answer-decodes :
 check-answer-decodes s before after r c =
     check-read r after (subst Within (sym (c .meant)) (check-within s (length before))) (c .counted)
 
--- the number of `roketuma_check` decodes to an answer of which holds what `check` promises
-pub check-number-decodes :
-    (s before after : List ℕ) (n : ℕ) → CheckReturned s before after n
-    → CheckReplied (checkReply s (length before)) before after (checkRead n) × Demand3Of s before after (checkRead n)
-check-number-decodes s before after n r =
-    let same : checkRead n ≡ r .answer =
-    ap checkRead (r .number) ∙ check-answer-decodes s before after (r .answer) (r .replied) in (
-      subst (CheckReplied (checkReply s (length before)) before after) (sym same) (r .replied),
-      subst (Demand3Of s before after) (sym same) (r .demand),
-    )
+-- an answer of a check lists less than 2^31 bytes
+pub check-few :
+    (s : List ℕ) {before after : List ℕ} {r : CheckReply} → CheckReplied (checkReply s (length before)) before after r
+    → listedBytes r < 2147483648
+unfolding checkMeant listedBytes
+check-few s {before} {after} {r} c =
+    go r (subst Within (sym (c .meant)) (check-within s (length before))) (c .counted)
+  where
+    go : (q : CheckReply) → Within (checkMeant q after) → listedBytes q ≤ length after → listedBytes q < 2147483648
+    go (Refused f) w h = omega arith
+    go (Confluent n) w h = omega (arith, length-take-le n after h)
+    go (Unjoined n) w h = omega (arith, length-take-le n after h)
+
+-- the number of an answer of a check, for which holds what `check` promises
+check-returned :
+    (s : List ℕ) {before after : List ℕ} {a : CheckReply} {n : ℕ}
+    → CheckReplied (checkReply s (length before)) before after a × Demand3Of s before after a → n ≡ checkNumber a
+    → CheckReturned s before after n
+check-returned s {before} {after} {a} {n} (c, d) e =
+    let same : checkRead n ≡ a = ap checkRead e ∙ check-answer-decodes s before after a c in
+    record {
+      number = e ∙ ap checkNumber (sym same);
+      replied = subst (CheckReplied (checkReply s (length before)) before after) (sym same) c;
+      demand = subst (Demand3Of s before after) (sym same) d;
+    }
+
+-- so it is returned: a refusal's, that of a pass, and that of an unjoined overlap
+module _ (s : List ℕ) {before after : List ℕ} {a : CheckReply}
+    (checked : CheckReplied (checkReply s (length before)) before after a × Demand3Of s before after a) where
+  pub returned-refusal : {f : Refusal} {n : ℕ} → a ≡ Refused f → n ≡ 4294967296 * f .number + 65536 * nameByte (f .text) + f .line
+      → CheckReturned s before after n
+  unfolding checkNumber
+  returned-refusal e h = check-returned s checked (h ∙ ap checkNumber (sym e))
+
+  pub returned-pass : {n : ℕ} → a ≡ Confluent n → CheckReturned s before after n
+  unfolding checkNumber
+  returned-pass e = check-returned s checked (ap checkNumber (sym e))
+
+  pub returned-overlap : {n : ℕ} → a ≡ Unjoined n → CheckReturned s before after (2147483648 + n)
+  unfolding checkNumber
+  returned-overlap e = check-returned s checked (ap checkNumber (sym e))
+
+  -- the bytes of an unjoined overlap's listing are few
+  pub overlap-few : {n : ℕ} → a ≡ Unjoined n → n < 2147483648
+  unfolding listedBytes
+  overlap-few e = omega (arith, check-few s (checked .0), ap listedBytes e)
+
+-- the number of an answer of a run: a refusal's, and that of a listing
+module _ {reply : Reply} {before after : List ℕ} {a : RunReply} (r : Replied reply before after a) where
+  pub returned-refused : {f : Refusal} {n : ℕ} → a ≡ RunRefused f
+      → n ≡ 4294967296 * f .number + 65536 * nameByte (f .text) + f .line → Returned reply before after n
+  unfolding answerNumber
+  returned-refused e h =
+      record { answer = h ∙ ap answerNumber (sym e ∙ r .answer) ∙ reply-number reply; output = r .output }
+
+  pub returned-listed : {n : ℕ} → a ≡ RunListed n → Returned reply before after n
+  unfolding answerNumber
+  returned-listed e = record { answer = ap answerNumber (sym e ∙ r .answer) ∙ reply-number reply; output = r .output }
 
 -- runs that return one number have one answer, and so have checks
 pub run-number-one :
@@ -128,16 +179,3 @@ pub check-number-one :
     → CheckReplied (checkReply s′ (length before′)) before′ after′ b → checkNumber a ≡ checkNumber b → a ≡ b
 check-number-one s before after s′ before′ after′ a b c d e =
     sym (check-answer-decodes s before after a c) ∙ (ap checkRead e ∙ check-answer-decodes s′ before′ after′ b d)
-
--- an answer of a check lists less than 2^31 bytes
-pub check-few :
-    (s : List ℕ) {before after : List ℕ} {r : CheckReply} → CheckReplied (checkReply s (length before)) before after r
-    → listedBytes r < 2147483648
-unfolding checkMeant listedBytes
-check-few s {before} {after} {r} c =
-    go r (subst Within (sym (c .meant)) (check-within s (length before))) (c .counted)
-  where
-    go : (q : CheckReply) → Within (checkMeant q after) → listedBytes q ≤ length after → listedBytes q < 2147483648
-    go (Refused f) w h = omega arith
-    go (Confluent n) w h = omega (arith, length-take-le n after h)
-    go (Unjoined n) w h = omega (arith, length-take-le n after h)
