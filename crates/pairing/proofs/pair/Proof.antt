@@ -4,8 +4,6 @@ use borrow.Author.Needs.{needs}
 use Rattle.pairing.proofs.PairLaws.{link-constant, link-apart, link-partners, link-left, link-right, link-new}
 use Rattle.pairing.proofs.pair.Statement.{statement}
 use Rattle.pairing.proofs.pair.Tie as tie
-use Rattle.pairing.proofs.pair.Reads as reads
-use Rattle.pairing.proofs.pair.Lts as lts
 
 returns : tie.Need-returns
 returns c =

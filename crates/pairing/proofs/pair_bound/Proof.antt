@@ -7,9 +7,6 @@ use native.Mathlib.Omega.{arith}
 use Rattle.pairing.proofs.PairLaws.{Binding, bound-start, bound-apart, bound-next, bound-done}
 use Rattle.pairing.proofs.pair_bound.Statement.{statement}
 use Rattle.pairing.proofs.pair_bound.Tie as tie
-use Rattle.pairing.proofs.pair_bound.Reads as reads
-use Rattle.pairing.proofs.pair_bound.Lts as lts
-use Rattle.pairing.proofs.pair.Reads as pair-reads
 
 abbrev Inv-loop : tie.InvT-loop
 Inv-loop a b forth₀ back₀ i₀ forth back i = Binding a b forth₀ back₀ forth back i

@@ -7,9 +7,6 @@ use native.Mathlib.Omega.{arith}
 use Rattle.pairing.proofs.PairLaws.{columns-apart, columns-next, columns-done}
 use Rattle.pairing.proofs.pair_rows.Statement.{statement}
 use Rattle.pairing.proofs.pair_rows.Tie as tie
-use Rattle.pairing.proofs.pair_rows.Reads as reads
-use Rattle.pairing.proofs.pair_rows.Lts as lts
-use Rattle.pairing.proofs.pair.Reads as pair-reads
 
 abbrev Inv-loop : tie.InvT-loop
 Inv-loop a b forth₀ back₀ fresh₀ i₀ forth back fresh i = Columns a b forth₀ back₀ forth back fresh i

@@ -5,8 +5,6 @@ use borrow.Author.Needs.{needs}
 use native.Mathlib.Omega.{arith}
 use Rattle.pairing.proofs.unpair.Statement.{statement}
 use Rattle.pairing.proofs.unpair.Tie as tie
-use Rattle.pairing.proofs.unpair.Reads as reads
-use Rattle.pairing.proofs.unpair.Lts as lts
 
 abbrev Inv-loop : tie.InvT-loop
 Inv-loop a b forth₀ back₀ fresh i₀ forth back i = Clearing a b forth₀ back₀ forth back fresh i

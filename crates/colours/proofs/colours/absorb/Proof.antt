@@ -7,9 +7,6 @@ use lib.ListN.{length}
 use Rattle.colours.proofs.ColourLaws.{Absorbing, absorb-start, absorb-next, absorb-done}
 use Rattle.colours.proofs.colours.absorb.Statement.{statement}
 use Rattle.colours.proofs.colours.absorb.Tie as tie
-use Rattle.colours.proofs.colours.absorb.Reads as reads
-use Rattle.colours.proofs.colours.absorb.Lts as lts
-use Rattle.colours.proofs.colours.mix.Reads as mix-reads
 
 abbrev Inv-loop : tie.InvT-loop
 Inv-loop colours₀ received₀ x₀ colours received x = Absorbing colours₀ received₀ colours received x

@@ -6,8 +6,6 @@ use lib.ListN.{length}
 use Rattle.colours.proofs.RoundLaws.{Copying, copy-start, copy-next, copy-done}
 use Rattle.colours.proofs.colours.copy.Statement.{statement}
 use Rattle.colours.proofs.colours.copy.Tie as tie
-use Rattle.colours.proofs.colours.copy.Reads as reads
-use Rattle.colours.proofs.colours.copy.Lts as lts
 
 abbrev Inv-loop : tie.InvT-loop
 Inv-loop colours out₀ x₀ out x = Copying colours out₀ out x

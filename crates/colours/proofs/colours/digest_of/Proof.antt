@@ -8,12 +8,6 @@ use Rattle.colours.proofs.ColourLaws.{lent-below, lent-length}
 use Rattle.colours.proofs.RoundLaws.{Summing, digest-start, digest-next, digest-done}
 use Rattle.colours.proofs.colours.digest_of.Statement.{statement}
 use Rattle.colours.proofs.colours.digest_of.Tie as tie
-use Rattle.colours.proofs.colours.digest_of.Reads as reads
-use Rattle.colours.proofs.colours.digest_of.Lts as lts
-use Rattle.colours.proofs.colours.mix.Reads as mix-reads
-use Rattle.colours.proofs.colours.sign.Reads as sign-reads
-use Rattle.colours.proofs.colours.widened.Reads as widened-reads
-use Rattle.std.proofs.num.wrapping_add_u32.Reads as wrapping-add-u32-reads
 
 abbrev Inv-loop : tie.InvT-loop
 Inv-loop cells n colours sum₀ i₀ sum i = Summing cells n colours sum i

@@ -4,11 +4,6 @@ use Rattle.colours.proofs.ColourLaws.{give-one}
 use borrow.Author.Needs.{needs}
 use Rattle.colours.proofs.colours.give.Statement.{statement}
 use Rattle.colours.proofs.colours.give.Tie as tie
-use Rattle.colours.proofs.colours.give.Reads as reads
-use Rattle.colours.proofs.colours.give.Lts as lts
-use Rattle.colours.proofs.colours.sign.Reads as sign-reads
-use Rattle.colours.proofs.colours.spread.Reads as spread-reads
-use Rattle.colours.proofs.colours.widened.Reads as widened-reads
 
 spread-requires : tie.Need-spread-requires
 spread-requires c κs =

@@ -5,9 +5,6 @@ use mathlib.Core.Path.{_∙_}
 use Rattle.colours.proofs.ColourLaws.{Giving, give-start, give-next, give-done, lent-below, lent-length}
 use Rattle.colours.proofs.colours.give_all.Statement.{statement}
 use Rattle.colours.proofs.colours.give_all.Tie as tie
-use Rattle.colours.proofs.colours.give_all.Reads as reads
-use Rattle.colours.proofs.colours.give_all.Lts as lts
-use Rattle.colours.proofs.colours.give.Reads as give-reads
 
 abbrev Inv-loop : tie.InvT-loop
 Inv-loop cells n colours received₀ i₀ received i = Giving cells n colours received₀ received i

@@ -5,9 +5,6 @@ use Rattle.tables.specs.Cells.{cellConstraints}
 use Rattle.colours.proofs.RoundLaws.{Rounding, rounds-start, rounds-ready, rounds-next, rounds-done}
 use Rattle.colours.proofs.colours.refine_times.Statement.{statement}
 use Rattle.colours.proofs.colours.refine_times.Tie as tie
-use Rattle.colours.proofs.colours.refine_times.Reads as reads
-use Rattle.colours.proofs.colours.refine_times.Lts as lts
-use Rattle.colours.proofs.colours.refine.Reads as refine-reads
 
 abbrev Inv-loop : tie.InvT-loop
 Inv-loop k cells n colours₀ received₀ i₀ colours received i = Rounding k

@@ -7,9 +7,6 @@ use lib.ListN.{length}
 use Rattle.colours.proofs.ColourLaws.{Signing, sign-start, sign-end, sign-room, sign-next, sign-done}
 use Rattle.colours.proofs.colours.sign.Statement.{statement}
 use Rattle.colours.proofs.colours.sign.Tie as tie
-use Rattle.colours.proofs.colours.sign.Reads as reads
-use Rattle.colours.proofs.colours.sign.Lts as lts
-use Rattle.colours.proofs.colours.mix.Reads as mix-reads
 
 abbrev Inv-loop : tie.InvT-loop
 Inv-loop start terms colours s₀ i₀ s i = Signing start terms colours s i

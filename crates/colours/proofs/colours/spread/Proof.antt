@@ -8,10 +8,6 @@ use Rattle.colours.specs.Colours.{plus}
 use Rattle.colours.proofs.ColourLaws.{Spreading, spread-start, spread-end, spread-room, spread-next, spread-done}
 use Rattle.colours.proofs.colours.spread.Statement.{statement}
 use Rattle.colours.proofs.colours.spread.Tie as tie
-use Rattle.colours.proofs.colours.spread.Reads as reads
-use Rattle.colours.proofs.colours.spread.Lts as lts
-use Rattle.colours.proofs.colours.mix.Reads as mix-reads
-use Rattle.std.proofs.num.wrapping_add_u32.Reads as wrapping-add-u32-reads
 
 abbrev Inv-loop : tie.InvT-loop
 Inv-loop start terms received₀ s₀ i₀ received s i = Spreading start terms received₀ received s i

@@ -6,9 +6,6 @@ use lib.ListN.{length}
 use Rattle.colours.proofs.RoundLaws.{Starting, start-start, start-next, start-done}
 use Rattle.colours.proofs.colours.start.Statement.{statement}
 use Rattle.colours.proofs.colours.start.Tie as tie
-use Rattle.colours.proofs.colours.start.Reads as reads
-use Rattle.colours.proofs.colours.start.Lts as lts
-use Rattle.colours.proofs.colours.start_colour.Reads as start-colour-reads
 
 abbrev Inv-loop : tie.InvT-loop
 Inv-loop colours₀ x₀ colours x = Starting colours₀ colours x

@@ -6,8 +6,6 @@ use lib.ListN.{length}
 use Rattle.colours.proofs.KeyLaws.{Seeking, class-start, class-found, class-next, class-none}
 use Rattle.colours.proofs.keys.class.Statement.{statement}
 use Rattle.colours.proofs.keys.class.Tie as tie
-use Rattle.colours.proofs.keys.class.Reads as reads
-use Rattle.colours.proofs.keys.class.Lts as lts
 
 abbrev Inv-loop : tie.InvT-loop
 Inv-loop keys key i₀ i = Seeking keys key i

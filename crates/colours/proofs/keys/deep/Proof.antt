@@ -7,12 +7,6 @@ use Rattle.colours.proofs.KeyLaws.{deep-done, ready-with, lent-in}
 use borrow.Author.Needs.{needs}
 use Rattle.colours.proofs.keys.deep.Statement.{statement}
 use Rattle.colours.proofs.keys.deep.Tie as tie
-use Rattle.colours.proofs.keys.deep.Reads as reads
-use Rattle.colours.proofs.keys.deep.Lts as lts
-use Rattle.colours.proofs.colours.copy.Reads as copy-reads
-use Rattle.colours.proofs.colours.digest_of.Reads as digest-of-reads
-use Rattle.colours.proofs.colours.light.Reads as light-reads
-use Rattle.colours.proofs.colours.refine_times.Reads as refine-times-reads
 
 mul-p : tie.Need-mul-p
 mul-p c =

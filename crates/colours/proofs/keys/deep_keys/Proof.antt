@@ -10,10 +10,6 @@ use Rattle.colours.specs.Colours.{Ready}
 use Rattle.colours.proofs.KeyLaws.{Keying, keys-start, keys-next, keys-done, key-deep, ready-with}
 use Rattle.colours.proofs.keys.deep_keys.Statement.{statement}
 use Rattle.colours.proofs.keys.deep_keys.Tie as tie
-use Rattle.colours.proofs.keys.deep_keys.Reads as reads
-use Rattle.colours.proofs.keys.deep_keys.Lts as lts
-use Rattle.colours.proofs.keys.code.Reads as code-reads
-use Rattle.colours.proofs.keys.deep.Reads as deep-reads
 
 abbrev Inv-loop : tie.InvT-loop
 Inv-loop t cells n colours scratch₀ received₀ keys₀ i₀ scratch received keys i = Keying t true cells n colours keys₀ keys i

@@ -8,11 +8,6 @@ use Rattle.colours.proofs.ColourLaws.{lent-below, lent-length}
 use Rattle.colours.proofs.KeyLaws.{Keying, keys-start, keys-next, keys-done, key-plain}
 use Rattle.colours.proofs.keys.plain_keys.Statement.{statement}
 use Rattle.colours.proofs.keys.plain_keys.Tie as tie
-use Rattle.colours.proofs.keys.plain_keys.Reads as reads
-use Rattle.colours.proofs.keys.plain_keys.Lts as lts
-use Rattle.colours.proofs.colours.sign.Reads as sign-reads
-use Rattle.colours.proofs.colours.widened.Reads as widened-reads
-use Rattle.colours.proofs.keys.code.Reads as code-reads
 
 abbrev Inv-loop : tie.InvT-loop
 Inv-loop cells n colours keys₀ i₀ keys i = Keying 0 false cells n colours keys₀ keys i

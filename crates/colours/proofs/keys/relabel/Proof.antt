@@ -7,9 +7,6 @@ use lib.ListN.{length}
 use Rattle.colours.proofs.KeyLaws.{Relabelling, relabel-start, relabel-next, relabel-done}
 use Rattle.colours.proofs.keys.relabel.Statement.{statement}
 use Rattle.colours.proofs.keys.relabel.Tie as tie
-use Rattle.colours.proofs.keys.relabel.Reads as reads
-use Rattle.colours.proofs.keys.relabel.Lts as lts
-use Rattle.colours.proofs.keys.class.Reads as class-reads
 
 abbrev Inv-loop : tie.InvT-loop
 Inv-loop cells₀ own keys i₀ cells i = Relabelling own keys cells₀ cells i

@@ -7,9 +7,6 @@ use lib.ListN.{length}
 use Rattle.colours.proofs.KeyLaws.{Totalling, sum-start, sum-next, sum-done}
 use Rattle.colours.proofs.keys.sum.Statement.{statement}
 use Rattle.colours.proofs.keys.sum.Tie as tie
-use Rattle.colours.proofs.keys.sum.Reads as reads
-use Rattle.colours.proofs.keys.sum.Lts as lts
-use Rattle.std.proofs.num.wrapping_add_u64.Reads as wrapping-add-u64-reads
 
 abbrev Inv-loop : tie.InvT-loop
 Inv-loop keys total₀ i₀ total i = Totalling keys total i

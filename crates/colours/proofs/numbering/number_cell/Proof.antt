@@ -4,8 +4,6 @@ use Rattle.colours.proofs.NumberLaws.{number-constant, number-known, nu
 use borrow.Author.Needs.{needs}
 use Rattle.colours.proofs.numbering.number_cell.Statement.{statement}
 use Rattle.colours.proofs.numbering.number_cell.Tie as tie
-use Rattle.colours.proofs.numbering.number_cell.Reads as reads
-use Rattle.colours.proofs.numbering.number_cell.Lts as lts
 
 returns : tie.Need-returns
 returns c = number-constant _ _ _ (c .before .before .pre .0) (c .if1 .taken)

@@ -6,9 +6,6 @@ use lib.ListN.{length}
 use Rattle.colours.proofs.NumberLaws.{Progress, cells-start, cells-one, cells-next, cells-done}
 use Rattle.colours.proofs.numbering.number_cells.Statement.{statement}
 use Rattle.colours.proofs.numbering.number_cells.Tie as tie
-use Rattle.colours.proofs.numbering.number_cells.Reads as reads
-use Rattle.colours.proofs.numbering.number_cells.Lts as lts
-use Rattle.colours.proofs.numbering.number_cell.Reads as number-cell-reads
 
 abbrev Inv-loop : tie.InvT-loop
 Inv-loop cells out₀ numbers₀ first next₀ i₀ out numbers next i = Progress cells out₀ out numbers₀ first numbers next i

@@ -9,9 +9,6 @@ use Rattle.colours.proofs.NumberLaws.{numbering-none, state-numbered}
 use borrow.Author.Needs.{needs}
 use Rattle.colours.proofs.numbering.number_state.Statement.{statement}
 use Rattle.colours.proofs.numbering.number_state.Tie as tie
-use Rattle.colours.proofs.numbering.number_state.Reads as reads
-use Rattle.colours.proofs.numbering.number_state.Lts as lts
-use Rattle.colours.proofs.numbering.number_cells.Reads as number-cells-reads
 
 number-cells-requires : tie.Need-number-cells-requires
 number-cells-requires c κs =

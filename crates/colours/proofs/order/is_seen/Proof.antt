@@ -6,9 +6,6 @@ use Prim.Native.Nat.{_-_, _≤_}
 use Rattle.colours.proofs.OrderLaws.{term-room}
 use Rattle.colours.proofs.order.is_seen.Statement.{statement}
 use Rattle.colours.proofs.order.is_seen.Tie as tie
-use Rattle.colours.proofs.order.is_seen.Reads as reads
-use Rattle.colours.proofs.order.is_seen.Lts as lts
-use Rattle.tables.proofs.wide.Reads as wide-reads
 
 abbrev Inv-loop : tie.InvT-loop
 Inv-loop cells i seen p j₀ j = j ≤ 4

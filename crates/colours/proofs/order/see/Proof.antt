@@ -3,15 +3,11 @@
 use borrow.Author.Needs.{needs}
 use native.Mathlib.Omega.{arith}
 use Prim.Native.Nat.{_-_, _≤_}
-use mathlib.Core.Path.{_≡_, refl, _∙_}
+use mathlib.Core.Path.{_≡_, refl}
 use lib.ListN.{length, length-set}
 use Rattle.colours.proofs.OrderLaws.{term-room}
 use Rattle.colours.proofs.order.see.Statement.{statement}
 use Rattle.colours.proofs.order.see.Tie as tie
-use Rattle.colours.proofs.order.see.Reads as reads
-use Rattle.colours.proofs.order.see.Lts as lts
-use Rattle.std.proofs.num.wrapping_sub_u16.Reads as wrapping-sub-u16-reads
-use Rattle.tables.proofs.wide.Reads as wide-reads
 
 abbrev Inv-loop : tie.InvT-loop
 Inv-loop cells i seen₀ counts₀ p j₀ seen counts j = (j ≤ 4) × (length seen ≡ length seen₀) × (length counts ≡ length counts₀)

@@ -6,8 +6,6 @@ use native.Mathlib.Omega.{arith}
 use Rattle.colours.proofs.OrderLaws.{Swapping, swapping-start, swapping-next, swapping-done}
 use Rattle.colours.proofs.order.swap_rows.Statement.{statement}
 use Rattle.colours.proofs.order.swap_rows.Tie as tie
-use Rattle.colours.proofs.order.swap_rows.Reads as reads
-use Rattle.colours.proofs.order.swap_rows.Lts as lts
 
 abbrev Inv-loop : tie.InvT-loop
 Inv-loop cells₀ i j p q c₀ cells c = Swapping i j cells₀ cells c

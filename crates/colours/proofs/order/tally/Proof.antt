@@ -3,15 +3,11 @@
 use borrow.Author.Needs.{needs}
 use native.Mathlib.Omega.{arith}
 use Prim.Native.Nat.{_-_, _≤_}
-use mathlib.Core.Path.{_≡_, refl, _∙_}
+use mathlib.Core.Path.{_≡_, refl}
 use lib.ListN.{length, length-set}
 use Rattle.colours.proofs.OrderLaws.{term-room}
 use Rattle.colours.proofs.order.tally.Statement.{statement}
 use Rattle.colours.proofs.order.tally.Tie as tie
-use Rattle.colours.proofs.order.tally.Reads as reads
-use Rattle.colours.proofs.order.tally.Lts as lts
-use Rattle.std.proofs.num.wrapping_add_u16.Reads as wrapping-add-u16-reads
-use Rattle.tables.proofs.wide.Reads as wide-reads
 
 abbrev Inv-loop : tie.InvT-loop
 Inv-loop cells i counts₀ p j₀ counts j = (j ≤ 4) × (length counts ≡ length counts₀)
