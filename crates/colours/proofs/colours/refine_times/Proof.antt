@@ -16,27 +16,11 @@ abbrev μ-loop : tie.MeasureT-loop
 loop-holds : tie.Need-loop-holds Inv-loop μ-loop
 loop-holds c = rounds-start _ _ _ _ _ (c .before .before .before .pre)
 
-refine-requires : tie.Need-refine-requires Inv-loop μ-loop
-refine-requires c κs =
-    let at-loop = c .before .before .before in
-    let start = at-loop .before .before .before .before in
-    rounds-ready _ _ _ _ _ (start .pre) _ _ _ (at-loop .loop .inv)
-
 sub-i : tie.Need-sub-i Inv-loop μ-loop
 sub-i c = omega arith
 
 loop-less : tie.Need-loop-less Inv-loop μ-loop
 loop-less c = omega arith
-
-loop-again : tie.Need-loop-again Inv-loop μ-loop
-loop-again c =
-    let at-refine = c .before .before .before .before in
-    let at-loop-test = at-refine .before .before .before in
-    let at-loop = at-loop-test .before in
-    let start = at-loop .before .before .before .before in
-    rounds-next _ _ _ _ _ (start .pre) _ _ _ (at-loop .loop .inv) (at-loop-test .loop-test .taken) _ _
-    (at-refine .refine .kept .1 .1 .0) (at-refine .refine .kept .1 .1 .1 .0) (at-refine .refine .ensures .0)
-    (at-refine .refine .ensures .1)
 
 same-length : tie.Need-same-length Inv-loop μ-loop
 same-length c = c .before .loop .inv .size
@@ -57,10 +41,10 @@ refine-times-spec =
     Inv-loop
     μ-loop
     loop-holds
-    refine-requires
+    (λ c κs. search rounds-ready)
     sub-i
     loop-less
-    loop-again
+    (λ c. search rounds-next)
     same-length
     same-length-2
     returns)

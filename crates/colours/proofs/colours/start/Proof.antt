@@ -22,13 +22,6 @@ start-colour-requires c κs =
     let start = at-loop .before .before in
     omega (arith, at-loop .loop .inv .size, start .pre)
 
-loop-again : tie.Need-loop-again Inv-loop μ-loop
-loop-again c =
-    let at-loop-test = c .before in
-    let at-loop = at-loop-test .before in
-    start-next _ _ _ (at-loop .loop .inv) (at-loop-test .loop-test .taken) (c .start-colour .result)
-    (c .start-colour .ensures)
-
 same-length : tie.Need-same-length Inv-loop μ-loop
 same-length c = c .before .loop .inv .size
 
@@ -43,7 +36,6 @@ start-spec =
     μ-loop
     loop-holds
     start-colour-requires
-    (λ c. omega arith) (λ c. omega arith) (λ c. omega arith) (λ c. omega arith)
-    loop-again
+    (λ c. omega arith) (λ c. omega arith) (λ c. omega arith) (λ c. omega arith) (λ c. search start-next)
     same-length
     returns)

@@ -17,12 +17,6 @@ abbrev μ-loop : tie.MeasureT-loop
 loop-holds : tie.Need-loop-holds Inv-loop μ-loop
 loop-holds c = sum-start _
 
-loop-again : tie.Need-loop-again Inv-loop μ-loop
-loop-again c =
-    let at-loop-test = c .before .before in
-    let at-loop = at-loop-test .before in
-    sum-next _ _ _ (at-loop .loop .inv) (at-loop-test .loop-test .taken) _ (c .wrapping-add-u64 .ensures)
-
 returns : tie.Need-returns Inv-loop μ-loop
 returns c = sum-done _ _ _ (c .before .loop .inv) (c .loop-test .left)
 
@@ -34,5 +28,5 @@ sum-spec =
     μ-loop
     loop-holds
     (λ c. omega arith) (λ c. omega arith) (λ c κs. search needs) (λ c. omega arith) (λ c. omega arith)
-    loop-again
+    (λ c. search sum-next)
     returns)

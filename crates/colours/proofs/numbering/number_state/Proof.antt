@@ -29,12 +29,6 @@ number-cells-requires-2 c κs =
       omega (arith, at-number-cells .number-cells .ensures .most, start .pre .4, start .pre .5),
     )
 
-returns : tie.Need-returns
-returns c =
-    let at-number-cells2 = c .before .before .before in
-    let at-number-cells = at-number-cells2 .before .before .before .before .before .before in
-    state-numbered _ _ _ _ _ _ _ _ _ (at-number-cells .number-cells .ensures) (at-number-cells2 .number-cells2 .ensures)
-
 pub number-state-spec : {M : Type 1} → statement M
 number-state-spec =
     tie.close
@@ -43,5 +37,4 @@ number-state-spec =
     number-cells-requires
     (λ c. search needs)
     number-cells-requires-2
-    (λ c. search needs) (λ c. search needs)
-    returns)
+    (λ c. search needs) (λ c. search needs) (λ c. search state-numbered))
