@@ -184,10 +184,6 @@ module _ (keys : List ℕ) (key i : ℕ) (w : Seeking keys key i) where
         rw (add-one i)
         (record { within = h; same = rw (drop-cons keys i 0 h, ne-eqb key (getD keys i 0) d) at (w .same) })
 
--- a constraint with another symbol
-abbrev withSymbol : ℕ → Constraint → Constraint
-withSymbol v c = record { symbol = v; terms = c .terms }
-
 -- the constraints below i are relabelled
 pub record Relabelling (own keys cells₀ cells : List ℕ) (i : ℕ) : Type 0 where
   pub within : i ≤ length own

@@ -8,7 +8,7 @@ use Prim.Native.Nat.{ℕ, zero, suc, _+_, _*_, _≤_, _<_}
 use native.Mathlib.Omega.{arith}
 use mathlib.Core.Bool.{Bool, true, false, not}
 use mathlib.Core.List.{List, [], _∷_, map}
-use mathlib.Core.Path.{_≡_, refl, sym, ap, _∙_}
+use mathlib.Core.Path.{_≡_, refl, sym, _∙_}
 use lib.ListN.{length, getD, take, replicate, length-take, length-replicate}
 use lib.Seq.{length-take-le}
 use borrow.Author.Tests.{ne-eqb}
@@ -31,7 +31,7 @@ use Rattle.tables.proofs.CellLaws.{every-first, every-rest}
 use Rattle.colours.specs.Ends.{endOf}
 use Rattle.comparison.specs.Comparing.{Side, Alike}
 use Rattle.judging.specs.Tidying.{Tidied}
-use Rattle.judging.specs.Judging.{Stands, endIn, LiveEnd, EndOf, Joins}
+use Rattle.judging.specs.Judging.{endIn, LiveEnd, EndOf, Joins}
 use Rattle.judging.proofs.TidyLaws.{cell-below, tidied-below}
 
 -- cells lie as their terms do

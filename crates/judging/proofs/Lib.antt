@@ -3,4 +3,3 @@ pub mod TidyLaws
 pub mod EndLaws
 pub mod JoinLaws
 pub mod StepLaws
-pub mod AskLaws

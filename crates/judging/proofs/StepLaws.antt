@@ -17,7 +17,7 @@ use Rattle.tables.specs.Cells.{stateOf}
 use Rattle.comparison.specs.Comparing.{Alike}
 use Rattle.sides.specs.Sides.{Begun}
 use Rattle.sides.proofs.EndLaws.{sides-meet}
-use Rattle.judging.specs.Judging.{Stands, Overlapping, Lent, BothBegun, Stepped, SameStep, Joins}
+use Rattle.judging.specs.Judging.{Overlapping, Lent, BothBegun, Stepped, SameStep, Joins}
 use Rattle.judging.proofs.EndLaws.{goal-few}
 use Rattle.judging.proofs.JoinLaws.{states-same}
 

@@ -85,13 +85,6 @@ pub one-known : (cs : List (List ℕ)) (f : List ℕ) → isName f ≡ true → 
 unfolding constantsAfter
 one-known cs f e = rw e (with-known f cs)
 
--- cells with zeros behind them
-pub padded-length : (n : ℕ) (l : List ℕ) → length (padded n l) ≡ n
-unfolding padded
-padded-length zero l = refl
-padded-length (suc n) [] = ap suc (padded-length n [])
-padded-length (suc n) (x ∷ l) = ap suc (padded-length n l)
-
 pub padded-set : (n : ℕ) (l : List ℕ) (x : ℕ) → length l < n → set (padded n l) (length l) x ≡ padded n (l ++ (x ∷ []))
 unfolding padded
 padded-set zero l x h = absurd (omega arith)

@@ -28,10 +28,6 @@ pub map-sub-sub :
 map-sub-sub f g [] = refl
 map-sub-sub f g (t ∷ l) = λ i. sub-sub f g t i ∷ map-sub-sub f g l i
 
-pub map-sub-var : {X : Type 0} (l : List (Tm X)) → map (sub var) l ≡ l
-map-sub-var [] = refl
-map-sub-var (t ∷ l) = λ i. sub-var t i ∷ map-sub-var l i
-
 pub subAtom-sub :
     {X Y Z : Type 0} (f : Y → Tm Z) (g : X → Tm Y) (a : Atom X) → subAtom f (subAtom g a) ≡ subAtom (λ x. sub f (g x)) a
 subAtom-sub f g a = λ i. record { symbol = a .symbol; args = map-sub-sub f g (a .args) i }
@@ -41,13 +37,6 @@ pub map-subAtom-sub :
     → map (subAtom f) (map (subAtom g) l) ≡ map (subAtom (λ x. sub f (g x))) l
 map-subAtom-sub f g [] = refl
 map-subAtom-sub f g (a ∷ l) = λ i. subAtom-sub f g a i ∷ map-subAtom-sub f g l i
-
-pub map-subEqn-sub :
-    {X Y Z : Type 0} (f : Y → Tm Z) (g : X → Tm Y) (l : List (Eqn X))
-    → map (subEqn f) (map (subEqn g) l) ≡ map (subEqn (λ x. sub f (g x))) l
-map-subEqn-sub f g [] = refl
-map-subEqn-sub f g (e ∷ l) =
-    λ i. record { left = sub-sub f g (e .left) i; right = sub-sub f g (e .right) i } ∷ map-subEqn-sub f g l i
 
 -- the terms of atoms under a substitution
 pub flat-sub : {X Y : Type 0} (f : X → Tm Y) (l : List (Atom X)) → flat (map (subAtom f) l) ≡ map (sub f) (flat l)

@@ -7,7 +7,7 @@ use mathlib.Core.List.{List, [], _∷_, _++_, map}
 use mathlib.Core.Path.{_≡_, refl, sym, _∙_, subst, subst₂}
 use Rattle.semantics.proofs.Configurations.{Or, inl, inr, Member, first, later, Tm, var, Eqn, sub, subEqn, Eqv, given}
 use Rattle.semantics.proofs.Configurations.{same, flip, chain}
-use Rattle.semantics.proofs.Multisets.{member-append, member-append-left, member-append-right, member-map, member-unmap}
+use Rattle.semantics.proofs.Multisets.{member-append, member-append-left, member-append-right, member-unmap}
 use Rattle.semantics.proofs.Atoms.{sub-sub, sub-var}
 
 -- equal terms are equivalent
@@ -106,12 +106,6 @@ derives-map {D} f g E d e i =
     let h = member-unmap (subEqn g) E i in
     let k = subst₂ (Eqv D) (sym (sub-sub f g (h .0 .left))) (sym (sub-sub f g (h .0 .right))) (d (h .0) (h .1)) in
     subst (λ x. Eqv D (sub f (x .left)) (sub f (x .right))) (sym (h .2)) k
-
--- equations whose images are among those at hand follow
-pub derives-image :
-    {X Y : Type 0} {D : List (Eqn Y)} (f : X → Tm Y) (E : List (Eqn X)) (F : List (Eqn Y))
-    → map (subEqn f) E ≡ F → ((e : Eqn Y) → Member e F → Member e D) → Derives D f E
-derives-image f E F p d e i = given (d (subEqn f e) (subst (Member (subEqn f e)) p (member-map (subEqn f) i)))
 
 -- one substitution after another
 pub derives-comp :

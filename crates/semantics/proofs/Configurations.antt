@@ -8,7 +8,7 @@
 --   Context, plug           a configuration put into a context that names its face
 --   confOf, Rep             a state as a configuration; a state that represents a configuration
 -- Assumes nothing.
-use Prim.Native.Nat.{ℕ, suc, _<_}
+use Prim.Native.Nat.{ℕ, _<_}
 use mathlib.Core.List.{List, [], _∷_, _++_, map}
 use mathlib.Core.Path.{_≡_}
 use Rattle.semantics.specs.Terms.{Term, Constraint, Equation, Rule, State}

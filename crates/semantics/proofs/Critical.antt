@@ -9,17 +9,17 @@ use mathlib.Core.List.{List, [], _++_, map, map-append}
 use mathlib.Core.Path.{_≡_, sym, ap, subst, subst₂, _∙_}
 use Rattle.semantics.specs.Terms.{Rule}
 use Rattle.semantics.specs.Variants.{Pointwise, SameMultiset}
-use Rattle.semantics.proofs.Configurations.{Or, inl, Tm, Atom, sub, subAtom, old, new, flat, Eqv, same}
+use Rattle.semantics.proofs.Configurations.{Or, inl, Tm, Atom, sub, subAtom, old, new, flat, Eqv}
 use Rattle.semantics.proofs.Configurations.{Config, AtomRel, Iso, Same, iso, headsOf, bodyOf, eqsOf, fireC, Steps, Context}
 use Rattle.semantics.proofs.Configurations.{plug}
 use Rattle.semantics.proofs.Multisets.{pointwise-sym, pointwise-mono, pointwise-map-right, pointwise-append}
 use Rattle.semantics.proofs.Multisets.{pointwise-parts}
-use Rattle.semantics.proofs.Multisets.{pointwise-refl, multiset-mono, multiset-append, multiset-of-pointwise}
+use Rattle.semantics.proofs.Multisets.{multiset-append, multiset-of-pointwise}
 use Rattle.semantics.proofs.Multisets.{multiset-left}
-use Rattle.semantics.proofs.Atoms.{atom-refl, map-sub-sub, flat-sub}
+use Rattle.semantics.proofs.Atoms.{map-sub-sub, flat-sub}
 use Rattle.semantics.proofs.Links.{exchange, exchange-iso}
-use Rattle.semantics.proofs.Isos.{iso-refl, iso-sym, iso-trans, same-trans}
-use Rattle.semantics.proofs.Stepping.{fire-rest, fire-iso, steps-iso}
+use Rattle.semantics.proofs.Isos.{iso-sym, iso-trans, same-trans}
+use Rattle.semantics.proofs.Stepping.{fire-iso, steps-iso}
 use Rattle.semantics.proofs.Contexts.{plug-same, plug-steps}
 use Rattle.semantics.proofs.Peaks.{peakOf, around, peak-iso}
 use Rattle.semantics.proofs.Reface.{entry, reface, reface-same, reface-fire, reface-steps}

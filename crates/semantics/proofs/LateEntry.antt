@@ -20,7 +20,7 @@ use Rattle.semantics.specs.Firing.{without, instance, settle, fired, fir
 use Rattle.semantics.specs.Derivations.{Event, enter, fire, Progress, become, taken, entering, firing, follow, followAll}
 use Rattle.semantics.specs.Derivations.{start, derive, waiting, NoRuleFits, allEntered, Finished, byFailure, byRest}
 use Rattle.semantics.specs.Strategy.{goalState}
-use Rattle.semantics.specs.Variants.{Inserted, SameMultiset, put, Variant}
+use Rattle.semantics.specs.Variants.{Inserted, SameMultiset, put}
 use Rattle.semantics.proofs.Configurations.{TermBelow, All, also}
 use Rattle.semantics.proofs.Configurations as C
 use Rattle.semantics.proofs.Multisets.{inserted-map, multiset-refl, multiset-append}
@@ -33,7 +33,7 @@ use Rattle.semantics.proofs.Bound.{waiting-enters}
 use Rattle.semantics.proofs.Entering.{tabled-length, constraint-itself, every-upTo}
 use Rattle.semantics.proofs.Normal.{Reach, arrived, fires}
 use Rattle.semantics.proofs.Reordering.{Reordered, bothFailed, reordered, reordered-refl, reordered-trans}
-use Rattle.semantics.proofs.Reordering.{withMore, Follows, fire-moves, reordered-variant, reordered-rests}
+use Rattle.semantics.proofs.Reordering.{withMore, Follows, fire-moves, reordered-rests}
 
 -- constraints of a goal as they would enter
 abbrev pub entrants : List Constraint → List Term → List Constraint
@@ -261,12 +261,6 @@ goal-below p g e = go (g .constraints) e
 pub late-entry : (p : Program) (g : Goal) → isGoalOf p g ≡ true → (es : List Event) → Late p g (derive p g es)
 unfolding derive
 late-entry p g e es = late-all p g es (start g) (goal-below p g e) (late-start p g)
-
--- in particular it is a variant of what is reached
-pub late-entry-variant :
-    (p : Program) (g : Goal) → isGoalOf p g ≡ true → (es : List Event)
-    → (u : State) × Reach (p .rules) (derive p g es .firings) (goalState g) u × Variant (whole g (derive p g es)) u
-late-entry-variant p g e es = let h = late-entry p g e es in (h .reached, h .reach, reordered-variant (h .same))
 
 -- in the end of a finished derivation nothing waits that could change it, and no rule fits
 finished-whole : (p : Program) (g : Goal) (d : Progress) → Finished p g d → (whole g d ≡ d .state) × NoRuleFits p (d .state)

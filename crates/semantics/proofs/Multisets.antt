@@ -2,7 +2,7 @@
 --   pointwise-…             lists related element by element
 --   inserted-…              a list with an element put in
 --   multiset-…              equal multisets, up to a relation
---   multiset-split, -pick   the partners of a part, and of a chosen list in its order
+--   multiset-pick           the partners of a chosen list in its order
 --   multiset-cancel         what both have in front can be left out
 --   member-…, all-…         the elements of a list
 -- Assumes nothing.
@@ -72,15 +72,6 @@ pub pointwise-append :
 pointwise-append empty q = q
 pointwise-append (each r p) q = each r (pointwise-append p q)
 
--- the partner of a list in two parts has two parts
-pub pointwise-split :
-    {A B : Type 0} {R : A → B → Type 0} (a b : List A) {n : List B} → Pointwise R (a ++ b) n
-    → (c : List B) × (d : List B) × (n ≡ c ++ d) × Pointwise R a c × Pointwise R b d
-pointwise-split [] b {n} p = ([], n, refl, empty, p)
-pointwise-split (x ∷ a) b (each {b = y} r p) =
-    let h = pointwise-split a b p in
-    (y ∷ h .0, h .1, ap (λ k. y ∷ k) (h .2), each r (h .3), h .4)
-
 -- two lists in two parts each, where the first parts are as long
 pub pointwise-parts :
     {A B : Type 0} {R S : A → B → Type 0} {a : List A} {c : List B} (b : List A) (d : List B)
@@ -93,24 +84,12 @@ pub pointwise-length : {A B : Type 0} {R : A → B → Type 0} {l : List A} {m :
 pointwise-length empty = refl
 pointwise-length (each r p) = ap suc (pointwise-length p)
 
--- equal elements make equal lists
-pub pointwise-path : {A : Type 0} {l m : List A} → Pointwise _≡_ l m → l ≡ m
-pointwise-path empty = refl
-pointwise-path (each r p) = λ i. r i ∷ pointwise-path p i
-
 -- each pair, with its left side known to be of the list
 pub pointwise-member :
     {A B : Type 0} {R : A → B → Type 0} {l : List A} {m : List B}
     → Pointwise R l m → Pointwise (λ a b. Member a l × R a b) l m
 pointwise-member empty = empty
 pointwise-member (each r p) = each (first, r) (pointwise-mono (λ a b h. (later (h .0), h .1)) (pointwise-member p))
-
--- an element of one list has its partner in the other
-pub pointwise-partner :
-    {A B : Type 0} {R : A → B → Type 0} {a : A} {l : List A} {m : List B}
-    → Member a l → Pointwise R l m → (b : B) × R a b × Member b m
-pointwise-partner first (each {b = y} r p) = (y, r, first)
-pointwise-partner (later i) (each r p) = let h = pointwise-partner i p in (h .0, h .1, later (h .2))
 
 -- an element of a list with one in front is that one or of the rest
 pub member-cons : {A : Type 0} {a b : A} {l : List A} → Member a (b ∷ l) → Or (a ≡ b) (Member a l)
@@ -191,11 +170,6 @@ pub inserted-keeps : {A : Type 0} {a b : A} {l m : List A} → Inserted a l m �
 inserted-keeps here j = later j
 inserted-keeps (there i) first = first
 inserted-keeps (there i) (later j) = later (inserted-keeps i j)
-
--- an element can be taken out
-pub inserted-of-member : {A : Type 0} {a : A} {m : List A} → Member a m → (l : List A) × Inserted a l m
-inserted-of-member (first {l}) = (l, here)
-inserted-of-member (later {b = x} i) = let h = inserted-of-member i in (x ∷ h .0, there (h .1))
 
 -- one more element
 pub inserted-length : {A : Type 0} {a : A} {l m : List A} → Inserted a l m → length m ≡ suc (length l)
@@ -337,15 +311,6 @@ multiset-right {R} s p = multiset-mono (λ a b h. subst (R a) (h .2) (h .1)) (mu
 
 pub multiset-back : {A : Type 0} {l m : List A} → SameMultiset _≡_ l m → SameMultiset _≡_ m l
 multiset-back p = multiset-mono (λ a b e. sym e) (multiset-sym p)
-
--- the partner of a list in two parts has two parts
-pub multiset-split :
-    {A B : Type 0} {R : A → B → Type 0} (a b : List A) {n : List B} → SameMultiset R (a ++ b) n
-    → (c : List B) × (d : List B) × SameMultiset R a c × SameMultiset R b d × SameMultiset _≡_ n (c ++ d)
-multiset-split [] b {n} s = ([], n, done, s, multiset-refl (λ x. refl) n)
-multiset-split (x ∷ a) b (put {b = y} r i s) =
-    let h = multiset-split a b s in
-    (y ∷ h .0, h .1, put r here (h .2), h .3, multiset-put refl i here (h .4))
 
 -- the partners of a chosen list, in its order, and those of the rest
 pub multiset-pick :

@@ -125,10 +125,6 @@ steps-iso I (go s t) =
 pub steps-one : {rs : List Rule} {C D : Config} → Step rs C D → Steps rs C D
 steps-one s = go s stay
 
-pub steps-trans : {rs : List Rule} {C D B : Config} → Steps rs C D → Steps rs D B → Steps rs C B
-steps-trans stay t = t
-steps-trans (go s t) u = go s (steps-trans t u)
-
 -- firing leaves the rest in any order
 pub fire-rest :
     (r : Rule) (C : Config) (M : List (Atom (C .Var))) {L K : List (Atom (C .Var))} → SameMultiset _≡_ L K

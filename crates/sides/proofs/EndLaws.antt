@@ -1,6 +1,4 @@
--- What a caller has of a side: an overlap's goal can be run from it, and its end is that of the definition.
---   goal-light                    a weight for each constraint
---   read-side                     what a side asks, from what the reading of a program promises
+-- What a caller has of a side: its end is that of the definition.
 --   first-side, second-side       the ends of an overlap's two sides (the main laws)
 --   sides-meet                    sides in the same state after their own firings have the same end
 --   side-lives                    an end that lives is over the vocabulary of its goal and its rules
@@ -14,54 +12,21 @@ use mathlib.Core.Path.{_≡_, refl, ap, sym, subst, _∙_}
 use lib.ListN.{length, getD, take, drop, length-drop}
 use lib.Seq.{length-take-le}
 use Rattle.text.specs.Lists.{onward, upTo}
-use Rattle.semantics.specs.Terms.{Constraint, Symbol, Rule, Program, Goal, noSymbol, symbolAt, weight}
+use Rattle.semantics.specs.Terms.{Rule, Program, Goal, weight}
 use Rattle.semantics.specs.Terms.{isWellFormed, isGoalOf, alphabet}
 use Rattle.semantics.specs.Firing.{fireAt}
 use Rattle.semantics.specs.Strategy.{Final, goalState, normalise}
 use Rattle.semantics.specs.Overlaps.{Overlap, secondPositions, sideEnd, firstEnd, secondEnd}
-use Rattle.semantics.proofs.Configurations.{All, none, also}
+use Rattle.semantics.proofs.Configurations.{All}
 use Rattle.semantics.proofs.Vocabulary.{ConstraintOver, RuleOver, Spoken, SpokenState, side-spoken}
 use Rattle.tables.specs.Cells.{cellTerm, cellConstraints, stateOf}
 use Rattle.tables.specs.Layout.{firstRule}
-use Rattle.tables.specs.Rows.{nameOf, symbolsOf, ruleOfRow, ruleOf, rulesOf, rowOf}
+use Rattle.tables.specs.Rows.{nameOf, ruleOfRow, ruleOf, rulesOf, rowOf}
 use Rattle.tables.proofs.CellLaws.{constraints-length}
 use Rattle.engine.specs.Positions.{Row}
 use Rattle.engine.specs.Stated.{statedAt}
-use Rattle.engine.proofs.GoalLaws.{AsRead, programOf, rule-stands, goal-runnable}
-use Rattle.sides.specs.Sides.{cellGoal, Sidable, Begun, Sided}
-
--- a symbol's weight, where all symbols weigh at most 31
-symbol-light :
-    {symbols : List Symbol} → All (λ (s : Symbol). s .weight ≤ 31) symbols → (k : ℕ) → symbolAt symbols k .weight ≤ 31
-unfolding symbolAt noSymbol
-symbol-light none k = omega arith
-symbol-light (also h more) zero = h
-symbol-light (also h more) (suc k) = symbol-light more k
-
--- the weight of constraints, an overlap's at most 7 among them
-pub goal-light :
-    (symbols : List Symbol) (cs : List Constraint) → All (λ (s : Symbol). s .weight ≤ 31) symbols
-    → weight symbols cs ≤ 31 * length cs
-unfolding weight
-goal-light symbols [] h = omega arith
-goal-light symbols (c ∷ cs) h = omega (arith, symbol-light h (c .symbol), goal-light symbols cs h)
-
--- a goal over a program as it is read can be run from a side
-pub read-side :
-    (names symbols : List ℕ) (k : ℕ) (rules : List ℕ) (n i : ℕ) (positions goal : List ℕ) (m v : ℕ) (cells : List ℕ)
-    → AsRead names symbols k rules n → isGoalOf (programOf names symbols k rules n) (cellGoal v goal) ≡ true
-    → weight (symbolsOf names symbols k) (cellConstraints goal) ≤ 512 → i < n → length positions ≡ 4 → length goal ≡ 5 * m
-    → v ≤ 50000 → 2590 ≤ length cells → Sidable rules n i positions goal m v cells
-unfolding cellGoal
-read-side names symbols k rules n i positions goal m v cells r is-goal light l p g few space =
-    record {
-      rule = l;
-      positions-size = p;
-      goal-size = g;
-      runs = goal-runnable names symbols k rules n r (cellGoal v goal) is-goal light;
-      variables = few;
-      space = space;
-    }
+use Rattle.engine.proofs.GoalLaws.{rule-stands}
+use Rattle.sides.specs.Sides.{cellGoal, Begun, Sided}
 
 -- the first positions, as the code has them for the first rule
 first-stated :

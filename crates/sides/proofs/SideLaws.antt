@@ -18,7 +18,7 @@ use Rattle.semantics.specs.Overlaps.{sideEnd}
 use Rattle.tables.specs.Layout.{firstRule}
 use Rattle.tables.specs.Cells.{cellTerm, cellConstraints, stateOf}
 use Rattle.tables.specs.Rows.{nameOf, ruleOf, rowOf}
-use Rattle.engine.specs.Runs.{weightBy, Lowers, storeOf, Startable, Continued}
+use Rattle.engine.specs.Runs.{weightBy, Lowers, storeOf, Continued}
 use Rattle.engine.specs.Stated.{statedAt, fireRow, Stated, FiredAt}
 use Rattle.engine.proofs.ChooseLaws.{lentRow, row-cells}
 use Rattle.engine.proofs.RunLaws.{count-weight, normalise-rests, failed-rests}

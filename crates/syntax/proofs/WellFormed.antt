@@ -48,10 +48,6 @@ pub holds-andThen :
 holds-andThen P Q (refused number line) next h k = tt
 holds-andThen P Q (accepted a) next h k = k a refl h
 
-pub holds-mono : {A : Type 0} (P Q : A → Type 0) (r : Answer A) → ((a : A) → P a → Q a) → Holds P r → Holds Q r
-holds-mono P Q (refused number line) k h = tt
-holds-mono P Q (accepted a) k h = k a h
-
 pub holds-accepted : {A : Type 0} (P : A → Type 0) (r : Answer A) {a : A} → Holds P r → r ≡ accepted a → P a
 holds-accepted P r h e = subst (Holds P) e h
 

@@ -2,7 +2,7 @@
 --   either, le-or-lt, every-first, every-rest      tests taken apart
 --   cell-low, cell-high       a cell below 256 is a constant, any other a variable
 --   same-cell                 two cells are the same term where they are the same cell
---   terms-none, terms-more, terms-end              the terms of cells from one on
+--   terms-none, terms-more                         the terms of cells from one on
 --   constraints-length                             how many constraints whole rows are
 --   constraints-at, constraints-short              the constraints of cells from one on
 --   element-row, element-none                      the constraint of a number
@@ -15,7 +15,7 @@ use mathlib.Core.Logic.{_⊎_, inl, inr, ⊎-elim}
 use mathlib.Core.Option.{none, some}
 use mathlib.Core.Path.{_≡_, refl, sym, ap, _∙_}
 use lib.Dec.{eqb, leb}
-use lib.ListN.{length, getD, getElem?, take, drop, length-drop, drop-of-length-le}
+use lib.ListN.{length, getD, getElem?, take, drop, length-drop}
 use lib.Seq.{drop-cons, drop-drop}
 use borrow.Author.Tests.{lt-ltb, le-ltb, eq-eqb, ne-eqb, eqb-true, eqb-false, leb-true, leb-false, ltb-true}
 use Rattle.text.specs.Lists.{every}
@@ -88,11 +88,6 @@ pub terms-more :
     → cellTerms (drop i l) ≡ cellTerm (getD l i 0) ∷ cellTerms (drop (suc i) l)
 unfolding cellTerms
 terms-more l i h e = rw (drop-cons l i 0 h, ne-eqb (getD l i 0) 0 e)
-
--- behind the last cell there is none
-pub terms-end : (l : List ℕ) (i : ℕ) → length l ≤ i → cellTerms (drop i l) ≡ []
-unfolding cellTerms
-terms-end l i h = rw (drop-of-length-le l h)
 
 -- five cells and more are a constraint and more
 constraints-five : (l : List ℕ) → 5 ≤ length l → cellConstraints l ≡ rowConstraint (take 5 l) ∷ cellConstraints (drop 5 l)

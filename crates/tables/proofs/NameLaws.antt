@@ -4,16 +4,16 @@
 --   name-program, name-goal           the name of a number, from the text that its place says
 --   name-whole, name-short            a word of at most eight bytes is the name that starts where it does; none has more
 -- Assumes nothing.
-use mathlib.Core.Path.{_≡_, refl, sym, ap, _∙_}
-use mathlib.Core.Bool.{Bool, true, false, cond, _||_}
-use mathlib.Core.List.{List, [], _∷_}
-use Prim.Native.Nat.{ℕ, zero, suc, _+_, _-_, _≤_, _<_, min}
+use mathlib.Core.Path.{_≡_, sym}
+use mathlib.Core.Bool.{Bool, true, false, cond}
+use mathlib.Core.List.{List, []}
+use Prim.Native.Nat.{ℕ, suc, _-_, _≤_, _<_, min}
 use native.Mathlib.Omega.{arith}
 use native.Mathlib.Decide.{decLe}
-use borrow.Author.Tests.{eq-eqb, ne-eqb, lt-ltb, le-ltb}
-use lib.Dec.{eqb, ltb}
+use borrow.Author.Tests.{ne-eqb, lt-ltb, le-ltb}
+use lib.Dec.{ltb}
 use lib.ListN.{length, take, drop, getD, drop-of-length-le, length-take, length-drop, List·getD-eq-default}
-use lib.Seq.{drop-cons, take-take, take-all, take-nil}
+use lib.Seq.{drop-cons, take-take, take-all}
 use Rattle.text.specs.Keys.{wordLength, word}
 use Rattle.tables.specs.Layout.{maxName, goalPlace}
 use Rattle.tables.specs.Names.{nameAt, placedAt, nameIn}

@@ -8,25 +8,23 @@
 --   renumbers             the table gives every variable its place
 -- Assumes nothing.
 use mathlib.Core.Path.{_≡_, refl, sym, ap, _∙_, subst}
-use mathlib.Core.Bool.{Bool, true, false, cond, _||_, _&&_}
+use mathlib.Core.Bool.{Bool, true, false, cond, _||_}
 use mathlib.Core.List.{List, [], _∷_, _++_, map}
-use Prim.Native.Nat.{ℕ, zero, suc, _+_, _-_, _*_, _≤_, _<_}
+use Prim.Native.Nat.{ℕ, suc, _+_, _-_, _*_, _≤_, _<_}
 use native.Mathlib.Omega.{arith}
 use native.Mathlib.Numerals.{add-one}
 use borrow.Author.Tests.{eq-eqb, ne-eqb, eqb-true, eqb-false, lt-ltb, le-ltb, ltb-true}
 use lib.Dec.{eqb, ltb}
-use lib.ListN.{length, take, drop, getD, set, length-set, length-append, length-drop, length-take, drop-of-length-le}
+use lib.ListN.{length, take, drop, getD, set, length-append, length-take, drop-of-length-le}
 use lib.ListN.{List·getD-eq-default}
-use lib.Seq.{drop-cons, drop-drop, take-take, getD-set-same, getD-set-other}
+use lib.Seq.{drop-cons, drop-drop, getD-set-same, getD-set-other}
 use Rattle.text.specs.Lists.{has, every, indexFrom}
-use Rattle.semantics.specs.Terms.{Term, con, var, Constraint, mapTerms, isBelow}
-use Rattle.semantics.specs.Overlaps.{appearingIn, appearing, numbered}
+use Rattle.semantics.specs.Terms.{Term, con, var, Constraint, isBelow}
+use Rattle.semantics.specs.Overlaps.{appearingIn, appearing}
 use Rattle.text.proofs.Bools.{and-true}
 use Rattle.tables.specs.Cells.{cellTerm, cellTerms, rowConstraint, cellConstraints, isLow}
-use Rattle.tables.specs.Numbers.{usedCells, orderOf, newCell, Numbering, Numbered, RowsNumbered, renumberedCell, isWithin}
-use Rattle.tables.specs.Numbers.{Renumberable, Renumbered}
-use Rattle.tables.proofs.CellLaws.{cell-low, cell-high, le-or-lt, constraints-at, constraints-short}
-use Rattle.tables.proofs.MapLaws.{Acts, acts-constraints, acts-bound}
+use Rattle.tables.specs.Numbers.{usedCells, newCell, Numbering, Numbered, RowsNumbered, renumberedCell, isWithin}
+use Rattle.tables.proofs.CellLaws.{cell-low, cell-high, constraints-at, constraints-short}
 
 module _ (l : List ℕ) (i : ℕ) where
   -- how many cells stand before the first 0, one cell on

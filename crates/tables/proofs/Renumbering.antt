@@ -4,16 +4,16 @@
 --   zeros          a table of zeros, of which v entries are lent: no variable has appeared
 -- Assumes nothing.
 use mathlib.Core.Path.{_≡_, refl, sym, ap, _∙_}
-use mathlib.Core.Bool.{Bool, true, false, _&&_}
+use mathlib.Core.Bool.{true, _&&_}
 use mathlib.Core.List.{List, [], _∷_, map}
 use mathlib.Core.Logic.{⊎-elim}
-use Prim.Native.Nat.{ℕ, zero, suc, _+_, _-_, _≤_, _<_}
+use Prim.Native.Nat.{ℕ, zero, suc, _+_, _-_, _≤_}
 use native.Mathlib.Omega.{arith}
 use borrow.Author.Tests.{eqb-true, eqb-false}
 use lib.Dec.{eqb}
 use lib.ListN.{length, take, getD}
 use Rattle.text.specs.Lists.{has, every, indexFrom}
-use Rattle.semantics.specs.Terms.{Term, con, var, Constraint, isBelow}
+use Rattle.semantics.specs.Terms.{var, Constraint, isBelow}
 use Rattle.semantics.specs.Overlaps.{appearingIn, appearing, numbered}
 use Rattle.text.proofs.Bools.{and-true}
 use Rattle.tables.specs.Cells.{cellTerm, cellConstraints, isLow}

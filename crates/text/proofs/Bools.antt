@@ -1,6 +1,6 @@
 -- Laws of Booleans.
 --   never                    true is not false
---   and-true, and-both       both sides of an `&&` that is true, and the `&&` of two that are
+--   and-true                 both sides of an `&&` that is true
 --   and-false, and-assoc     `&&` with false, and regrouped
 --   or-true, or-false        `||` with true; both sides of an `||` that is false
 --   flipped                  a negation, solved for what is negated
@@ -16,9 +16,6 @@ never h = let z : _≡_ {A = ℕ} 0 1 = cc in omega arith
 pub and-true : (a b : Bool) → (a && b) ≡ true → (a ≡ true) × (b ≡ true)
 and-true true b h = (refl, h)
 and-true false b h = absurd (let z : _≡_ {A = ℕ} 0 1 = cc in omega arith)
-
-pub and-both : (a b : Bool) → a ≡ true → b ≡ true → (a && b) ≡ true
-and-both a b h k = rw (h, k)
 
 pub and-false : (a : Bool) → (a && false) ≡ false
 and-false true = refl

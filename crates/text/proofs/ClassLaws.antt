@@ -92,10 +92,6 @@ pub between-below : (a z b : ℕ) → b < a → between a z b ≡ false
 unfolding between
 between-below a z b h = rw (lt-leb a b h)
 
-pub between-is : (a z b : ℕ) → a ≤ b → b ≤ z → between a z b ≡ true
-unfolding between
-between-is a z b h k = rw (le-leb a b h, le-leb b z k)
-
 -- the capitals and the digits by their byte values
 pub is-capital : (b : ℕ) → isClass capital b ≡ between 65 90 b
 unfolding isClass classOf classNumber

@@ -1,9 +1,8 @@
 -- Laws of keys: a field's form is read off its key.
 --   name-key, variable-key, term-key     a field is a name, a variable, a term: its key is above 27, from 2 to 27, above 1
---   spell-key                            a name is spelled by its key; spell-some: a key that is not 0 spells something
---   name-equal, term-equal               names, and terms, with equal keys are equal; same-key: a term compared by its key
+--   spell-key                            a name is spelled by its key
+--   name-equal                           names with equal keys are equal
 --   letter-key, variable-range           a variable's letter by its key, and between which bytes it lies
---   key-below                            a key fits 8 bytes
 -- Not here: numbers by their keys (Numbers).
 -- Assumes nothing.
 use mathlib.Core.Path.{_≡_, refl, sym, ap, _∙_}
@@ -12,18 +11,18 @@ use mathlib.Core.List.{List, [], _∷_, _++_, append-nil}
 use Prim.Native.Nat.{ℕ, zero, suc, _+_, _-_, _*_, _/_, _%_, _^_, _≤_, _<_}
 use native.Mathlib.Nat.{not-suc-le-zero, pow-suc, pow-le-pow-right}
 use native.Mathlib.Omega.{arith}
-use borrow.Author.Tests.{le-leb, lt-leb, lt-ltb, le-ltb, ne-eqb, eq-eqb, eqb-true}
+use borrow.Author.Tests.{le-leb, lt-leb, lt-ltb, le-ltb, ne-eqb}
 use lib.Dec.{leb, ltb, eqb}
 use lib.ListN.{length, getD, take, length-take}
 use lib.Seq.{take-suc, take-all, append-snoc}
 use Rattle.text.specs.Bytes.{between, classOf, isNameClass}
-use Rattle.text.specs.Lists.{every, sameBytes}
+use Rattle.text.specs.Lists.{every}
 use Rattle.text.specs.Fields.{isName, isVariable, isTerm}
 use Rattle.text.specs.Keys.{packedFrom, packed, spellFrom, spell, keyOf}
 use Rattle.text.specs.Splits.{isPlain, sevenBytes}
 use Rattle.text.proofs.Bools.{never, and-true, and-false}
-use Rattle.text.proofs.Laws.{every-append, every-implied, same-self, same-equal}
-use Rattle.text.proofs.ClassLaws.{between-true, plain-range, name-plain, name-range, is-capital}
+use Rattle.text.proofs.Laws.{every-append}
+use Rattle.text.proofs.ClassLaws.{between-true, plain-range, name-range, is-capital}
 
 abbrev pub nameByte : ℕ → Bool
 nameByte b = isNameClass (classOf b)
@@ -211,60 +210,3 @@ pub name-equal : (f g : List ℕ) → isName f ≡ true → keyOf f ≡ keyOf g 
 name-equal f g h e =
     let k : isName g ≡ true = name-key g ∙ ap (λ (x : ℕ). ltb 27 x) (sym e) ∙ sym (name-key f) ∙ h in
     sym (spell-key f h) ∙ ap spell e ∙ spell-key g k
-
-pub variable-equal : (f g : List ℕ) → isVariable f ≡ true → keyOf f ≡ keyOf g → f ≡ g
-variable-equal f g h e =
-    let k : isVariable g ≡ true = variable-key g ∙ ap (between 2 27) (sym e) ∙ sym (variable-key f) ∙ h in
-    let same : getD f 0 0 ≡ getD g 0 0 = letter-key f h ∙ ap (λ (x : ℕ). x + 63) e ∙ sym (letter-key g k) in
-    variable-range f h .0 ∙ ap (λ (b : ℕ). b ∷ []) same ∙ sym (variable-range g k .0)
-
-pub term-equal : (f g : List ℕ) → isTerm f ≡ true → keyOf f ≡ keyOf g → f ≡ g
-unfolding isTerm
-term-equal f g h e = go (isName f) refl h
-  where
-    go : (t : Bool) → isName f ≡ t → (t || isVariable f) ≡ true → f ≡ g
-    go true k l = name-equal f g k e
-    go false k l = variable-equal f g l e
-
--- a name compared with a field by their keys
-pub same-key : (f g : List ℕ) → isTerm f ≡ true → sameBytes f g ≡ eqb (keyOf f) (keyOf g)
-same-key f g h = go (sameBytes f g) (eqb (keyOf f) (keyOf g)) refl refl
-  where
-    go : (s t : Bool) → sameBytes f g ≡ s → eqb (keyOf f) (keyOf g) ≡ t → s ≡ t
-    go true true p q = refl
-    go true false p q =
-        absurd (never (sym (eq-eqb (keyOf f) (keyOf g) (ap keyOf (same-equal f g p))) ∙ q))
-    go false true p q =
-        absurd (never (sym (same-self f) ∙ ap (sameBytes f) (term-equal f g h (eqb-true (keyOf f) (keyOf g) q)) ∙ p))
-    go false false p q = refl
-
--- a key fits 8 bytes
-pub key-below : (f : List ℕ) → keyOf f < 18446744073709551616
-unfolding packed
-key-below f = form-cases (keyOf f < 18446744073709551616) f
-    (λ h k l.
-    let plain : every isPlain f ≡ true = every-implied nameByte isPlain name-plain f (name-bytes f h) in
-    omega (
-      arith,
-      key-of-name f h,
-      packed-under 0 1 f (omega arith) plain,
-      pow-le-pow-right {n = 256} (omega arith) {i = length f} {j = 8} (name-size f h .1),
-    ))
-    (λ h k l m. omega arith)
-    (λ h k l. omega arith)
-
--- a key that is not 0 spells something
-spell-grows : (n k : ℕ) (behind : List ℕ) → length behind ≤ length (spellFrom n k behind)
-unfolding spellFrom
-spell-grows zero k behind = omega arith
-spell-grows (suc n) k behind = go (eqb k 0) (spell-grows n (k / 256) ((k % 256) ∷ behind))
-  where
-    go : (t : Bool) → suc (length behind) ≤ length (spellFrom n (k / 256) ((k % 256) ∷ behind))
-        → length behind ≤ length (cond t behind (spellFrom n (k / 256) ((k % 256) ∷ behind)))
-    go true h = omega arith
-    go false h = omega arith
-
-pub spell-some : (k : ℕ) → 0 < k → 0 < length (spell k)
-unfolding spell spellFrom
-spell-some k h =
-    rw (ne-eqb k 0 (λ e. omega arith)) (omega (arith, spell-grows 7 (k / 256) ((k % 256) ∷ [])))

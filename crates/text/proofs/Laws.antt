@@ -4,14 +4,14 @@
 --   same-..                            two parts compared: from a place on, of different lengths, equal
 --   tabled-length, tabled-at           the length of a table, an entry of it
 -- Assumes nothing.
-use mathlib.Core.Path.{_≡_, refl, sym, ap, ap₂, _∙_}
+use mathlib.Core.Path.{_≡_, refl, sym, ap, _∙_}
 use mathlib.Core.Bool.{Bool, true, false, _&&_}
 use mathlib.Core.List.{List, [], _∷_, _++_}
 use Prim.Native.Nat.{ℕ, zero, suc, _-_, _≤_, _<_}
 use native.Mathlib.Nat.{le-of-suc-le-suc, not-suc-le-zero, suc-sub-suc, sub-zero}
 use native.Mathlib.Decide.{decLt}
 use native.Mathlib.Omega.{arith}
-use borrow.Author.Tests.{eq-eqb, ne-eqb, eqb-true}
+use borrow.Author.Tests.{eq-eqb, ne-eqb}
 use lib.Dec.{eqb}
 use lib.ListN.{length, take, drop, getD, length-append, List·getD-append, drop-of-length-le}
 use lib.Seq.{drop-cons, getD-at}
@@ -65,18 +65,6 @@ same-length [] [] e = refl
 same-length [] (y ∷ b) e = absurd (let z : _≡_ {A = ℕ} 0 1 = cc in omega arith)
 same-length (x ∷ a) [] e = absurd (let z : _≡_ {A = ℕ} 0 1 = cc in omega arith)
 same-length (x ∷ a) (y ∷ b) e = ap suc (same-length a b (and-true (eqb x y) (sameBytes a b) e .1))
-
-pub same-self : (f : List ℕ) → sameBytes f f ≡ true
-same-self [] = refl
-same-self (b ∷ f) = rw (eq-eqb b b refl) (same-self f)
-
-pub same-equal : (f g : List ℕ) → sameBytes f g ≡ true → f ≡ g
-same-equal [] [] h = refl
-same-equal [] (c ∷ g) h = absurd (let z : _≡_ {A = ℕ} 0 1 = cc in omega arith)
-same-equal (b ∷ f) [] h = absurd (let z : _≡_ {A = ℕ} 0 1 = cc in omega arith)
-same-equal (b ∷ f) (c ∷ g) h =
-    let both = and-true (eqb b c) (sameBytes f g) h in
-    ap₂ (λ (x : ℕ) (l : List ℕ). x ∷ l) (eqb-true b c (both .0)) (same-equal f g (both .1))
 
 -- a table by its entries
 module _ {ℓ} {A : Type ℓ} (f : ℕ → A) where

@@ -1,7 +1,7 @@
 -- Laws of a split line, as the readers' loop meets it.
 --   lines-at, lines-split, lines-done     the lines of a text from a place on: the line there, then those behind it
 --   line-fine                             a line that the split finds no fault with meets no number 2
---   key-at, keys-some                     the key of one field; there is at least one
+--   key-at                                the key of one field
 -- Assumes nothing.
 use mathlib.Core.Path.{_≡_, sym, ap, _∙_}
 use mathlib.Core.Bool.{false}
@@ -13,12 +13,12 @@ use lib.ListN.{length, drop, getD, length-drop, drop-of-length-le, List·getD-ma
 use lib.Seq.{drop-drop, getD-take}
 use Rattle.text.specs.Bytes.{between}
 use Rattle.text.specs.Lines.{lines, lineIsFaulty}
-use Rattle.text.specs.Fields.{fields, isName, isVariable}
+use Rattle.text.specs.Fields.{isName, isVariable}
 use Rattle.text.specs.Keys.{keyOf}
 use Rattle.text.specs.Cursors.{before}
 use Rattle.text.specs.Splits.{firstLine, lineFrom, lineEnd, Holds, SplitAt}
 use Rattle.text.specs.declared.fields.Fields.{Fields}
-use Rattle.text.proofs.LineLaws.{lines-from, fields-some}
+use Rattle.text.proofs.LineLaws.{lines-from}
 
 module _ (s : List ℕ) (at : ℕ) where
   pub lines-at : at < length s → lines (drop at s) ≡ lineFrom s at ∷ lines (drop (suc (lineEnd s at)) s)
@@ -49,7 +49,3 @@ unfolding keyOf isName isVariable between
 key-at fs f i h k l =
     sym (getD-take (length fs) (f .keys) i 0 l) ∙ ap (λ (ks : List ℕ). getD ks i 0) (h .keyed)
     ∙ getD-take 8 (map keyOf fs) i 0 k ∙ List·getD-map keyOf fs i []
-
--- a line has at least one field
-pub keys-some : (l : List ℕ) (f : Fields) → Holds (fields l) f → 0 < f .count
-keys-some l f h = omega (arith, h .counted, fields-some l)

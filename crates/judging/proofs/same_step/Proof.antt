@@ -1,6 +1,6 @@
 -- `same_step` meets its contract: the two states are compared cell by cell.
 -- Assumes nothing.
-use borrow.Author.Tests.{not-true, not-false}
+use borrow.Author.Tests.{not-false}
 use mathlib.Core.Path.{sym, _∙_}
 use lib.Seq.{length-take-le}
 use Rattle.judging.proofs.StepLaws.{second-room, step-apart, step-same}

@@ -7,18 +7,12 @@ use native.Mathlib.Omega.{arith}
 use Rattle.pairing.proofs.PairLaws.{Binding, bound-start, bound-apart, bound-next, bound-done}
 use Rattle.pairing.proofs.pair_bound.Statement.{statement}
 use Rattle.pairing.proofs.pair_bound.Tie as tie
-use Rattle.pairing.proofs.pair_bound.Reads as reads
-use Rattle.pairing.proofs.pair_bound.Lts as lts
-use Rattle.pairing.proofs.pair.Reads as pair-reads
 
 abbrev Inv-loop : tie.InvT-loop
 Inv-loop a b forth₀ back₀ i₀ forth back i = Binding a b forth₀ back₀ forth back i
 
 abbrev μ-loop : tie.MeasureT-loop
 μ-loop a b forth₀ back₀ i₀ forth back i = length a - i
-
-loop-holds : tie.Need-loop-holds Inv-loop μ-loop
-loop-holds c = search bound-start
 
 pair-requires : tie.Need-pair-requires Inv-loop μ-loop
 pair-requires c κs =
@@ -44,21 +38,16 @@ loop-again c =
     bound-next _ _ _ _ _ _ _ (start .pre .2) (at-loop .loop .inv) (at-loop-test .loop-test .taken) _ _ _ _
     (at-pair .pair .ensures) (not-false _ (c .if1 .left)) (at-pair .pair .kept .1 .1 .0) (at-pair .pair .kept .1 .1 .1 .0)
 
-returns-2 : tie.Need-returns-2 Inv-loop μ-loop
-returns-2 c = search bound-done
-
 pub pair-bound-spec : {M : Type 1} → statement M
 pair-bound-spec =
     tie.close
     (tie.spec
     Inv-loop
     μ-loop
-    loop-holds
-    (λ c. omega arith) (λ c. omega arith) (λ c. omega arith) (λ c. omega arith)
+    (λ c. search bound-start) (λ c. omega arith) (λ c. omega arith) (λ c. omega arith) (λ c. omega arith)
     pair-requires
     (λ c. search needs) (λ c. search needs)
     returns
     (λ c. omega arith) (λ c. omega arith)
     loop-again
-    (λ c. search needs) (λ c. search needs)
-    returns-2)
+    (λ c. search needs) (λ c. search needs) (λ c. search bound-done))

@@ -7,24 +7,12 @@ use native.Mathlib.Omega.{arith}
 use Rattle.pairing.proofs.PairLaws.{columns-apart, columns-next, columns-done}
 use Rattle.pairing.proofs.pair_rows.Statement.{statement}
 use Rattle.pairing.proofs.pair_rows.Tie as tie
-use Rattle.pairing.proofs.pair_rows.Reads as reads
-use Rattle.pairing.proofs.pair_rows.Lts as lts
-use Rattle.pairing.proofs.pair.Reads as pair-reads
 
 abbrev Inv-loop : tie.InvT-loop
 Inv-loop a b forth₀ back₀ fresh₀ i₀ forth back fresh i = Columns a b forth₀ back₀ forth back fresh i
 
 abbrev μ-loop : tie.MeasureT-loop
 μ-loop a b forth₀ back₀ fresh₀ i₀ forth back fresh i = 4 - i
-
-loop-holds : tie.Need-loop-holds Inv-loop μ-loop
-loop-holds c = search columns-start
-
-returns : tie.Need-returns Inv-loop μ-loop
-returns c = search columns-end
-
-returns-2 : tie.Need-returns-2 Inv-loop μ-loop
-returns-2 c = search columns-short
 
 pair-requires : tie.Need-pair-requires Inv-loop μ-loop
 pair-requires c κs =
@@ -59,25 +47,18 @@ loop-again c =
     (at-if2 .if2 .left) _ _ _ _ (at-pair .pair .ensures) (not-false _ (c .if3 .left)) (at-pair .pair .kept .1 .1 .0)
     (at-pair .pair .kept .1 .1 .1 .0)
 
-returns-4 : tie.Need-returns-4 Inv-loop μ-loop
-returns-4 c = search columns-done
-
 pub pair-rows-spec : {M : Type 1} → statement M
 pair-rows-spec =
     tie.close
     (tie.spec
     Inv-loop
     μ-loop
-    loop-holds
-    (λ c. omega arith) (λ c. omega arith) (λ c. omega arith) (λ c. omega arith) (λ c. omega arith) (λ c. omega arith)
-    (λ c. search needs) (λ c. search needs)
-    returns
-    (λ c. search needs) (λ c. search needs)
-    returns-2
+    (λ c. search columns-start) (λ c. omega arith) (λ c. omega arith) (λ c. omega arith) (λ c. omega arith)
+    (λ c. omega arith) (λ c. omega arith) (λ c. search needs) (λ c. search needs) (λ c. search columns-end)
+    (λ c. search needs) (λ c. search needs) (λ c. search columns-short)
     pair-requires
     (λ c. omega arith) (λ c. search needs) (λ c. search needs)
     returns-3
     (λ c. omega arith) (λ c. omega arith)
     loop-again
-    (λ c. search needs) (λ c. search needs)
-    returns-4)
+    (λ c. search needs) (λ c. search needs) (λ c. search columns-done))

@@ -5,41 +5,12 @@ use borrow.Author.Needs.{needs}
 use native.Mathlib.Omega.{arith}
 use Rattle.pairing.proofs.unpair.Statement.{statement}
 use Rattle.pairing.proofs.unpair.Tie as tie
-use Rattle.pairing.proofs.unpair.Reads as reads
-use Rattle.pairing.proofs.unpair.Lts as lts
 
 abbrev Inv-loop : tie.InvT-loop
 Inv-loop a b forth₀ back₀ fresh i₀ forth back i = Clearing a b forth₀ back₀ forth back fresh i
 
 abbrev μ-loop : tie.MeasureT-loop
 μ-loop a b forth₀ back₀ fresh i₀ forth back i = i
-
-loop-holds : tie.Need-loop-holds Inv-loop μ-loop
-loop-holds c = search clearing-start
-
-slice-write-forth : tie.Need-slice-write-forth Inv-loop μ-loop
-slice-write-forth c =
-    let at-wide = c .before .before .before in
-    let at-loop-test = at-wide .before .before in
-    let at-loop = at-loop-test .before in
-    let start = at-loop .before .before .before .before .before in
-    clearing-left _ _ _ _ _ _ _ _ (start .pre .0) (start .pre .1) (at-loop .loop .inv) (at-loop-test .loop-test .taken)
-    (at-wide .wide .result) (at-wide .wide .ensures .0)
-
-slice-write-back : tie.Need-slice-write-back Inv-loop μ-loop
-slice-write-back c =
-    let at-wide2 = c .before in
-    let at-loop-test = at-wide2 .before .before .before .before in
-    let at-loop = at-loop-test .before in
-    let start = at-loop .before .before .before .before .before in
-    clearing-right _ _ _ _ _ _ _ _ (start .pre .0) (start .pre .1) (at-loop .loop .inv) (at-loop-test .loop-test .taken)
-    (at-wide2 .wide2 .result) (at-wide2 .wide2 .ensures .0)
-
-loop-again : tie.Need-loop-again Inv-loop μ-loop
-loop-again c = search clearing-made
-
-loop-again-2 : tie.Need-loop-again-2 Inv-loop μ-loop
-loop-again-2 c = search clearing-kept
 
 returns : tie.Need-returns Inv-loop μ-loop
 returns c =
@@ -53,15 +24,8 @@ unpair-spec =
     (tie.spec
     Inv-loop
     μ-loop
-    loop-holds
-    (λ c. omega arith) (λ c. omega arith) (λ c κs. search needs) (λ c. omega arith) (λ c. omega arith)
-    (λ c κs. search needs) (λ c. omega arith) (λ c. omega arith) (λ c. omega arith)
-    slice-write-forth
-    (λ c. omega arith)
-    slice-write-back
-    (λ c. omega arith)
-    loop-again
-    (λ c. omega arith)
-    loop-again-2
-    (λ c. search needs) (λ c. search needs)
+    (λ c. search clearing-start) (λ c. omega arith) (λ c. omega arith) (λ c κs. search needs) (λ c. omega arith)
+    (λ c. omega arith) (λ c κs. search needs) (λ c. omega arith) (λ c. omega arith) (λ c. omega arith)
+    (λ c. search clearing-left) (λ c. omega arith) (λ c. search clearing-right) (λ c. omega arith)
+    (λ c. search clearing-made) (λ c. omega arith) (λ c. search clearing-kept) (λ c. search needs) (λ c. search needs)
     returns)

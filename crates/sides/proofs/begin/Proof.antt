@@ -5,46 +5,16 @@ use borrow.Author.Needs.{needs}
 use Rattle.sides.proofs.begin.Statement.{statement}
 use Rattle.sides.proofs.begin.Tie as tie
 
-cast-next : tie.Need-cast-next
-cast-next c = search needs
-
 copy-goal-requires : tie.Need-copy-goal-requires
 copy-goal-requires c κs =
     let start = c .before .before .before .before .before in
     side-room _ _ _ _ _ _ _ _ (start .pre .side)
-
-start-bound-requires : tie.Need-start-bound-requires
-start-bound-requires c κs = search needs
-
-mul-a : tie.Need-mul-a
-mul-a c = search needs
-
-add-b : tie.Need-add-b
-add-b c = search needs
-
-mul-fire-at : tie.Need-mul-fire-at
-mul-fire-at c = search needs
-
-sub-fire-at : tie.Need-sub-fire-at
-sub-fire-at c = search needs
-
-part-fire-at-start : tie.Need-part-fire-at-start
-part-fire-at-start c = search needs
-
-part-fire-at-end : tie.Need-part-fire-at-end
-part-fire-at-end c = search needs
 
 fire-at-requires : tie.Need-fire-at-requires
 fire-at-requires c κs =
     let copied = c .before .before .before .before .before .before .before .before .before in
     let start = copied .before .before .before .before .before .before in
     side-stated _ _ _ _ _ _ _ _ (start .pre .side) _ (copied .copy-goal .ensures) (copied .copy-goal .kept .1 .0)
-
-same-length : tie.Need-same-length
-same-length c = search needs
-
-same-length-2 : tie.Need-same-length-2
-same-length-2 c = search needs
 
 returns : tie.Need-returns
 returns c =
@@ -59,16 +29,10 @@ pub begin-spec : {M : Type 1} → statement M
 begin-spec =
     tie.close
     (tie.spec
-    cast-next
+    (λ c. search needs)
     copy-goal-requires
-    start-bound-requires
-    mul-a
-    add-b
-    mul-fire-at
-    sub-fire-at
-    part-fire-at-start
-    part-fire-at-end
+    (λ c κs. search needs) (λ c. search needs) (λ c. search needs) (λ c. search needs) (λ c. search needs)
+    (λ c. search needs) (λ c. search needs)
     fire-at-requires
-    same-length
-    same-length-2
+    (λ c. search needs) (λ c. search needs)
     returns)

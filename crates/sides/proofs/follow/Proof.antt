@@ -7,16 +7,10 @@ use borrow.Author.Needs.{needs}
 use Rattle.sides.proofs.follow.Statement.{statement}
 use Rattle.sides.proofs.follow.Tie as tie
 
-cast-next : tie.Need-cast-next
-cast-next c = search needs
-
 returns : tie.Need-returns
 returns c =
     let start = c .before .before .before .before .before in
     side-rests _ _ _ _ _ _ _ _ _ (start .pre) (not-true _ (c .if1 .taken))
-
-add-number : tie.Need-add-number
-add-number c = search needs
 
 returns-2 : tie.Need-returns-2
 returns-2 c =
@@ -31,12 +25,6 @@ normalise-from-requires c κs =
     let start = fitted .before .before .before .before .before in
     (start .pre .starts (not-false _ (fitted .if1 .left)) (not-false _ (lived .if2 .left)), omega arith)
 
-same-length : tie.Need-same-length
-same-length c = search needs
-
-same-length-2 : tie.Need-same-length-2
-same-length-2 c = search needs
-
 returns-3 : tie.Need-returns-3
 returns-3 c =
     let ended = c .before .before .before .before in
@@ -50,11 +38,10 @@ pub follow-spec : {M : Type 1} → statement M
 follow-spec =
     tie.close
     (tie.spec
-    cast-next
+    (λ c. search needs)
     returns
-    add-number
+    (λ c. search needs)
     returns-2
     normalise-from-requires
-    same-length
-    same-length-2
+    (λ c. search needs) (λ c. search needs)
     returns-3)

@@ -5,9 +5,6 @@ use Rattle.colours.proofs.ClassLaws.{zeros-length, make-keys}
 use borrow.Author.Needs.{needs}
 use Rattle.colours.proofs.classes.classify.Statement.{statement}
 use Rattle.colours.proofs.classes.classify.Tie as tie
-use Rattle.colours.proofs.classes.classify.Reads as reads
-use Rattle.colours.proofs.classes.classify.Lts as lts
-use Rattle.colours.proofs.classes.classify_by.Reads as classify-by-reads
 
 slice-aggregate-classify-by : tie.Need-slice-aggregate-classify-by
 slice-aggregate-classify-by c = sym (zeros-length _ 512 (c .before .before .before .before .before .before .before .pre .2))

@@ -4,11 +4,6 @@ use Rattle.colours.proofs.ClassLaws.{classified-apart, classified-same}
 use borrow.Author.Needs.{needs}
 use Rattle.colours.proofs.classes.classify_by.Statement.{statement}
 use Rattle.colours.proofs.classes.classify_by.Tie as tie
-use Rattle.colours.proofs.classes.classify_by.Reads as reads
-use Rattle.colours.proofs.classes.classify_by.Lts as lts
-use Rattle.colours.proofs.classes.make_keys.Reads as make-keys-reads
-use Rattle.colours.proofs.keys.relabel.Reads as relabel-reads
-use Rattle.colours.proofs.keys.sum.Reads as sum-reads
 
 returns : tie.Need-returns
 returns c =

@@ -5,11 +5,6 @@ use Rattle.colours.proofs.KeyLaws.{ready-with, plain-same}
 use borrow.Author.Needs.{needs}
 use Rattle.colours.proofs.classes.fill_keys.Statement.{statement}
 use Rattle.colours.proofs.classes.fill_keys.Tie as tie
-use Rattle.colours.proofs.classes.fill_keys.Reads as reads
-use Rattle.colours.proofs.classes.fill_keys.Lts as lts
-use Rattle.colours.proofs.keys.colour.Reads as colour-reads
-use Rattle.colours.proofs.keys.deep_keys.Reads as deep-keys-reads
-use Rattle.colours.proofs.keys.plain_keys.Reads as plain-keys-reads
 
 deep-keys-requires : tie.Need-deep-keys-requires
 deep-keys-requires c κs =

@@ -5,9 +5,6 @@ use Rattle.colours.proofs.ClassLaws.{zeros-length, make-ready, make-bou
 use borrow.Author.Needs.{needs}
 use Rattle.colours.proofs.classes.make_keys.Statement.{statement}
 use Rattle.colours.proofs.classes.make_keys.Tie as tie
-use Rattle.colours.proofs.classes.make_keys.Reads as reads
-use Rattle.colours.proofs.classes.make_keys.Lts as lts
-use Rattle.colours.proofs.classes.fill_keys.Reads as fill-keys-reads
 
 slice-aggregate-fill-keys : tie.Need-slice-aggregate-fill-keys
 slice-aggregate-fill-keys c = sym (zeros-length _ 2844 (c .before .before .before .before .pre .room))

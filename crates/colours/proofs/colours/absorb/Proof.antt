@@ -7,9 +7,6 @@ use lib.ListN.{length}
 use Rattle.colours.proofs.ColourLaws.{Absorbing, absorb-start, absorb-next, absorb-done}
 use Rattle.colours.proofs.colours.absorb.Statement.{statement}
 use Rattle.colours.proofs.colours.absorb.Tie as tie
-use Rattle.colours.proofs.colours.absorb.Reads as reads
-use Rattle.colours.proofs.colours.absorb.Lts as lts
-use Rattle.colours.proofs.colours.mix.Reads as mix-reads
 
 abbrev Inv-loop : tie.InvT-loop
 Inv-loop colours₀ received₀ x₀ colours received x = Absorbing colours₀ received₀ colours received x
@@ -20,25 +17,11 @@ abbrev μ-loop : tie.MeasureT-loop
 loop-holds : tie.Need-loop-holds Inv-loop μ-loop
 loop-holds c = absorb-start _ _
 
-loop-again : tie.Need-loop-again Inv-loop μ-loop
-loop-again c =
-    let at-loop-test = c .before .before .before in
-    let at-loop = at-loop-test .before in
-    let start = at-loop .before .before .before in
-    absorb-next _ _ _ _ _ (start .pre) (at-loop .loop .inv) (at-loop-test .loop-test .taken) (c .mix .result)
-    (c .mix .ensures)
-
 same-length : tie.Need-same-length Inv-loop μ-loop
 same-length c = c .before .loop .inv .size
 
 same-length-2 : tie.Need-same-length-2 Inv-loop μ-loop
 same-length-2 c = c .before .loop .inv .received-size
-
-returns : tie.Need-returns Inv-loop μ-loop
-returns c =
-    let at-loop = c .before in
-    let start = at-loop .before .before .before in
-    absorb-done _ _ _ _ _ (start .pre) (at-loop .loop .inv) (c .loop-test .left)
 
 pub absorb-spec : {M : Type 1} → statement M
 absorb-spec =
@@ -48,8 +31,7 @@ absorb-spec =
     μ-loop
     loop-holds
     (λ c. omega arith) (λ c. omega arith) (λ c. omega arith) (λ c. omega arith) (λ c κs. search needs) (λ c. omega arith)
-    (λ c. omega arith) (λ c. omega arith) (λ c. omega arith) (λ c. omega arith) (λ c. omega arith)
-    loop-again
+    (λ c. omega arith) (λ c. omega arith) (λ c. omega arith) (λ c. omega arith) (λ c. omega arith) (λ c. search absorb-next)
     same-length
     same-length-2
-    returns)
+    (λ c. search absorb-done))

@@ -6,8 +6,6 @@ use lib.ListN.{length}
 use Rattle.colours.proofs.RoundLaws.{Copying, copy-start, copy-next, copy-done}
 use Rattle.colours.proofs.colours.copy.Statement.{statement}
 use Rattle.colours.proofs.colours.copy.Tie as tie
-use Rattle.colours.proofs.colours.copy.Reads as reads
-use Rattle.colours.proofs.colours.copy.Lts as lts
 
 abbrev Inv-loop : tie.InvT-loop
 Inv-loop colours out₀ x₀ out x = Copying colours out₀ out x
@@ -18,33 +16,14 @@ abbrev μ-loop : tie.MeasureT-loop
 loop-holds : tie.Need-loop-holds Inv-loop μ-loop
 loop-holds c = copy-start _ _
 
-mul-out-2 : tie.Need-mul-out-2 Inv-loop μ-loop
-mul-out-2 c =
-    let at-loop = c .before .before in
-    let start = at-loop .before in
-    omega (arith, at-loop .loop .inv .size, start .pre)
-
 slice-write-out : tie.Need-slice-write-out Inv-loop μ-loop
 slice-write-out c =
     let at-loop = c .before .before in
     let start = at-loop .before in
     omega (arith, at-loop .loop .inv .size, start .pre)
 
-loop-again : tie.Need-loop-again Inv-loop μ-loop
-loop-again c =
-    let at-loop-test = c .before in
-    let at-loop = at-loop-test .before in
-    let start = at-loop .before in
-    copy-next _ _ _ _ (start .pre) (at-loop .loop .inv) (at-loop-test .loop-test .taken)
-
 same-length : tie.Need-same-length Inv-loop μ-loop
 same-length c = c .before .loop .inv .size
-
-returns : tie.Need-returns Inv-loop μ-loop
-returns c =
-    let at-loop = c .before in
-    let start = at-loop .before in
-    copy-done _ _ _ _ (start .pre) (at-loop .loop .inv) (c .loop-test .left)
 
 pub copy-spec : {M : Type 1} → statement M
 copy-spec =
@@ -53,10 +32,8 @@ copy-spec =
     Inv-loop
     μ-loop
     loop-holds
-    (λ c. omega arith) (λ c. omega arith)
-    mul-out-2
+    (λ c. omega arith) (λ c. omega arith) (λ c. omega (arith, slice-write-out c))
     slice-write-out
-    (λ c. omega arith) (λ c. omega arith)
-    loop-again
+    (λ c. omega arith) (λ c. omega arith) (λ c. search copy-next)
     same-length
-    returns)
+    (λ c. search copy-done))

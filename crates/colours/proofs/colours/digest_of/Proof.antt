@@ -4,16 +4,12 @@ use Prim.Native.Nat.{_-_}
 use borrow.Author.Needs.{needs}
 use native.Mathlib.Omega.{arith}
 use Rattle.colours.specs.Colours.{plus}
-use Rattle.colours.proofs.ColourLaws.{lent-below, lent-length}
+use mathlib.Core.Path.{_≡_}
+use lib.ListN.{length}
+use Rattle.colours.proofs.ColourLaws.{lent, lent-below, lent-length}
 use Rattle.colours.proofs.RoundLaws.{Summing, digest-start, digest-next, digest-done}
 use Rattle.colours.proofs.colours.digest_of.Statement.{statement}
 use Rattle.colours.proofs.colours.digest_of.Tie as tie
-use Rattle.colours.proofs.colours.digest_of.Reads as reads
-use Rattle.colours.proofs.colours.digest_of.Lts as lts
-use Rattle.colours.proofs.colours.mix.Reads as mix-reads
-use Rattle.colours.proofs.colours.sign.Reads as sign-reads
-use Rattle.colours.proofs.colours.widened.Reads as widened-reads
-use Rattle.std.proofs.num.wrapping_add_u32.Reads as wrapping-add-u32-reads
 
 abbrev Inv-loop : tie.InvT-loop
 Inv-loop cells n colours sum₀ i₀ sum i = Summing cells n colours sum i
@@ -21,59 +17,18 @@ Inv-loop cells n colours sum₀ i₀ sum i = Summing cells n colours sum i
 abbrev μ-loop : tie.MeasureT-loop
 μ-loop cells n colours sum₀ i₀ sum i = n - i
 
+-- a row has five cells
+row : (s : tie.In-loop Inv-loop μ-loop) → length (lent (s .before .before .before .before .args .cells .now) (s .before .loop .i)) ≡ 5
+row s =
+    let start = s .before .before .before .before in
+    lent-length (start .args .cells .now) (s .before .loop .i) _ (start .pre .0) (s .loop-test .taken)
+
 loop-holds : tie.Need-loop-holds Inv-loop μ-loop
 loop-holds c = digest-start _ _ _
 
-shared-slice-read-widened : tie.Need-shared-slice-read-widened Inv-loop μ-loop
-shared-slice-read-widened c =
-    let at-loop-test = c .before .before in
-    let at-loop = at-loop-test .before in
-    let start = at-loop .before .before .before in
-    omega
-    (arith, lent-length (start .args .cells .now) (at-loop .loop .i) _ (start .pre .0) (at-loop-test .loop-test .taken))
-
-sub-sign : tie.Need-sub-sign Inv-loop μ-loop
-sub-sign c =
-    let at-loop-test = c .before .before .before in
-    let at-loop = at-loop-test .before in
-    let start = at-loop .before .before .before in
-    omega
-    (arith, lent-length (start .args .cells .now) (at-loop .loop .i) _ (start .pre .0) (at-loop-test .loop-test .taken))
-
-part-sign-start : tie.Need-part-sign-start Inv-loop μ-loop
-part-sign-start c =
-    let at-loop-test = c .before .before .before in
-    let at-loop = at-loop-test .before in
-    let start = at-loop .before .before .before in
-    omega
-    (arith, lent-length (start .args .cells .now) (at-loop .loop .i) _ (start .pre .0) (at-loop-test .loop-test .taken))
-
-part-sign-end : tie.Need-part-sign-end Inv-loop μ-loop
-part-sign-end c =
-    let at-loop-test = c .before .before .before in
-    let at-loop = at-loop-test .before in
-    let start = at-loop .before .before .before in
-    omega
-    (arith, lent-length (start .args .cells .now) (at-loop .loop .i) _ (start .pre .0) (at-loop-test .loop-test .taken))
-
-sign-requires : tie.Need-sign-requires Inv-loop μ-loop
-sign-requires c κs =
-    let at-loop = c .before .before .before .before .before in
-    let start = at-loop .before .before .before in
-    lent-below _ _ (at-loop .loop .i) (start .pre .1)
-
 loop-again : tie.Need-loop-again Inv-loop μ-loop
 unfolding plus
-loop-again c =
-    let at-mix = c .before in
-    let at-sign = at-mix .before in
-    let at-widened = at-sign .before .before in
-    let at-loop-test = at-widened .before .before .before in
-    let at-loop = at-loop-test .before in
-    let start = at-loop .before .before .before in
-    digest-next _ _ _ _ _ (start .pre .0) (at-loop .loop .inv) (at-loop-test .loop-test .taken) _ (at-sign .sign .result)
-    (at-mix .mix .result) (c .wrapping-add-u32 .result) (at-widened .widened .ensures) (at-sign .sign .ensures)
-    (at-mix .mix .ensures) (c .wrapping-add-u32 .ensures)
+loop-again c = search digest-next
 
 returns : tie.Need-returns Inv-loop μ-loop
 returns c =
@@ -89,12 +44,9 @@ digest-of-spec =
     μ-loop
     loop-holds
     (λ c. omega arith) (λ c. omega arith) (λ c. omega arith) (λ c. omega arith) (λ c. omega arith) (λ c. omega arith)
-    shared-slice-read-widened
-    (λ c κs. search needs)
-    sub-sign
-    part-sign-start
-    part-sign-end
-    sign-requires
-    (λ c κs. search needs) (λ c κs. search needs) (λ c. omega arith) (λ c. omega arith)
+    (λ c. omega (arith, row (c .before .before))) (λ c κs. search needs)
+    (λ c. omega (arith, row (c .before .before .before))) (λ c. omega (arith, row (c .before .before .before)))
+    (λ c. omega (arith, row (c .before .before .before))) (λ c κs. search lent-below) (λ c κs. search needs)
+    (λ c κs. search needs) (λ c. omega arith) (λ c. omega arith)
     loop-again
     returns)

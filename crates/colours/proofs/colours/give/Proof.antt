@@ -4,24 +4,15 @@ use Rattle.colours.proofs.ColourLaws.{give-one}
 use borrow.Author.Needs.{needs}
 use Rattle.colours.proofs.colours.give.Statement.{statement}
 use Rattle.colours.proofs.colours.give.Tie as tie
-use Rattle.colours.proofs.colours.give.Reads as reads
-use Rattle.colours.proofs.colours.give.Lts as lts
-use Rattle.colours.proofs.colours.sign.Reads as sign-reads
-use Rattle.colours.proofs.colours.spread.Reads as spread-reads
-use Rattle.colours.proofs.colours.widened.Reads as widened-reads
 
 spread-requires : tie.Need-spread-requires
 spread-requires c κs =
     let start = c .before .before .before .before .before .before in
     rw (start .pre .1) (start .pre .0)
 
-returns : tie.Need-returns
-returns c =
-    let at-spread = c .before .before in
-    let at-sign = at-spread .before .before in
-    let at-widened = at-sign .before in
-    give-one _ _ _ _ _ _ _ (at-widened .widened .ensures) (at-sign .sign .ensures) (at-spread .spread .ensures)
-
 pub give-spec : {M : Type 1} → statement M
 give-spec = tie.close
-    (tie.spec (λ c κs. search needs) (λ c κs. search needs) spread-requires (λ c. search needs) returns)
+    (tie.spec
+    (λ c κs. search needs) (λ c κs. search needs)
+    spread-requires
+    (λ c. search needs) (λ c. search give-one))

@@ -4,10 +4,6 @@ use Rattle.colours.proofs.RoundLaws.{round-one}
 use borrow.Author.Needs.{needs}
 use Rattle.colours.proofs.colours.light.Statement.{statement}
 use Rattle.colours.proofs.colours.light.Tie as tie
-use Rattle.colours.proofs.colours.light.Reads as reads
-use Rattle.colours.proofs.colours.light.Lts as lts
-use Rattle.colours.proofs.colours.absorb.Reads as absorb-reads
-use Rattle.colours.proofs.colours.give.Reads as give-reads
 
 returns : tie.Need-returns
 returns c =

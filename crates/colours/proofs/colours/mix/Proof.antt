@@ -8,8 +8,6 @@ use mathlib.Core.Path.{refl}
 use borrow.Author.Needs.{needs}
 use Rattle.colours.proofs.colours.mix.Statement.{statement}
 use Rattle.colours.proofs.colours.mix.Tie as tie
-use Rattle.colours.proofs.colours.mix.Reads as reads
-use Rattle.colours.proofs.colours.mix.Lts as lts
 
 mul-q : tie.Need-mul-q
 mul-q c = omega (arith, square-small (c .args .s * 2654435761 + c .args .c))

@@ -4,10 +4,6 @@ use Rattle.colours.proofs.RoundLaws.{round-one}
 use borrow.Author.Needs.{needs}
 use Rattle.colours.proofs.colours.refine.Statement.{statement}
 use Rattle.colours.proofs.colours.refine.Tie as tie
-use Rattle.colours.proofs.colours.refine.Reads as reads
-use Rattle.colours.proofs.colours.refine.Lts as lts
-use Rattle.colours.proofs.colours.absorb.Reads as absorb-reads
-use Rattle.colours.proofs.colours.give_all.Reads as give-all-reads
 
 returns : tie.Need-returns
 returns c =

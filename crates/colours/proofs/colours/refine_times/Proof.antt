@@ -5,9 +5,6 @@ use Rattle.tables.specs.Cells.{cellConstraints}
 use Rattle.colours.proofs.RoundLaws.{Rounding, rounds-start, rounds-ready, rounds-next, rounds-done}
 use Rattle.colours.proofs.colours.refine_times.Statement.{statement}
 use Rattle.colours.proofs.colours.refine_times.Tie as tie
-use Rattle.colours.proofs.colours.refine_times.Reads as reads
-use Rattle.colours.proofs.colours.refine_times.Lts as lts
-use Rattle.colours.proofs.colours.refine.Reads as refine-reads
 
 abbrev Inv-loop : tie.InvT-loop
 Inv-loop k cells n colours₀ received₀ i₀ colours received i = Rounding k
@@ -19,27 +16,11 @@ abbrev μ-loop : tie.MeasureT-loop
 loop-holds : tie.Need-loop-holds Inv-loop μ-loop
 loop-holds c = rounds-start _ _ _ _ _ (c .before .before .before .pre)
 
-refine-requires : tie.Need-refine-requires Inv-loop μ-loop
-refine-requires c κs =
-    let at-loop = c .before .before .before in
-    let start = at-loop .before .before .before .before in
-    rounds-ready _ _ _ _ _ (start .pre) _ _ _ (at-loop .loop .inv)
-
 sub-i : tie.Need-sub-i Inv-loop μ-loop
 sub-i c = omega arith
 
 loop-less : tie.Need-loop-less Inv-loop μ-loop
 loop-less c = omega arith
-
-loop-again : tie.Need-loop-again Inv-loop μ-loop
-loop-again c =
-    let at-refine = c .before .before .before .before in
-    let at-loop-test = at-refine .before .before .before in
-    let at-loop = at-loop-test .before in
-    let start = at-loop .before .before .before .before in
-    rounds-next _ _ _ _ _ (start .pre) _ _ _ (at-loop .loop .inv) (at-loop-test .loop-test .taken) _ _
-    (at-refine .refine .kept .1 .1 .0) (at-refine .refine .kept .1 .1 .1 .0) (at-refine .refine .ensures .0)
-    (at-refine .refine .ensures .1)
 
 same-length : tie.Need-same-length Inv-loop μ-loop
 same-length c = c .before .loop .inv .size
@@ -60,10 +41,10 @@ refine-times-spec =
     Inv-loop
     μ-loop
     loop-holds
-    refine-requires
+    (λ c κs. search rounds-ready)
     sub-i
     loop-less
-    loop-again
+    (λ c. search rounds-next)
     same-length
     same-length-2
     returns)

@@ -6,9 +6,6 @@ use lib.ListN.{length}
 use Rattle.colours.proofs.RoundLaws.{Starting, start-start, start-next, start-done}
 use Rattle.colours.proofs.colours.start.Statement.{statement}
 use Rattle.colours.proofs.colours.start.Tie as tie
-use Rattle.colours.proofs.colours.start.Reads as reads
-use Rattle.colours.proofs.colours.start.Lts as lts
-use Rattle.colours.proofs.colours.start_colour.Reads as start-colour-reads
 
 abbrev Inv-loop : tie.InvT-loop
 Inv-loop colours₀ x₀ colours x = Starting colours₀ colours x
@@ -25,13 +22,6 @@ start-colour-requires c κs =
     let start = at-loop .before .before in
     omega (arith, at-loop .loop .inv .size, start .pre)
 
-loop-again : tie.Need-loop-again Inv-loop μ-loop
-loop-again c =
-    let at-loop-test = c .before in
-    let at-loop = at-loop-test .before in
-    start-next _ _ _ (at-loop .loop .inv) (at-loop-test .loop-test .taken) (c .start-colour .result)
-    (c .start-colour .ensures)
-
 same-length : tie.Need-same-length Inv-loop μ-loop
 same-length c = c .before .loop .inv .size
 
@@ -46,7 +36,6 @@ start-spec =
     μ-loop
     loop-holds
     start-colour-requires
-    (λ c. omega arith) (λ c. omega arith) (λ c. omega arith) (λ c. omega arith)
-    loop-again
+    (λ c. omega arith) (λ c. omega arith) (λ c. omega arith) (λ c. omega arith) (λ c. search start-next)
     same-length
     returns)

@@ -4,8 +4,6 @@ use Rattle.colours.proofs.RoundLaws.{start-low, start-high}
 use borrow.Author.Needs.{needs}
 use Rattle.colours.proofs.colours.start_colour.Statement.{statement}
 use Rattle.colours.proofs.colours.start_colour.Tie as tie
-use Rattle.colours.proofs.colours.start_colour.Reads as reads
-use Rattle.colours.proofs.colours.start_colour.Lts as lts
 
 cast-result : tie.Need-cast-result
 cast-result c = search needs

@@ -6,8 +6,6 @@ use lib.ListN.{length}
 use Rattle.colours.proofs.KeyLaws.{Seeking, class-start, class-found, class-next, class-none}
 use Rattle.colours.proofs.keys.class.Statement.{statement}
 use Rattle.colours.proofs.keys.class.Tie as tie
-use Rattle.colours.proofs.keys.class.Reads as reads
-use Rattle.colours.proofs.keys.class.Lts as lts
 
 abbrev Inv-loop : tie.InvT-loop
 Inv-loop keys key i₀ i = Seeking keys key i
@@ -24,12 +22,6 @@ returns c =
     let at-loop = at-loop-test .before in
     class-found _ _ _ (at-loop .loop .inv) (at-loop-test .loop-test .taken) (c .if1 .taken)
 
-loop-again : tie.Need-loop-again Inv-loop μ-loop
-loop-again c =
-    let at-loop-test = c .before .before in
-    let at-loop = at-loop-test .before in
-    class-next _ _ _ (at-loop .loop .inv) (at-loop-test .loop-test .taken) (c .if1 .left)
-
 returns-2 : tie.Need-returns-2 Inv-loop μ-loop
 returns-2 c = class-none _ _ _ (c .before .loop .inv) (c .loop-test .left)
 
@@ -42,6 +34,5 @@ class-spec =
     loop-holds
     (λ c. omega arith) (λ c. omega arith)
     returns
-    (λ c. omega arith) (λ c. omega arith)
-    loop-again
+    (λ c. omega arith) (λ c. omega arith) (λ c. search class-next)
     returns-2)

@@ -5,11 +5,6 @@ use Rattle.colours.proofs.KeyLaws.{colour-done, ready-with}
 use borrow.Author.Needs.{needs}
 use Rattle.colours.proofs.keys.colour.Statement.{statement}
 use Rattle.colours.proofs.keys.colour.Tie as tie
-use Rattle.colours.proofs.keys.colour.Reads as reads
-use Rattle.colours.proofs.keys.colour.Lts as lts
-use Rattle.colours.proofs.colours.light.Reads as light-reads
-use Rattle.colours.proofs.colours.refine_times.Reads as refine-times-reads
-use Rattle.colours.proofs.colours.start.Reads as start-reads
 
 start-requires : tie.Need-start-requires
 start-requires c κs = search needs

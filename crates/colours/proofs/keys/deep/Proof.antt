@@ -1,57 +1,24 @@
 -- `deep` meets its contract: a copy of the colours, one constraint that stands out, rounds and a digest.
 -- Assumes nothing.
 use native.Mathlib.Omega.{arith}
-use mathlib.Core.Path.{_∙_, sym}
-use Rattle.colours.proofs.ColourLaws.{lent-length}
+use mathlib.Core.Path.{_≡_, _∙_, sym}
+use lib.ListN.{length}
+use Rattle.colours.proofs.ColourLaws.{lent, lent-length}
 use Rattle.colours.proofs.KeyLaws.{deep-done, ready-with, lent-in}
 use borrow.Author.Needs.{needs}
 use Rattle.colours.proofs.keys.deep.Statement.{statement}
 use Rattle.colours.proofs.keys.deep.Tie as tie
-use Rattle.colours.proofs.keys.deep.Reads as reads
-use Rattle.colours.proofs.keys.deep.Lts as lts
-use Rattle.colours.proofs.colours.copy.Reads as copy-reads
-use Rattle.colours.proofs.colours.digest_of.Reads as digest-of-reads
-use Rattle.colours.proofs.colours.light.Reads as light-reads
-use Rattle.colours.proofs.colours.refine_times.Reads as refine-times-reads
-
-mul-p : tie.Need-mul-p
-mul-p c =
-    let start = c .before .before .before .before .before .before .before .before in
-    omega (arith, start .pre .0 .size, start .pre .1)
-
-add-e : tie.Need-add-e
-add-e c =
-    let start = c .before .before .before .before .before .before .before .before in
-    omega (arith, start .pre .0 .size, start .pre .1)
 
 part-row-end : tie.Need-part-row-end
 part-row-end c =
     let start = c .before .before .before .before .before .before .before .before in
     omega (arith, start .pre .0 .size, start .pre .1)
 
-shared-slice-read-light : tie.Need-shared-slice-read-light
-shared-slice-read-light c =
-    let at-copy = c .before .before .before .before in
-    let start = at-copy .before .before .before .before .before .before in
-    omega (arith, lent-length (start .args .cells .now) (start .args .i) _ (start .pre .0 .size) (start .pre .1))
-
-sub-light : tie.Need-sub-light
-sub-light c =
-    let at-copy = c .before .before .before .before in
-    let start = at-copy .before .before .before .before .before .before in
-    omega (arith, lent-length (start .args .cells .now) (start .args .i) _ (start .pre .0 .size) (start .pre .1))
-
-part-light-start : tie.Need-part-light-start
-part-light-start c =
-    let at-copy = c .before .before .before .before in
-    let start = at-copy .before .before .before .before .before .before in
-    omega (arith, lent-length (start .args .cells .now) (start .args .i) _ (start .pre .0 .size) (start .pre .1))
-
-part-light-end : tie.Need-part-light-end
-part-light-end c =
-    let at-copy = c .before .before .before .before in
-    let start = at-copy .before .before .before .before .before .before in
-    omega (arith, lent-length (start .args .cells .now) (start .args .i) _ (start .pre .0 .size) (start .pre .1))
+-- a row has five cells
+row : (s : tie.After-copy) → length (lent (s .before .before .before .before .before .before .args .cells .now) (s .before .before .before .before .before .before .args .i)) ≡ 5
+row s =
+    let start = s .before .before .before .before .before .before in
+    lent-length (start .args .cells .now) (start .args .i) _ (start .pre .0 .size) (start .pre .1)
 
 light-requires : tie.Need-light-requires
 light-requires c κs =
@@ -110,15 +77,10 @@ pub deep-spec : {M : Type 1} → statement M
 deep-spec =
     tie.close
     (tie.spec
-    (λ c κs. search needs)
-    mul-p
-    add-e
-    (λ c. search needs) (λ c. search needs) (λ c. search needs)
+    (λ c κs. search needs) (λ c. omega (arith, part-row-end c)) (λ c. omega (arith, part-row-end c)) (λ c. search needs)
+    (λ c. search needs) (λ c. search needs)
     part-row-end
-    shared-slice-read-light
-    sub-light
-    part-light-start
-    part-light-end
+    (λ c. omega (arith, row (c .before .before .before .before))) (λ c. omega (arith, row (c .before .before .before .before))) (λ c. omega (arith, row (c .before .before .before .before))) (λ c. omega (arith, row (c .before .before .before .before)))
     light-requires
     refine-times-requires
     digest-of-requires

@@ -10,10 +10,6 @@ use Rattle.colours.specs.Colours.{Ready}
 use Rattle.colours.proofs.KeyLaws.{Keying, keys-start, keys-next, keys-done, key-deep, ready-with}
 use Rattle.colours.proofs.keys.deep_keys.Statement.{statement}
 use Rattle.colours.proofs.keys.deep_keys.Tie as tie
-use Rattle.colours.proofs.keys.deep_keys.Reads as reads
-use Rattle.colours.proofs.keys.deep_keys.Lts as lts
-use Rattle.colours.proofs.keys.code.Reads as code-reads
-use Rattle.colours.proofs.keys.deep.Reads as deep-reads
 
 abbrev Inv-loop : tie.InvT-loop
 Inv-loop t cells n colours scratch₀ received₀ keys₀ i₀ scratch received keys i = Keying t true cells n colours keys₀ keys i
@@ -32,12 +28,6 @@ deep-requires c κs =
     let start = at-loop .before .before .before .before .before .before in
     (at-loop .loop .inv .1, at-loop-test .loop-test .taken, at-loop .loop .inv .2 ∙ start .pre .1)
 
-mul-code : tie.Need-mul-code Inv-loop μ-loop
-mul-code c =
-    let at-loop-test = c .before .before .before .before .before .before .before in
-    let start = at-loop-test .before .before .before .before .before .before .before in
-    omega (arith, start .pre .0 .size, at-loop-test .loop-test .taken)
-
 mul-code-2 : tie.Need-mul-code-2 Inv-loop μ-loop
 mul-code-2 c =
     let at-loop-test = c .before .before .before .before .before .before .before in
@@ -49,13 +39,6 @@ shared-slice-read-code c =
     let at-loop-test = c .before .before .before .before .before .before .before .before in
     let start = at-loop-test .before .before .before .before .before .before .before in
     omega (arith, start .pre .0 .size, at-loop-test .loop-test .taken)
-
-mul-keys : tie.Need-mul-keys Inv-loop μ-loop
-mul-keys c =
-    let at-loop-test = c .before .before .before .before .before .before .before .before .before in
-    let at-loop = at-loop-test .before in
-    let start = at-loop .before .before .before .before .before .before in
-    omega (arith, at-loop .loop .inv .0 .size, start .pre .2)
 
 slice-write-keys : tie.Need-slice-write-keys Inv-loop μ-loop
 slice-write-keys c =
@@ -88,12 +71,6 @@ same-length-2 c = c .before .loop .inv .3
 same-length-3 : tie.Need-same-length-3 Inv-loop μ-loop
 same-length-3 c = c .before .loop .inv .0 .size
 
-returns : tie.Need-returns Inv-loop μ-loop
-returns c =
-    let at-loop = c .before in
-    let start = at-loop .before .before .before .before .before .before in
-    keys-done _ _ _ _ _ _ _ _ (start .pre .0 .size) (start .pre .2) (at-loop .loop .inv .0) (c .loop-test .left)
-
 pub deep-keys-spec : {M : Type 1} → statement M
 deep-keys-spec =
     tie.close
@@ -102,15 +79,14 @@ deep-keys-spec =
     μ-loop
     loop-holds
     deep-requires
-    mul-code
+    (λ c. omega (arith, mul-code-2 c))
     mul-code-2
     shared-slice-read-code
-    (λ c κs. search needs)
-    mul-keys
+    (λ c κs. search needs) (λ c. omega (arith, slice-write-keys c))
     slice-write-keys
     (λ c. omega arith) (λ c. omega arith)
     loop-again
     same-length
     same-length-2
     same-length-3
-    returns)
+    (λ c. search keys-done))

@@ -4,15 +4,12 @@ use Prim.Native.Nat.{_-_}
 use borrow.Author.Needs.{needs}
 use native.Mathlib.Omega.{arith}
 use mathlib.Core.Bool.{false}
-use Rattle.colours.proofs.ColourLaws.{lent-below, lent-length}
+use mathlib.Core.Path.{_≡_}
+use lib.ListN.{length}
+use Rattle.colours.proofs.ColourLaws.{lent, lent-below, lent-length}
 use Rattle.colours.proofs.KeyLaws.{Keying, keys-start, keys-next, keys-done, key-plain}
 use Rattle.colours.proofs.keys.plain_keys.Statement.{statement}
 use Rattle.colours.proofs.keys.plain_keys.Tie as tie
-use Rattle.colours.proofs.keys.plain_keys.Reads as reads
-use Rattle.colours.proofs.keys.plain_keys.Lts as lts
-use Rattle.colours.proofs.colours.sign.Reads as sign-reads
-use Rattle.colours.proofs.colours.widened.Reads as widened-reads
-use Rattle.colours.proofs.keys.code.Reads as code-reads
 
 abbrev Inv-loop : tie.InvT-loop
 Inv-loop cells n colours keys₀ i₀ keys i = Keying 0 false cells n colours keys₀ keys i
@@ -20,60 +17,14 @@ Inv-loop cells n colours keys₀ i₀ keys i = Keying 0 false cells n colours ke
 abbrev μ-loop : tie.MeasureT-loop
 μ-loop cells n colours keys₀ i₀ keys i = n - i
 
+-- a row has five cells
+row : (s : tie.In-loop Inv-loop μ-loop) → length (lent (s .before .before .before .before .before .args .cells .now) (s .before .loop .i)) ≡ 5
+row s =
+    let start = s .before .before .before .before .before in
+    lent-length (start .args .cells .now) (s .before .loop .i) _ (start .pre .0) (s .loop-test .taken)
+
 loop-holds : tie.Need-loop-holds Inv-loop μ-loop
 loop-holds c = keys-start _ _ _ _ _ _
-
-shared-slice-read-widened : tie.Need-shared-slice-read-widened Inv-loop μ-loop
-shared-slice-read-widened c =
-    let at-loop-test = c .before .before in
-    let at-loop = at-loop-test .before in
-    let start = at-loop .before .before .before .before in
-    omega
-    (arith, lent-length (start .args .cells .now) (at-loop .loop .i) _ (start .pre .0) (at-loop-test .loop-test .taken))
-
-sub-sign : tie.Need-sub-sign Inv-loop μ-loop
-sub-sign c =
-    let at-loop-test = c .before .before .before in
-    let at-loop = at-loop-test .before in
-    let start = at-loop .before .before .before .before in
-    omega
-    (arith, lent-length (start .args .cells .now) (at-loop .loop .i) _ (start .pre .0) (at-loop-test .loop-test .taken))
-
-part-sign-start : tie.Need-part-sign-start Inv-loop μ-loop
-part-sign-start c =
-    let at-loop-test = c .before .before .before in
-    let at-loop = at-loop-test .before in
-    let start = at-loop .before .before .before .before in
-    omega
-    (arith, lent-length (start .args .cells .now) (at-loop .loop .i) _ (start .pre .0) (at-loop-test .loop-test .taken))
-
-part-sign-end : tie.Need-part-sign-end Inv-loop μ-loop
-part-sign-end c =
-    let at-loop-test = c .before .before .before in
-    let at-loop = at-loop-test .before in
-    let start = at-loop .before .before .before .before in
-    omega
-    (arith, lent-length (start .args .cells .now) (at-loop .loop .i) _ (start .pre .0) (at-loop-test .loop-test .taken))
-
-sign-requires : tie.Need-sign-requires Inv-loop μ-loop
-sign-requires c κs =
-    let at-loop = c .before .before .before .before .before in
-    let start = at-loop .before .before .before .before in
-    lent-below _ _ (at-loop .loop .i) (start .pre .1)
-
-shared-slice-read-code : tie.Need-shared-slice-read-code Inv-loop μ-loop
-shared-slice-read-code c =
-    let at-loop-test = c .before .before .before .before .before .before in
-    let at-loop = at-loop-test .before in
-    let start = at-loop .before .before .before .before in
-    omega
-    (arith, lent-length (start .args .cells .now) (at-loop .loop .i) _ (start .pre .0) (at-loop-test .loop-test .taken))
-
-mul-keys : tie.Need-mul-keys Inv-loop μ-loop
-mul-keys c =
-    let at-loop = c .before .before .before .before .before .before .before .before in
-    let start = at-loop .before .before .before .before in
-    omega (arith, at-loop .loop .inv .size, start .pre .2)
 
 slice-write-keys : tie.Need-slice-write-keys Inv-loop μ-loop
 slice-write-keys c =
@@ -81,25 +32,8 @@ slice-write-keys c =
     let start = at-loop .before .before .before .before in
     omega (arith, at-loop .loop .inv .size, start .pre .2)
 
-loop-again : tie.Need-loop-again Inv-loop μ-loop
-loop-again c =
-    let at-sign = c .before .before in
-    let at-widened = at-sign .before .before in
-    let at-loop-test = at-widened .before .before .before in
-    let at-loop = at-loop-test .before in
-    let start = at-loop .before .before .before .before in
-    keys-next _ _ _ _ _ _ _ _ (start .pre .0) (start .pre .2) (at-loop .loop .inv) (at-loop-test .loop-test .taken) _
-    (key-plain (start .args .cells .now) _ (at-loop .loop .i) _ _ _ _ (start .pre .0) (at-loop-test .loop-test .taken)
-    (at-widened .widened .ensures) (at-sign .sign .ensures) (c .code .ensures))
-
 same-length : tie.Need-same-length Inv-loop μ-loop
 same-length c = c .before .loop .inv .size
-
-returns : tie.Need-returns Inv-loop μ-loop
-returns c =
-    let at-loop = c .before in
-    let start = at-loop .before .before .before .before in
-    keys-done _ _ _ _ _ _ _ _ (start .pre .0) (start .pre .2) (at-loop .loop .inv) (c .loop-test .left)
 
 pub plain-keys-spec : {M : Type 1} → statement M
 plain-keys-spec =
@@ -109,17 +43,12 @@ plain-keys-spec =
     μ-loop
     loop-holds
     (λ c. omega arith) (λ c. omega arith) (λ c. omega arith) (λ c. omega arith) (λ c. omega arith) (λ c. omega arith)
-    shared-slice-read-widened
-    (λ c κs. search needs)
-    sub-sign
-    part-sign-start
-    part-sign-end
-    sign-requires
-    shared-slice-read-code
-    (λ c κs. search needs)
-    mul-keys
+    (λ c. omega (arith, row (c .before .before))) (λ c κs. search needs)
+    (λ c. omega (arith, row (c .before .before .before))) (λ c. omega (arith, row (c .before .before .before)))
+    (λ c. omega (arith, row (c .before .before .before))) (λ c κs. search lent-below)
+    (λ c. omega (arith, row (c .before .before .before .before .before .before))) (λ c κs. search needs)
+    (λ c. omega (arith, slice-write-keys c))
     slice-write-keys
-    (λ c. omega arith) (λ c. omega arith)
-    loop-again
+    (λ c. omega arith) (λ c. omega arith) (λ c. search (keys-next, key-plain))
     same-length
-    returns)
+    (λ c. search keys-done))

@@ -7,9 +7,6 @@ use lib.ListN.{length}
 use Rattle.colours.proofs.KeyLaws.{Relabelling, relabel-start, relabel-next, relabel-done}
 use Rattle.colours.proofs.keys.relabel.Statement.{statement}
 use Rattle.colours.proofs.keys.relabel.Tie as tie
-use Rattle.colours.proofs.keys.relabel.Reads as reads
-use Rattle.colours.proofs.keys.relabel.Lts as lts
-use Rattle.colours.proofs.keys.class.Reads as class-reads
 
 abbrev Inv-loop : tie.InvT-loop
 Inv-loop cells₀ own keys i₀ cells i = Relabelling own keys cells₀ cells i
@@ -23,39 +20,14 @@ loop-holds c = relabel-start _ _ _
 cast-cells : tie.Need-cast-cells Inv-loop μ-loop
 cast-cells c = omega (arith, c .class .ensures .1, c .before .before .before .before .before .before .before .pre .1)
 
-mul-cells : tie.Need-mul-cells Inv-loop μ-loop
-mul-cells c =
-    let at-loop = c .before .before .before in
-    let start = at-loop .before .before .before .before in
-    omega (arith, start .pre .0, at-loop .loop .inv .size)
-
-mul-cells-2 : tie.Need-mul-cells-2 Inv-loop μ-loop
-mul-cells-2 c =
-    let at-loop = c .before .before .before in
-    let start = at-loop .before .before .before .before in
-    omega (arith, start .pre .0, at-loop .loop .inv .size)
-
 slice-write-cells : tie.Need-slice-write-cells Inv-loop μ-loop
 slice-write-cells c =
     let at-loop = c .before .before .before in
     let start = at-loop .before .before .before .before in
     omega (arith, start .pre .0, at-loop .loop .inv .size)
 
-loop-again : tie.Need-loop-again Inv-loop μ-loop
-loop-again c =
-    let at-loop-test = c .before .before in
-    let at-loop = at-loop-test .before in
-    let start = at-loop .before .before .before .before in
-    relabel-next _ _ _ _ _ (start .pre .0) (at-loop .loop .inv) (at-loop-test .loop-test .taken) _ (c .class .ensures .0)
-
 same-length : tie.Need-same-length Inv-loop μ-loop
 same-length c = c .before .loop .inv .size
-
-returns : tie.Need-returns Inv-loop μ-loop
-returns c =
-    let at-loop = c .before in
-    let start = at-loop .before .before .before .before in
-    relabel-done _ _ _ _ _ (start .pre .0) (at-loop .loop .inv) (c .loop-test .left)
 
 pub relabel-spec : {M : Type 1} → statement M
 relabel-spec =
@@ -66,10 +38,8 @@ relabel-spec =
     loop-holds
     (λ c. omega arith) (λ c. omega arith) (λ c κs. search needs)
     cast-cells
-    mul-cells
-    mul-cells-2
+    (λ c. omega (arith, slice-write-cells c)) (λ c. omega (arith, slice-write-cells c))
     slice-write-cells
-    (λ c. omega arith) (λ c. omega arith)
-    loop-again
+    (λ c. omega arith) (λ c. omega arith) (λ c. search relabel-next)
     same-length
-    returns)
+    (λ c. search relabel-done))

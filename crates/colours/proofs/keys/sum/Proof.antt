@@ -7,9 +7,6 @@ use lib.ListN.{length}
 use Rattle.colours.proofs.KeyLaws.{Totalling, sum-start, sum-next, sum-done}
 use Rattle.colours.proofs.keys.sum.Statement.{statement}
 use Rattle.colours.proofs.keys.sum.Tie as tie
-use Rattle.colours.proofs.keys.sum.Reads as reads
-use Rattle.colours.proofs.keys.sum.Lts as lts
-use Rattle.std.proofs.num.wrapping_add_u64.Reads as wrapping-add-u64-reads
 
 abbrev Inv-loop : tie.InvT-loop
 Inv-loop keys total₀ i₀ total i = Totalling keys total i
@@ -19,12 +16,6 @@ abbrev μ-loop : tie.MeasureT-loop
 
 loop-holds : tie.Need-loop-holds Inv-loop μ-loop
 loop-holds c = sum-start _
-
-loop-again : tie.Need-loop-again Inv-loop μ-loop
-loop-again c =
-    let at-loop-test = c .before .before in
-    let at-loop = at-loop-test .before in
-    sum-next _ _ _ (at-loop .loop .inv) (at-loop-test .loop-test .taken) _ (c .wrapping-add-u64 .ensures)
 
 returns : tie.Need-returns Inv-loop μ-loop
 returns c = sum-done _ _ _ (c .before .loop .inv) (c .loop-test .left)
@@ -37,5 +28,5 @@ sum-spec =
     μ-loop
     loop-holds
     (λ c. omega arith) (λ c. omega arith) (λ c κs. search needs) (λ c. omega arith) (λ c. omega arith)
-    loop-again
+    (λ c. search sum-next)
     returns)

@@ -6,9 +6,6 @@ use lib.ListN.{length}
 use Rattle.colours.proofs.NumberLaws.{Progress, cells-start, cells-one, cells-next, cells-done}
 use Rattle.colours.proofs.numbering.number_cells.Statement.{statement}
 use Rattle.colours.proofs.numbering.number_cells.Tie as tie
-use Rattle.colours.proofs.numbering.number_cells.Reads as reads
-use Rattle.colours.proofs.numbering.number_cells.Lts as lts
-use Rattle.colours.proofs.numbering.number_cell.Reads as number-cell-reads
 
 abbrev Inv-loop : tie.InvT-loop
 Inv-loop cells out₀ numbers₀ first next₀ i₀ out numbers next i = Progress cells out₀ out numbers₀ first numbers next i
@@ -27,38 +24,17 @@ number-cell-requires c κs =
     cells-one _ _ _ _ _ _ _ _ (start .pre .2) (at-loop .loop .inv) (at-loop-test .loop-test .taken) (start .pre .1)
     (start .pre .3)
 
-mul-out : tie.Need-mul-out Inv-loop μ-loop
-mul-out c =
-    let at-loop = c .before .before .before .before .before .before in
-    let start = at-loop .before .before .before .before in
-    omega (arith, at-loop .loop .inv .size, start .pre .2)
-
 slice-write-out : tie.Need-slice-write-out Inv-loop μ-loop
 slice-write-out c =
     let at-loop = c .before .before .before .before .before .before in
     let start = at-loop .before .before .before .before in
     omega (arith, at-loop .loop .inv .size, start .pre .2)
 
-loop-again : tie.Need-loop-again Inv-loop μ-loop
-loop-again c =
-    let at-number-cell = c .before .before in
-    let at-loop-test = at-number-cell .before .before .before in
-    let at-loop = at-loop-test .before in
-    let start = at-loop .before .before .before .before in
-    cells-next _ _ _ _ _ _ _ _ (start .pre .2) (at-loop .loop .inv) (at-loop-test .loop-test .taken) _ _ _
-    (at-number-cell .number-cell .kept .1 .0) (at-number-cell .number-cell .ensures)
-
 same-length : tie.Need-same-length Inv-loop μ-loop
 same-length c = c .before .loop .inv .size
 
 same-length-2 : tie.Need-same-length-2 Inv-loop μ-loop
 same-length-2 c = c .before .loop .inv .table-size
-
-returns : tie.Need-returns Inv-loop μ-loop
-returns c =
-    let at-loop = c .before in
-    let start = at-loop .before .before .before .before in
-    cells-done _ _ _ _ _ _ _ _ (start .pre .2) (at-loop .loop .inv) (c .loop-test .left)
 
 pub number-cells-spec : {M : Type 1} → statement M
 number-cells-spec =
@@ -69,10 +45,9 @@ number-cells-spec =
     loop-holds
     (λ c. omega arith) (λ c. omega arith)
     number-cell-requires
-    mul-out
+    (λ c. omega (arith, slice-write-out c))
     slice-write-out
-    (λ c. omega arith) (λ c. omega arith)
-    loop-again
+    (λ c. omega arith) (λ c. omega arith) (λ c. search cells-next)
     same-length
     same-length-2
-    returns)
+    (λ c. search cells-done))

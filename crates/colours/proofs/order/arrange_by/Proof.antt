@@ -1,6 +1,5 @@
 -- `arrange_by` meets its contract: the constraints before k are placed.
 -- Assumes nothing.
-use borrow.Author.Needs.{needs}
 use native.Mathlib.Omega.{arith}
 use Prim.Native.Nat.{_-_}
 use mathlib.Core.Path.{_≡_, sym, _∙_}
@@ -8,12 +7,6 @@ use lib.ListN.{length}
 use Rattle.colours.proofs.OrderLaws.{Arranging, arranging-start, arranging-terms, arranging-room, arranging-next}
 use Rattle.colours.proofs.order.arrange_by.Statement.{statement}
 use Rattle.colours.proofs.order.arrange_by.Tie as tie
-use Rattle.colours.proofs.order.arrange_by.Reads as reads
-use Rattle.colours.proofs.order.arrange_by.Lts as lts
-use Rattle.colours.proofs.order.choose_next.Reads as choose-next-reads
-use Rattle.colours.proofs.order.see.Reads as see-reads
-use Rattle.colours.proofs.order.swap_rows.Reads as swap-rows-reads
-use Rattle.colours.proofs.order.tally_all.Reads as tally-all-reads
 
 abbrev Inv-loop : tie.InvT-loop
 Inv-loop cells₀ n seen₀ counts₀ k₀ cells seen counts k = Arranging cells₀ cells k n (length seen) (length seen₀) × (length counts ≡ length seen₀)

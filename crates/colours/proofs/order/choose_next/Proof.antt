@@ -5,9 +5,6 @@ use native.Mathlib.Omega.{arith}
 use Prim.Native.Nat.{_-_, _≤_, _<_}
 use Rattle.colours.proofs.order.choose_next.Statement.{statement}
 use Rattle.colours.proofs.order.choose_next.Tie as tie
-use Rattle.colours.proofs.order.choose_next.Reads as reads
-use Rattle.colours.proofs.order.choose_next.Lts as lts
-use Rattle.colours.proofs.order.rank.Reads as rank-reads
 
 abbrev Inv-loop : tie.InvT-loop
 Inv-loop cells k n seen counts best₀ least₀ i₀ best least i = (k ≤ best) × (best < n) × (k ≤ i) × (i ≤ n)

@@ -6,24 +6,12 @@ use Prim.Native.Nat.{_-_, _≤_}
 use Rattle.colours.proofs.OrderLaws.{term-room}
 use Rattle.colours.proofs.order.is_seen.Statement.{statement}
 use Rattle.colours.proofs.order.is_seen.Tie as tie
-use Rattle.colours.proofs.order.is_seen.Reads as reads
-use Rattle.colours.proofs.order.is_seen.Lts as lts
-use Rattle.tables.proofs.wide.Reads as wide-reads
 
 abbrev Inv-loop : tie.InvT-loop
 Inv-loop cells i seen p j₀ j = j ≤ 4
 
 abbrev μ-loop : tie.MeasureT-loop
 μ-loop cells i seen p j₀ j = 4 - j
-
-shared-slice-read-if2 : tie.Need-shared-slice-read-if2 Inv-loop μ-loop
-shared-slice-read-if2 c =
-    let at-wide = c .before .before in
-    let at-loop-test = at-wide .before .before in
-    let at-loop = at-loop-test .before in
-    let start = at-loop .before .before .before in
-    term-room _ _ (start .args .i) (at-loop .loop .j) _ (start .pre .0) (at-loop-test .loop-test .taken)
-    (at-wide .wide .ensures .0)
 
 pub is-seen-spec : {M : Type 1} → statement M
 is-seen-spec =
@@ -32,6 +20,5 @@ is-seen-spec =
     Inv-loop
     μ-loop
     (λ c. omega arith) (λ c. omega arith) (λ c. omega arith) (λ c. omega arith) (λ c. omega arith) (λ c. omega arith)
-    (λ c κs. search needs)
-    shared-slice-read-if2
-    (λ c. search needs) (λ c. omega arith) (λ c. omega arith) (λ c. omega arith) (λ c. search needs))
+    (λ c κs. search needs) (λ c. search term-room) (λ c. search needs) (λ c. omega arith) (λ c. omega arith)
+    (λ c. omega arith) (λ c. search needs))

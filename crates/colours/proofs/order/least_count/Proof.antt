@@ -7,9 +7,6 @@ use mathlib.Core.Path.{refl}
 use Rattle.colours.proofs.OrderLaws.{term-room}
 use Rattle.colours.proofs.order.least_count.Statement.{statement}
 use Rattle.colours.proofs.order.least_count.Tie as tie
-use Rattle.colours.proofs.order.least_count.Reads as reads
-use Rattle.colours.proofs.order.least_count.Lts as lts
-use Rattle.colours.proofs.order.smaller.Reads as smaller-reads
 
 abbrev Inv-loop : tie.InvT-loop
 Inv-loop cells i seen counts p least₀ j₀ least j = j ≤ 4

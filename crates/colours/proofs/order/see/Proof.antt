@@ -2,16 +2,12 @@
 -- Assumes nothing.
 use borrow.Author.Needs.{needs}
 use native.Mathlib.Omega.{arith}
-use Prim.Native.Nat.{_-_, _≤_}
-use mathlib.Core.Path.{_≡_, refl, _∙_}
+use Prim.Native.Nat.{_-_, _≤_, _<_}
+use mathlib.Core.Path.{_≡_, refl}
 use lib.ListN.{length, length-set}
 use Rattle.colours.proofs.OrderLaws.{term-room}
 use Rattle.colours.proofs.order.see.Statement.{statement}
 use Rattle.colours.proofs.order.see.Tie as tie
-use Rattle.colours.proofs.order.see.Reads as reads
-use Rattle.colours.proofs.order.see.Lts as lts
-use Rattle.std.proofs.num.wrapping_sub_u16.Reads as wrapping-sub-u16-reads
-use Rattle.tables.proofs.wide.Reads as wide-reads
 
 abbrev Inv-loop : tie.InvT-loop
 Inv-loop cells i seen₀ counts₀ p j₀ seen counts j = (j ≤ 4) × (length seen ≡ length seen₀) × (length counts ≡ length counts₀)
@@ -19,75 +15,22 @@ Inv-loop cells i seen₀ counts₀ p j₀ seen counts j = (j ≤ 4) × (length s
 abbrev μ-loop : tie.MeasureT-loop
 μ-loop cells i seen₀ counts₀ p j₀ seen counts j = 4 - j
 
+-- a term lies in both tables
+room :
+    (s : tie.After-wide Inv-loop μ-loop)
+    → (s .wide .result < length (s .before .before .before .loop .seen))
+    × (s .wide .result < length (s .before .before .before .loop .counts))
+room s =
+    let at-loop-test = s .before .before in
+    let at-loop = at-loop-test .before in
+    let start = at-loop .before .before .before .before in
+    let below : s .wide .result < length (start .args .seen .now) =
+    term-room _ _ (start .args .i) (at-loop .loop .j) _ (start .pre .0) (at-loop-test .loop-test .taken)
+    (s .wide .ensures .0) in
+    (omega (arith, below, at-loop .loop .inv .1), omega (arith, below, at-loop .loop .inv .2, start .pre .2))
+
 loop-holds : tie.Need-loop-holds Inv-loop μ-loop
 loop-holds c = (omega arith, refl, refl)
-
-slice-write-seen : tie.Need-slice-write-seen Inv-loop μ-loop
-slice-write-seen c =
-    let at-loop-test = c .before .before in
-    let at-loop = at-loop-test .before in
-    let start = at-loop .before .before .before .before in
-    omega (
-      arith,
-      term-room _ _ (start .args .i) (at-loop .loop .j) _ (start .pre .0) (at-loop-test .loop-test .taken)
-          (c .wide .ensures .0),
-      at-loop .loop .inv .1,
-    )
-
-mul-wrapping-sub-u16 : tie.Need-mul-wrapping-sub-u16 Inv-loop μ-loop
-mul-wrapping-sub-u16 c =
-    let at-loop-test = c .before .before in
-    let at-loop = at-loop-test .before in
-    let start = at-loop .before .before .before .before in
-    omega (
-      arith,
-      term-room _ _ (start .args .i) (at-loop .loop .j) _ (start .pre .0) (at-loop-test .loop-test .taken)
-          (c .wide .ensures .0),
-      at-loop .loop .inv .2,
-      start .pre .2,
-    )
-
-slice-read-wrapping-sub-u16 : tie.Need-slice-read-wrapping-sub-u16 Inv-loop μ-loop
-slice-read-wrapping-sub-u16 c =
-    let at-wide = c .before in
-    let at-loop-test = at-wide .before .before in
-    let at-loop = at-loop-test .before in
-    let start = at-loop .before .before .before .before in
-    omega (
-      arith,
-      term-room _ _ (start .args .i) (at-loop .loop .j) _ (start .pre .0) (at-loop-test .loop-test .taken)
-          (at-wide .wide .ensures .0),
-      at-loop .loop .inv .2,
-      start .pre .2,
-    )
-
-mul-counts : tie.Need-mul-counts Inv-loop μ-loop
-mul-counts c =
-    let at-wide = c .before .before in
-    let at-loop-test = at-wide .before .before in
-    let at-loop = at-loop-test .before in
-    let start = at-loop .before .before .before .before in
-    omega (
-      arith,
-      term-room _ _ (start .args .i) (at-loop .loop .j) _ (start .pre .0) (at-loop-test .loop-test .taken)
-          (at-wide .wide .ensures .0),
-      at-loop .loop .inv .2,
-      start .pre .2,
-    )
-
-slice-write-counts : tie.Need-slice-write-counts Inv-loop μ-loop
-slice-write-counts c =
-    let at-wide = c .before .before in
-    let at-loop-test = at-wide .before .before in
-    let at-loop = at-loop-test .before in
-    let start = at-loop .before .before .before .before in
-    omega (
-      arith,
-      term-room _ _ (start .args .i) (at-loop .loop .j) _ (start .pre .0) (at-loop-test .loop-test .taken)
-          (at-wide .wide .ensures .0),
-      at-loop .loop .inv .2,
-      start .pre .2,
-    )
 
 loop-again : tie.Need-loop-again Inv-loop μ-loop
 loop-again c =
@@ -111,14 +54,10 @@ see-spec =
     μ-loop
     (λ c. omega arith) (λ c. omega arith)
     loop-holds
-    (λ c. omega arith) (λ c. omega arith) (λ c. omega arith) (λ c κs. search needs)
-    slice-write-seen
-    mul-wrapping-sub-u16
-    slice-read-wrapping-sub-u16
-    (λ c κs. search needs)
-    mul-counts
-    slice-write-counts
-    (λ c. omega arith) (λ c. omega arith)
+    (λ c. omega arith) (λ c. omega arith) (λ c. omega arith) (λ c κs. search needs) (λ c. room c .0)
+    (λ c. omega (arith, room c .1)) (λ c. room (c .before) .1) (λ c κs. search needs)
+    (λ c. omega (arith, room (c .before .before) .1)) (λ c. room (c .before .before) .1) (λ c. omega arith)
+    (λ c. omega arith)
     loop-again
     same-length
     same-length-2

@@ -6,8 +6,6 @@ use native.Mathlib.Omega.{arith}
 use Rattle.colours.proofs.OrderLaws.{Swapping, swapping-start, swapping-next, swapping-done}
 use Rattle.colours.proofs.order.swap_rows.Statement.{statement}
 use Rattle.colours.proofs.order.swap_rows.Tie as tie
-use Rattle.colours.proofs.order.swap_rows.Reads as reads
-use Rattle.colours.proofs.order.swap_rows.Lts as lts
 
 abbrev Inv-loop : tie.InvT-loop
 Inv-loop cells₀ i j p q c₀ cells c = Swapping i j cells₀ cells c
@@ -25,21 +23,8 @@ slice-write-cells-2 c =
     let start = at-loop .before in
     simp length-set (omega (arith, at-loop .loop .inv .size, at-loop-test .loop-test .taken, start .pre .0, start .pre .1))
 
-loop-again : tie.Need-loop-again Inv-loop μ-loop
-loop-again c =
-    let at-loop-test = c .before .before in
-    let at-loop = at-loop-test .before in
-    let start = at-loop .before in
-    swapping-next _ _ _ _ _ (start .pre .0) (start .pre .1) (at-loop .loop .inv) (at-loop-test .loop-test .taken)
-
 same-length : tie.Need-same-length Inv-loop μ-loop
 same-length c = c .before .loop .inv .size
-
-returns : tie.Need-returns Inv-loop μ-loop
-returns c =
-    let at-loop = c .before in
-    let start = at-loop .before in
-    swapping-done _ _ _ _ _ (start .pre .0) (start .pre .1) (at-loop .loop .inv) (c .loop-test .left)
 
 pub swap-rows-spec : {M : Type 1} → statement M
 swap-rows-spec =
@@ -52,7 +37,6 @@ swap-rows-spec =
     (λ c. omega arith) (λ c. omega arith) (λ c. omega arith) (λ c. omega arith) (λ c. omega arith) (λ c. omega arith)
     (λ c. omega arith) (λ c. omega arith) (λ c. omega arith) (λ c. omega arith) (λ c. omega arith)
     slice-write-cells-2
-    (λ c. omega arith) (λ c. omega arith)
-    loop-again
+    (λ c. omega arith) (λ c. omega arith) (λ c. search swapping-next)
     same-length
-    returns)
+    (λ c. search swapping-done))

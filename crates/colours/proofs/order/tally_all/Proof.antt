@@ -1,15 +1,11 @@
 -- `tally_all` meets its contract: each term has its count.
 -- Assumes nothing.
-use borrow.Author.Needs.{needs}
 use native.Mathlib.Omega.{arith}
 use Prim.Native.Nat.{_-_, _≤_}
 use mathlib.Core.Path.{_≡_, refl, _∙_}
 use lib.ListN.{length}
 use Rattle.colours.proofs.order.tally_all.Statement.{statement}
 use Rattle.colours.proofs.order.tally_all.Tie as tie
-use Rattle.colours.proofs.order.tally_all.Reads as reads
-use Rattle.colours.proofs.order.tally_all.Lts as lts
-use Rattle.colours.proofs.order.tally.Reads as tally-reads
 
 abbrev Inv-loop : tie.InvT-loop
 Inv-loop cells n counts₀ i₀ counts i = (i ≤ n) × (length counts ≡ length counts₀)

@@ -3,8 +3,6 @@
 use Rattle.judging.proofs.TidyLaws.{behind-zero, behind-term}
 use Rattle.judging.proofs.tidying.behind.Statement.{statement}
 use Rattle.judging.proofs.tidying.behind.Tie as tie
-use Rattle.judging.proofs.tidying.behind.Reads as reads
-use Rattle.judging.proofs.tidying.behind.Lts as lts
 
 returns : tie.Need-returns
 returns c = search behind-zero

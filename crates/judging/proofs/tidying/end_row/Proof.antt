@@ -5,9 +5,6 @@ use Prim.Native.Nat.{_-_}
 use Rattle.judging.proofs.TidyLaws.{Ending, ending-start, ending-next, ending-done}
 use Rattle.judging.proofs.tidying.end_row.Statement.{statement}
 use Rattle.judging.proofs.tidying.end_row.Tie as tie
-use Rattle.judging.proofs.tidying.end_row.Reads as reads
-use Rattle.judging.proofs.tidying.end_row.Lts as lts
-use Rattle.judging.proofs.tidying.behind.Reads as behind-reads
 
 abbrev Inv-loop : tie.InvT-loop
 Inv-loop cells₀ i p j₀ cells j = Ending i cells₀ cells j

@@ -5,9 +5,6 @@ use Prim.Native.Nat.{_-_}
 use Rattle.judging.proofs.TidyLaws.{Tidying, tidying-start, tidying-room, tidying-next, tidying-done}
 use Rattle.judging.proofs.tidying.tidy.Statement.{statement}
 use Rattle.judging.proofs.tidying.tidy.Tie as tie
-use Rattle.judging.proofs.tidying.tidy.Reads as reads
-use Rattle.judging.proofs.tidying.tidy.Lts as lts
-use Rattle.judging.proofs.tidying.end_row.Reads as end-row-reads
 
 abbrev Inv-loop : tie.InvT-loop
 Inv-loop cells₀ n i₀ cells i = Tidying cells₀ cells i n

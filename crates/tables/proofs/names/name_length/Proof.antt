@@ -1,6 +1,6 @@
 -- `tables::names::name_length` meets its contract: no byte passed is a comma or a line feed. Assumes nothing.
 use borrow.Author.Needs.{needs}
-use mathlib.Core.Path.{_≡_, refl}
+use mathlib.Core.Path.{_≡_}
 use Prim.Native.Nat.{_≤_, _+_, _-_}
 use native.Mathlib.Numerals.{add-one}
 use native.Mathlib.Omega.{arith}
@@ -22,9 +22,6 @@ loop-holds c = (omega arith, omega arith, omega arith)
 returns : tie.Need-returns Inv-loop μ-loop
 returns c = (omega arith, omega arith)
 
-shared-slice-read-if2 : tie.Need-shared-slice-read-if2 Inv-loop μ-loop
-shared-slice-read-if2 c = search needs
-
 returns-2 : tie.Need-returns-2 Inv-loop μ-loop
 returns-2 c =
     let at-test = c .before .before .before in
@@ -32,21 +29,12 @@ returns-2 c =
     let s = at-loop .before .args .s .now in
     (omega (arith, word-comma s (at-loop .loop .i) (at-test .loop-test .taken) (c .if2 .taken)), omega arith)
 
-shared-slice-read-if3 : tie.Need-shared-slice-read-if3 Inv-loop μ-loop
-shared-slice-read-if3 c = search needs
-
 returns-3 : tie.Need-returns-3 Inv-loop μ-loop
 returns-3 c =
     let at-test = c .before .before .before .before .before in
     let at-loop = at-test .before in
     let s = at-loop .before .args .s .now in
     (omega (arith, word-feed s (at-loop .loop .i) (at-test .loop-test .taken) (c .if3 .taken)), omega arith)
-
-add-i : tie.Need-add-i Inv-loop μ-loop
-add-i c = search needs
-
-loop-less : tie.Need-loop-less Inv-loop μ-loop
-loop-less c = search needs
 
 loop-again : tie.Need-loop-again Inv-loop μ-loop
 loop-again c =
@@ -73,11 +61,10 @@ name-length-spec =
     μ-loop
     loop-holds
     returns
-    shared-slice-read-if2
+    (λ c. search needs)
     returns-2
-    shared-slice-read-if3
+    (λ c. search needs)
     returns-3
-    add-i
-    loop-less
+    (λ c. search needs) (λ c. search needs)
     loop-again
     returns-4)

@@ -14,32 +14,11 @@ inside c = omega (arith, c .before .before .before .pre .0 (c .before .if1 .left
 returns : tie.Need-returns
 returns c = search numbered-constant
 
-wide-requires : tie.Need-wide-requires
-wide-requires c κs = search needs
-
-mul-if2 : tie.Need-mul-if2
-mul-if2 c = search needs
-
 slice-read-if2 : tie.Need-slice-read-if2
 slice-read-if2 c = inside (c .before)
 
-cast-table : tie.Need-cast-table
-cast-table c = search needs
-
-add-table : tie.Need-add-table
-add-table c = search needs
-
-mul-table : tie.Need-mul-table
-mul-table c = search needs
-
 slice-write-table : tie.Need-slice-write-table
 slice-write-table c = inside (c .before .before)
-
-add-result : tie.Need-add-result
-add-result c = search needs
-
-same-length : tie.Need-same-length
-same-length c = search needs
 
 returns-2 : tie.Need-returns-2
 returns-2 c = search (numbered-new, inside (c .before .before))
@@ -52,14 +31,10 @@ number-term-spec =
     tie.close
     (tie.spec
     returns
-    wide-requires
-    mul-if2
+    (λ c κs. search needs) (λ c. search needs)
     slice-read-if2
-    cast-table
-    add-table
-    mul-table
+    (λ c. search needs) (λ c. search needs) (λ c. search needs)
     slice-write-table
-    add-result
-    same-length
+    (λ c. search needs) (λ c. search needs)
     returns-2
     returns-3)

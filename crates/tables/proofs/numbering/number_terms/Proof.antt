@@ -17,29 +17,14 @@ abbrev μ-loop : tie.MeasureT-loop
 loop-holds : tie.Need-loop-holds Inv-loop μ-loop
 loop-holds c = search counting-start
 
-mul-number-term : tie.Need-mul-number-term Inv-loop μ-loop
-mul-number-term c = search needs
-
-shared-slice-read-number-term : tie.Need-shared-slice-read-number-term Inv-loop μ-loop
-shared-slice-read-number-term c = search needs
-
 number-term-requires : tie.Need-number-term-requires Inv-loop μ-loop
 number-term-requires c κs =
     let at-test = c .before .before in
     let at-loop = at-test .before in
     (counting-inside _ _ _ _ _ _ (at-loop .loop .inv) (at-test .loop-test .taken), omega (arith, at-loop .loop .inv .few))
 
-add-i : tie.Need-add-i Inv-loop μ-loop
-add-i c = search needs
-
-loop-less : tie.Need-loop-less Inv-loop μ-loop
-loop-less c = search needs
-
 loop-again : tie.Need-loop-again Inv-loop μ-loop
 loop-again c = search counting-next
-
-same-length : tie.Need-same-length Inv-loop μ-loop
-same-length c = search needs
 
 returns : tie.Need-returns Inv-loop μ-loop
 returns c = search counting-end
@@ -51,11 +36,9 @@ number-terms-spec =
     Inv-loop
     μ-loop
     loop-holds
-    mul-number-term
-    shared-slice-read-number-term
+    (λ c. search needs) (λ c. search needs)
     number-term-requires
-    add-i
-    loop-less
+    (λ c. search needs) (λ c. search needs)
     loop-again
-    same-length
+    (λ c. search needs)
     returns)

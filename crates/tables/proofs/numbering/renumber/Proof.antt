@@ -20,9 +20,6 @@ front :
 front {bound} {cells} v table h z r =
     (zeros table v z, subst (λ (m : ℕ). Renumberable m bound cells) (sym (length-take-le v table h)) r)
 
-array-borrow-prefix-few : tie.Need-array-borrow-prefix-few
-array-borrow-prefix-few c = search needs
-
 slice-aggregate-number : tie.Need-slice-aggregate-number
 slice-aggregate-number c = sym (length-take-le _ _ (c .before .if1 .taken))
 
@@ -30,18 +27,6 @@ number-requires : tie.Need-number-requires
 number-requires c κs =
     let at-if = c .before .before .before in
     front _ _ (at-if .if1 .taken) refl (at-if .before .before .before .pre .0)
-
-same-length : tie.Need-same-length
-same-length c = search needs
-
-same-length-2 : tie.Need-same-length-2
-same-length-2 c = search needs
-
-returns : tie.Need-returns
-returns c = search needs
-
-array-borrow-prefix-table : tie.Need-array-borrow-prefix-table
-array-borrow-prefix-table c = search needs
 
 slice-aggregate-number-2 : tie.Need-slice-aggregate-number-2
 slice-aggregate-number-2 c = sym (length-take-le _ _ (c .before .before .before .before .pre .1))
@@ -51,28 +36,14 @@ number-requires-2 c κs =
     let start = c .before .before .before .before .before .before in
     front _ _ (start .pre .1) refl (start .pre .0)
 
-same-length-3 : tie.Need-same-length-3
-same-length-3 c = search needs
-
-same-length-4 : tie.Need-same-length-4
-same-length-4 c = search needs
-
-returns-2 : tie.Need-returns-2
-returns-2 c = search needs
-
 pub renumber-spec : {M : Type 1} → statement M
 renumber-spec =
     tie.close
     (tie.spec
-    array-borrow-prefix-few
+    (λ c. search needs)
     slice-aggregate-number
     number-requires
-    same-length
-    same-length-2
-    returns
-    array-borrow-prefix-table
+    (λ c. search needs) (λ c. search needs) (λ c. search needs) (λ c. search needs)
     slice-aggregate-number-2
     number-requires-2
-    same-length-3
-    same-length-4
-    returns-2)
+    (λ c. search needs) (λ c. search needs) (λ c. search needs))

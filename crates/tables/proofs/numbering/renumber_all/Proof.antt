@@ -16,32 +16,8 @@ abbrev μ-loop : tie.MeasureT-loop
 loop-holds : tie.Need-loop-holds Inv-loop μ-loop
 loop-holds c = search mapped-start
 
-mul-renumbered : tie.Need-mul-renumbered Inv-loop μ-loop
-mul-renumbered c = search needs
-
-slice-read-renumbered : tie.Need-slice-read-renumbered Inv-loop μ-loop
-slice-read-renumbered c = search needs
-
-renumbered-requires : tie.Need-renumbered-requires Inv-loop μ-loop
-renumbered-requires c κs = search needs
-
-mul-cells : tie.Need-mul-cells Inv-loop μ-loop
-mul-cells c = search needs
-
-slice-write-cells : tie.Need-slice-write-cells Inv-loop μ-loop
-slice-write-cells c = search needs
-
-add-i : tie.Need-add-i Inv-loop μ-loop
-add-i c = search needs
-
-loop-less : tie.Need-loop-less Inv-loop μ-loop
-loop-less c = search needs
-
 loop-again : tie.Need-loop-again Inv-loop μ-loop
 loop-again c = search stored-next
-
-same-length : tie.Need-same-length Inv-loop μ-loop
-same-length c = search needs
 
 returns : tie.Need-returns Inv-loop μ-loop
 returns c = search stored-end
@@ -53,13 +29,8 @@ renumber-all-spec =
     Inv-loop
     μ-loop
     loop-holds
-    mul-renumbered
-    slice-read-renumbered
-    renumbered-requires
-    mul-cells
-    slice-write-cells
-    add-i
-    loop-less
+    (λ c. search needs) (λ c. search needs) (λ c κs. search needs) (λ c. search needs) (λ c. search needs)
+    (λ c. search needs) (λ c. search needs)
     loop-again
-    same-length
+    (λ c. search needs)
     returns)

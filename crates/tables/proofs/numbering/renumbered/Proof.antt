@@ -7,17 +7,8 @@ use Rattle.tables.proofs.numbering.renumbered.Tie as tie
 returns : tie.Need-returns
 returns c = search cell-below
 
-wide-requires : tie.Need-wide-requires
-wide-requires c κs = search needs
-
 returns-2 : tie.Need-returns-2
 returns-2 c = search cell-outside
-
-mul-new : tie.Need-mul-new
-mul-new c = search needs
-
-shared-slice-read-new : tie.Need-shared-slice-read-new
-shared-slice-read-new c = search needs
 
 returns-3 : tie.Need-returns-3
 returns-3 c = search cell-unnumbered
@@ -30,9 +21,8 @@ renumbered-spec =
     tie.close
     (tie.spec
     returns
-    wide-requires
+    (λ c κs. search needs)
     returns-2
-    mul-new
-    shared-slice-read-new
+    (λ c. search needs) (λ c. search needs)
     returns-3
     returns-4)

@@ -11,9 +11,6 @@ use Rattle.text.proofs.Numbers.{number-one-digit, number-two-digits, nu
 use Rattle.text.proofs.fields.number_of.Statement.{statement}
 use Rattle.text.proofs.fields.number_of.Tie as tie
 
-is-digit-requires : tie.Need-is-digit-requires
-is-digit-requires c κs = search needs
-
 -- one digit
 one : (c : tie.Then1) → between 48 57 (c .before .before .args .key) ≡ true
 one c = sym (c .before .is-digit .ensures) ∙ c .if1 .taken
@@ -26,12 +23,6 @@ cast-result c = omega (arith, between-true 48 57 _ (one c))
 
 returns : tie.Need-returns
 returns c = sym (number-one-digit _ (one c))
-
-is-digit-requires-2 : tie.Need-is-digit-requires-2
-is-digit-requires-2 c κs = search needs
-
-is-digit-requires-3 : tie.Need-is-digit-requires-3
-is-digit-requires-3 c κs = search needs
 
 -- not one digit; the first of two, the second of two
 more : (c : tie.Else1) → between 48 57 (c .before .before .args .key) ≡ false
@@ -46,14 +37,8 @@ ones c = sym (c .before .is-digit3 .ensures) ∙ c .if3 .taken
 sub-result-2 : tie.Need-sub-result-2
 sub-result-2 c = omega (arith, between-true 49 57 _ (tens (c .before .before)))
 
-mul-result : tie.Need-mul-result
-mul-result c = search needs
-
 sub-result-3 : tie.Need-sub-result-3
 sub-result-3 c = omega (arith, between-true 48 57 _ (ones c))
-
-add-result : tie.Need-add-result
-add-result c = search needs
 
 cast-result-2 : tie.Need-cast-result-2
 cast-result-2 c = omega (arith, between-true 49 57 _ (tens (c .before .before)), between-true 48 57 _ (ones c))
@@ -77,16 +62,15 @@ pub number-of-spec : {M : Type 1} → statement M
 number-of-spec =
     tie.close
     (tie.spec
-    is-digit-requires
+    (λ c κs. search needs)
     sub-result
     cast-result
     returns
-    is-digit-requires-2
-    is-digit-requires-3
+    (λ c κs. search needs) (λ c κs. search needs)
     sub-result-2
-    mul-result
+    (λ c. search needs)
     sub-result-3
-    add-result
+    (λ c. search needs)
     cast-result-2
     returns-2
     returns-3

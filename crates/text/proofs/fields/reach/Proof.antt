@@ -3,17 +3,6 @@ use native.Mathlib.Omega.{arith}
 use Rattle.text.proofs.fields.reach.Statement.{statement}
 use Rattle.text.proofs.fields.reach.Tie as tie
 
-sub-if1 : tie.Need-sub-if1
-sub-if1 c = omega arith
-
-returns : tie.Need-returns
-returns c = omega arith
-
-add-result : tie.Need-add-result
-add-result c = omega arith
-
-returns-2 : tie.Need-returns-2
-returns-2 c = omega arith
-
 pub reach-spec : {M : Type 1} → statement M
-reach-spec = tie.close (tie.spec sub-if1 returns add-result returns-2)
+reach-spec = tie.close
+    (tie.spec (λ c. omega arith) (λ c. omega arith) (λ c. omega arith) (λ c. omega arith))

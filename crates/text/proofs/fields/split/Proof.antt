@@ -13,14 +13,8 @@ Inv-loop classes s at keys₀ starts₀ limit count₀ start₀ keys starts coun
 abbrev μ-loop : tie.MeasureT-loop
 μ-loop classes s at keys₀ starts₀ limit count₀ start₀ keys starts count start = suc limit - start
 
-reach-requires : tie.Need-reach-requires Inv-loop μ-loop
-reach-requires c κs = search needs
-
 loop-holds : tie.Need-loop-holds Inv-loop μ-loop
 loop-holds c = walk-start _ _ _ (c .before .before .before .pre .1) (c .reach .ensures)
-
-next-field-requires : tie.Need-next-field-requires Inv-loop μ-loop
-next-field-requires c κs = search needs
 
 returns : tie.Need-returns Inv-loop μ-loop
 returns c =
@@ -30,20 +24,8 @@ returns c =
     walk-fault _ _ _ _ _ _ _ _ (loop′ .loop .inv) (field .next-field .ensures) (start .pre .2)
     (loop′ .before .reach .ensures) (omega arith)
 
-note-requires : tie.Need-note-requires Inv-loop μ-loop
-note-requires c κs = search needs
-
-add-count : tie.Need-add-count Inv-loop μ-loop
-add-count c = search needs
-
 returns-2 : tie.Need-returns-2 Inv-loop μ-loop
 returns-2 c = search walk-feed
-
-add-start : tie.Need-add-start Inv-loop μ-loop
-add-start c = search needs
-
-loop-less : tie.Need-loop-less Inv-loop μ-loop
-loop-less c = search needs
 
 loop-again : tie.Need-loop-again Inv-loop μ-loop
 loop-again c =
@@ -60,13 +42,11 @@ split-spec =
     (tie.spec
     Inv-loop
     μ-loop
-    reach-requires
+    (λ c κs. search needs)
     loop-holds
-    next-field-requires
+    (λ c κs. search needs)
     returns
-    note-requires
-    add-count
+    (λ c κs. search needs) (λ c. search needs)
     returns-2
-    add-start
-    loop-less
+    (λ c. search needs) (λ c. search needs)
     loop-again)

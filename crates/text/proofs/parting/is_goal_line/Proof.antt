@@ -14,9 +14,6 @@ use borrow.Author.Needs.{needs}
 use Rattle.text.proofs.parting.is_goal_line.Statement.{statement}
 use Rattle.text.proofs.parting.is_goal_line.Tie as tie
 
-sub-if1 : tie.Need-sub-if1
-sub-if1 c = search needs
-
 returns : tie.Need-returns
 returns c =
     let args′ = c .before .before .before .args in
@@ -28,21 +25,6 @@ returns c =
       length-take 5 (drop at′ s),
       length-drop at′ s,
     )))
-
-add-end : tie.Need-add-end
-add-end c = search needs
-
-sub-same-bytes : tie.Need-sub-same-bytes
-sub-same-bytes c = search needs
-
-part-same-bytes-start : tie.Need-part-same-bytes-start
-part-same-bytes-start c = search needs
-
-part-same-bytes-end : tie.Need-part-same-bytes-end
-part-same-bytes-end c = search needs
-
-same-bytes-requires : tie.Need-same-bytes-requires
-same-bytes-requires c κs = search needs
 
 returns-2 : tie.Need-returns-2
 unfolding goalLine ascii
@@ -58,11 +40,7 @@ pub is-goal-line-spec : {M : Type 1} → statement M
 is-goal-line-spec =
     tie.close
     (tie.spec
-    sub-if1
+    (λ c. search needs)
     returns
-    add-end
-    sub-same-bytes
-    part-same-bytes-start
-    part-same-bytes-end
-    same-bytes-requires
+    (λ c. search needs) (λ c. search needs) (λ c. search needs) (λ c. search needs) (λ c κs. search needs)
     returns-2)

@@ -4,7 +4,6 @@ use borrow.Author.Needs.{needs}
 use mathlib.Core.Path.{_≡_, ap, sym, refl, _∙_}
 use mathlib.Core.Logic.{⊎-elim}
 use mathlib.Core.Bool.{Bool, true, false, _&&_}
-use mathlib.Core.List.{[]}
 use Prim.Native.Nat.{_≤_, _-_}
 use native.Mathlib.Numerals.{add-one}
 use native.Mathlib.Omega.{arith}
@@ -25,9 +24,6 @@ abbrev μ-loop : tie.MeasureT-loop
 loop-holds : tie.Need-loop-holds Inv-loop μ-loop
 unfolding parted behind
 loop-holds c = (omega arith, refl)
-
-is-goal-line-requires : tie.Need-is-goal-line-requires Inv-loop μ-loop
-is-goal-line-requires c κs = search needs
 
 add-t7 : tie.Need-add-t7 Inv-loop μ-loop
 add-t7 c =
@@ -55,15 +51,6 @@ returns c =
           (arith, goal-room s′ (loop′ .i) found),
     )
 
-shared-slice-read-fresh : tie.Need-shared-slice-read-fresh Inv-loop μ-loop
-shared-slice-read-fresh c = search needs
-
-add-i : tie.Need-add-i Inv-loop μ-loop
-add-i c = search needs
-
-loop-less : tie.Need-loop-less Inv-loop μ-loop
-loop-less c = search needs
-
 loop-again : tie.Need-loop-again Inv-loop μ-loop
 loop-again c =
     let loop′ = c .before .before .before .loop in
@@ -90,11 +77,9 @@ split-goal-spec =
     Inv-loop
     μ-loop
     loop-holds
-    is-goal-line-requires
+    (λ c κs. search needs)
     add-t7
     returns
-    shared-slice-read-fresh
-    add-i
-    loop-less
+    (λ c. search needs) (λ c. search needs) (λ c. search needs)
     loop-again
     returns-2)
