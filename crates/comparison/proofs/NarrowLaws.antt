@@ -84,13 +84,6 @@ module _ (f a g b : List ℕ) (r : Bool) (a′ b′ : List ℕ) (k : Classified 
           right = λ z. k .right t;
         }
 
-    -- what placing asks
-    pub weigh-left : (size n : ℕ) → Colourable a f size n → length a′ ≡ length a → Colourable a′ f 2844 n
-    weigh-left size n c l = colourable-more a′ f size n (colourable-after a f a′ size n c l (k .left t))
-
-    pub weigh-right : (size n : ℕ) → Colourable b g size n → length b′ ≡ length b → Colourable b′ g 2844 n
-    weigh-right size n c l = colourable-more b′ g size n (colourable-after b g b′ size n c l (k .right t))
-
 -- two states that answer for two others
 pub record Narrowing (f a₀ g b₀ a b : List ℕ) (size n : ℕ) : Type 0 where
   pub left : Colourable a f size n
