@@ -1,8 +1,7 @@
 -- The comparison step by step: what each step says of the answer.
 --   cells-…               two lists of cells
---   order-same            another order of the constraints
 --   renumbered-same       variables numbered anew
---   decide-…, numbered-…, compare-…   one step after the other
+--   numbered-…, compare-…   one step after the other
 -- Assumes nothing.
 use Prim.Native.Nat.{ℕ, zero, suc, _+_, _*_, _≤_, _<_, max}
 use native.Mathlib.Omega.{arith}
@@ -19,7 +18,7 @@ use Rattle.semantics.specs.Terms.{Constraint, State}
 use Rattle.semantics.specs.Variants.{OneToOne, empty}
 use Rattle.semantics.specs.Variants.{each, ConstraintVariant, Variant, sameState}
 use Rattle.semantics.proofs.Options.{true-false}
-use Rattle.semantics.proofs.Multisets.{multiset-left, multiset-back, multiset-of-pointwise, pointwise-map}
+use Rattle.semantics.proofs.Multisets.{multiset-of-pointwise, pointwise-map}
 use Rattle.semantics.proofs.VariantLaws.{variant-refl, variant-sym, variant-trans}
 use Rattle.semantics.proofs.Comparison.{sameState-complete}
 use Rattle.tables.specs.Cells.{cellTerm, cellConstraints}
@@ -27,15 +26,12 @@ use Rattle.tables.specs.Cells.{isLow}
 use Rattle.tables.proofs.CellLaws.{constraints-length}
 use Rattle.tables.proofs.CellLaws.{le-or-lt, every-first, every-rest}
 use Rattle.colours.specs.Rows.{rowOf}
-use Rattle.colours.specs.Bounds.{Below, TermsBelow}
+use Rattle.colours.specs.Bounds.{Below}
 use Rattle.colours.specs.Ends.{endOf}
 use Rattle.comparison.specs.Comparing.{Side, Alike, Comparable, BothNumbered}
-use Rattle.colours.specs.Classes.{Colourable, Classified}
-use Rattle.comparison.specs.Settlements.{Found}
+use Rattle.colours.specs.Classes.{Colourable}
 use Rattle.colours.specs.Numbering.{Renames, Numbering, Renumbered}
-use Rattle.colours.specs.Order.{Reordered}
 use Rattle.colours.specs.Colours.{digest, clipped}
-use Rattle.comparison.proofs.NarrowLaws.{colourable-more, colourable-after}
 use Rattle.colours.proofs.RowLaws.{pointwise-at, rows-pointwise, row-at}
 use Rattle.colours.proofs.AgreeLaws.{prefix-agree}
 use Rattle.colours.proofs.ClassLaws.{same-iff}
@@ -66,15 +62,6 @@ module _ (a b : List ℕ) (i : ℕ) (s : length a ≡ length b) (w : Matching a 
       go : (k : ℕ) → k < suc i → (k < i) ⊎ (k ≡ i) → getD a k 0 ≡ getD b k 0
       go k l (inl q) = w .same k q
       go k l (inr q) = rw q e
-
--- another order of the constraints of the first state
-pub order-same :
-    (f a a′ g b : List ℕ) → Reordered a a′
-    → sameState (endOf f a′) (endOf g b) ≡ sameState (endOf f a) (endOf g b)
-order-same f a a′ g b r =
-    same-iff (endOf f a) (endOf g b) (endOf f a′) (endOf g b)
-    (λ v. (v .0, v .1, v .2, multiset-left (r .same) (v .3)))
-    (λ v. (v .0, v .1, v .2, multiset-left (multiset-back (r .same)) (v .3)))
 
 -- variants of both states
 pub variants-same :
@@ -145,44 +132,6 @@ pub straight-same :
     (f a g b : List ℕ) → f ≡ g → a ≡ b → true ≡ sameState (endOf f a) (endOf g b)
 straight-same f a g b e d =
     rw (e, d) (sym (sameState-complete (endOf g b) (endOf g b) (variant-refl (endOf g b))))
-
-module _ (f a g b : List ℕ) (size n : ℕ) (ca : Colourable a f size n) (cb : Colourable b g size n) (r₁ : Bool) (a₁ b₁ : List ℕ)
-    (k₁ : Classified r₁ f a g b a₁ b₁) where
-  -- the classes by signatures differ
-  pub decide-apart : r₁ ≡ false → false ≡ sameState (endOf f a) (endOf g b)
-  decide-apart e = sym (k₁ .apart e)
-
-  module _ (t₁ : r₁ ≡ true) (la : length a₁ ≡ length a) (lb : length b₁ ≡ length b) where
-    first-left : Colourable a₁ f size n
-    first-left = colourable-after a f a₁ size n ca la (k₁ .left t₁)
-
-    pub decide-right : Colourable b₁ g size n
-    decide-right = colourable-after b g b₁ size n cb lb (k₁ .right t₁)
-
-    -- what the order asks
-    pub decide-arrange : (length a₁ ≡ 5 * n) × TermsBelow 2844 a₁
-    decide-arrange = (first-left .count, colourable-more a₁ f size n first-left .terms)
-
-    module _ (a₂ : List ℕ) (l₂ : length a₂ ≡ length a₁) (o : Reordered a₁ a₂) where
-      pub decide-left : Colourable a₂ f size n
-      decide-left = colourable-after a₁ f a₂ size n first-left l₂ (o .below)
-
-      so-far : sameState (endOf f a₂) (endOf g b₁) ≡ sameState (endOf f a) (endOf g b)
-      so-far = order-same f a₁ a₂ g b₁ o ∙ k₁ .same t₁
-
-      -- what placing without going back asks, and what it finds
-      pub settle-left : Colourable a₂ f 2844 n
-      settle-left = colourable-more a₂ f size n decide-left
-
-      pub settle-right : Colourable b₁ g 2844 n
-      settle-right = colourable-more b₁ g size n decide-right
-
-      pub decide-settled : (r : Bool) → Found r f a₂ g b₁ → r ≡ true → true ≡ sameState (endOf f a) (endOf g b)
-      decide-settled r w e = sym (w .same e) ∙ so-far
-
-      -- what finer classes find
-      pub decide-answer : (r : Bool) → r ≡ sameState (endOf f a₂) (endOf g b₁) → r ≡ sameState (endOf f a) (endOf g b)
-      decide-answer r e = e ∙ so-far
 
 module _ (a f b g : List ℕ) (n limit size : ℕ) (p : BothNumbered a f b g n limit size) where
   -- what the goal variables became differs

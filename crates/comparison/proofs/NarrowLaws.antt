@@ -1,5 +1,6 @@
 -- Classes made finer step by step: one law for each way that the code goes.
 --   colourable-…      what colouring asks, with more room and after a step
+--   order-same        another order of the constraints
 --   weigh-…           one step
 --   narrowing-…       one step after the other
 -- Assumes nothing.
@@ -11,9 +12,12 @@ use mathlib.Core.Path.{_≡_, refl, sym, _∙_}
 use lib.ListN.{length}
 use Rattle.semantics.specs.Variants.{sameState}
 use Rattle.semantics.proofs.Options.{true-false}
+use Rattle.semantics.proofs.Multisets.{multiset-left, multiset-back}
 use Rattle.colours.specs.Bounds.{TermsBelow}
 use Rattle.colours.specs.Ends.{endOf}
 use Rattle.colours.specs.Classes.{Colourable, Classified}
+use Rattle.colours.specs.Order.{Reordered}
+use Rattle.colours.proofs.ClassLaws.{same-iff}
 use Rattle.comparison.specs.Settlements.{Found}
 use Rattle.comparison.specs.Narrowings.{Weighed}
 
@@ -36,12 +40,24 @@ pub colourable-after :
 colourable-after cells bound cells′ size n c l t =
     record { count = l ∙ c .count; room = c .room; terms = t size (c .terms); bound-below = c .bound-below }
 
+-- another order of the constraints of the first state
+order-same :
+    (f a a′ g b : List ℕ) → Reordered a a′
+    → sameState (endOf f a′) (endOf g b) ≡ sameState (endOf f a) (endOf g b)
+order-same f a a′ g b r =
+    same-iff (endOf f a) (endOf g b) (endOf f a′) (endOf g b)
+    (λ v. (v .0, v .1, v .2, multiset-left (r .same) (v .3)))
+    (λ v. (v .0, v .1, v .2, multiset-left (multiset-back (r .same)) (v .3)))
+
 module _ (f a g b : List ℕ) (r : Bool) (a′ b′ : List ℕ) (k : Classified r f a g b a′ b′) where
   -- the classes differ
+  pub classes-apart : r ≡ false → false ≡ sameState (endOf f a) (endOf g b)
+  classes-apart e = sym (k .apart e)
+
   pub weigh-apart : r ≡ false → Weighed true false f a g b a′ b′
   weigh-apart e =
       record {
-        answer = λ z. sym (k .apart e);
+        answer = λ z. classes-apart e;
         same = λ z. true-false refl z;
         left = λ z. true-false refl z;
         right = λ z. true-false refl z;
@@ -68,13 +84,6 @@ module _ (f a g b : List ℕ) (r : Bool) (a′ b′ : List ℕ) (k : Classified 
           right = λ z. k .right t;
         }
 
-    -- what placing asks
-    pub weigh-left : (size n : ℕ) → Colourable a f size n → length a′ ≡ length a → Colourable a′ f 2844 n
-    weigh-left size n c l = colourable-more a′ f size n (colourable-after a f a′ size n c l (k .left t))
-
-    pub weigh-right : (size n : ℕ) → Colourable b g size n → length b′ ≡ length b → Colourable b′ g 2844 n
-    weigh-right size n c l = colourable-more b′ g size n (colourable-after b g b′ size n c l (k .right t))
-
 -- two states that answer for two others
 pub record Narrowing (f a₀ g b₀ a b : List ℕ) (size n : ℕ) : Type 0 where
   pub left : Colourable a f size n
@@ -87,6 +96,19 @@ pub narrowing-start :
     (f a g b : List ℕ) (size n : ℕ) → Colourable a f size n → Colourable b g size n → Narrowing f a g b a b size n
 narrowing-start f a g b size n ca cb = record { left = ca; right = cb; same = refl; left-size = refl; right-size = refl }
 
+-- with classes for symbols
+pub narrowing-classes :
+    (f a g b : List ℕ) (size n : ℕ) → Colourable a f size n → Colourable b g size n → (r : Bool) (a′ b′ : List ℕ)
+    → Classified r f a g b a′ b′ → r ≡ true → length a′ ≡ length a → length b′ ≡ length b → Narrowing f a g b a′ b′ size n
+narrowing-classes f a g b size n ca cb r a′ b′ k t la lb =
+    record {
+      left = colourable-after a f a′ size n ca la (k .left t);
+      right = colourable-after b g b′ size n cb lb (k .right t);
+      same = k .same t;
+      left-size = la;
+      right-size = lb;
+    }
+
 module _ (f a₀ g b₀ a b : List ℕ) (size n : ℕ) (w : Narrowing f a₀ g b₀ a b size n) where
   -- what the search asks
   pub narrowing-left : Colourable a f 2844 n
@@ -95,7 +117,26 @@ module _ (f a₀ g b₀ a b : List ℕ) (size n : ℕ) (w : Narrowing f a₀ g b
   pub narrowing-right : Colourable b g 2844 n
   narrowing-right = colourable-more b g size n (w .right)
 
-  -- and what it finds
+  -- what the order asks
+  pub narrowing-arrange : (length a ≡ 5 * n) × TermsBelow 2844 a
+  narrowing-arrange = (w .left .count, narrowing-left .terms)
+
+  -- the first state in another order
+  pub narrowing-order : (a′ : List ℕ) → length a′ ≡ length a → Reordered a a′ → Narrowing f a₀ g b₀ a′ b size n
+  narrowing-order a′ l o =
+      record {
+        left = colourable-after a f a′ size n (w .left) l (o .below);
+        right = w .right;
+        same = order-same f a a′ g b o ∙ w .same;
+        left-size = l ∙ w .left-size;
+        right-size = w .right-size;
+      }
+
+  -- all constraints are placed
+  pub narrowing-found : (r : Bool) → Found r f a g b → r ≡ true → true ≡ sameState (endOf f a₀) (endOf g b₀)
+  narrowing-found r v e = sym (v .same e) ∙ w .same
+
+  -- what a search finds
   pub narrowing-answer : (r : Bool) → r ≡ sameState (endOf f a) (endOf g b) → r ≡ sameState (endOf f a₀) (endOf g b₀)
   narrowing-answer r e = e ∙ w .same
 

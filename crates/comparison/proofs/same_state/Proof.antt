@@ -66,14 +66,16 @@ array-borrow-prefix-right c = search needs
 
 slice-aggregate-compare-4 : tie.Need-slice-aggregate-compare-4
 slice-aggregate-compare-4 c =
-    let args′ = (c .before .before .before .before .before .before .before .before .before .before .args) in
-    let pre′ = (c .before .before .before .before .before .before .before .before .before .before .pre) in
+    let tested = c .before .before .before .before .before .before in
+    let args′ = tested .before .before .before .before .args in
+    let pre′ = tested .before .before .before .before .pre in
     sym (zeros-length (length (args′ .bound-a .now)) 28 (pre′ .0 .bound-few))
 
 compare-requires : tie.Need-compare-requires
 compare-requires c κs =
-    let args′ = (c .before .before .before .before .before .before .before .before .before .before .args) in
-    let pre′ = (c .before .before .before .before .before .before .before .before .before .before .pre) in
+    let tested = c .before .before .before .before .before .before in
+    let args′ = tested .before .before .before .before .args in
+    let pre′ = tested .before .before .before .before .pre in
     let if1′ = (c .before .before .before .before .before .if1) in
     let if2′ = (c .before .before .before .before .if2) in
     comparable (args′ .a .now) (args′ .n) (args′ .bound-a .now) (args′ .b .now) _ (args′ .bound-b .now) _ _ _ _ (pre′ .0)

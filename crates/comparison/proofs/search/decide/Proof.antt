@@ -1,9 +1,9 @@
--- `decide` meets its contract: each step says what it says of the answer.
+-- `decide` meets its contract: with classes for symbols, and then in another order, the states answer for those at the start.
 -- Assumes nothing.
 use borrow.Author.Needs.{needs}
 use borrow.Author.Tests.{not-true, not-false}
-use Rattle.comparison.proofs.DecideLaws.{decide-apart, decide-arrange, decide-left, decide-right}
-use Rattle.comparison.proofs.DecideLaws.{settle-left, settle-right, decide-settled, decide-answer}
+use Rattle.comparison.proofs.NarrowLaws.{Narrowing, classes-apart, narrowing-classes, narrowing-arrange, narrowing-order}
+use Rattle.comparison.proofs.NarrowLaws.{narrowing-left, narrowing-right, narrowing-found, narrowing-answer}
 use Rattle.comparison.proofs.search.decide.Statement.{statement}
 use Rattle.comparison.proofs.search.decide.Tie as tie
 use Rattle.comparison.proofs.search.decide.Reads as reads
@@ -12,6 +12,36 @@ use Rattle.colours.proofs.classes.classify.Reads as classify-reads
 use Rattle.comparison.proofs.narrowing.narrow.Reads as narrow-reads
 use Rattle.comparison.proofs.search.arrange.Reads as arrange-reads
 use Rattle.comparison.proofs.settling.settles.Reads as settles-reads
+
+-- where the classes are made, and where all begins, from where they are known to be the same
+abbrev classes : tie.Else1 → tie.After-classify
+classes s = s .before .before .before .before .before
+
+abbrev start : tie.Else1 → tie.Start
+start s = classes s .before .before .before .before .before .before .before
+
+-- the states with classes for symbols
+classed :
+    (s : tie.Else1)
+    → Narrowing (start s .args .bound-a .now) (start s .args .a .now) (start s .args .bound-b .now) (start s .args .b .now)
+    (classes s .classify .last .0) (classes s .classify .last .1 .1 .0) (start s .args .size) (start s .args .n)
+classed s =
+    let made = classes s .classify in
+    narrowing-classes _ _ _ _ _ _ (start s .pre .0) (start s .pre .1) _ _ _ (made .ensures) (not-false _ (s .if1 .left))
+    (made .kept .0) (made .kept .1 .1 .0)
+
+-- where the classes are known, from where the first state is in order
+abbrev known : tie.After-arrange → tie.Else1
+known s = s .before .before
+
+-- and the first of them in order
+ordered :
+    (s : tie.After-arrange)
+    → Narrowing (start (known s) .args .bound-a .now) (start (known s) .args .a .now) (start (known s) .args .bound-b .now)
+    (start (known s) .args .b .now) (s .arrange .last .0) (classes (known s) .classify .last .1 .1 .0)
+    (start (known s) .args .size) (start (known s) .args .n)
+ordered s =
+    narrowing-order _ _ _ _ _ _ _ _ (classed (known s)) _ (s .arrange .kept .0) (s .arrange .ensures)
 
 classify-requires : tie.Need-classify-requires
 classify-requires c κs = search needs
@@ -23,13 +53,18 @@ same-length-2 : tie.Need-same-length-2
 same-length-2 c = search needs
 
 returns : tie.Need-returns
-returns c = decide-apart _ _ _ _ _ _ ((c .before .before .before .before .before .before .before .before .before .before .before .before .pre) .0) ((c .before .before .before .before .before .before .before .before .before .before .before .before .pre) .1) _ _ _ ((c .before .before .before .before .before .classify) .ensures) (not-true _ ((c .if1) .taken))
+returns c =
+    classes-apart _ _ _ _ _ _ _ (c .before .before .before .before .before .classify .ensures) (not-true _ (c .if1 .taken))
 
 arrange-requires : tie.Need-arrange-requires
-arrange-requires c κs = decide-arrange _ _ _ _ _ _ ((c .before .before .before .before .before .before .before .before .before .before .before .before .before .pre) .0) ((c .before .before .before .before .before .before .before .before .before .before .before .before .before .pre) .1) _ _ _ ((c .before .before .before .before .before .before .classify) .ensures) (not-false _ ((c .before .if1) .left)) ((c .before .before .before .before .before .before .classify) .kept .0) ((c .before .before .before .before .before .before .classify) .kept .1 .1 .0)
+arrange-requires c κs = narrowing-arrange _ _ _ _ _ _ _ _ (classed (c .before))
 
 settles-requires : tie.Need-settles-requires
-settles-requires c κs = (settle-left _ _ _ _ _ _ ((c .before .before .before .before .before .before .before .before .before .before .before .before .before .before .before .before .before .before .pre) .0) ((c .before .before .before .before .before .before .before .before .before .before .before .before .before .before .before .before .before .before .pre) .1) _ _ _ ((c .before .before .before .before .before .before .before .before .before .before .before .classify) .ensures) (not-false _ ((c .before .before .before .before .before .before .if1) .left)) ((c .before .before .before .before .before .before .before .before .before .before .before .classify) .kept .0) ((c .before .before .before .before .before .before .before .before .before .before .before .classify) .kept .1 .1 .0) _ ((c .before .before .before .before .arrange) .kept .0) ((c .before .before .before .before .arrange) .ensures), settle-right _ _ _ _ _ _ ((c .before .before .before .before .before .before .before .before .before .before .before .before .before .before .before .before .before .before .pre) .0) ((c .before .before .before .before .before .before .before .before .before .before .before .before .before .before .before .before .before .before .pre) .1) _ _ _ ((c .before .before .before .before .before .before .before .before .before .before .before .classify) .ensures) (not-false _ ((c .before .before .before .before .before .before .if1) .left)) ((c .before .before .before .before .before .before .before .before .before .before .before .classify) .kept .0) ((c .before .before .before .before .before .before .before .before .before .before .before .classify) .kept .1 .1 .0) _ ((c .before .before .before .before .arrange) .kept .0) ((c .before .before .before .before .arrange) .ensures), (c .before .before .before .before .before .before .before .before .before .before .before .before .before .before .before .before .before .before .pre) .2, (c .before .before .before .before .before .before .before .before .before .before .before .before .before .before .before .before .before .before .pre) .3)
+settles-requires c κs =
+    let at-order = c .before .before .before .before in
+    let so-far = ordered at-order in
+    let pre′ = start (known at-order) .pre in
+    (narrowing-left _ _ _ _ _ _ _ _ so-far, narrowing-right _ _ _ _ _ _ _ _ so-far, pre′ .2, pre′ .3)
 
 same-length-3 : tie.Need-same-length-3
 same-length-3 c = search needs
@@ -38,10 +73,15 @@ same-length-4 : tie.Need-same-length-4
 same-length-4 c = search needs
 
 returns-2 : tie.Need-returns-2
-returns-2 c = decide-settled _ _ _ _ _ _ ((c .before .before .before .before .before .before .before .before .before .before .before .before .before .before .before .before .before .before .before .before .pre) .0) ((c .before .before .before .before .before .before .before .before .before .before .before .before .before .before .before .before .before .before .before .before .pre) .1) _ _ _ ((c .before .before .before .before .before .before .before .before .before .before .before .before .before .classify) .ensures) (not-false _ ((c .before .before .before .before .before .before .before .before .if1) .left)) ((c .before .before .before .before .before .before .before .before .before .before .before .before .before .classify) .kept .0) ((c .before .before .before .before .before .before .before .before .before .before .before .before .before .classify) .kept .1 .1 .0) _ ((c .before .before .before .before .before .before .arrange) .kept .0) ((c .before .before .before .before .before .before .arrange) .ensures) _ ((c .before .settles) .ensures) ((c .if2) .taken)
+returns-2 c =
+    let at-order = c .before .before .before .before .before .before in
+    narrowing-found _ _ _ _ _ _ _ _ (ordered at-order) _ (c .before .settles .ensures) (c .if2 .taken)
 
 narrow-requires : tie.Need-narrow-requires
-narrow-requires c κs = (decide-left _ _ _ _ _ _ ((c .before .before .before .before .before .before .before .before .before .before .before .before .before .before .before .before .before .before .before .before .before .before .pre) .0) ((c .before .before .before .before .before .before .before .before .before .before .before .before .before .before .before .before .before .before .before .before .before .before .pre) .1) _ _ _ ((c .before .before .before .before .before .before .before .before .before .before .before .before .before .before .before .classify) .ensures) (not-false _ ((c .before .before .before .before .before .before .before .before .before .before .if1) .left)) ((c .before .before .before .before .before .before .before .before .before .before .before .before .before .before .before .classify) .kept .0) ((c .before .before .before .before .before .before .before .before .before .before .before .before .before .before .before .classify) .kept .1 .1 .0) _ ((c .before .before .before .before .before .before .before .before .arrange) .kept .0) ((c .before .before .before .before .before .before .before .before .arrange) .ensures), decide-right _ _ _ _ _ _ ((c .before .before .before .before .before .before .before .before .before .before .before .before .before .before .before .before .before .before .before .before .before .before .pre) .0) ((c .before .before .before .before .before .before .before .before .before .before .before .before .before .before .before .before .before .before .before .before .before .before .pre) .1) _ _ _ ((c .before .before .before .before .before .before .before .before .before .before .before .before .before .before .before .classify) .ensures) (not-false _ ((c .before .before .before .before .before .before .before .before .before .before .if1) .left)) ((c .before .before .before .before .before .before .before .before .before .before .before .before .before .before .before .classify) .kept .0) ((c .before .before .before .before .before .before .before .before .before .before .before .before .before .before .before .classify) .kept .1 .1 .0), (c .before .before .before .before .before .before .before .before .before .before .before .before .before .before .before .before .before .before .before .before .before .before .pre) .2, (c .before .before .before .before .before .before .before .before .before .before .before .before .before .before .before .before .before .before .before .before .before .before .pre) .3)
+narrow-requires c κs =
+    let at-order = c .before .before .before .before .before .before .before .before in
+    let pre′ = start (known at-order) .pre in
+    (ordered at-order .left, ordered at-order .right, pre′ .2, pre′ .3)
 
 same-length-5 : tie.Need-same-length-5
 same-length-5 c = search needs
@@ -50,7 +90,10 @@ same-length-6 : tie.Need-same-length-6
 same-length-6 c = search needs
 
 returns-3 : tie.Need-returns-3
-returns-3 c = decide-answer _ _ _ _ _ _ ((c .before .before .before .before .before .before .before .before .before .before .before .before .before .before .before .before .before .before .before .before .before .before .before .before .before .before .before .pre) .0) ((c .before .before .before .before .before .before .before .before .before .before .before .before .before .before .before .before .before .before .before .before .before .before .before .before .before .before .before .pre) .1) _ _ _ ((c .before .before .before .before .before .before .before .before .before .before .before .before .before .before .before .before .before .before .before .before .classify) .ensures) (not-false _ ((c .before .before .before .before .before .before .before .before .before .before .before .before .before .before .before .if1) .left)) ((c .before .before .before .before .before .before .before .before .before .before .before .before .before .before .before .before .before .before .before .before .classify) .kept .0) ((c .before .before .before .before .before .before .before .before .before .before .before .before .before .before .before .before .before .before .before .before .classify) .kept .1 .1 .0) _ ((c .before .before .before .before .before .before .before .before .before .before .before .before .before .arrange) .kept .0) ((c .before .before .before .before .before .before .before .before .before .before .before .before .before .arrange) .ensures) _ ((c .before .before .before .before .narrow) .ensures)
+returns-3 c =
+    let at-narrow = c .before .before .before .before in
+    let at-order = at-narrow .before .before .before .before .before .before .before .before .before in
+    narrowing-answer _ _ _ _ _ _ _ _ (ordered at-order) _ (at-narrow .narrow .ensures)
 
 pub decide-spec : {M : Type 1} → statement M
 decide-spec =

@@ -11,6 +11,10 @@ use Rattle.comparison.proofs.search.search.Lts as lts
 use Rattle.pairing.proofs.pair_bound.Reads as pair-bound-reads
 use Rattle.comparison.proofs.placing.place.Reads as place-reads
 
+-- where all begins, from where the goal variables are paired
+abbrev start : tie.After-pair-bound → tie.Start
+start s = s .before .before .before .before .before .before .before
+
 slice-aggregate-pair-bound : tie.Need-slice-aggregate-pair-bound
 slice-aggregate-pair-bound c = search needs
 
@@ -22,9 +26,10 @@ pair-bound-requires c κs = search needs
 
 returns : tie.Need-returns
 returns c =
-    let args′ = (c .before .before .before .before .before .before .before .before .before .before .args) in
-    let pre′ = (c .before .before .before .before .before .before .before .before .before .before .pre) in
-    let pair-bound′ = (c .before .before .before .pair-bound) in
+    let paired = c .before .before .before in
+    let pair-bound′ = paired .pair-bound in
+    let args′ = start paired .args in
+    let pre′ = start paired .pre in
     let if1′ = (c .if1) in
     search-apart (args′ .a .now) _ (args′ .bound-a .now) (args′ .b .now) _ (args′ .bound-b .now) (pre′ .0 .count)
     (pre′ .1 .count) 2844
@@ -35,8 +40,7 @@ array-borrow-prefix-used c = search needs
 
 slice-aggregate-place : tie.Need-slice-aggregate-place
 slice-aggregate-place c =
-    let pre′ = (c .before .before .before .before .before .before .before .before .before .before .before .pre) in
-    sym (unused-length _ (pre′ .3))
+    sym (unused-length _ (start (c .before .before .before .before) .pre .3))
 
 slice-aggregate-place-2 : tie.Need-slice-aggregate-place-2
 slice-aggregate-place-2 c = search needs
@@ -50,9 +54,8 @@ place-requires c κs =
     let if1′ = p1 .if1 in
     let p2 = p1 .before .before .before in
     let pair-bound′ = p2 .pair-bound in
-    let p3 = p2 .before .before .before .before .before .before .before in
-    let args′ = p3 .args in
-    let pre′ = p3 .pre in
+    let args′ = start p2 .args in
+    let pre′ = start p2 .pre in
     search-places (args′ .a .now) _ (args′ .bound-a .now) (args′ .b .now) _ (args′ .bound-b .now) (pre′ .0 .count)
     (pre′ .1 .count) 2844
     _ _ _ (pair-bound′ .ensures) (not-false _ (if1′ .left)) refl
@@ -66,9 +69,8 @@ returns-2 c =
     let if1′ = p2 .if1 in
     let p3 = p2 .before .before .before in
     let pair-bound′ = p3 .pair-bound in
-    let p4 = p3 .before .before .before .before .before .before .before in
-    let args′ = p4 .args in
-    let pre′ = p4 .pre in
+    let args′ = start p3 .args in
+    let pre′ = start p3 .pre in
     search-answer (args′ .a .now) _ (args′ .bound-a .now) (args′ .b .now) _ (args′ .bound-b .now) (pre′ .0 .count)
     (pre′ .1 .count) 2844
     _ _ _ (pair-bound′ .ensures) (not-false _ (if1′ .left)) refl _ _ _ _ (place′ .ensures)

@@ -12,6 +12,10 @@ use Rattle.comparison.proofs.settling.settles.Lts as lts
 use Rattle.pairing.proofs.pair_bound.Reads as pair-bound-reads
 use Rattle.comparison.proofs.settling.settle_all.Reads as settle-all-reads
 
+-- where all begins, from where the goal variables are paired
+abbrev start : tie.After-pair-bound → tie.Start
+start s = s .before .before .before .before .before .before .before
+
 slice-aggregate-pair-bound : tie.Need-slice-aggregate-pair-bound
 slice-aggregate-pair-bound c = search needs
 
@@ -23,9 +27,10 @@ pair-bound-requires c κs = search needs
 
 returns : tie.Need-returns
 returns c =
-    let args′ = (c .before .before .before .before .before .before .before .before .before .before .args) in
-    let pre′ = (c .before .before .before .before .before .before .before .before .before .before .pre) in
-    let pair-bound′ = (c .before .before .before .pair-bound) in
+    let paired = c .before .before .before in
+    let pair-bound′ = paired .pair-bound in
+    let args′ = start paired .args in
+    let pre′ = start paired .pre in
     found-none (args′ .bound-a .now) (args′ .a .now) (args′ .bound-b .now) (args′ .b .now) _ (pre′ .0 .count)
     (pre′ .1 .count) 2844 _ _ _
     (pair-bound′ .ensures)
@@ -35,8 +40,7 @@ array-borrow-prefix-used c = search needs
 
 slice-aggregate-settle-all : tie.Need-slice-aggregate-settle-all
 slice-aggregate-settle-all c =
-    let pre′ = (c .before .before .before .before .before .before .before .before .before .before .before .pre) in
-    sym (unused-length _ (pre′ .3))
+    sym (unused-length _ (start (c .before .before .before .before) .pre .3))
 
 slice-aggregate-settle-all-2 : tie.Need-slice-aggregate-settle-all-2
 slice-aggregate-settle-all-2 c = search needs
@@ -48,9 +52,8 @@ settle-all-requires : tie.Need-settle-all-requires
 settle-all-requires c κs =
     let p1 = c .before .before .before .before .before .before in
     let pair-bound′ = p1 .pair-bound in
-    let p2 = p1 .before .before .before .before .before .before .before in
-    let args′ = p2 .args in
-    let pre′ = p2 .pre in
+    let args′ = start p1 .args in
+    let pre′ = start p1 .pre in
     let if1′ = (c .before .before .before .if1) in (
       search-places (args′ .a .now) _ (args′ .bound-a .now) (args′ .b .now) _ (args′ .bound-b .now) (pre′ .0 .count)
           (pre′ .1 .count)
@@ -67,9 +70,8 @@ returns-2 c =
     let if1′ = p2 .if1 in
     let p3 = p2 .before .before .before in
     let pair-bound′ = p3 .pair-bound in
-    let p4 = p3 .before .before .before .before .before .before .before in
-    let args′ = p4 .args in
-    let pre′ = p4 .pre in
+    let args′ = start p3 .args in
+    let pre′ = start p3 .pre in
     found-all (args′ .bound-a .now) (args′ .a .now) (args′ .bound-b .now) (args′ .b .now) _ (pre′ .0 .count)
     (pre′ .1 .count) 2844 _ _ _
     (pair-bound′ .ensures) (not-false _ (if1′ .left)) _ (settle-all′ .ensures)
