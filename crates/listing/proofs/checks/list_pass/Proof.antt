@@ -7,15 +7,6 @@ use Rattle.listing.proofs.CheckLaws.{pass-is, pass-count}
 use Rattle.listing.proofs.checks.list_pass.Statement.{statement}
 use Rattle.listing.proofs.checks.list_pass.Tie as tie
 
-array-borrow-prefix-none : tie.Need-array-borrow-prefix-none
-array-borrow-prefix-none c = search needs
-
-slice-aggregate-put-head : tie.Need-slice-aggregate-put-head
-slice-aggregate-put-head c = search needs
-
-slice-aggregate-put-head-2 : tie.Need-slice-aggregate-put-head-2
-slice-aggregate-put-head-2 c = search needs
-
 put-head-requires : tie.Need-put-head-requires
 put-head-requires c κs =
     pass-count _ (omega arith)
@@ -23,15 +14,9 @@ put-head-requires c κs =
 returns : tie.Need-returns
 returns c = listed-short (wrote-is (pass-is _) (c .before .before .put-head .ensures)) (c .if1 .taken)
 
-slice-aggregate-put-head-3 : tie.Need-slice-aggregate-put-head-3
-slice-aggregate-put-head-3 c = search needs
-
 put-head-requires-2 : tie.Need-put-head-requires-2
 put-head-requires-2 c κs =
     pass-count _ (omega arith)
-
-same-length : tie.Need-same-length
-same-length c = search needs
 
 returns-2 : tie.Need-returns-2
 returns-2 c =
@@ -45,12 +30,12 @@ pub list-pass-spec : {M : Type 1} → statement M
 list-pass-spec =
     tie.close
     (tie.spec
-    array-borrow-prefix-none
-    slice-aggregate-put-head
-    slice-aggregate-put-head-2
+    (λ c. search needs)
+    (λ c. search needs)
+    (λ c. search needs)
     put-head-requires
     returns
-    slice-aggregate-put-head-3
+    (λ c. search needs)
     put-head-requires-2
-    same-length
+    (λ c. search needs)
     returns-2)

@@ -7,23 +7,11 @@ use Rattle.listing.proofs.CheckLaws.{lent-writable, ends-room, ends-all
 use Rattle.listing.proofs.checks.put_ends.Statement.{statement}
 use Rattle.listing.proofs.checks.put_ends.Tie as tie
 
-behind-requires : tie.Need-behind-requires
-behind-requires c κs = search needs
-
 sub-put-end : tie.Need-sub-put-end
 sub-put-end c = omega (arith, c .behind .ensures)
 
 part-put-end-start : tie.Need-part-put-end-start
 part-put-end-start c = omega (arith, c .behind .ensures)
-
-part-put-end-end : tie.Need-part-put-end-end
-part-put-end-end c = search needs
-
-slice-aggregate-put-end : tie.Need-slice-aggregate-put-end
-slice-aggregate-put-end c = search needs
-
-slice-aggregate-put-end-2 : tie.Need-slice-aggregate-put-end-2
-slice-aggregate-put-end-2 c = search needs
 
 slice-aggregate-put-end-3 : tie.Need-slice-aggregate-put-end-3
 slice-aggregate-put-end-3 c =
@@ -44,26 +32,11 @@ add-next c =
     let start = at-behind .before .before .before .before .before .before .before in
     omega (arith, ends-room _ _ _ _ _ (start .pre .counted) (at-put-end .put-end .ensures))
 
-behind-requires-2 : tie.Need-behind-requires-2
-behind-requires-2 c κs = search needs
-
 sub-put-end-2 : tie.Need-sub-put-end-2
 sub-put-end-2 c = omega (arith, c .behind2 .ensures)
 
 part-put-end-start-2 : tie.Need-part-put-end-start-2
 part-put-end-start-2 c = omega (arith, c .behind2 .ensures)
-
-part-put-end-end-2 : tie.Need-part-put-end-end-2
-part-put-end-end-2 c = search needs
-
-slice-aggregate-put-end-4 : tie.Need-slice-aggregate-put-end-4
-slice-aggregate-put-end-4 c = search needs
-
-slice-aggregate-put-end-5 : tie.Need-slice-aggregate-put-end-5
-slice-aggregate-put-end-5 c = search needs
-
-mul-put-end : tie.Need-mul-put-end
-mul-put-end c = search needs
 
 sub-put-end-3 : tie.Need-sub-put-end-3
 sub-put-end-3 c =
@@ -78,9 +51,6 @@ part-put-end-start-3 c =
     let at-behind = at-put-end .before .before .before .before .before in
     let start = at-behind .before .before .before .before .before .before .before in
     omega (arith, start .pre .within)
-
-part-put-end-end-3 : tie.Need-part-put-end-end-3
-part-put-end-end-3 c = search needs
 
 put-end-requires-2 : tie.Need-put-end-requires-2
 put-end-requires-2 c κs =
@@ -98,9 +68,6 @@ add-result c =
     let room = ends-all-room _ _ _ _ _ (start .pre .counted) (at-put-end .put-end .ensures) (at-put-end2 .put-end2 .ensures) in
     omega (arith, room)
 
-same-length : tie.Need-same-length
-same-length c = search needs
-
 returns : tie.Need-returns
 returns c =
     let at-put-end2 = c .before .before in
@@ -115,26 +82,26 @@ pub put-ends-spec : {M : Type 1} → statement M
 put-ends-spec =
     tie.close
     (tie.spec
-    behind-requires
+    (λ c κs. search needs)
     sub-put-end
     part-put-end-start
-    part-put-end-end
-    slice-aggregate-put-end
-    slice-aggregate-put-end-2
+    (λ c. search needs)
+    (λ c. search needs)
+    (λ c. search needs)
     slice-aggregate-put-end-3
     put-end-requires
     add-next
-    behind-requires-2
+    (λ c κs. search needs)
     sub-put-end-2
     part-put-end-start-2
-    part-put-end-end-2
-    slice-aggregate-put-end-4
-    slice-aggregate-put-end-5
-    mul-put-end
+    (λ c. search needs)
+    (λ c. search needs)
+    (λ c. search needs)
+    (λ c. search needs)
     sub-put-end-3
     part-put-end-start-3
-    part-put-end-end-3
+    (λ c. search needs)
     put-end-requires-2
     add-result
-    same-length
+    (λ c. search needs)
     returns)

@@ -6,27 +6,6 @@ use Rattle.listing.proofs.CheckLaws.{rules-is}
 use Rattle.listing.proofs.checks.put_rules.Statement.{statement}
 use Rattle.listing.proofs.checks.put_rules.Tie as tie
 
-slice-aggregate-name : tie.Need-slice-aggregate-name
-slice-aggregate-name c = search needs
-
-add-name : tie.Need-add-name
-add-name c = search needs
-
-name-requires : tie.Need-name-requires
-name-requires c κs = search needs
-
-slice-aggregate-name-2 : tie.Need-slice-aggregate-name-2
-slice-aggregate-name-2 c = search needs
-
-add-name-2 : tie.Need-add-name-2
-add-name-2 c = search needs
-
-name-requires-2 : tie.Need-name-requires-2
-name-requires-2 c κs = search needs
-
-slice-aggregate-copy : tie.Need-slice-aggregate-copy
-slice-aggregate-copy c = search needs
-
 copy-requires : tie.Need-copy-requires
 copy-requires c κs =
     let at-name2 = c .before .before in
@@ -79,9 +58,6 @@ put-byte-requires-2 c κs =
     let three = count-next (count-next all (at-copy .copy .ensures)) (at-copy2 .copy2 .ensures) in
     count-next (count-next three (at-put-byte .put-byte .ensures)) (at-copy3 .copy3 .ensures)
 
-same-length : tie.Need-same-length
-same-length c = search needs
-
 returns : tie.Need-returns
 returns c =
     let at-put-byte2 = c .before .before in
@@ -106,17 +82,17 @@ pub put-rules-spec : {M : Type 1} → statement M
 put-rules-spec =
     tie.close
     (tie.spec
-    slice-aggregate-name
-    add-name
-    name-requires
-    slice-aggregate-name-2
-    add-name-2
-    name-requires-2
-    slice-aggregate-copy
+    (λ c. search needs)
+    (λ c. search needs)
+    (λ c κs. search needs)
+    (λ c. search needs)
+    (λ c. search needs)
+    (λ c κs. search needs)
+    (λ c. search needs)
     copy-requires
     copy-requires-2
     put-byte-requires
     copy-requires-3
     put-byte-requires-2
-    same-length
+    (λ c. search needs)
     returns)

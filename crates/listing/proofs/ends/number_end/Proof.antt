@@ -14,14 +14,5 @@ renumber-requires c κs =
     let start = at-if1 .before .before .before .before in
     (start .pre .live (not-false _ (at-if1 .if1 .left)), start .pre .few)
 
-same-length : tie.Need-same-length
-same-length c = search needs
-
-same-length-2 : tie.Need-same-length-2
-same-length-2 c = search needs
-
-returns-2 : tie.Need-returns-2
-returns-2 c = search needs
-
 pub number-end-spec : {M : Type 1} → statement M
-number-end-spec = tie.close (tie.spec returns renumber-requires same-length same-length-2 returns-2)
+number-end-spec = tie.close (tie.spec returns renumber-requires (λ c. search needs) (λ c. search needs) (λ c. search needs))

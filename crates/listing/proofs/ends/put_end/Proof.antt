@@ -7,17 +7,11 @@ use Rattle.listing.proofs.EndLaws.{numbered-live, numbered-failed}
 use Rattle.listing.proofs.ends.put_end.Statement.{statement}
 use Rattle.listing.proofs.ends.put_end.Tie as tie
 
-slice-aggregate-put-head : tie.Need-slice-aggregate-put-head
-slice-aggregate-put-head c = search needs
-
 put-head-requires : tie.Need-put-head-requires
 put-head-requires c κs =
     let at-if1 = c .before .before in
     let start = at-if1 .before .before .before .before .before .before .before .before .before in
     count-is (sym (numbered-failed _ _ _ _ _ (not-true _ (at-if1 .if1 .taken)))) (start .pre .counted)
-
-same-length : tie.Need-same-length
-same-length c = search needs
 
 returns : tie.Need-returns
 returns c =
@@ -32,9 +26,6 @@ put-live-requires c κs =
     let lives = not-false _ (at-if1 .if1 .left) in
     (count-is (sym (numbered-live _ _ _ _ _ lives)) (start .pre .counted), start .pre .few lives)
 
-same-length-2 : tie.Need-same-length-2
-same-length-2 c = search needs
-
 returns-2 : tie.Need-returns-2
 returns-2 c =
     let at-put-live = c .before .before in
@@ -45,10 +36,10 @@ pub put-end-spec : {M : Type 1} → statement M
 put-end-spec =
     tie.close
     (tie.spec
-    slice-aggregate-put-head
+    (λ c. search needs)
     put-head-requires
-    same-length
+    (λ c. search needs)
     returns
     put-live-requires
-    same-length-2
+    (λ c. search needs)
     returns-2)

@@ -4,12 +4,6 @@ use Rattle.listing.proofs.LineLaws.{name-count, name-wrote, letter-coun
 use Rattle.listing.proofs.putting.put_cell.Statement.{statement}
 use Rattle.listing.proofs.putting.put_cell.Tie as tie
 
-wide-requires : tie.Need-wide-requires
-wide-requires c κs = search needs
-
-name-requires : tie.Need-name-requires
-name-requires c κs = search needs
-
 copy-requires : tie.Need-copy-requires
 copy-requires c κs =
     let at-name = c .before in
@@ -17,9 +11,6 @@ copy-requires c κs =
     let at-if = at-wide .before in
     let start = at-if .before .before .before .before .before in
     name-count _ _ _ _ (at-if .if1 .taken) (at-wide .wide .ensures .0) (at-name .name .ensures) (start .pre)
-
-same-length : tie.Need-same-length
-same-length c = search needs
 
 returns : tie.Need-returns
 returns c =
@@ -32,21 +23,12 @@ returns c =
 put-byte-requires : tie.Need-put-byte-requires
 put-byte-requires c κs = search letter-count
 
-wide-requires-2 : tie.Need-wide-requires-2
-wide-requires-2 c κs = search needs
-
-add-put-decimal : tie.Need-add-put-decimal
-add-put-decimal c = search needs
-
 put-decimal-requires : tie.Need-put-decimal-requires
 put-decimal-requires c κs =
     let at-byte = c .before .before .before .before in
     let at-if = at-byte .before .before in
     let start = at-if .before .before .before .before .before in
     number-count _ _ _ _ (at-if .if1 .left) (c .wide2 .ensures .0) (start .pre) (at-byte .put-byte .ensures)
-
-same-length-2 : tie.Need-same-length-2
-same-length-2 c = search needs
 
 returns-2 : tie.Need-returns-2
 returns-2 c = search number-wrote
@@ -55,14 +37,14 @@ pub put-cell-spec : {M : Type 1} → statement M
 put-cell-spec =
     tie.close
     (tie.spec
-    wide-requires
-    name-requires
+    (λ c κs. search needs)
+    (λ c κs. search needs)
     copy-requires
-    same-length
+    (λ c. search needs)
     returns
     put-byte-requires
-    wide-requires-2
-    add-put-decimal
+    (λ c κs. search needs)
+    (λ c. search needs)
     put-decimal-requires
-    same-length-2
+    (λ c. search needs)
     returns-2)

@@ -11,38 +11,11 @@ put-byte-requires c κs = search line-count
 put-byte-requires-2 : tie.Need-put-byte-requires-2
 put-byte-requires-2 c κs = search line-comma
 
-shared-slice-read-wide : tie.Need-shared-slice-read-wide
-shared-slice-read-wide c = search needs
-
-wide-requires : tie.Need-wide-requires
-wide-requires c κs = search needs
-
-name-requires : tie.Need-name-requires
-name-requires c κs = search needs
-
 copy-requires : tie.Need-copy-requires
 copy-requires c κs = search line-name
 
-sub-used : tie.Need-sub-used
-sub-used c = search needs
-
-part-used-start : tie.Need-part-used-start
-part-used-start c = search needs
-
-part-used-end : tie.Need-part-used-end
-part-used-end c = search needs
-
-used-requires : tie.Need-used-requires
-used-requires c κs = search needs
-
 add-e : tie.Need-add-e
 add-e c = omega (arith, c .used .ensures .1)
-
-sub-put-fields : tie.Need-sub-put-fields
-sub-put-fields c = search needs
-
-part-put-fields-start : tie.Need-part-put-fields-start
-part-put-fields-start c = search needs
 
 part-put-fields-end : tie.Need-part-put-fields-end
 part-put-fields-end c =
@@ -67,9 +40,6 @@ put-fields-requires c κs =
     line-fields _ _ _ _ _ _ (start .pre .1) (at-wide .wide .ensures .0) (at-name .name .ensures) (at-byte .put-byte .ensures)
     (at-byte2 .put-byte2 .ensures) (at-copy .copy .ensures) (at-used .used .ensures .0)
 
-same-length : tie.Need-same-length
-same-length c = search needs
-
 returns : tie.Need-returns
 returns c =
     let at-fields = c .before .before in
@@ -90,18 +60,18 @@ put-row-spec =
     (tie.spec
     put-byte-requires
     put-byte-requires-2
-    shared-slice-read-wide
-    wide-requires
-    name-requires
+    (λ c. search needs)
+    (λ c κs. search needs)
+    (λ c κs. search needs)
     copy-requires
-    sub-used
-    part-used-start
-    part-used-end
-    used-requires
+    (λ c. search needs)
+    (λ c. search needs)
+    (λ c. search needs)
+    (λ c κs. search needs)
     add-e
-    sub-put-fields
-    part-put-fields-start
+    (λ c. search needs)
+    (λ c. search needs)
     part-put-fields-end
     put-fields-requires
-    same-length
+    (λ c. search needs)
     returns)

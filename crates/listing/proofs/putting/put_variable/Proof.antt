@@ -5,29 +5,17 @@ use Rattle.listing.proofs.LineLaws.{unlettered-count, unlettered-next, 
 use Rattle.listing.proofs.putting.put_variable.Statement.{statement}
 use Rattle.listing.proofs.putting.put_variable.Tie as tie
 
-slice-aggregate-copy : tie.Need-slice-aggregate-copy
-slice-aggregate-copy c = search needs
-
 copy-requires : tie.Need-copy-requires
 copy-requires c κs = search front-count
 
-shared-slice-read-put-byte : tie.Need-shared-slice-read-put-byte
-shared-slice-read-put-byte c = search needs
-
 put-byte-requires : tie.Need-put-byte-requires
 put-byte-requires c κs = search lettered-count
-
-same-length : tie.Need-same-length
-same-length c = search needs
 
 returns : tie.Need-returns
 returns c = search lettered-wrote
 
 put-byte-requires-2 : tie.Need-put-byte-requires-2
 put-byte-requires-2 c κs = search unlettered-count
-
-add-put-decimal : tie.Need-add-put-decimal
-add-put-decimal c = search needs
 
 put-decimal-requires : tie.Need-put-decimal-requires
 put-decimal-requires c κs =
@@ -37,9 +25,6 @@ put-decimal-requires c κs =
     let start = at-copy .before .before .before .before .before in
     unlettered-next _ _ (at-if .if1 .left) (start .pre .0) (at-copy .copy .ensures) (at-byte .put-byte2 .ensures)
 
-same-length-2 : tie.Need-same-length-2
-same-length-2 c = search needs
-
 returns-2 : tie.Need-returns-2
 returns-2 c = search unlettered-wrote
 
@@ -47,14 +32,14 @@ pub put-variable-spec : {M : Type 1} → statement M
 put-variable-spec =
     tie.close
     (tie.spec
-    slice-aggregate-copy
+    (λ c. search needs)
     copy-requires
-    shared-slice-read-put-byte
+    (λ c. search needs)
     put-byte-requires
-    same-length
+    (λ c. search needs)
     returns
     put-byte-requires-2
-    add-put-decimal
+    (λ c. search needs)
     put-decimal-requires
-    same-length-2
+    (λ c. search needs)
     returns-2)

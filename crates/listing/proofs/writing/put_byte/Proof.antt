@@ -11,15 +11,6 @@ add-result c = omega (arith, c .before .pre .few)
 returns : tie.Need-returns
 returns c = wrote-over _ _ _ (c .if1 .taken)
 
-slice-write-out : tie.Need-slice-write-out
-slice-write-out c = search needs
-
-add-result-2 : tie.Need-add-result-2
-add-result-2 c = search needs
-
-same-length : tie.Need-same-length
-same-length c = search needs
-
 returns-2 : tie.Need-returns-2
 returns-2 c = search wrote-byte
 
@@ -29,7 +20,7 @@ put-byte-spec =
     (tie.spec
     add-result
     returns
-    slice-write-out
-    add-result-2
-    same-length
+    (λ c. search needs)
+    (λ c. search needs)
+    (λ c. search needs)
     returns-2)
