@@ -171,7 +171,8 @@ module _ (a f ca₀ l₀ b g cb₀ r₀ : List ℕ) (p : Comparable a f ca₀ l�
   compare-count = rw (constraints-length (p .count) a (p .first .size)) (p .first .size)
 
   module _ (ca l : List ℕ) (i x : ℕ) (cb r : List ℕ) (j y : ℕ) (lca : length ca ≡ length ca₀) (ll : length l ≡ length l₀)
-      (lcb : length cb ≡ length cb₀) (lr : length r ≡ length r₀) (ra : Renumbered a f ca l i x) (rb : Renumbered b g cb r j y) where
+      (lcb : length cb ≡ length cb₀) (lr : length r ≡ length r₀) (ra : Renumbered a f ca l i x)
+      (rb : Renumbered b g cb r j y) where
     -- the numbered states answer for the states
     pub compare-same : sameState (endOf l ca) (endOf r cb) ≡ sameState (endOf f a) (endOf g b)
     compare-same =

@@ -1,6 +1,6 @@
 -- Placing constraints and trying partners on cells: one law for each way that the code goes.
 --   marks-none, marks-more     no position is used; one more is
---   try-…                      one partner
+--   pair-…, try-…              one partner
 --   placing-…                  one partner after the other
 -- Assumes nothing.
 use Prim.Native.Nat.{ℕ, zero, suc, _+_, _-_, _*_, _≤_, _<_}
@@ -22,7 +22,7 @@ use Rattle.tables.specs.Cells.{cellConstraints, cellTerms}
 use Rattle.tables.specs.Cells.{rowConstraint}
 use Rattle.tables.proofs.CellLaws.{either, constraints-at}
 use Rattle.pairing.specs.Renamings.{Graph, Marks, Rows, RowsLinked, cleared}
-use Rattle.comparison.specs.Placements.{attempted, placed, Placing, Tried}
+use Rattle.comparison.specs.Placements.{attempted, placed, Placing, PairedAt, Tried}
 use Rattle.colours.proofs.RowLaws.{terms-row, terms-drop}
 
 -- no mark is set
@@ -86,10 +86,27 @@ behind-length a h = rw (behind-drop a) (omega (arith, length-drop 5 a))
 
 module _ (a b : List ℕ) (j : ℕ) (used : List Bool) (f g : List ℕ) (s : Placing a b used f g) (l : j < length used)
     (h : 5 ≤ length a) where
-  -- a partner that is used will not do
-  pub try-used : getD used j false ≡ true → Tried false (attempted a b j) used f g used f g
+  -- a partner that will not do
+  not-paired :
+      (fits : Bool) → fits ≡ false → (fresh : List Bool) → length fresh ≡ 4 → (f″ g″ : List ℕ) → f″ ≡ f → g″ ≡ g
+      → ((us : List ℕ) (ps : List Pair) → Marks used us → Graph f g ps → attempted a b j us ps ≡ false)
+      → PairedAt fits fresh a b j used f g used f″ g″
+  not-paired fits e fresh n f″ g″ ef eg d =
+      record {
+        apart = λ z. d;
+        kept = λ z. (refl, ef, eg);
+        free = λ z. true-false z e;
+        marked = λ z. true-false z e;
+        on = λ z. true-false z e;
+        size = n;
+        forth-back = λ z. true-false z e;
+        back-back = λ z. true-false z e;
+      }
+
+  -- it is used
+  pub pair-used : getD used j false ≡ true → (fresh : List Bool) → length fresh ≡ 4 → PairedAt false fresh a b j used f g used f g
   unfolding attempted
-  try-used e = record { same = λ us ps m k. rw (← m .marked j, e); kept = λ z. (refl, refl, refl) }
+  pair-used e fresh n = not-paired false refl fresh n f g refl refl (λ us ps m k. rw (← m .marked j, e))
 
   row : 5 * j + 5 ≤ length b
   row = omega (arith, s .partners)
@@ -132,19 +149,18 @@ module _ (a b : List ℕ) (j : ℕ) (used : List Bool) (f g : List ℕ) (s : Pla
         let e : 5 * j + 0 ≡ 5 * j = omega arith in
         getD-take 5 (drop (5 * j) b) 0 0 (omega arith) ∙ getD-drop (5 * j) b 0 0 ∙ ap (λ n. getD b n 0) e
 
-    -- nor one with another symbol
-    pub try-symbol : (getD a 0 0 ≡ getD b (5 * j) 0 → ⊥) → Tried false (attempted a b j) used f g used f g
+    -- it has another symbol
+    pub pair-symbol :
+        (getD a 0 0 ≡ getD b (5 * j) 0 → ⊥) → (fresh : List Bool) → length fresh ≡ 4
+        → PairedAt false fresh a b j used f g used f g
     unfolding pairConstraint rowConstraint
-    try-symbol d =
-        record {
-          same = λ us ps m k.
-              sym (at-free us ps m ∙ rw (first-left, first-right, ne-eqb (getD a 0 0) (getD b (5 * j) 0) d));
-          kept = λ z. (refl, refl, refl);
-        }
+    pair-symbol d fresh n =
+        not-paired false refl fresh n f g refl refl
+        (λ us ps m k. at-free us ps m ∙ rw (first-left, first-right, ne-eqb (getD a 0 0) (getD b (5 * j) 0) d))
 
     module _ (e : getD a 0 0 ≡ getD b (5 * j) 0) (fits : Bool) (fresh : List Bool) (f′ g′ : List ℕ)
         (w : RowsLinked (take 5 a) (lent b j) fits fresh f g f′ g′) where
-      pub at-terms : (us : List ℕ) (ps : List Pair) → Marks used us
+      at-terms : (us : List ℕ) (ps : List Pair) → Marks used us
           → attempted a b j us ps
           ≡ onward (pairTerms (cellTerms (drop 1 (take 5 a))) (cellTerms (drop 1 (lent b j))) ps) false
           (place (cellConstraints (drop 5 a)) (cellConstraints b) (us ++ (j ∷ [])))
@@ -152,68 +168,80 @@ module _ (a b : List ℕ) (j : ℕ) (used : List Bool) (f g : List ℕ) (s : Pla
       at-terms us ps m =
           at-free us ps m ∙ rw (five j, first-left, first-right, eq-eqb (getD a 0 0) (getD b (5 * j) 0) e)
 
-      -- what the tables are without what was made
-      module _ (f″ g″ : List ℕ) (cf : f″ ≡ cleared fresh (drop 1 (take 5 a)) f′) (cg : g″ ≡ cleared fresh (drop 1 (lent b j)) g′)
-        where
-          forth-again : f″ ≡ f
-          forth-again = cf ∙ w .forth-back
+      -- its terms cannot be made equal
+      pub pair-apart :
+          fits ≡ false → (f″ g″ : List ℕ) → f″ ≡ cleared fresh (drop 1 (take 5 a)) f′ → g″ ≡ cleared fresh (drop 1 (lent b j)) g′
+          → PairedAt fits fresh a b j used f g used f″ g″
+      pair-apart t f″ g″ cf cg =
+          not-paired fits t fresh (w .size) f″ g″ (cf ∙ w .forth-back) (cg ∙ w .back-back)
+          (λ us ps m k. at-terms us ps m ∙ rw (w .same .apart ps k t))
 
-          back-again : g″ ≡ g
-          back-again = cg ∙ w .back-back
+      -- they can
+      pub pair-done : fits ≡ true → PairedAt fits fresh a b j used f g (set used j true) f′ g′
+      unfolding placed
+      pair-done t =
+          record {
+            apart = λ z. true-false t z;
+            kept = λ z. true-false t z;
+            free = λ z. free;
+            marked = λ z. refl;
+            on = λ z us ps m k.
+                let (qs, x, q) = w .same .joined ps k t in
+                (qs, q, at-terms us ps m ∙ rw x);
+            size = w .size;
+            forth-back = λ z. w .forth-back;
+            back-back = λ z. rw (five j) at (w .back-back);
+          }
 
-          -- nor one whose terms cannot be made equal
-          pub try-apart : fits ≡ false → Tried false (attempted a b j) used f g used f″ g″
-          try-apart t =
+  module _ (fits : Bool) (fresh : List Bool) (used′ : List Bool) (f′ g′ : List ℕ)
+      (w : PairedAt fits fresh a b j used f g used′ f′ g′) where
+    -- the first constraint cannot be placed there
+    pub try-apart : fits ≡ false → Tried false (attempted a b j) used f g used′ f′ g′
+    try-apart t = record { same = λ us ps m k. sym (w .apart t us ps m k); kept = λ z. w .kept t }
+
+    module _ (t : fits ≡ true) where
+      -- what placing the others asks
+      pub try-others : length f′ ≡ length f → length g′ ≡ length g → Placing (behind a) b used′ f′ g′
+      try-others lf lg =
+          rw (behind-drop a, w .marked t)
+          (record {
+            partners = rw (length-set used j true) (s .partners);
+            left = rw lf (terms-drop (length f) a (s .left));
+            right = rw lg (s .right);
+          })
+
+      module _ (r : Bool) (used″ : List Bool) (f₁ g₁ : List ℕ) (p₀ : Tried r (placed (behind a) b) used′ f′ g′ used″ f₁ g₁) where
+        p : Tried r (placed (drop 5 a) b) (set used j true) f′ g′ used″ f₁ g₁
+        p = rw (behind-drop a, w .marked t) at p₀
+
+        at-others : (us : List ℕ) (ps : List Pair) → Marks used us → Graph f g ps → r ≡ attempted a b j us ps
+        at-others us ps m k =
+            let (qs, q, e) = w .on t us ps m k in
+            p .same (us ++ (j ∷ [])) qs (marks-more used us j l m) q ∙ sym e
+
+        -- the others are placed
+        pub try-found : r ≡ true → Tried true (attempted a b j) used f g used″ f₁ g₁
+        try-found y =
+            record { same = λ us ps m k. sym y ∙ at-others us ps m k; kept = λ z. true-false refl z }
+
+        module _ (y : r ≡ false) where
+          used-again : set used″ j false ≡ used
+          used-again =
+              rw (p .kept y .0) (set-set used j true false ∙ ap (set used j) (sym (w .free t)) ∙ set-getD used j false)
+
+          -- they are not
+          pub try-dead :
+              (f″ g″ : List ℕ) → f″ ≡ cleared fresh (drop 1 (take 5 a)) f₁ → g″ ≡ cleared fresh (drop 1 (lent b j)) g₁
+              → Tried false (attempted a b j) used f g (set used″ j false) f″ g″
+          try-dead f″ g″ cf cg =
               record {
-                same = λ us ps m k. sym (at-terms us ps m ∙ rw (w .same .apart ps k t));
-                kept = λ z. (refl, forth-again, back-again);
+                same = λ us ps m k. sym y ∙ at-others us ps m k;
+                kept = λ z. (
+                  used-again,
+                  cf ∙ rw (p .kept y .1) (w .forth-back t),
+                  (rw (five j) at cg) ∙ rw (p .kept y .2) (w .back-back t),
+                );
               }
-
-      module _ (t : fits ≡ true) (lf : length f′ ≡ length f) (lg : length g′ ≡ length g) where
-        -- what placing the others asks
-        pub try-others : (v : Bool) → Placing (behind a) b (set used j v) f′ g′
-        try-others v =
-            rw (behind-drop a)
-            (record {
-              partners = rw (length-set used j v) (s .partners);
-              left = rw lf (terms-drop (length f) a (s .left));
-              right = rw lg (s .right);
-            })
-
-        module _ (r : Bool) (used′ : List Bool) (f₁ g₁ : List ℕ)
-            (p₀ : Tried r (placed (behind a) b) (set used j true) f′ g′ used′ f₁ g₁) where
-          p : Tried r (placed (drop 5 a) b) (set used j true) f′ g′ used′ f₁ g₁
-          p = rw (behind-drop a) at p₀
-
-          at-others : (us : List ℕ) (ps : List Pair) → Marks used us → Graph f g ps → r ≡ attempted a b j us ps
-          unfolding placed
-          at-others us ps m k =
-              let (qs, z, q) = w .same .joined ps k t in
-              p .same (us ++ (j ∷ [])) qs (marks-more used us j l m) q ∙ sym (at-terms us ps m ∙ rw z)
-
-          -- the others are placed
-          pub try-found : r ≡ true → Tried true (attempted a b j) used f g used′ f₁ g₁
-          try-found y =
-              record { same = λ us ps m k. sym y ∙ at-others us ps m k; kept = λ z. true-false refl z }
-
-          module _ (y : r ≡ false) where
-            used-again : set used′ j false ≡ used
-            used-again =
-                rw (p .kept y .0) (set-set used j true false ∙ ap (set used j) (sym free) ∙ set-getD used j false)
-
-            -- they are not
-            pub try-dead :
-                (f″ g″ : List ℕ) → f″ ≡ cleared fresh (drop 1 (take 5 a)) f₁ → g″ ≡ cleared fresh (drop 1 (lent b j)) g₁
-                → Tried false (attempted a b j) used f g (set used′ j false) f″ g″
-            try-dead f″ g″ cf cg =
-                record {
-                  same = λ us ps m k. sym y ∙ at-others us ps m k;
-                  kept = λ z. (
-                    used-again,
-                    cf ∙ rw (p .kept y .1) (w .forth-back),
-                    cg ∙ rw (p .kept y .2) (w .back-back),
-                  );
-                }
 
 -- what trying partners tries at each position
 abbrev attempts : List ℕ → List ℕ → List ℕ → List Pair → ℕ → Constraint → Bool

@@ -1,6 +1,6 @@
 -- Placing constraints without going back: one law for each way that the code goes.
 --   tries-at              one partner that will do is enough
---   at-…, settle-…        one constraint, at one position and at the first that will do
+--   paired-settled, settle-…   one constraint, at one position and at the first that will do
 --   all-…                 all constraints
 -- Assumes nothing.
 use Prim.Native.Nat.{ℕ, zero, suc, _+_, _-_, _*_, _≤_, _<_}
@@ -20,12 +20,12 @@ use Rattle.tables.specs.Cells.{cellTerm, cellConstraints}
 use Rattle.tables.specs.Cells.{rowConstraint}
 use Rattle.tables.proofs.CellLaws.{constraints-length}
 use Rattle.tables.proofs.CellLaws.{constraints-at}
-use Rattle.pairing.specs.Renamings.{Graph, Marks, Joined, RowsLinked, cleared}
+use Rattle.pairing.specs.Renamings.{Graph, Marks, Joined}
 use Rattle.colours.specs.Bounds.{TermsBelow}
-use Rattle.comparison.specs.Placements.{attempted, placed, Placing}
-use Rattle.comparison.specs.Settlements.{Settled, Kept, SettledAll, Found}
+use Rattle.comparison.specs.Placements.{attempted, placed, Placing, PairedAt}
+use Rattle.comparison.specs.Settlements.{Settled, SettledAll, Found}
 use Rattle.pairing.proofs.PairLaws.{graph-empty}
-use Rattle.comparison.proofs.PlaceLaws.{lent, marks-more, marks-none, at-terms}
+use Rattle.comparison.proofs.PlaceLaws.{marks-more, marks-none}
 
 -- one partner that will do is enough
 tries-at :
@@ -52,37 +52,21 @@ module _ (a b : List ℕ) (j : ℕ) (used : List Bool) (f g : List ℕ) (s : Pla
       rw (constraints-at a 0 h)
       (tries-at j 0 j b _ (omega arith) (omega (arith, s .partners)) t)
 
-  -- nothing is placed, and nothing changed
-  pub at-nothing : Settled false a b used f g used f g × Kept false used f g used f g
-  at-nothing = (record { on = λ z. true-false z refl }, record { kept = λ z. (refl, refl, refl) })
-
-  module _ (free : getD used j false ≡ false) (e : getD a 0 0 ≡ getD b (5 * j) 0) (fits : Bool) (fresh : List Bool)
-      (f′ g′ : List ℕ)
-      (w : RowsLinked (take 5 a) (lent b j) fits fresh f g f′ g′) where
-    pub at-apart :
-        (f″ g″ : List ℕ) → f″ ≡ cleared fresh (drop 1 (take 5 a)) f′ → g″ ≡ cleared fresh (drop 1 (lent b j)) g′
-        → Settled false a b used f g used f″ g″ × Kept false used f g used f″ g″
-    at-apart f″ g″ cf cg = (
-      record { on = λ z. true-false z refl },
-      record { kept = λ z. (refl, cf ∙ w .forth-back, cg ∙ w .back-back) },
-    )
-
-    pub at-placed :
-        fits ≡ true → Settled true a b used f g (set used j true) f′ g′ × Kept true used f g (set used j true) f′ g′
-    unfolding placed
-    at-placed t = (
+  -- it is placed there
+  pub paired-settled :
+      (fits : Bool) (fresh : List Bool) (used′ : List Bool) (f′ g′ : List ℕ)
+      → PairedAt fits fresh a b j used f g used′ f′ g′ → Settled fits a b used f g used′ f′ g′
+  paired-settled fits fresh used′ f′ g′ w =
       record {
         on = λ z us ps m k.
-            let (qs, x, q) = w .same .joined ps k t in (
+            let (qs, q, e) = w .on z us ps m k in (
               us ++ (j ∷ []),
               qs,
-              marks-more used us j l m,
+              rw (w .marked z) (marks-more used us j l m),
               q,
-              λ y. placed-by us ps (at-terms a b j used f g s l h free e fits fresh f′ g′ w us ps m ∙ rw x y),
+              λ y. placed-by us ps (e ∙ y),
             );
-      },
-      record { kept = λ z. true-false refl z },
-    )
+      }
 
 -- all is as it was
 pub record Trying (used₀ : List Bool) (f₀ g₀ : List ℕ) (used : List Bool) (f g : List ℕ) (j : ℕ) : Type 0 where
@@ -104,12 +88,15 @@ module _ (a b : List ℕ) (used₀ : List Bool) (f₀ g₀ : List ℕ) (used : L
   pub settle-asks : Placing a b used₀ f₀ g₀ → Placing a b used f g
   settle-asks s = rw (w .used-same, w .forth-same, w .back-same) s
 
-  module _ (r : Bool) (used′ : List Bool) (f′ g′ : List ℕ) where
-    pub settle-found : Settled r a b used f g used′ f′ g′ → r ≡ true → Settled true a b used₀ f₀ g₀ used′ f′ g′
-    settle-found t e = rw (e, w .used-same, w .forth-same, w .back-same) at t
+  module _ (s : Placing a b used₀ f₀ g₀) (h : j < length used) (n : 5 ≤ length a) (r : Bool) (fresh : List Bool)
+      (used′ : List Bool) (f′ g′ : List ℕ) (k : PairedAt r fresh a b j used f g used′ f′ g′) where
+    pub settle-found : r ≡ true → Settled true a b used₀ f₀ g₀ used′ f′ g′
+    settle-found e =
+        rw (e, w .used-same, w .forth-same, w .back-same) at
+        (paired-settled a b j used f g (settle-asks s) h n r fresh used′ f′ g′ k)
 
-    pub settle-next : j < length used → Kept r used f g used′ f′ g′ → r ≡ false → Trying used₀ f₀ g₀ used′ f′ g′ (j + 1)
-    settle-next h k e =
+    pub settle-next : r ≡ false → Trying used₀ f₀ g₀ used′ f′ g′ (j + 1)
+    settle-next e =
         rw (add-one j)
         (record {
           within = omega (arith, ap length (w .used-same));

@@ -1,11 +1,10 @@
 -- Placing constraints without going back.
 --   Settled        one constraint is placed: the answer for all is true where that for the others is
---   Kept           nothing is changed where none is placed
 --   SettledAll     all constraints are placed
 --   Found          two states that are found to be equal are
 -- Assumes nothing.
 use Prim.Native.Nat.{ℕ}
-use mathlib.Core.Bool.{Bool, true, false}
+use mathlib.Core.Bool.{Bool, true}
 use mathlib.Core.List.{List}
 use mathlib.Core.Path.{_≡_}
 use lib.ListN.{drop}
@@ -21,10 +20,6 @@ pub record Settled (r : Bool) (a b : List ℕ) (used : List Bool) (forth back : 
       r ≡ true → (us : List ℕ) (ps : List Pair) → Marks used us → Graph forth back ps
       → (vs : List ℕ) × (qs : List Pair) × Marks used′ vs × Graph forth′ back′ qs
       × (placed (drop 5 a) b vs qs ≡ true → placed a b us ps ≡ true)
-
--- nothing is changed where none is placed
-pub record Kept (r : Bool) (used : List Bool) (forth back : List ℕ) (used′ : List Bool) (forth′ back′ : List ℕ) : Type 0 where
-  pub kept : r ≡ false → (used′ ≡ used) × (forth′ ≡ forth) × (back′ ≡ back)
 
 -- all constraints are placed
 pub record SettledAll (r : Bool) (a b : List ℕ) (used : List Bool) (forth back : List ℕ) : Type 0 where

@@ -1,52 +1,16 @@
 // Placing constraints without going back: each at the first partner that its terms can be made equal to. Where that places all of
 // them the states are equal; where it does not, nothing is said.
+use crate::placing::pair_at;
 use pairing::pair_bound;
-use pairing::pair_rows;
-use pairing::unpair;
 ghost use mathlib.Core.Path.{_≡_};
-ghost use Prim.Native.Nat.{_*_, _≤_, _<_};
+ghost use Prim.Native.Nat.{_*_, _≤_};
 ghost use lib.ListN.{length};
 ghost use Rattle.comparison.specs.Placements.{Placing};
-ghost use Rattle.comparison.specs.Settlements.{Settled, Kept, Found, SettledAll};
+ghost use Rattle.comparison.specs.Settlements.{Settled, Found, SettledAll};
 ghost use Rattle.colours.specs.Classes.{Colourable};
 
 // Room for all cells: constants, 28 goal variables, and as many more as 512 constraints have cells.
 const ROOM: usize = 2844;
-
-// Places the first of the constraints that are left at position j, if that is free and the terms can be made equal.
-pub fn settle_at(
-    a: &[u16],
-    b: &[u16],
-    j: usize,
-    used: &mut [bool],
-    forth: &mut [u16],
-    back: &mut [u16],
-) -> bool
-    requires { ⌜ Placing (now a) (now b) (now used) (now forth) (now back) × (j < length (now used)) × (5 ≤ length (now a)) ⌝ }
-    ensures { λ r. ⌜ Settled r (now (a .entry)) (now (b .entry)) (now (used .entry)) (now (forth .entry)) (now (back .entry))
-        (now (used .exit)) (now (forth .exit)) (now (back .exit))
-        × Kept r (now (used .entry)) (now (forth .entry)) (now (back .entry))
-        (now (used .exit)) (now (forth .exit)) (now (back .exit)) ⌝ }
-{
-    if used[j] {
-        return false;
-    }
-    let p = 5 * j;
-    let e = p + 5;
-    if a[0] != b[p] {
-        return false;
-    }
-    let row = &a[..5];
-    let other = &b[p..e];
-    let links = pair_rows(row, other, forth, back);
-    let fresh = links.fresh;
-    if !links.fits {
-        unpair(row, other, fresh, forth, back);
-        return false;
-    }
-    used[j] = true;
-    true
-}
 
 // Places the first of the constraints that are left at the first position that will do.
 pub fn settle(a: &[u16], b: &[u16], used: &mut [bool], forth: &mut [u16], back: &mut [u16]) -> bool
@@ -56,7 +20,8 @@ pub fn settle(a: &[u16], b: &[u16], used: &mut [bool], forth: &mut [u16], back: 
 {
     let mut j = 0;
     while j < used.len() {
-        if settle_at(a, b, j, used, forth, back) {
+        let links = pair_at(a, b, j, used, forth, back);
+        if links.fits {
             return true;
         }
         j += 1;

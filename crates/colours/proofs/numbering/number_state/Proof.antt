@@ -1,4 +1,5 @@
--- `number_state` meets its contract: from a table in which no variable has a number, a small one where all cells lie below its size.
+-- `number_state` meets its contract: from a table in which no variable has a number, a small one where all cells lie below
+-- its size.
 -- Assumes nothing.
 use Prim.Native.Nat.{ℕ}
 use lib.ListN.{length-replicate}

@@ -10,7 +10,7 @@ use Rattle.comparison.proofs.settling.settle.Statement.{statement}
 use Rattle.comparison.proofs.settling.settle.Tie as tie
 use Rattle.comparison.proofs.settling.settle.Reads as reads
 use Rattle.comparison.proofs.settling.settle.Lts as lts
-use Rattle.comparison.proofs.settling.settle_at.Reads as settle-at-reads
+use Rattle.comparison.proofs.placing.pair_at.Reads as pair-at-reads
 
 abbrev Inv-loop : tie.InvT-loop
 Inv-loop a b used₀ forth₀ back₀ j₀ used forth back j = Trying used₀ forth₀ back₀ used forth back j
@@ -18,15 +18,21 @@ Inv-loop a b used₀ forth₀ back₀ j₀ used forth back j = Trying used₀ fo
 abbrev μ-loop : tie.MeasureT-loop
 μ-loop a b used₀ forth₀ back₀ j₀ used forth back j = length used₀ - j
 
+-- where the loop's facts are, from where a position is tried, and where all begins
+abbrev turn : tie.After-pair-at Inv-loop μ-loop → tie.In-loop Inv-loop μ-loop
+turn s = s .before .before .before .before
+
+abbrev start : tie.In-loop Inv-loop μ-loop → tie.Start Inv-loop μ-loop
+start s = s .before .before .before .before .before .before .before
+
 loop-holds : tie.Need-loop-holds Inv-loop μ-loop
 loop-holds c = settle-start _ _ _
 
-settle-at-requires : tie.Need-settle-at-requires Inv-loop μ-loop
-settle-at-requires c κs =
-    let loop′ = (c .before .before .before .before .loop) in
-    let pre′ = (c .before .before .before .before .before .before .before .before .before .before .pre) in
-    let loop-test′ = (c .before .before .before .loop-test) in
-    (settle-asks _ _ _ _ _ _ _ _ _ (loop′ .inv) (pre′ .0), loop-test′ .taken, pre′ .1)
+pair-at-requires : tie.Need-pair-at-requires Inv-loop μ-loop
+pair-at-requires c κs =
+    let at-loop = c .before .before .before in
+    let pre′ = start at-loop .pre in
+    (settle-asks _ _ _ _ _ _ _ _ _ (at-loop .before .loop .inv) (pre′ .0), at-loop .loop-test .taken, pre′ .1)
 
 same-length : tie.Need-same-length Inv-loop μ-loop
 same-length c = search needs
@@ -39,33 +45,25 @@ same-length-3 c = search needs
 
 returns : tie.Need-returns Inv-loop μ-loop
 returns c =
-    let loop′ = (c .before .before .before .before .before .before .before .before .before .before .before .before .loop) in
-    let settle-at′ = (c .before .before .before .before .before .before .before .settle-at) in
-    let if1′ = (c .if1) in
-    settle-found _ _ _ _ _ _ _ _ _ (loop′ .inv) _ _ _ _ (settle-at′ .ensures .0) (if1′ .taken)
+    let tried = c .before .before .before .before .before .before .before in
+    let pre′ = start (turn tried) .pre in
+    settle-found _ _ _ _ _ _ _ _ _ (turn tried .before .loop .inv) (pre′ .0) (turn tried .loop-test .taken) (pre′ .1) _ _ _ _ _
+    (tried .pair-at .ensures) (c .if1 .taken)
 
 add-j : tie.Need-add-j Inv-loop μ-loop
 add-j c = omega arith
 
 loop-less : tie.Need-loop-less Inv-loop μ-loop
 loop-less c =
-    let loop′ = (c .before .before .before .before .before .before .before .before .before .before .before .before .loop) in
-    let loop-test′ = (c .before .before .before .before .before .before .before .before .before .before .before .loop-test) in
-    omega (arith, ap length (loop′ .inv .used-same), loop-test′ .taken)
+    let at-loop = turn (c .before .before .before .before .before .before .before) in
+    omega (arith, ap length (at-loop .before .loop .inv .used-same), at-loop .loop-test .taken)
 
 loop-again : tie.Need-loop-again Inv-loop μ-loop
 loop-again c =
-    let if1′ = c .if1 in
-    let p1 = c .before .before .before .before .before .before .before in
-    let settle-at′ = p1 .settle-at in
-    let p2 = p1 .before .before .before .before in
-    let loop-test′ = p2 .loop-test in
-    let p3 = p2 .before in
-    let loop′ = p3 .loop in
-    let p4 = p3 .before .before .before .before .before .before in
-    let args′ = p4 .args in
-    settle-next (args′ .a .now) (args′ .b .now) _ _ _ _ _ _ _ (loop′ .inv) _ _ _ _ (loop-test′ .taken)
-    (settle-at′ .ensures .1) (if1′ .left)
+    let tried = c .before .before .before .before .before .before .before in
+    let pre′ = start (turn tried) .pre in
+    settle-next _ _ _ _ _ _ _ _ _ (turn tried .before .loop .inv) (pre′ .0) (turn tried .loop-test .taken) (pre′ .1) _ _ _ _ _
+    (tried .pair-at .ensures) (c .if1 .left)
 
 same-length-4 : tie.Need-same-length-4 Inv-loop μ-loop
 same-length-4 c = search needs
@@ -86,7 +84,7 @@ settle-spec =
     Inv-loop
     μ-loop
     loop-holds
-    settle-at-requires
+    pair-at-requires
     same-length
     same-length-2
     same-length-3

@@ -39,10 +39,9 @@ part-settle-end c = omega arith
 
 settle-requires : tie.Need-settle-requires Inv-loop μ-loop
 settle-requires c κs =
-    let pre′ = (c .before .before .before .before .before .before .before .before .before .before .before .pre) in
-    let loop′ = (c .before .before .before .before .before .loop) in
-    let loop-test′ = (c .before .before .before .before .loop-test) in
-    all-asks _ _ _ _ _ _ (pre′ .0) (pre′ .1) _ _ _ _ (loop′ .inv) (loop-test′ .taken)
+    let at-loop = c .before .before .before .before in
+    let pre′ = at-loop .before .before .before .before .before .before .before .pre in
+    all-asks _ _ _ _ _ _ (pre′ .0) (pre′ .1) _ _ _ _ (at-loop .before .loop .inv) (at-loop .loop-test .taken)
 
 same-length : tie.Need-same-length Inv-loop μ-loop
 same-length c = search needs
