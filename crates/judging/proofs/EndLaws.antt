@@ -2,8 +2,8 @@
 --   lent-kept                          cells remain lent
 --   first-asks, second-asks            what a side asks
 --   side-begins                        what a side's own firing asks
---   both-begun                         and promise
---   first-follows, second-follows      what following asks
+--   both-begun                         what both promise
+--   begun-follows                      what following asks
 --   first-sided, second-sided          the end of a whole side
 --   first-ends, second-ends            what following promises
 -- Assumes nothing.
@@ -30,6 +30,8 @@ use Rattle.tables.specs.Numbers.{isWithin, Renumberable}
 use Rattle.sides.specs.Sides.{Sidable, Beginnable, Begun, Followable, Followed, Sided}
 use Rattle.sides.proofs.SideLaws.{side-few, side-follows}
 use Rattle.sides.proofs.EndLaws.{first-side, second-side, side-lives}
+use Rattle.judging.specs.declared.Peak.{Peak}
+use Rattle.judging.specs.declared.Steps.{Steps}
 use Rattle.judging.specs.Judging.{Stands, Overlapping, Lent, BothBegun, endIn, LiveEnd, EndOf}
 
 -- any constant will do
@@ -82,10 +84,10 @@ within-all symbols n few (also {a = c} d ds) (also b bs) =
 
 -- cells of the same sizes remain lent
 pub lent-kept :
-    (rules : List ℕ) (n i j : ℕ) (positions : List ℕ) (m v : ℕ) (goal bound₁ cells₁ bound₂ cells₂ b₁ c₁ b₂ c₂ : List ℕ)
-    → Lent rules n i j positions m v goal bound₁ cells₁ bound₂ cells₂ → length b₁ ≡ length bound₁ → length c₁ ≡ length cells₁
-    → length b₂ ≡ length bound₂ → length c₂ ≡ length cells₂ → Lent rules n i j positions m v goal b₁ c₁ b₂ c₂
-lent-kept rules n i j positions m v goal bound₁ cells₁ bound₂ cells₂ b₁ c₁ b₂ c₂ l p q r s =
+    {rules : List ℕ} {peak : Peak} {goal bound₁ cells₁ bound₂ cells₂ b₁ c₁ b₂ c₂ : List ℕ}
+    → Lent rules peak goal bound₁ cells₁ bound₂ cells₂ → length b₁ ≡ length bound₁ → length c₁ ≡ length cells₁
+    → length b₂ ≡ length bound₂ → length c₂ ≡ length cells₂ → Lent rules peak goal b₁ c₁ b₂ c₂
+lent-kept l p q r s =
     record {
       overlapping = l .overlapping;
       first-bound = p ∙ l .first-bound;
@@ -93,6 +95,17 @@ lent-kept rules n i j positions m v goal bound₁ cells₁ bound₂ cells₂ b�
       second-bound = r ∙ l .second-bound;
       second-room = omega (arith, l .second-room, s);
     }
+
+-- what both sides' own firings promise
+pub both-begun :
+    {rules : List ℕ} {peak : Peak} {goal : List ℕ} {steps : Steps} {w u : ℕ} {bound₁ cells₁ bound₂ cells₂ : List ℕ}
+    → w ≡ peak .variables → u ≡ peak .variables
+    → Begun rules (peak .first) (0 ∷ 1 ∷ 2 ∷ 3 ∷ []) goal (peak .count) w bound₁ cells₁ (steps .first .fired)
+    (steps .first .alive) (steps .first .count)
+    → Begun rules (peak .second) (peak .positions) goal (peak .count) u bound₂ cells₂ (steps .second .fired)
+    (steps .second .alive) (steps .second .count)
+    → BothBegun rules peak goal steps bound₁ cells₁ bound₂ cells₂
+both-begun d e s t = record { first = rw d at s; second = rw e at t }
 
 module _ (rules : List ℕ) (n i j : ℕ) (positions : List ℕ) (m v : ℕ) (goal : List ℕ)
     (o : Overlapping rules n i j positions m v goal) where
@@ -127,27 +140,13 @@ module _ (rules : List ℕ) (n i j : ℕ) (positions : List ℕ) (m v : ℕ) (go
       → Beginnable rules k ps goal m w cells
   side-begins k ps h l w cells e room = record { count = n; side = side-asks k ps h l w cells e room }
 
-  -- and what both promise
-  pub both-begun :
-      (w u : ℕ) (fired₁ alive₁ : Bool) (count₁ : ℕ) (bound₁ cells₁ : List ℕ) (fired₂ alive₂ : Bool) (count₂ : ℕ)
-      (bound₂ cells₂ : List ℕ) → w ≡ v → u ≡ v → Begun rules i (0 ∷ 1 ∷ 2 ∷ 3 ∷ []) goal m w bound₁ cells₁ fired₁ alive₁ count₁
-      → Begun rules j positions goal m u bound₂ cells₂ fired₂ alive₂ count₂
-      → BothBegun rules i j positions m v goal fired₁ alive₁ count₁ bound₁ cells₁ fired₂ alive₂ count₂ bound₂ cells₂
-  both-begun w u fired₁ alive₁ count₁ bound₁ cells₁ fired₂ alive₂ count₂ bound₂ cells₂ d e s t =
-      record { first = rw d at s; second = rw e at t }
-
-  -- what following asks
-  module _ (w : ℕ) (bound cells : List ℕ) (fired alive : Bool) (count : ℕ) (e : w ≡ v) (room : 2590 ≤ length cells) where
-    pub first-follows :
-        Begun rules i (0 ∷ 1 ∷ 2 ∷ 3 ∷ []) goal m v bound cells fired alive count → Followable rules n m w cells fired alive count
-    first-follows =
-        side-follows rules n i (0 ∷ 1 ∷ 2 ∷ 3 ∷ []) goal m v cells (first-asks v cells refl room) w bound cells fired alive count
-        e refl
-
-    pub second-follows :
-        Begun rules j positions goal m v bound cells fired alive count → Followable rules n m w cells fired alive count
-    second-follows =
-        side-follows rules n j positions goal m v cells (second-asks v cells refl room) w bound cells fired alive count e refl
+  -- what following it asks
+  pub begun-follows :
+      (k : ℕ) (ps : List ℕ) → k < n → length ps ≡ 4 → (w : ℕ) (bound cells : List ℕ) (fired alive : Bool) (count : ℕ) → w ≡ v
+      → 2590 ≤ length cells → Begun rules k ps goal m v bound cells fired alive count
+      → Followable rules n m w cells fired alive count
+  begun-follows k ps h l w bound cells fired alive count e room =
+      side-follows rules n k ps goal m v cells (side-asks k ps h l v cells refl room) w bound cells fired alive count e refl
 
   module _ (k : ℕ) (ps b c : List ℕ) (alive : Bool) (count next firings : ℕ) (l : k < n) (room : 2590 ≤ length c)
       (t : Sided rules n k ps goal v b c alive count next firings) where

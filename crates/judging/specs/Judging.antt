@@ -2,10 +2,10 @@
 --   Stands                    the overlap that numbers of rules, positions and a goal's cells stand for
 --   Overlapping               what judging asks
 --   Lent                      the same, with cells for both ends
---   BothBegun                 both sides after their own firings
+--   BothBegun, BothEnded      both sides after their own firings, and at their ends
 --   Stepped, SameStep         whether they are in the same state then
 --   endIn, LiveEnd, EndOf     an end in cells
---   Joins                     what judging promises
+--   Joins, PeakJoins          what judging promises
 -- Assumes nothing.
 use Prim.Native.Nat.{ℕ, _*_, _≤_, _<_}
 use mathlib.Core.Bool.{Bool, true}
@@ -15,7 +15,7 @@ use lib.ListN.{length, take}
 use Rattle.text.specs.Lists.{every}
 use Rattle.semantics.specs.Terms.{Program, isBelow, isGoalOf, isWellFormed}
 use Rattle.semantics.specs.Strategy.{Final}
-use Rattle.semantics.specs.Overlaps.{Overlap, secondPositions}
+use Rattle.semantics.specs.Overlaps.{Overlap, secondPositions, firstEnd, secondEnd}
 use Rattle.semantics.specs.Verdict.{isJoinable}
 use Rattle.tables.specs.Layout.{constraintSize}
 use Rattle.tables.specs.Cells.{cellTerm, cellConstraints, stateOf}
@@ -24,6 +24,9 @@ use Rattle.tables.specs.Rows.{ruleOf, rulesOf, rowOf}
 use Rattle.engine.specs.Runs.{Runnable}
 use Rattle.engine.specs.Stated.{statedAt}
 use Rattle.sides.specs.Sides.{cellGoal, Begun}
+use Rattle.judging.specs.declared.Peak.{Peak}
+use Rattle.judging.specs.declared.Steps.{Steps}
+use Rattle.judging.specs.declared.Ends.{Ends}
 
 -- an overlap of rules i and j of a program whose rules are the n of a table: its goal has v variables, and the positions are the
 -- second rule's
@@ -55,38 +58,40 @@ pub record Overlapping (rules : List ℕ) (n i j : ℕ) (positions : List ℕ) (
   pub variables : v ≤ 28
 
 -- the same, with cells for what the goal variables become and for the constraints of each side
-pub record Lent (rules : List ℕ) (n i j : ℕ) (positions : List ℕ) (m v : ℕ) (goal bound₁ cells₁ bound₂ cells₂ : List ℕ) : Type 0
-  where
-    pub overlapping : Overlapping rules n i j positions m v goal
-    pub first-bound : length bound₁ ≡ v
-    pub first-room : 2590 ≤ length cells₁
-    pub second-bound : length bound₂ ≡ v
-    pub second-room : 2590 ≤ length cells₂
+pub record Lent (rules : List ℕ) (peak : Peak) (goal bound₁ cells₁ bound₂ cells₂ : List ℕ) : Type 0 where
+  pub overlapping :
+      Overlapping rules (peak .rules) (peak .first) (peak .second) (peak .positions) (peak .count) (peak .variables) goal
+  pub first-bound : length bound₁ ≡ peak .variables
+  pub first-room : 2590 ≤ length cells₁
+  pub second-bound : length bound₂ ≡ peak .variables
+  pub second-room : 2590 ≤ length cells₂
 
 -- both sides after their own firings
-pub record BothBegun (rules : List ℕ) (i j : ℕ) (positions : List ℕ) (m v : ℕ) (goal : List ℕ)
-    (fired₁ alive₁ : Bool) (count₁ : ℕ) (bound₁ cells₁ : List ℕ) (fired₂ alive₂ : Bool) (count₂ : ℕ) (bound₂ cells₂ : List ℕ)
+pub record BothBegun (rules : List ℕ) (peak : Peak) (goal : List ℕ) (steps : Steps) (bound₁ cells₁ bound₂ cells₂ : List ℕ)
     : Type 0 where
-  pub first : Begun rules i (0 ∷ 1 ∷ 2 ∷ 3 ∷ []) goal m v bound₁ cells₁ fired₁ alive₁ count₁
-  pub second : Begun rules j positions goal m v bound₂ cells₂ fired₂ alive₂ count₂
+  pub first :
+      Begun rules (peak .first) (0 ∷ 1 ∷ 2 ∷ 3 ∷ []) goal (peak .count) (peak .variables) bound₁ cells₁ (steps .first .fired)
+      (steps .first .alive) (steps .first .count)
+  pub second :
+      Begun rules (peak .second) (peak .positions) goal (peak .count) (peak .variables) bound₂ cells₂ (steps .second .fired)
+      (steps .second .alive) (steps .second .count)
 
 -- two states of cells, with as many goal variables
-pub record Stepped (count₁ : ℕ) (bound₁ cells₁ : List ℕ) (count₂ : ℕ) (bound₂ cells₂ : List ℕ) : Type 0 where
+pub record Stepped (steps : Steps) (bound₁ cells₁ bound₂ cells₂ : List ℕ) : Type 0 where
   pub bounds : length bound₁ ≡ length bound₂
-  pub first : constraintSize * count₁ ≤ length cells₁
-  pub second : constraintSize * count₂ ≤ length cells₂
-  pub few : count₁ ≤ 518
+  pub first : constraintSize * steps .first .count ≤ length cells₁
+  pub second : constraintSize * steps .second .count ≤ length cells₂
+  pub few : steps .first .count ≤ 518
 
 -- both sides fired, and what is found to be the same state is
-pub record SameStep (r fired₁ alive₁ : Bool) (count₁ : ℕ) (bound₁ cells₁ : List ℕ) (fired₂ alive₂ : Bool) (count₂ : ℕ)
-    (bound₂ cells₂ : List ℕ) : Type 0 where
-  pub first : r ≡ true → fired₁ ≡ true
-  pub second : r ≡ true → fired₂ ≡ true
+pub record SameStep (r : Bool) (steps : Steps) (bound₁ cells₁ bound₂ cells₂ : List ℕ) : Type 0 where
+  pub first : r ≡ true → steps .first .fired ≡ true
+  pub second : r ≡ true → steps .second .fired ≡ true
   pub same :
       r ≡ true
       → (next : ℕ)
-      → stateOf alive₁ next bound₁ (take (constraintSize * count₁) cells₁)
-      ≡ stateOf alive₂ next bound₂ (take (constraintSize * count₂) cells₂)
+      → stateOf (steps .first .alive) next bound₁ (take (constraintSize * steps .first .count) cells₁)
+      ≡ stateOf (steps .second .alive) next bound₂ (take (constraintSize * steps .second .count) cells₂)
 
 -- an end and its firings, in cells
 unfoldable pub endIn : Bool → ℕ → ℕ → ℕ → List ℕ → List ℕ → Final
@@ -116,7 +121,22 @@ pub record EndOf (end : Program → Overlap → Final) (rules : List ℕ) (n i j
   pub numbered : alive ≡ true → Renumberable next bound (take (constraintSize * count) cells)
   pub counted : firings ≤ 512
 
+-- both sides at their ends
+pub record BothEnded (rules : List ℕ) (peak : Peak) (goal : List ℕ) (ends : Ends) (bound₁ cells₁ bound₂ cells₂ : List ℕ)
+    : Type 0 where
+  pub first :
+      EndOf firstEnd rules (peak .rules) (peak .first) (peak .second) (peak .positions) (peak .variables) goal
+      (ends .first .alive) (ends .first .count) (ends .first .next) (ends .first .firings) bound₁ cells₁
+  pub second :
+      EndOf secondEnd rules (peak .rules) (peak .first) (peak .second) (peak .positions) (peak .variables) goal
+      (ends .second .alive) (ends .second .count) (ends .second .next) (ends .second .firings) bound₂ cells₂
+
 -- whether the overlap joins
 pub record Joins (rules : List ℕ) (n i j : ℕ) (positions : List ℕ) (v : ℕ) (goal : List ℕ) (joins : Bool) : Type 0 where
   pub same :
       (p : Program) (names : List ℕ) (o : Overlap) → Stands p names rules n i j positions v goal o → joins ≡ isJoinable p o
+
+-- the same of a peak
+abbrev pub PeakJoins : List ℕ → Peak → List ℕ → Bool → Type 0
+PeakJoins rules peak goal joins =
+    Joins rules (peak .rules) (peak .first) (peak .second) (peak .positions) (peak .variables) goal joins

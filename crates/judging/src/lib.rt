@@ -12,10 +12,9 @@ use tables::layout::CONSTRAINT_SIZE;
 ghost use mathlib.Core.Path.{_≡_};
 ghost use Prim.Native.Nat.{_≤_};
 ghost use lib.ListN.{length};
-ghost use Rattle.semantics.specs.Overlaps.{firstEnd, secondEnd};
 ghost use Rattle.semantics.specs.Variants.{sameState};
 ghost use Rattle.colours.specs.Ends.{endOf};
-ghost use Rattle.judging.specs.Judging.{LiveEnd, Overlapping, Lent, BothBegun, Stepped, SameStep, EndOf, Joins};
+ghost use Rattle.judging.specs.Judging.{LiveEnd, Overlapping, Lent, BothBegun, BothEnded, Stepped, SameStep, PeakJoins};
 
 // An overlap of two rules of a table, by their numbers: how many rules the table has, where the second one's heads stand in the
 // goal, and how many constraints and variables the goal has.
@@ -50,11 +49,9 @@ pub fn begin_both(
     bound_two: &mut [u16],
     two: &mut [u16],
 ) -> Steps
-    requires { ⌜ Lent (now rules) (peak .rules) (peak .first) (peak .second) (peak .positions) (peak .count)
-        (peak .variables) (now goal) (now «bound_one») (now one) (now «bound_two») (now two) ⌝ }
-    ensures { λ r. ⌜ BothBegun (now (rules .entry)) (peak .first) (peak .second) (peak .positions) (peak .count) (peak .variables)
-        (now (goal .entry)) (r .first .fired) (r .first .alive) (r .first .count) (now («bound_one» .exit)) (now (one .exit))
-        (r .second .fired) (r .second .alive) (r .second .count) (now («bound_two» .exit)) (now (two .exit)) ⌝ }
+    requires { ⌜ Lent (now rules) peak (now goal) (now «bound_one») (now one) (now «bound_two») (now two) ⌝ }
+    ensures { λ r. ⌜ BothBegun (now (rules .entry)) peak (now (goal .entry)) r (now («bound_one» .exit)) (now (one .exit))
+        (now («bound_two» .exit)) (now (two .exit)) ⌝ }
 {
     let m = peak.count;
     let positions = peak.positions;
@@ -74,16 +71,9 @@ pub fn follow_both(
     bound_two: &mut [u16],
     two: &mut [u16],
 ) -> Ends
-    requires { ⌜ Lent (now rules) (peak .rules) (peak .first) (peak .second) (peak .positions) (peak .count)
-        (peak .variables) (now goal) (now «bound_one») (now one) (now «bound_two») (now two)
-        × BothBegun (now rules) (peak .first) (peak .second) (peak .positions) (peak .count) (peak .variables)
-        (now goal) (steps .first .fired) (steps .first .alive) (steps .first .count) (now «bound_one») (now one)
-        (steps .second .fired) (steps .second .alive) (steps .second .count) (now «bound_two») (now two) ⌝ }
-    ensures { λ r. ⌜ EndOf firstEnd (now (rules .entry)) (peak .rules) (peak .first) (peak .second) (peak .positions)
-        (peak .variables) (now (goal .entry)) (r .first .alive) (r .first .count) (r .first .next) (r .first .firings)
-        (now («bound_one» .exit)) (now (one .exit))
-        × EndOf secondEnd (now (rules .entry)) (peak .rules) (peak .first) (peak .second) (peak .positions)
-        (peak .variables) (now (goal .entry)) (r .second .alive) (r .second .count) (r .second .next) (r .second .firings)
+    requires { ⌜ Lent (now rules) peak (now goal) (now «bound_one») (now one) (now «bound_two») (now two)
+        × BothBegun (now rules) peak (now goal) steps (now «bound_one») (now one) (now «bound_two») (now two) ⌝ }
+    ensures { λ r. ⌜ BothEnded (now (rules .entry)) peak (now (goal .entry)) r (now («bound_one» .exit)) (now (one .exit))
         (now («bound_two» .exit)) (now (two .exit)) ⌝ }
 {
     let n = peak.rules;
@@ -91,30 +81,6 @@ pub fn follow_both(
     let first = follow(rules, n, m, bound_one, one, steps.first);
     let second = follow(rules, n, m, bound_two, two, steps.second);
     Ends { first, second }
-}
-
-// Runs both sides of an overlap to their ends: `one` and `two` hold the constraints then, and what the goal variables became is
-// in `bound_one` and `bound_two`.
-pub fn both_ends(
-    rules: &[u16],
-    peak: Peak,
-    goal: &[u16],
-    bound_one: &mut [u16],
-    one: &mut [u16],
-    bound_two: &mut [u16],
-    two: &mut [u16],
-) -> Ends
-    requires { ⌜ Lent (now rules) (peak .rules) (peak .first) (peak .second) (peak .positions) (peak .count)
-        (peak .variables) (now goal) (now «bound_one») (now one) (now «bound_two») (now two) ⌝ }
-    ensures { λ r. ⌜ EndOf firstEnd (now (rules .entry)) (peak .rules) (peak .first) (peak .second) (peak .positions)
-        (peak .variables) (now (goal .entry)) (r .first .alive) (r .first .count) (r .first .next) (r .first .firings)
-        (now («bound_one» .exit)) (now (one .exit))
-        × EndOf secondEnd (now (rules .entry)) (peak .rules) (peak .first) (peak .second) (peak .positions)
-        (peak .variables) (now (goal .entry)) (r .second .alive) (r .second .count) (r .second .next) (r .second .firings)
-        (now («bound_two» .exit)) (now (two .exit)) ⌝ }
-{
-    let steps = begin_both(rules, peak, goal, bound_one, one, bound_two, two);
-    follow_both(rules, peak, goal, steps, bound_one, one, bound_two, two)
 }
 
 // Whether both sides are in the same live state after their own firings.
@@ -125,9 +91,8 @@ pub fn same_step(
     bound_two: &[u16],
     two: &[u16],
 ) -> bool
-    requires { ⌜ Stepped (steps .first .count) (now «bound_one») (now one) (steps .second .count) (now «bound_two») (now two) ⌝ }
-    ensures { λ r. ⌜ SameStep r (steps .first .fired) (steps .first .alive) (steps .first .count) (now («bound_one» .entry))
-        (now (one .entry)) (steps .second .fired) (steps .second .alive) (steps .second .count) (now («bound_two» .entry))
+    requires { ⌜ Stepped steps (now «bound_one») (now one) (now «bound_two») (now two) ⌝ }
+    ensures { λ r. ⌜ SameStep r steps (now («bound_one» .entry)) (now (one .entry)) (now («bound_two» .entry))
         (now (two .entry)) ⌝ }
 {
     let own = steps.first;
@@ -189,13 +154,9 @@ pub fn judge_from(
     bound_two: &mut [u16],
     two: &mut [u16],
 ) -> bool
-    requires { ⌜ Lent (now rules) (peak .rules) (peak .first) (peak .second) (peak .positions) (peak .count)
-        (peak .variables) (now goal) (now «bound_one») (now one) (now «bound_two») (now two)
-        × BothBegun (now rules) (peak .first) (peak .second) (peak .positions) (peak .count) (peak .variables)
-        (now goal) (steps .first .fired) (steps .first .alive) (steps .first .count) (now «bound_one») (now one)
-        (steps .second .fired) (steps .second .alive) (steps .second .count) (now «bound_two») (now two) ⌝ }
-    ensures { λ r. ⌜ Joins (now (rules .entry)) (peak .rules) (peak .first) (peak .second) (peak .positions)
-        (peak .variables) (now (goal .entry)) r ⌝ }
+    requires { ⌜ Lent (now rules) peak (now goal) (now «bound_one») (now one) (now «bound_two») (now two)
+        × BothBegun (now rules) peak (now goal) steps (now «bound_one») (now one) (now «bound_two») (now two) ⌝ }
+    ensures { λ r. ⌜ PeakJoins (now (rules .entry)) peak (now (goal .entry)) r ⌝ }
 {
     let ends = follow_both(rules, peak, goal, steps, bound_one, one, bound_two, two);
     let first = ends.first;
@@ -224,10 +185,8 @@ pub fn judge(
     bound_two: &mut [u16],
     two: &mut [u16],
 ) -> bool
-    requires { ⌜ Lent (now rules) (peak .rules) (peak .first) (peak .second) (peak .positions) (peak .count)
-        (peak .variables) (now goal) (now «bound_one») (now one) (now «bound_two») (now two) ⌝ }
-    ensures { λ r. ⌜ Joins (now (rules .entry)) (peak .rules) (peak .first) (peak .second) (peak .positions)
-        (peak .variables) (now (goal .entry)) r ⌝ }
+    requires { ⌜ Lent (now rules) peak (now goal) (now «bound_one») (now one) (now «bound_two») (now two) ⌝ }
+    ensures { λ r. ⌜ PeakJoins (now (rules .entry)) peak (now (goal .entry)) r ⌝ }
 {
     let steps = begin_both(rules, peak, goal, bound_one, one, bound_two, two);
     if same_step(steps, bound_one, one, bound_two, two) {
@@ -240,8 +199,7 @@ pub fn judge(
 pub fn joins(rules: &[u16], peak: Peak, goal: &[u16], one: &mut [u16], two: &mut [u16]) -> bool
     requires { ⌜ Overlapping (now rules) (peak .rules) (peak .first) (peak .second) (peak .positions) (peak .count)
         (peak .variables) (now goal) × (2590 ≤ length (now one)) × (2590 ≤ length (now two)) ⌝ }
-    ensures { λ r. ⌜ Joins (now (rules .entry)) (peak .rules) (peak .first) (peak .second) (peak .positions)
-        (peak .variables) (now (goal .entry)) r ⌝ }
+    ensures { λ r. ⌜ PeakJoins (now (rules .entry)) peak (now (goal .entry)) r ⌝ }
 {
     let v = peak.variables;
     let mut bound_one = [0u16; 28];

@@ -28,8 +28,7 @@ returns c =
     let at-begin = at-begin2 .before .before .before .before .before .before .before in
     let at-positions = at-begin .before .before .before in
     let start = at-positions .before .before .before .before .before .before .before in
-    both-begun _ _ _ _ _ _ _ _ (start .pre .overlapping) _ _ _ _ _ _ _ _ _ _ _ _ (start .pre .first-bound)
-    (start .pre .second-bound) (at-begin .begin .ensures) (at-begin2 .begin2 .ensures)
+    both-begun (start .pre .first-bound) (start .pre .second-bound) (at-begin .begin .ensures) (at-begin2 .begin2 .ensures)
 
 pub begin-both-spec : {M : Type 1} → statement M
 begin-both-spec =

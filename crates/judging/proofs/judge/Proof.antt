@@ -18,7 +18,7 @@ same-step-requires c κs =
     let began = at-two .before .before .before .before .before .before .before in
     let lent = began .before .before .before .before .before in
     let start = lent .before .before .before .before .before .before in
-    steps-ask _ _ _ _ _ _ _ _ _ _ _ _ _ _ _ _ _ _ (lent-kept _ _ _ _ _ _ _ _ _ _ _ _ _ _ _ _ (start .pre)
+    steps-ask (lent-kept (start .pre)
     (began .begin-both .kept .1 .1 .1 .0) (began .begin-both .kept .1 .1 .1 .1 .0)
     (began .begin-both .kept .1 .1 .1 .1 .1 .0) (began .begin-both .kept .1 .1 .1 .1 .1 .1 .0)) (began .begin-both .ensures)
 
@@ -29,7 +29,7 @@ returns c =
     let began = at-two .before .before .before .before .before .before .before in
     let lent = began .before .before .before .before .before in
     let start = lent .before .before .before .before .before .before in
-    step-joins _ _ _ _ _ _ _ _ _ _ _ _ _ _ _ _ _ _ _ (start .pre .overlapping) (began .begin-both .ensures)
+    step-joins (start .pre) (began .begin-both .ensures)
     (compared .same-step .ensures) (c .if1 .taken)
 
 judge-from-requires : tie.Need-judge-from-requires
@@ -38,7 +38,7 @@ judge-from-requires c κs =
     let began = at-same-step .before .before .before .before .before .before .before .before .before in
     let lent = began .before .before .before .before .before in
     let start = lent .before .before .before .before .before .before in (
-      lent-kept _ _ _ _ _ _ _ _ _ _ _ _ _ _ _ _ (start .pre) (began .begin-both .kept .1 .1 .1 .0)
+      lent-kept (start .pre) (began .begin-both .kept .1 .1 .1 .0)
           (began .begin-both .kept .1 .1 .1 .1 .0) (began .begin-both .kept .1 .1 .1 .1 .1 .0)
           (began .begin-both .kept .1 .1 .1 .1 .1 .1 .0),
       began .begin-both .ensures,

@@ -13,14 +13,14 @@ returns c =
     let at-if1 = c .before in
     let at-two = at-if1 .before .before .before .before .before in
     let ended = at-two .before .before .before .before .before .before .before in
-    joins-failed (ended .follow-both .ensures .0) (ended .follow-both .ensures .1) (not-true _ (at-if1 .if1 .taken))
+    joins-failed (ended .follow-both .ensures .first) (ended .follow-both .ensures .second) (not-true _ (at-if1 .if1 .taken))
 
 returns-2 : tie.Need-returns-2
 returns-2 c =
     let at-if1 = c .before .before in
     let at-two = at-if1 .before .before .before .before .before in
     let ended = at-two .before .before .before .before .before .before .before in
-    joins-apart (ended .follow-both .ensures .0) (ended .follow-both .ensures .1) (not-false _ (at-if1 .if1 .left))
+    joins-apart (ended .follow-both .ensures .first) (ended .follow-both .ensures .second) (not-false _ (at-if1 .if1 .left))
     (not-true _ (c .if2 .taken))
 
 returns-3 : tie.Need-returns-3
@@ -29,7 +29,7 @@ returns-3 c =
     let at-if1 = at-if2 .before .before in
     let at-two = at-if1 .before .before .before .before .before in
     let ended = at-two .before .before .before .before .before .before .before in
-    joins-counts (ended .follow-both .ensures .0) (ended .follow-both .ensures .1) (not-false _ (at-if1 .if1 .left))
+    joins-counts (ended .follow-both .ensures .first) (ended .follow-both .ensures .second) (not-false _ (at-if1 .if1 .left))
     (not-false _ (at-if2 .if2 .left)) (c .if3 .taken)
 
 mul-e : tie.Need-mul-e
@@ -37,21 +37,21 @@ mul-e c =
     let at-if1 = c .before .before .before .before in
     let at-two = at-if1 .before .before .before .before .before in
     let ended = at-two .before .before .before .before .before .before .before in
-    omega (arith, ended .follow-both .ensures .0 .live (not-false _ (at-if1 .if1 .left)) .few)
+    omega (arith, ended .follow-both .ensures .first .live (not-false _ (at-if1 .if1 .left)) .few)
 
 slice-relend-prefix-same-ends : tie.Need-slice-relend-prefix-same-ends
 slice-relend-prefix-same-ends c =
     let at-if1 = c .before .before .before .before .before in
     let at-two = at-if1 .before .before .before .before .before in
     let ended = at-two .before .before .before .before .before .before .before in
-    live-room _ _ _ (ended .follow-both .ensures .0 .live (not-false _ (at-if1 .if1 .left)))
+    live-room _ _ _ (ended .follow-both .ensures .first .live (not-false _ (at-if1 .if1 .left)))
 
 slice-aggregate-same-ends : tie.Need-slice-aggregate-same-ends
 slice-aggregate-same-ends c =
     let at-if1 = c .before .before .before .before .before .before in
     let at-two = at-if1 .before .before .before .before .before in
     let ended = at-two .before .before .before .before .before .before .before in
-    sym (ended .follow-both .ensures .0 .live (not-false _ (at-if1 .if1 .left)) .size)
+    sym (ended .follow-both .ensures .first .live (not-false _ (at-if1 .if1 .left)) .size)
 
 slice-relend-prefix-same-ends-2 : tie.Need-slice-relend-prefix-same-ends-2
 slice-relend-prefix-same-ends-2 c =
@@ -59,7 +59,7 @@ slice-relend-prefix-same-ends-2 c =
     let at-if2 = same .before .before in
     let at-two = at-if2 .before .before .before .before .before .before .before in
     let ended = at-two .before .before .before .before .before .before .before in
-    live-room _ _ _ (live-by (ended .follow-both .ensures .1) (not-false _ (at-if2 .if2 .left)) _ (same .if3 .left))
+    live-room _ _ _ (live-by (ended .follow-both .ensures .second) (not-false _ (at-if2 .if2 .left)) _ (same .if3 .left))
 
 slice-aggregate-same-ends-2 : tie.Need-slice-aggregate-same-ends-2
 slice-aggregate-same-ends-2 c =
@@ -67,7 +67,7 @@ slice-aggregate-same-ends-2 c =
     let at-if2 = same .before .before in
     let at-two = at-if2 .before .before .before .before .before .before .before in
     let ended = at-two .before .before .before .before .before .before .before in
-    sym ((live-by (ended .follow-both .ensures .1) (not-false _ (at-if2 .if2 .left)) _ (same .if3 .left)) .size)
+    sym ((live-by (ended .follow-both .ensures .second) (not-false _ (at-if2 .if2 .left)) _ (same .if3 .left)) .size)
 
 same-ends-requires : tie.Need-same-ends-requires
 same-ends-requires c κs =
@@ -78,8 +78,8 @@ same-ends-requires c κs =
     let ended = at-two .before .before .before .before .before .before .before in
     let lent = ended .before .before .before .before .before in
     let start = lent .before .before .before .before .before .before in (
-      ended .follow-both .ensures .0 .live (not-false _ (at-if1 .if1 .left)),
-      live-by (ended .follow-both .ensures .1) (not-false _ (at-if2 .if2 .left)) _ (same .if3 .left),
+      ended .follow-both .ensures .first .live (not-false _ (at-if1 .if1 .left)),
+      live-by (ended .follow-both .ensures .second) (not-false _ (at-if2 .if2 .left)) _ (same .if3 .left),
       omega (arith, ended .follow-both .kept, start .pre .0 .first-bound, start .pre .0 .second-bound),
     )
 
@@ -91,7 +91,7 @@ returns-4 c =
     let at-if1 = at-if2 .before .before in
     let at-two = at-if1 .before .before .before .before .before in
     let ended = at-two .before .before .before .before .before .before .before in
-    joins-compared (ended .follow-both .ensures .0) (ended .follow-both .ensures .1) (not-false _ (at-if1 .if1 .left))
+    joins-compared (ended .follow-both .ensures .first) (ended .follow-both .ensures .second) (not-false _ (at-if1 .if1 .left))
     (not-false _ (at-if2 .if2 .left)) _ (same .if3 .left) (compared .same-ends .ensures)
 
 pub judge-from-spec : {M : Type 1} → statement M

@@ -8,30 +8,6 @@ use borrow.Author.Needs.{needs}
 use Rattle.judging.proofs.same_step.Statement.{statement}
 use Rattle.judging.proofs.same_step.Tie as tie
 
-returns : tie.Need-returns
-returns c = step-apart _ _ _ _ _ _ _ _ _ _
-
-returns-2 : tie.Need-returns-2
-returns-2 c = step-apart _ _ _ _ _ _ _ _ _ _
-
-returns-3 : tie.Need-returns-3
-returns-3 c = step-apart _ _ _ _ _ _ _ _ _ _
-
-returns-4 : tie.Need-returns-4
-returns-4 c = step-apart _ _ _ _ _ _ _ _ _ _
-
-returns-5 : tie.Need-returns-5
-returns-5 c = step-apart _ _ _ _ _ _ _ _ _ _
-
-same-cells-requires : tie.Need-same-cells-requires
-same-cells-requires c κs = search needs
-
-returns-6 : tie.Need-returns-6
-returns-6 c = step-apart _ _ _ _ _ _ _ _ _ _
-
-mul-e : tie.Need-mul-e
-mul-e c = search needs
-
 slice-aggregate-same-cells : tie.Need-slice-aggregate-same-cells
 slice-aggregate-same-cells c =
     let at-if2 = c .before .before .before .before .before .before .before .before .before in
@@ -44,7 +20,7 @@ slice-aggregate-same-cells-2 c =
     let counts = c .before .before .before .before in
     let at-if1 = counts .before .before .before .before .before .before .before .before in
     let start = at-if1 .before .before .before .before .before .before .before .before in
-    sym (length-take-le _ _ (second-room _ _ _ _ _ _ (start .pre) (counts .if5 .left)))
+    sym (length-take-le _ _ (second-room (start .pre) (counts .if5 .left)))
 
 same-cells-requires-2 : tie.Need-same-cells-requires-2
 same-cells-requires-2 c κs =
@@ -52,7 +28,7 @@ same-cells-requires-2 c κs =
     let at-if1 = counts .before .before .before .before .before .before .before .before in
     let start = at-if1 .before .before .before .before .before .before .before .before in
     length-take-le _ _ (start .pre .first) ∙ sym
-    (length-take-le _ _ (second-room _ _ _ _ _ _ (start .pre) (counts .if5 .left)))
+    (length-take-le _ _ (second-room (start .pre) (counts .if5 .left)))
 
 returns-7 : tie.Need-returns-7
 returns-7 c =
@@ -63,7 +39,7 @@ returns-7 c =
     let first-lives = second-lives .before .before in
     let second-fired = first-lives .before .before in
     let first-fired = second-fired .before .before in
-    step-same _ _ _ _ _ _ _ _ _ _ _ _ (not-false _ (first-fired .if1 .left)) (not-false _ (second-fired .if2 .left))
+    step-same (not-false _ (first-fired .if1 .left)) (not-false _ (second-fired .if2 .left))
     (not-false _ (first-lives .if3 .left)) (not-false _ (second-lives .if4 .left)) (counts .if5 .left)
     (bounds .same-cells .ensures) (not-false _ (alike .if6 .left)) (c .same-cells2 .ensures)
 
@@ -71,14 +47,8 @@ pub same-step-spec : {M : Type 1} → statement M
 same-step-spec =
     tie.close
     (tie.spec
-    returns
-    returns-2
-    returns-3
-    returns-4
-    returns-5
-    same-cells-requires
-    returns-6
-    mul-e
+    (λ c. step-apart) (λ c. step-apart) (λ c. step-apart) (λ c. step-apart) (λ c. step-apart)
+    (λ c κs. search needs) (λ c. step-apart) (λ c. search needs)
     slice-aggregate-same-cells
     slice-aggregate-same-cells-2
     same-cells-requires-2
