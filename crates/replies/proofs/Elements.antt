@@ -1,9 +1,9 @@
 -- What holds of all elements holds of one.
---   all-at, all-mapped      an element of a list, and of an image
+--   all-at      an element of a list
 -- Assumes nothing.
 use Prim.Native.Nat.{ℕ, zero, suc, _<_}
 use native.Mathlib.Omega.{arith}
-use mathlib.Core.List.{List, [], _∷_, map}
+use mathlib.Core.List.{List}
 use lib.ListN.{length, getD}
 use Rattle.semantics.proofs.Configurations.{All, none, also}
 
@@ -12,10 +12,3 @@ pub all-at : {A : Type 0} {P : A → Type 0} {l : List A} (d : A) (i : ℕ) → 
 all-at d i none h = absurd (omega arith)
 all-at d zero (also p ps) h = p
 all-at d (suc i) (also p ps) h = all-at d i ps (omega arith)
-
--- an element of an image
-pub all-mapped :
-    {A B : Type 0} {P : B → Type 0} (f : A → B) (l : List A) (d : A) (i : ℕ) → All P (map f l) → i < length l → P (f (getD l i d))
-all-mapped f [] d i a h = absurd (omega arith)
-all-mapped f (x ∷ l) d zero (also p ps) h = p
-all-mapped f (x ∷ l) d (suc i) (also p ps) h = all-mapped f l d i ps (omega arith)
