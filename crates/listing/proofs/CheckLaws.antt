@@ -9,31 +9,30 @@
 use mathlib.Core.Path.{_≡_, refl, sym, ap, ap₂, _∙_, subst, fun-ext}
 use mathlib.Core.Bool.{Bool, true}
 use mathlib.Core.List.{List, [], _∷_, _++_, append-assoc, append-nil}
-use Prim.Native.Nat.{ℕ, zero, suc, _+_, _-_, _*_, _/_, _≤_, _<_, min}
+use Prim.Native.Nat.{ℕ, zero, suc, _+_, _-_, _*_, _≤_, _<_, min}
 use native.Mathlib.Omega.{arith}
 use native.Mathlib.Numerals.{add-one}
 use borrow.Author.Tests.{le-ltb}
 use lib.ListN.{length, take, drop, getD, length-append, length-take, length-drop, drop-of-length-le}
-use lib.Seq.{drop-cons, take-at, drop-at, getD-take, getD-drop, length-take-le}
+use lib.Seq.{drop-cons, take-at, drop-at, getD-drop, length-take-le}
 use Rattle.text.specs.Bytes.{ascii}
 use Rattle.semantics.specs.Overlaps.{Overlap}
-use Rattle.semantics.specs.Verdict.{Verdict, confluent, unjoined}
+use Rattle.semantics.specs.Verdict.{confluent, unjoined}
 use Rattle.semantics.proofs.Configurations.{also}
 use Rattle.semantics.proofs.Configurations as C
 use Rattle.tables.specs.Cells.{cellConstraints}
 use Rattle.tables.specs.Names.{nameIn}
 use Rattle.tables.proofs.NameLaws.{lent-rest}
 use Rattle.listing.specs.Listing.{Naming, decimal, fieldsBehind, lineOf, constraintLines, numberedAs, variableName}
-use Rattle.listing.specs.Listing.{endListing, pairLines, verdictListing}
+use Rattle.listing.specs.Listing.{pairLines, verdictListing}
 use Rattle.listing.specs.Writing.{Countable, Writes, ListedAs}
 use Rattle.listing.specs.Ends.{numberedEnd, endBytes, Listable, EndNumbered, Writable}
 use Rattle.listing.specs.Checks.{rulesLine, frontBytes, numberedEnds, shownBytes, finalOf, Shaped, OverlapWritable}
 use Rattle.listing.specs.Checks.{OverlapListable, ShownBy, OverlapListed}
-use Rattle.listing.specs.declared.End.{End}
 use Rattle.listing.specs.declared.Listed.{Listed}
 use Rattle.listing.specs.declared.checks.Shown.{Shown}
-use Rattle.listing.proofs.WriteLaws.{wrote-none, wrote-is, wrote-both, count-is, count-first}
-use Rattle.listing.proofs.WriteLaws.{Writing, writing-count, writing-line, writing-end, partFrom, partBack}
+use Rattle.listing.proofs.WriteLaws.{wrote-none, wrote-is, wrote-both, count-is}
+use Rattle.listing.proofs.WriteLaws.{partFrom, partBack}
 use Rattle.listing.proofs.EndLaws.{end-numbered, listed-is}
 use Rattle.listing.proofs.SizeLaws.{Short, Cells, machine-digits, line-few, cells-few, end-few, end-writable}
 
@@ -80,23 +79,13 @@ pairs-step n (suc d) ds = rw (append-nil (lineOf (ascii "P") (decimal n ∷ deci
 abbrev pub pairsFrom : List ℕ → ℕ → List ℕ
 pairsFrom ds i = pairLines (suc i) (drop i ds)
 
-module _ (ds : List ℕ) {o p : List ℕ} {at end : ℕ} (i : ℕ) (w : Writing (pairLines 1 ds) at o p end (pairsFrom ds i)) where
-  pair-here : i < length ds → pairsFrom ds i ≡ pairLines (i + 1) (getD ds i 0 ∷ []) ++ pairsFrom ds (suc i)
-  pair-here h = rw (drop-cons ds i 0 h, add-one i) (pairs-step (suc i) (getD ds i 0) (drop (suc i) ds))
+pub pairs-here : (ds : List ℕ) (i : ℕ) → i < length ds
+    → pairsFrom ds i ≡ pairLines (i + 1) (getD ds i 0 ∷ []) ++ pairsFrom ds (i + 1)
+pairs-here ds i h = rw (drop-cons ds i 0 h, add-one i) (pairs-step (suc i) (getD ds i 0) (drop (suc i) ds))
 
-  pub pair-count : i < length ds → Countable at (pairLines 1 ds) → Countable end (pairLines (i + 1) (getD ds i 0 ∷ []))
-  pair-count h c = count-first (pairsFrom ds (suc i)) (count-is (pair-here h) (writing-count c w))
-
-  pub pairs-next : {part : List ℕ} {k : ℕ} (from : ℕ) → i < length ds → from ≡ min end (length p)
-      → Writes (pairLines (i + 1) (getD ds i 0 ∷ [])) 0 (partFrom from p) part k → length part ≡ length (partFrom from p)
-      → Writing (pairLines 1 ds) at o (partBack from p part) (end + k) (pairsFrom ds (i + 1))
-  pairs-next {part} {k} from h b v l =
-      let next : pairsFrom ds (i + 1) ≡ pairsFrom ds (suc i) = ap (pairsFrom ds) (add-one i) in
-      rw next (writing-line from (pairsFrom ds (suc i)) (pair-here h) w b v l)
-
-  pub pairs-wrote : length ds ≤ i → Writes (pairLines 1 ds) at o p end
-  unfolding pairLines
-  pairs-wrote h = writing-end w (rw (drop-of-length-le ds h))
+pub pairs-done : (ds : List ℕ) (i : ℕ) → length ds ≤ i → pairsFrom ds i ≡ []
+unfolding pairLines
+pairs-done ds i h = rw (drop-of-length-le ds h)
 
 -- no letter stands for a variable of an overlap's goal
 unlettered : variableName [] ≡ numberedAs (86 ∷ [])

@@ -4,12 +4,12 @@
 --   decimal-exact                 the digits have no leading zero, and their value is the number
 -- Assumes nothing.
 use mathlib.Core.Path.{_≡_, refl, sym, ap, _∙_}
-use mathlib.Core.Bool.{Bool, true, false, cond, _&&_}
+use mathlib.Core.Bool.{Bool, true, false, cond}
 use mathlib.Core.List.{List, [], _∷_, _++_, append-assoc}
 use Prim.Native.Nat.{ℕ, zero, suc, _+_, _-_, _*_, _/_, _%_, _≤_, _<_}
 use native.Mathlib.Omega.{arith}
 use lib.Dec.{ltb, leb}
-use lib.ListN.{length, length-append}
+use lib.ListN.{length}
 use borrow.Author.Tests.{lt-ltb, le-ltb, le-leb, leb-true, ltb-true, ltb-false, ne-eqb}
 use Rattle.text.specs.Bytes.{digit, between, isClass}
 use Rattle.text.specs.Fields.{isNumber, valueFrom, valueOf}
@@ -77,14 +77,6 @@ decimalFrom-few (suc f) n b = go (ltb n 10) (decimalFrom-few f (n / 10) ((48 + n
 pub decimal-few : (n : ℕ) → length (decimal n) ≤ suc n
 unfolding decimal
 decimal-few n = omega (arith, decimalFrom-few (suc n) n [])
-
--- and at least one
-pub decimal-some : (n : ℕ) → 1 ≤ length (decimal n)
-decimal-some n = go (ltb n 10) refl
-  where
-    go : (t : Bool) → ltb n 10 ≡ t → 1 ≤ length (decimal n)
-    go true e = rw (decimal-low n (ltb-true n 10 e)) (omega arith)
-    go false e = rw (decimal-high n (ltb-false n 10 e)) (omega (arith, length-append (decimal (n / 10)) ((48 + n % 10) ∷ [])))
 
 -- the value of digits with one more behind them
 value-last : (v : ℕ) (s : List ℕ) (b : ℕ) → valueFrom v (s ++ (b ∷ [])) ≡ valueFrom v s * 10 + (b - 48)

@@ -5,14 +5,14 @@
 --   renumbered-is, end-numbered     numbering the variables by first appearance leaves the listing as it was
 --   listed-short, listed-written     the reply, and the output afterwards
 -- Assumes nothing.
-use mathlib.Core.Path.{_≡_, refl, sym, ap, ap₂, _∙_, subst}
-use mathlib.Core.Bool.{Bool, true, false, cond}
+use mathlib.Core.Path.{_≡_, refl, sym, ap₂, _∙_, subst}
+use mathlib.Core.Bool.{Bool, true, false}
 use mathlib.Core.List.{List, [], _∷_, _++_, map}
 use Prim.Native.Nat.{ℕ, suc, _+_, _≤_, _<_}
 use native.Mathlib.Omega.{arith}
 use borrow.Author.Tests.{lt-ltb, le-ltb}
 use lib.Dec.{ltb}
-use lib.ListN.{length, take, drop}
+use lib.ListN.{length}
 use Rattle.text.specs.Bytes.{ascii}
 use Rattle.semantics.specs.Terms.{Term, con, var, Constraint, mapTerms}
 use Rattle.semantics.specs.Overlaps.{numbered}

@@ -8,17 +8,14 @@
 --   bound-…, bounds-…      an A line, and a line for each goal variable
 -- Assumes nothing.
 use mathlib.Core.Path.{_≡_, refl, sym, ap, _∙_}
-use mathlib.Core.Bool.{Bool, true, false, cond}
-use mathlib.Core.List.{List, [], _∷_, _++_, append-assoc, append-nil, map}
-use Prim.Native.Nat.{ℕ, suc, _+_, _-_, _*_, _/_, _%_, _≤_, _<_, min}
+use mathlib.Core.List.{List, [], _∷_, _++_, append-assoc, map}
+use Prim.Native.Nat.{ℕ, suc, _+_, _-_, _*_, _/_, _%_, _≤_, _<_}
 use native.Mathlib.Omega.{arith}
 use native.Mathlib.Numerals.{add-one}
 use borrow.Author.Tests.{lt-ltb, le-ltb}
-use lib.Dec.{ltb}
-use lib.ListN.{length, take, drop, getD, length-append, length-drop, length-take, drop-of-length-le}
-use lib.Seq.{drop-cons, take-all, drop-drop}
+use lib.ListN.{length, take, drop, getD, length-drop, length-take, drop-of-length-le}
+use lib.Seq.{drop-cons, take-all}
 use Rattle.text.specs.Bytes.{ascii}
-use Rattle.semantics.specs.Terms.{Term, Constraint}
 use Rattle.tables.specs.Cells.{cellTerm, cellTerms, cellConstraints, rowConstraint}
 use Rattle.tables.specs.Numbers.{usedCells}
 use Rattle.tables.proofs.CellLaws.{cell-low, cell-high, constraints-at, constraints-short}
@@ -29,8 +26,8 @@ use Rattle.listing.specs.Writing.{Countable, Writes}
 use Rattle.listing.specs.Ends.{cellShown, boundLine}
 use Rattle.listing.proofs.Decimals.{decimal-low, decimal-high}
 use Rattle.listing.proofs.WriteLaws.{wrote-then, wrote-is, count-is, count-first, count-next}
-use Rattle.listing.proofs.WriteLaws.{Writing, writing-count, writing-next, writing-line, writing-end}
-use Rattle.listing.proofs.WriteLaws.{writing-last, partFrom, partBack}
+use Rattle.listing.proofs.WriteLaws.{Writing, writing-count, writing-next, writing-end}
+use Rattle.listing.proofs.WriteLaws.{writing-last}
 
 -- a part of a text, one byte on
 module _ {part o p : List ℕ} {at end : ℕ} (i : ℕ) (w : Writing part at o p end (drop i part)) where
@@ -228,46 +225,30 @@ module _ (naming : Naming) (line letter : ℕ) (row : List ℕ) where
   line-wrote k u e f w v x g y h i j =
       wrote-is (sym (row-pieces u g)) (wrote-then w (wrote-then v (wrote-then (wrote-is (f ∙ ap naming e) x) y j) i) h)
 
--- a line for each constraint, from place i on
+-- a line for each constraint, from place i on: that of the five cells as they are lent, and those behind it
 abbrev pub rowsFrom : Naming → ℕ → ℕ → List ℕ → ℕ → List ℕ
 rowsFrom naming line letter cells i = constraintLines (line ∷ []) naming (numberedAs (letter ∷ [])) (cellConstraints (drop
     (5 * i) cells))
 
-module _ (naming : Naming) (line letter : ℕ) (cells : List ℕ) {o p : List ℕ} {at end : ℕ} (i : ℕ)
-    (w : Writing (constraintLines (line ∷ []) naming (numberedAs (letter ∷ [])) (cellConstraints cells)) at o p end
-    (rowsFrom naming line letter cells i)) where
-  -- the constraint's five cells, as they are lent
+pub cut-size : (cells : List ℕ) (i : ℕ) → 5 * i + 5 ≤ length cells → length (take ((5 * i + 5) - 5 * i) (drop (5 * i) cells)) ≡ 5
+cut-size cells i h = omega (arith, length-take ((5 * i + 5) - 5 * i) (drop (5 * i) cells), length-drop (5 * i) cells)
+
+module _ (naming : Naming) (line letter : ℕ) (cells : List ℕ) (i : ℕ) where
   abbrev cut : List ℕ
   cut = take ((5 * i + 5) - 5 * i) (drop (5 * i) cells)
 
-  abbrev cutLine : List ℕ
-  cutLine = lineOf (line ∷ []) (constraintShown naming (numberedAs (letter ∷ [])) (rowConstraint cut))
-
-  row-here : 5 * i + 5 ≤ length cells → rowsFrom naming line letter cells i ≡ cutLine ++ rowsFrom naming line letter cells (suc i)
+  pub rows-here : 5 * i + 5 ≤ length cells
+      → rowsFrom naming line letter cells i
+      ≡ lineOf (line ∷ []) (constraintShown naming (numberedAs (letter ∷ [])) (rowConstraint cut))
+      ++ rowsFrom naming line letter cells (i + 1)
   unfolding constraintLines
-  row-here h =
+  rows-here h =
       let five : (5 * i + 5) - 5 * i ≡ 5 = omega arith in
-      rw (constraints-at cells i h, five)
+      rw (add-one i, constraints-at cells i h, five)
 
-  pub cut-size : 5 * i + 5 ≤ length cells → length cut ≡ 5
-  cut-size h = omega (arith, length-take ((5 * i + 5) - 5 * i) (drop (5 * i) cells), length-drop (5 * i) cells)
-
-  pub row-count : 5 * i + 5 ≤ length cells
-      → Countable at (constraintLines (line ∷ []) naming (numberedAs (letter ∷ [])) (cellConstraints cells))
-      → Countable end cutLine
-  row-count h c = count-first (rowsFrom naming line letter cells (suc i)) (count-is (row-here h) (writing-count c w))
-
-  pub rows-next : {part : List ℕ} {k : ℕ} (from : ℕ) → 5 * i + 5 ≤ length cells → from ≡ min end (length p)
-      → Writes cutLine 0 (partFrom from p) part k → length part ≡ length (partFrom from p)
-      → Writing (constraintLines (line ∷ []) naming (numberedAs (letter ∷ [])) (cellConstraints cells)) at o
-      (partBack from p part) (end + k) (rowsFrom naming line letter cells (i + 1))
-  rows-next from h b v l =
-      rw (add-one i) (writing-line from (rowsFrom naming line letter cells (suc i)) (row-here h) w b v l)
-
-  pub rows-wrote : length cells < 5 * i + 5
-      → Writes (constraintLines (line ∷ []) naming (numberedAs (letter ∷ [])) (cellConstraints cells)) at o p end
+  pub rows-done : length cells < 5 * i + 5 → rowsFrom naming line letter cells i ≡ []
   unfolding constraintLines
-  rows-wrote h = writing-end w (rw (constraints-short cells i h))
+  rows-done h = rw (constraints-short cells i h)
 
 -- a goal variable's line: its front, a comma, what it became, and the line feed
 module _ (naming : Naming) (letters : List ℕ) (i x : ℕ) where
@@ -296,34 +277,18 @@ module _ (naming : Naming) (letters : List ℕ) (i x : ℕ) where
       → length q ≡ length p → length r ≡ length q → Writes (boundLine naming letters i x) 0 o s end
   bound-wrote w v u t h j k = wrote-is (sym bound-pieces) (wrote-then w (wrote-then v (wrote-then u t k) j) h)
 
--- a line for each goal variable, from x on
+-- a line for each goal variable, from i on: its line, and those behind it
 abbrev pub boundsFrom : Naming → List ℕ → List ℕ → ℕ → List ℕ
 boundsFrom naming letters bound i =
     boundLines naming (numberedAs (ascii "U")) (variableName letters) i (map cellTerm (drop i bound))
 
-module _ (naming : Naming) (letters bound : List ℕ) {o p : List ℕ} {at end : ℕ} (i : ℕ)
-    (w : Writing (boundLines naming (numberedAs (ascii "U")) (variableName letters) 0 (map cellTerm bound)) at o p end
-    (boundsFrom naming letters bound i)) where
-  bound-here : i < length bound
+module _ (naming : Naming) (letters bound : List ℕ) (i : ℕ) where
+  pub bounds-here : i < length bound
       → boundsFrom naming letters bound i
-      ≡ boundLine naming letters i (getD bound i 0) ++ boundsFrom naming letters bound (suc i)
+      ≡ boundLine naming letters i (getD bound i 0) ++ boundsFrom naming letters bound (i + 1)
   unfolding boundLines boundLine cellShown ascii
-  bound-here h = rw (drop-cons bound i 0 h)
+  bounds-here h = rw (add-one i, drop-cons bound i 0 h)
 
-  pub bound-count : i < length bound
-      → Countable at (boundLines naming (numberedAs (ascii "U")) (variableName letters) 0 (map cellTerm bound))
-      → Countable end (boundLine naming letters i (getD bound i 0))
-  bound-count h c = count-first (boundsFrom naming letters bound (suc i)) (count-is (bound-here h) (writing-count c w))
-
-  pub bounds-next : {part : List ℕ} {k : ℕ} (from : ℕ) → i < length bound → from ≡ min end (length p)
-      → Writes (boundLine naming letters i (getD bound i 0)) 0 (partFrom from p) part k
-      → length part ≡ length (partFrom from p)
-      → Writing (boundLines naming (numberedAs (ascii "U")) (variableName letters) 0 (map cellTerm bound)) at o
-      (partBack from p part) (end + k) (boundsFrom naming letters bound (i + 1))
-  bounds-next from h b v l =
-      rw (add-one i) (writing-line from (boundsFrom naming letters bound (suc i)) (bound-here h) w b v l)
-
-  pub bounds-wrote : length bound ≤ i
-      → Writes (boundLines naming (numberedAs (ascii "U")) (variableName letters) 0 (map cellTerm bound)) at o p end
+  pub bounds-done : length bound ≤ i → boundsFrom naming letters bound i ≡ []
   unfolding boundLines
-  bounds-wrote h = writing-end w (rw (drop-of-length-le bound h))
+  bounds-done h = rw (drop-of-length-le bound h)

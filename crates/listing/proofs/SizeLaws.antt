@@ -23,7 +23,7 @@ use Rattle.tables.specs.Cells.{cellTerm, cellTerms, cellConstraints}
 use Rattle.tables.proofs.CellLaws.{cell-low, cell-high, le-or-lt}
 use Rattle.listing.specs.Listing.{Naming, decimal, fieldsBehind, lineOf, termShown, constraintShown, constraintLines}
 use Rattle.listing.specs.Listing.{numberedAs, variableName, boundLines}
-use Rattle.listing.specs.Writing.{Countable, Writes, ListedAs, ample}
+use Rattle.listing.specs.Writing.{Writes, ListedAs, ample}
 use Rattle.listing.specs.Ends.{liveBytes, numberedEnd, Writable, maxCells, maxBound, Ample}
 use Rattle.listing.specs.declared.End.{End}
 use Rattle.listing.specs.declared.Listed.the-variants.{Written}

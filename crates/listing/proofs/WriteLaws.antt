@@ -159,6 +159,15 @@ pub writing-count : {whole o p left : List ℕ} {at end : ℕ} → Countable at 
     → Countable end left
 writing-count {whole} {o} {p} {left} {at} {end} c w = count-next (count-is (sym (w .split)) c) (w .wrote)
 
+-- and so can its first piece; the place behind it is one of the machine's numbers
+pub writing-first : {whole o p left s : List ℕ} {at end : ℕ} (rest : List ℕ) → left ≡ s ++ rest → Countable at whole
+    → Writing whole at o p end left → Countable end s
+writing-first rest e c w = count-first rest (count-is e (writing-count c w))
+
+pub writing-room : {whole o p left s x y : List ℕ} {at end k : ℕ} (rest : List ℕ) → left ≡ s ++ rest → Countable at whole
+    → Writing whole at o p end left → Writes s 0 x y k → end + k < 18446744073709551616
+writing-room {s = s} rest e c w v = omega (arith, writing-first {s = s} rest e c w .few, v .counted)
+
 -- one piece more
 pub writing-next : {whole o p q left s : List ℕ} {at end more : ℕ} (rest : List ℕ) → left ≡ s ++ rest
     → Writing whole at o p end left → Writes s end p q more → length q ≡ length p → Writing whole at o q more rest

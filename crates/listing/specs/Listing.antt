@@ -6,7 +6,7 @@
 --   verdictListing          `CONFLUENT`, or `UNJOINED` with P and G lines and both ends
 -- Assumes nothing.
 use Prim.Native.Nat.{ℕ, zero, suc, _+_, _-_, _/_, _%_}
-use mathlib.Core.Bool.{Bool, true, false, cond}
+use mathlib.Core.Bool.{cond}
 use mathlib.Core.List.{List, [], _∷_, _++_, map}
 use lib.Dec.{ltb, eqb}
 use lib.ListN.{length, getD}
@@ -14,7 +14,7 @@ use Rattle.text.specs.Bytes.{ascii}
 use Rattle.text.specs.Lists.{indexFrom, gather}
 use Rattle.semantics.specs.Terms.{Term, con, var, Constraint, Symbol, State, failed, live, symbolAt}
 use Rattle.semantics.specs.Strategy.{Final}
-use Rattle.semantics.specs.Overlaps.{Overlap, appearingIn, appearing}
+use Rattle.semantics.specs.Overlaps.{appearingIn, appearing}
 use Rattle.semantics.specs.Verdict.{Verdict, confluent, unjoined}
 use Rattle.syntax.specs.Forms.{firstConstant}
 

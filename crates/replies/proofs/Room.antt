@@ -7,15 +7,15 @@
 --   run-listed                    so texts that read get their listing
 --   Answered, run-answered        any other reply has a number of at most 10
 -- Assumes nothing.
-use Prim.Native.Nat.{ℕ, zero, suc, _+_, _-_, _*_, _/_, _%_, _≤_, _<_}
+use Prim.Native.Nat.{ℕ, zero, suc, _+_, _-_, _*_, _≤_, _<_}
 use native.Mathlib.Decide.{decLt}
 use native.Mathlib.Omega.{arith}
 use mathlib.Core.Bool.{Bool, true, false, cond}
-use mathlib.Core.List.{List, [], _∷_, _++_, map}
+use mathlib.Core.List.{List, [], _∷_, _++_}
 use mathlib.Core.Path.{_≡_, refl, sym, ap, subst, _∙_}
 use lib.Dec.{ltb, eqb}
-use lib.ListN.{length, length-append, length-map, getD}
-use borrow.Author.Tests.{ltb-true, ltb-false, eqb-true}
+use lib.ListN.{length, length-append, getD}
+use borrow.Author.Tests.{ltb-true, eqb-true}
 use Rattle.text.specs.Bytes.{ascii}
 use Rattle.text.specs.Lists.{has, indexFrom}
 use Rattle.text.specs.Lines.{parted}
@@ -26,7 +26,7 @@ use Rattle.semantics.specs.Overlaps.{appearingIn, appearing}
 use Rattle.semantics.proofs.Configurations.{All, also}
 use Rattle.semantics.proofs.Configurations as C
 use Rattle.text.proofs.Bools.{and-true}
-use Rattle.semantics.proofs.Multisets.{all-mono, all-map, all-of-members}
+use Rattle.semantics.proofs.Multisets.{all-mono, all-of-members}
 use Rattle.semantics.proofs.Normal.{Reach, arrived, fires, normalise-reach}
 use Rattle.semantics.proofs.Weights.{weight-cons, stateWeight, fireAt-lighter}
 use Rattle.semantics.proofs.Vocabulary.{TermOver, ConstraintOver, RuleOver, SpokenState, run-spoken}
@@ -37,8 +37,8 @@ use Rattle.syntax.specs.Goals.{GoalReading, readGoal}
 use Rattle.syntax.proofs.WellFormed.{read-wellFormed}
 use Rattle.syntax.proofs.Vocabulary.{SymbolSmall, ReadSmall, read-small}
 use Rattle.syntax.proofs.GoalVocabulary.{ReadGoal, goal-small}
-use Rattle.listing.specs.Listing.{decimalFrom, decimal, fieldsBehind, lineOf, Naming, namingOf, termShown, constraintShown}
-use Rattle.listing.specs.Listing.{constraintLines, numberedAs, unbound, boundLines, stateListing, endListing}
+use Rattle.listing.specs.Listing.{decimalFrom, decimal, fieldsBehind, lineOf, Naming, namingOf, termShown}
+use Rattle.listing.specs.Listing.{constraintLines, unbound, boundLines, stateListing, endListing}
 use Rattle.listing.proofs.Decimals.{decimal-low, decimal-high}
 use Rattle.listing.proofs.SizeLaws.{Short, decimal-short, number-short, line-few, rows-few, bounds-few}
 use Rattle.replies.specs.Replies.{Text, programText, goalText, Reply, refusal, listing, replyOf, fitted}

@@ -16,7 +16,7 @@ returns-2 c = λ e. absurd (let w : _≡_ {A = ℕ} 0 1 = cc in omega arith)
 
 returns-3 : tie.Need-returns-3
 unfolding ample maxBound maxCells
-returns-3 c = λ e. record { wide = c .before .if1 .left; few-bound = c .if2 .left; few-cells = leb-true _ _ e }
+returns-3 c = λ e. record { wide = omega (arith, c .before .if1 .left); few-bound = c .if2 .left; few-cells = leb-true _ _ e }
 
 pub is-ample-spec : {M : Type 1} → statement M
 is-ample-spec = tie.close (tie.spec returns returns-2 returns-3)

@@ -1,11 +1,11 @@
 -- `listing::checks::put_pairs` meets its contract: the lines of the heads before i are written. Assumes nothing.
 use borrow.Author.Needs.{needs}
-use Prim.Native.Nat.{ℕ, _≤_, _-_}
+use Prim.Native.Nat.{_≤_, _-_}
 use native.Mathlib.Omega.{arith}
 use lib.ListN.{length}
 use Rattle.listing.specs.Listing.{pairLines}
-use Rattle.listing.proofs.WriteLaws.{Writing, writing-start, count-front}
-use Rattle.listing.proofs.CheckLaws.{pairsFrom, pair-count, pairs-next, pairs-wrote}
+use Rattle.listing.proofs.WriteLaws.{Writing, writing-start, writing-first, writing-room, writing-line, writing-end, count-front}
+use Rattle.listing.proofs.CheckLaws.{pairsFrom, pairs-here, pairs-done}
 use Rattle.listing.proofs.checks.put_pairs.Statement.{statement}
 use Rattle.listing.proofs.checks.put_pairs.Tie as tie
 
@@ -20,33 +20,12 @@ loop-holds : tie.Need-loop-holds Inv-loop μ-loop
 loop-holds c =
     (omega arith, writing-start _ _ _)
 
-behind-requires : tie.Need-behind-requires Inv-loop μ-loop
-behind-requires c κs = search needs
-
-sub-put-pair : tie.Need-sub-put-pair Inv-loop μ-loop
-sub-put-pair c = omega (arith, c .behind .ensures)
-
-part-put-pair-start : tie.Need-part-put-pair-start Inv-loop μ-loop
-part-put-pair-start c = omega (arith, c .behind .ensures)
-
-part-put-pair-end : tie.Need-part-put-pair-end Inv-loop μ-loop
-part-put-pair-end c = search needs
-
-add-put-pair : tie.Need-add-put-pair Inv-loop μ-loop
-add-put-pair c = search needs
-
-mul-put-pair : tie.Need-mul-put-pair Inv-loop μ-loop
-mul-put-pair c = search needs
-
-shared-slice-read-put-pair : tie.Need-shared-slice-read-put-pair Inv-loop μ-loop
-shared-slice-read-put-pair c = search needs
-
 put-pair-requires : tie.Need-put-pair-requires Inv-loop μ-loop
 put-pair-requires c κs =
     let at-loop-test = c .before .before .before in
     let at-loop = at-loop-test .before in
     let start = at-loop .before .before .before in
-    count-front (pair-count _ _ (at-loop .loop .inv .1) (at-loop-test .loop-test .taken) (start .pre))
+    count-front (writing-first _ (pairs-here _ _ (at-loop-test .loop-test .taken)) (start .pre) (at-loop .loop .inv .1))
 
 add-end : tie.Need-add-end Inv-loop μ-loop
 add-end c =
@@ -54,14 +33,10 @@ add-end c =
     let at-loop-test = at-put-pair .before .before .before .before in
     let at-loop = at-loop-test .before in
     let start = at-loop .before .before .before in
-    let few = pair-count _ _ (at-loop .loop .inv .1) (at-loop-test .loop-test .taken) (start .pre) .few in
-    omega (arith, few, at-put-pair .put-pair .ensures .counted)
-
-add-i : tie.Need-add-i Inv-loop μ-loop
-add-i c = search needs
-
-loop-less : tie.Need-loop-less Inv-loop μ-loop
-loop-less c = search needs
+    let room =
+    writing-room _ (pairs-here _ _ (at-loop-test .loop-test .taken)) (start .pre) (at-loop .loop .inv .1)
+    (at-put-pair .put-pair .ensures) in
+    omega (arith, room)
 
 loop-again : tie.Need-loop-again Inv-loop μ-loop
 loop-again c =
@@ -71,15 +46,12 @@ loop-again c =
     let at-loop = at-loop-test .before in
     let line = at-put-pair .put-pair in (
       omega arith,
-      pairs-next _ _ (at-loop .loop .inv .1) _ (at-loop-test .loop-test .taken) (at-behind .behind .ensures) (line .ensures)
-          (line .kept .0),
+      writing-line _ _ (pairs-here _ _ (at-loop-test .loop-test .taken)) (at-loop .loop .inv .1) (at-behind .behind .ensures)
+          (line .ensures) (line .kept .0),
     )
 
-same-length : tie.Need-same-length Inv-loop μ-loop
-same-length c = search needs
-
 returns : tie.Need-returns Inv-loop μ-loop
-returns c = pairs-wrote _ _ (c .before .loop .inv .1) (c .loop-test .left)
+returns c = writing-end (c .before .loop .inv .1) (pairs-done _ _ (c .loop-test .left))
 
 pub put-pairs-spec : {M : Type 1} → statement M
 put-pairs-spec =
@@ -88,17 +60,17 @@ put-pairs-spec =
     Inv-loop
     μ-loop
     loop-holds
-    behind-requires
-    sub-put-pair
-    part-put-pair-start
-    part-put-pair-end
-    add-put-pair
-    mul-put-pair
-    shared-slice-read-put-pair
+    (λ c κs. search needs)
+    (λ c. omega (arith, c .behind .ensures))
+    (λ c. omega (arith, c .behind .ensures))
+    (λ c. search needs)
+    (λ c. search needs)
+    (λ c. search needs)
+    (λ c. search needs)
     put-pair-requires
     add-end
-    add-i
-    loop-less
+    (λ c. search needs)
+    (λ c. search needs)
     loop-again
-    same-length
+    (λ c. search needs)
     returns)

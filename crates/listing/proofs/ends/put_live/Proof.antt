@@ -1,6 +1,5 @@
 -- `listing::ends::put_live` meets its contract: the first line, the A lines and the S lines. Assumes nothing.
 use borrow.Author.Needs.{needs}
-use native.Mathlib.Omega.{arith}
 use Rattle.listing.proofs.EndLaws.{live-head, live-bounds, live-rows, live-wrote}
 use Rattle.listing.proofs.ends.put_live.Statement.{statement}
 use Rattle.listing.proofs.ends.put_live.Tie as tie

@@ -1,9 +1,9 @@
 -- `listing::putting::put_fields` meets its contract: the fields before i are written. Assumes nothing.
 use borrow.Author.Needs.{needs}
-use mathlib.Core.List.{List, map}
-use Prim.Native.Nat.{ℕ, _≤_, _-_}
+use mathlib.Core.List.{map}
+use Prim.Native.Nat.{_≤_, _-_}
 use native.Mathlib.Omega.{arith}
-use lib.ListN.{length, drop}
+use lib.ListN.{length}
 use Rattle.tables.specs.Names.{nameIn}
 use Rattle.listing.specs.Listing.{fieldsBehind}
 use Rattle.listing.specs.Ends.{cellShown}
@@ -26,12 +26,6 @@ loop-holds c = (omega arith, writing-start _ _ _)
 put-byte-requires : tie.Need-put-byte-requires Inv-loop μ-loop
 put-byte-requires c κs = search comma-count
 
-mul-put-cell : tie.Need-mul-put-cell Inv-loop μ-loop
-mul-put-cell c = search needs
-
-shared-slice-read-put-cell : tie.Need-shared-slice-read-put-cell Inv-loop μ-loop
-shared-slice-read-put-cell c = search needs
-
 put-cell-requires : tie.Need-put-cell-requires Inv-loop μ-loop
 put-cell-requires c κs =
     let at-byte = c .before .before .before .before in
@@ -39,12 +33,6 @@ put-cell-requires c κs =
     let at-loop = at-test .before in
     field-count _ _ _ (at-loop .loop .inv .1) (at-test .loop-test .taken)
     (at-loop .before .before .before .before .before .before .pre) (at-byte .put-byte .ensures)
-
-add-i : tie.Need-add-i Inv-loop μ-loop
-add-i c = search needs
-
-loop-less : tie.Need-loop-less Inv-loop μ-loop
-loop-less c = search needs
 
 loop-again : tie.Need-loop-again Inv-loop μ-loop
 loop-again c = (omega arith, search fields-next)
@@ -55,9 +43,6 @@ put-byte-requires-2 c κs =
     let at-loop = at-test .before in
     let start = at-loop .before .before .before .before .before .before in
     feed-count _ _ _ (at-loop .loop .inv .1) (at-test .loop-test .left) (start .pre)
-
-same-length : tie.Need-same-length Inv-loop μ-loop
-same-length c = search needs
 
 returns : tie.Need-returns Inv-loop μ-loop
 returns c = search fields-wrote
@@ -70,12 +55,12 @@ put-fields-spec =
     μ-loop
     loop-holds
     put-byte-requires
-    mul-put-cell
-    shared-slice-read-put-cell
+    (λ c. search needs)
+    (λ c. search needs)
     put-cell-requires
-    add-i
-    loop-less
+    (λ c. search needs)
+    (λ c. search needs)
     loop-again
     put-byte-requires-2
-    same-length
+    (λ c. search needs)
     returns)

@@ -1,14 +1,14 @@
 -- `listing::putting::put_rows` meets its contract: the lines before i are written. Assumes nothing.
 use borrow.Author.Needs.{needs}
-use mathlib.Core.List.{List, [], _∷_}
-use Prim.Native.Nat.{ℕ, _≤_, _*_, _-_}
+use mathlib.Core.List.{[], _∷_}
+use Prim.Native.Nat.{_≤_, _*_, _-_}
 use native.Mathlib.Omega.{arith}
 use lib.ListN.{length}
 use Rattle.tables.specs.Cells.{cellConstraints}
 use Rattle.tables.specs.Names.{nameIn}
 use Rattle.listing.specs.Listing.{constraintLines, numberedAs}
-use Rattle.listing.proofs.WriteLaws.{Writing, writing-start, count-front}
-use Rattle.listing.proofs.LineLaws.{rowsFrom, cut-size, row-count, rows-next, rows-wrote}
+use Rattle.listing.proofs.WriteLaws.{Writing, writing-start, writing-first, writing-room, writing-line, writing-end, count-front}
+use Rattle.listing.proofs.LineLaws.{rowsFrom, cut-size, rows-here, rows-done}
 use Rattle.listing.proofs.putting.put_rows.Statement.{statement}
 use Rattle.listing.proofs.putting.put_rows.Tie as tie
 
@@ -24,42 +24,6 @@ abbrev μ-loop : tie.MeasureT-loop
 loop-holds : tie.Need-loop-holds Inv-loop μ-loop
 loop-holds c = (omega arith, writing-start _ _ _)
 
-mul-loop : tie.Need-mul-loop Inv-loop μ-loop
-mul-loop c = search needs
-
-add-loop : tie.Need-add-loop Inv-loop μ-loop
-add-loop c = search needs
-
-mul-a : tie.Need-mul-a Inv-loop μ-loop
-mul-a c = search needs
-
-add-e : tie.Need-add-e Inv-loop μ-loop
-add-e c = search needs
-
-behind-requires : tie.Need-behind-requires Inv-loop μ-loop
-behind-requires c κs = search needs
-
-sub-put-row : tie.Need-sub-put-row Inv-loop μ-loop
-sub-put-row c = omega (arith, c .behind .ensures)
-
-part-put-row-start : tie.Need-part-put-row-start Inv-loop μ-loop
-part-put-row-start c = omega (arith, c .behind .ensures)
-
-part-put-row-end : tie.Need-part-put-row-end Inv-loop μ-loop
-part-put-row-end c = search needs
-
-mul-put-row : tie.Need-mul-put-row Inv-loop μ-loop
-mul-put-row c = search needs
-
-sub-put-row-2 : tie.Need-sub-put-row-2 Inv-loop μ-loop
-sub-put-row-2 c = search needs
-
-part-put-row-start-2 : tie.Need-part-put-row-start-2 Inv-loop μ-loop
-part-put-row-start-2 c = search needs
-
-part-put-row-end-2 : tie.Need-part-put-row-end-2 Inv-loop μ-loop
-part-put-row-end-2 c = search needs
-
 put-row-requires : tie.Need-put-row-requires Inv-loop μ-loop
 put-row-requires c κs =
     let at-loop-test = c .before .before .before in
@@ -67,7 +31,7 @@ put-row-requires c κs =
     let start = at-loop .before .before .before .before .before .before in
     let w = at-loop .loop .inv .1 in
     let here = at-loop-test .loop-test .taken in
-    (cut-size _ _ _ _ _ w here, count-front (row-count _ _ _ _ _ w here (start .pre)))
+    (cut-size _ _ here, count-front (writing-first _ (rows-here _ _ _ _ _ here) (start .pre) w))
 
 add-end : tie.Need-add-end Inv-loop μ-loop
 add-end c =
@@ -75,14 +39,10 @@ add-end c =
     let at-loop-test = at-put-row .before .before .before .before in
     let at-loop = at-loop-test .before in
     let start = at-loop .before .before .before .before .before .before in
-    let few = row-count _ _ _ _ _ (at-loop .loop .inv .1) (at-loop-test .loop-test .taken) (start .pre) .few in
-    omega (arith, few, at-put-row .put-row .ensures .counted)
-
-add-i : tie.Need-add-i Inv-loop μ-loop
-add-i c = search needs
-
-loop-less : tie.Need-loop-less Inv-loop μ-loop
-loop-less c = search needs
+    let room =
+    writing-room _ (rows-here _ _ _ _ _ (at-loop-test .loop-test .taken)) (start .pre) (at-loop .loop .inv .1)
+    (at-put-row .put-row .ensures) in
+    omega (arith, room)
 
 loop-again : tie.Need-loop-again Inv-loop μ-loop
 loop-again c =
@@ -92,15 +52,12 @@ loop-again c =
     let at-loop = at-loop-test .before in
     let line = at-put-row .put-row in (
       omega arith,
-      rows-next _ _ _ _ _ (at-loop .loop .inv .1) _ (at-loop-test .loop-test .taken) (at-behind .behind .ensures)
+      writing-line _ _ (rows-here _ _ _ _ _ (at-loop-test .loop-test .taken)) (at-loop .loop .inv .1) (at-behind .behind .ensures)
           (line .ensures) (line .kept .0),
     )
 
-same-length : tie.Need-same-length Inv-loop μ-loop
-same-length c = search needs
-
 returns : tie.Need-returns Inv-loop μ-loop
-returns c = search rows-wrote
+returns c = writing-end (c .before .loop .inv .1) (rows-done _ _ _ _ _ (c .loop-test .left))
 
 pub put-rows-spec : {M : Type 1} → statement M
 put-rows-spec =
@@ -109,22 +66,22 @@ put-rows-spec =
     Inv-loop
     μ-loop
     loop-holds
-    mul-loop
-    add-loop
-    mul-a
-    add-e
-    behind-requires
-    sub-put-row
-    part-put-row-start
-    part-put-row-end
-    mul-put-row
-    sub-put-row-2
-    part-put-row-start-2
-    part-put-row-end-2
+    (λ c. search needs)
+    (λ c. search needs)
+    (λ c. search needs)
+    (λ c. search needs)
+    (λ c κs. search needs)
+    (λ c. omega (arith, c .behind .ensures))
+    (λ c. omega (arith, c .behind .ensures))
+    (λ c. search needs)
+    (λ c. search needs)
+    (λ c. search needs)
+    (λ c. search needs)
+    (λ c. search needs)
     put-row-requires
     add-end
-    add-i
-    loop-less
+    (λ c. search needs)
+    (λ c. search needs)
     loop-again
-    same-length
+    (λ c. search needs)
     returns)
