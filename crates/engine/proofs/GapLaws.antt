@@ -74,9 +74,6 @@ module _ (k p : ℕ) (start : List ℕ) (l : p < k) (fits : 5 * k ≤ length sta
       record { here = omega arith; moved = rw none-yet (moving-start (5 * p + 5) (5 * p) (5 * k - 5 - 5 * p) start) }
 
   module _ (cells : List ℕ) (i : ℕ) (w : Closing k p start cells i) where
-    pub closing-size : length cells ≡ length start
-    closing-size = w .moved .size
-
     pub closing-next : i < 5 * k - 5 → Closing k p start (set cells i (getD cells (i + 5) 0)) (i + 1)
     closing-next h =
         let to : 5 * p + (i - 5 * p) ≡ i = omega (arith, w .here) in

@@ -8,12 +8,6 @@ use borrow.Author.Needs.{needs}
 use Rattle.engine.proofs.derivation.advance.Statement.{statement}
 use Rattle.engine.proofs.derivation.advance.Tie as tie
 
-mul-e : tie.Need-mul-e
-mul-e c = search needs
-
-slice-reshare-prefix-choose : tie.Need-slice-reshare-prefix-choose
-slice-reshare-prefix-choose c = search needs
-
 slice-aggregate-choose : tie.Need-slice-aggregate-choose
 slice-aggregate-choose c = step-lent _ _ _ _ _ (c .before .before .before .before .before .before .pre .0)
 
@@ -21,12 +15,6 @@ choose-requires : tie.Need-choose-requires
 choose-requires c κs =
     let at-pre = c .before .before .before .before .before .before in
     step-chooses _ _ _ _ _ (at-pre .pre .0) _ (at-pre .pre .1) _ (omega arith)
-
-same-length : tie.Need-same-length
-same-length c = search needs
-
-same-length-2 : tie.Need-same-length-2
-same-length-2 c = search needs
 
 returns : tie.Need-returns
 returns c =
@@ -52,15 +40,6 @@ add-b c = omega (arith, part-fire-end c)
 mul-fire : tie.Need-mul-fire
 mul-fire c = omega (arith, part-fire-end c)
 
-sub-fire : tie.Need-sub-fire
-sub-fire c = search needs
-
-part-fire-start : tie.Need-part-fire-start
-part-fire-start c = search needs
-
-slice-aggregate-fire : tie.Need-slice-aggregate-fire
-slice-aggregate-fire c = search needs
-
 fire-requires : tie.Need-fire-requires
 fire-requires c κs =
     let at-if1 = c .before .before .before .before .before .before in
@@ -79,12 +58,6 @@ part-lower-end c =
 mul-lower : tie.Need-mul-lower
 mul-lower c = omega (arith, part-lower-end c)
 
-sub-lower : tie.Need-sub-lower
-sub-lower c = search needs
-
-part-lower-start : tie.Need-part-lower-start
-part-lower-start c = search needs
-
 lower-requires : tie.Need-lower-requires
 lower-requires c κs =
     let at-fire = c .before .before .before .before .before .before in
@@ -93,15 +66,6 @@ lower-requires c κs =
     let at-pre = at-choose .before .before .before .before .before .before .before in
     step-lowers _ _ _ _ _ (at-pre .pre .0) _ _ _ _ (at-choose .choose .ensures .0) (not-false _ (at-if1 .if1 .left))
     _ _ _ _ _ (at-fire .fire .ensures) (at-pre .pre .2)
-
-same-length-3 : tie.Need-same-length-3
-same-length-3 c = search needs
-
-same-length-4 : tie.Need-same-length-4
-same-length-4 c = search needs
-
-same-length-5 : tie.Need-same-length-5
-same-length-5 c = search needs
 
 returns-2 : tie.Need-returns-2
 returns-2 c =
@@ -121,27 +85,21 @@ pub advance-spec : {M : Type 1} → statement M
 advance-spec =
     tie.close
     (tie.spec
-    mul-e
-    slice-reshare-prefix-choose
+    (λ c. search needs) (λ c. search needs)
     slice-aggregate-choose
     choose-requires
-    same-length
-    same-length-2
+    (λ c. search needs) (λ c. search needs)
     returns
     mul-a
     add-b
     mul-fire
-    sub-fire
-    part-fire-start
+    (λ c. search needs) (λ c. search needs)
     part-fire-end
-    slice-aggregate-fire
+    (λ c. search needs)
     fire-requires
     mul-lower
-    sub-lower
-    part-lower-start
+    (λ c. search needs) (λ c. search needs)
     part-lower-end
     lower-requires
-    same-length-3
-    same-length-4
-    same-length-5
+    (λ c. search needs) (λ c. search needs) (λ c. search needs)
     returns-2)

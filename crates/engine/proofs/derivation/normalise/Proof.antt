@@ -26,9 +26,6 @@ abbrev μ-loop : tie.MeasureT-loop
 loop-holds : tie.Need-loop-holds Inv-loop μ-loop
 loop-holds c = (running-start _ _ _ _ _ _ ((c .before .before .before .pre)), keeps-start _ _ 32 _ _, refl)
 
-slice-aggregate-advance : tie.Need-slice-aggregate-advance Inv-loop μ-loop
-slice-aggregate-advance c = omega arith
-
 advance-requires : tie.Need-advance-requires Inv-loop μ-loop
 advance-requires c κs =
     let at-loop-test = c .before .before .before in
@@ -39,12 +36,6 @@ advance-requires c κs =
       few-now _ _ _ _ _ _ ((at-pre .pre)) _ _ _ _
           _ _ (at-loop .loop .inv .0) (at-loop-test .loop-test .taken),
     )
-
-same-length : tie.Need-same-length Inv-loop μ-loop
-same-length c = omega arith
-
-same-length-2 : tie.Need-same-length-2 Inv-loop μ-loop
-same-length-2 c = omega arith
 
 returns : tie.Need-returns Inv-loop μ-loop
 returns c =
@@ -83,12 +74,6 @@ loop-again c =
       search needs,
     )
 
-same-length-3 : tie.Need-same-length-3 Inv-loop μ-loop
-same-length-3 c = omega arith
-
-same-length-4 : tie.Need-same-length-4 Inv-loop μ-loop
-same-length-4 c = omega arith
-
 returns-2 : tie.Need-returns-2 Inv-loop μ-loop
 returns-2 c = search (needs, running-failed)
 
@@ -99,15 +84,13 @@ normalise-spec =
     Inv-loop
     μ-loop
     loop-holds
-    slice-aggregate-advance
+    (λ c. omega arith)
     advance-requires
-    same-length
-    same-length-2
+    (λ c. omega arith) (λ c. omega arith)
     returns
     add-number
     add-firings
     loop-less
     loop-again
-    same-length-3
-    same-length-4
+    (λ c. omega arith) (λ c. omega arith)
     returns-2)

@@ -16,18 +16,6 @@ use Rattle.engine.proofs.firing.append_body.Reads as append-body-reads
 use Rattle.engine.proofs.firing.remove.Reads as remove-reads
 use Rattle.engine.proofs.firing.solve_rule.Reads as solve-rule-reads
 
-shared-slice-read-wide : tie.Need-shared-slice-read-wide
-shared-slice-read-wide c = search needs
-
-wide-requires : tie.Need-wide-requires
-wide-requires c κs = search needs
-
-mul-old : tie.Need-mul-old
-mul-old c = search needs
-
-slice-relend-prefix-remove : tie.Need-slice-relend-prefix-remove
-slice-relend-prefix-remove c = search needs
-
 slice-aggregate-remove : tie.Need-slice-aggregate-remove
 slice-aggregate-remove c =
     let pre′ = c .before .before .before .before .before .before .before .pre in
@@ -47,9 +35,6 @@ append-body-requires c κs =
     let start = at-wide .before .before .before .before .before .before in
     fire-appends _ _ _ _ _ _ _ (start .pre) (at-wide .wide .ensures .0) _ _ (at-remove .remove .kept .0)
     (at-remove .remove .ensures)
-
-mul-end : tie.Need-mul-end
-mul-end c = search needs
 
 slice-relend-prefix-solve-rule : tie.Need-slice-relend-prefix-solve-rule
 slice-relend-prefix-solve-rule c =
@@ -78,12 +63,6 @@ solve-rule-requires c κs =
     fire-equated _ _ _ _ _ _ _ (start .pre) (at-wide .wide .ensures .0) _ _ (at-remove .remove .kept .0)
     (at-remove .remove .ensures) _ _ (at-append-body .append-body .kept .1 .1 .1 .0) (at-append-body .append-body .ensures)
 
-same-length : tie.Need-same-length
-same-length c = search needs
-
-same-length-2 : tie.Need-same-length-2
-same-length-2 c = search needs
-
 returns : tie.Need-returns
 returns c =
     let at-solve-rule = c .before .before .before .before in
@@ -99,17 +78,13 @@ pub fire-spec : {M : Type 1} → statement M
 fire-spec =
     tie.close
     (tie.spec
-    shared-slice-read-wide
-    wide-requires
-    mul-old
-    slice-relend-prefix-remove
+    (λ c. search needs) (λ c κs. search needs) (λ c. search needs) (λ c. search needs)
     slice-aggregate-remove
     remove-requires
     append-body-requires
-    mul-end
+    (λ c. search needs)
     slice-relend-prefix-solve-rule
     slice-aggregate-solve-rule
     solve-rule-requires
-    same-length
-    same-length-2
+    (λ c. search needs) (λ c. search needs)
     returns)

@@ -12,24 +12,6 @@ returns c =
     let if1′ = c .if1 in
     merged-clash _ _ _ _ _ pre′ (if1′ .taken)
 
-replace-all-requires : tie.Need-replace-all-requires
-replace-all-requires c κs = search needs
-
-replace-all-requires-2 : tie.Need-replace-all-requires-2
-replace-all-requires-2 c κs = search needs
-
-replace-all-requires-3 : tie.Need-replace-all-requires-3
-replace-all-requires-3 c κs = search needs
-
-same-length : tie.Need-same-length
-same-length c = search needs
-
-same-length-2 : tie.Need-same-length-2
-same-length-2 c = search needs
-
-same-length-3 : tie.Need-same-length-3
-same-length-3 c = search needs
-
 returns-2 : tie.Need-returns-2
 returns-2 c =
     let at-replace-all3 = c .before .before in
@@ -45,10 +27,6 @@ put-in-spec =
     tie.close
     (tie.spec
     returns
-    replace-all-requires
-    replace-all-requires-2
-    replace-all-requires-3
-    same-length
-    same-length-2
-    same-length-3
+    (λ c κs. search needs) (λ c κs. search needs) (λ c κs. search needs) (λ c. search needs) (λ c. search needs)
+    (λ c. search needs)
     returns-2)

@@ -19,24 +19,6 @@ loop-holds : tie.Need-loop-holds Inv-loop μ-loop
 loop-holds c =
     solving-start _ _ _ _ ((c .before .before .before .pre))
 
-mul-at : tie.Need-mul-at Inv-loop μ-loop
-mul-at c = omega arith
-
-mul-a : tie.Need-mul-a Inv-loop μ-loop
-mul-a c = omega arith
-
-slice-read-a : tie.Need-slice-read-a Inv-loop μ-loop
-slice-read-a c = omega arith
-
-add-b : tie.Need-add-b Inv-loop μ-loop
-add-b c = omega arith
-
-mul-b : tie.Need-mul-b Inv-loop μ-loop
-mul-b c = omega arith
-
-slice-read-b : tie.Need-slice-read-b Inv-loop μ-loop
-slice-read-b c = omega arith
-
 unify-requires : tie.Need-unify-requires Inv-loop μ-loop
 unify-requires c κs = tt
 
@@ -65,12 +47,6 @@ returns c =
     let at-loop = at-loop-test .before in
     solving-clash _ _ _ _ _ _ _ _ (at-loop .loop .inv) (at-loop-test .loop-test .taken) _ _ _ _ (at-unify .unify .ensures)
     (not-true _ (c .if1 .taken))
-
-add-i : tie.Need-add-i Inv-loop μ-loop
-add-i c = omega arith
-
-loop-less : tie.Need-loop-less Inv-loop μ-loop
-loop-less c = omega arith
 
 loop-again : tie.Need-loop-again Inv-loop μ-loop
 loop-again c =
@@ -105,19 +81,14 @@ solve-spec =
     Inv-loop
     μ-loop
     loop-holds
-    mul-at
-    mul-a
-    slice-read-a
-    add-b
-    mul-b
-    slice-read-b
+    (λ c. omega arith) (λ c. omega arith) (λ c. omega arith) (λ c. omega arith) (λ c. omega arith)
+    (λ c. omega arith)
     unify-requires
     same-length
     same-length-2
     same-length-3
     returns
-    add-i
-    loop-less
+    (λ c. omega arith) (λ c. omega arith)
     loop-again
     same-length-4
     same-length-5
