@@ -6,24 +6,12 @@ use Prim.Native.Nat.{ℕ, zero, suc, _+_, _-_, _*_, _≤_, _<_}
 use native.Mathlib.Nat.{add-zero}
 use native.Mathlib.Omega.{arith}
 use native.Mathlib.Numerals.{add-one}
-use mathlib.Core.Bool.{true, false, cond}
+use mathlib.Core.Bool.{true, false}
 use mathlib.Core.List.{List, [], _∷_, _++_, append-assoc, append-nil}
 use mathlib.Core.Path.{_≡_, refl, ap, sym, _∙_}
 use lib.Dec.{eqb}
 use lib.ListN.{length, getD, set, take, drop, length-drop, drop-of-length-le}
-use lib.Seq.{
-  paste,
-  take-paste,
-  length-paste,
-  take-suc,
-  drop-cons,
-  take-take,
-  take-add,
-  take-all,
-  take-append-le,
-  take-at,
-  drop-at,
-}
+use lib.Seq.{paste, take-paste, take-suc, drop-cons, take-take, take-add, take-all, take-append-le, drop-at}
 use lib.Seq.{length-take-le}
 use Rattle.text.specs.Lists.{has}
 use Rattle.semantics.specs.Terms.{Constraint}

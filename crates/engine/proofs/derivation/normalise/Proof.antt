@@ -47,13 +47,7 @@ returns c =
     _ _ _ _ (at-advance .advance .ensures .0) (not-true _ (c .if1 .taken))
 
 loop-less : tie.Need-loop-less Inv-loop μ-loop
-loop-less c =
-    let at-advance = c .before .before .before .before .before .before .before in
-    let at-loop-test = at-advance .before .before .before .before in
-    let at-loop = at-loop-test .before in
-    let at-pre = at-loop .before .before .before .before in
-    running-less _ _ _ _ _ _ ((at-pre .pre)) _ _ _ _ _ _ (at-loop .loop .inv .0) (at-loop-test .loop-test .taken) _
-    _ _ _ _ (at-advance .advance .ensures .0) (not-false _ (c .if1 .left))
+loop-less c = search (running-less, not-false)
 
 add-number : tie.Need-add-number Inv-loop μ-loop
 add-number c = omega (arith, loop-less c)

@@ -17,10 +17,7 @@ use Rattle.engine.proofs.firing.remove.Reads as remove-reads
 use Rattle.engine.proofs.firing.solve_rule.Reads as solve-rule-reads
 
 slice-aggregate-remove : tie.Need-slice-aggregate-remove
-slice-aggregate-remove c =
-    let pre′ = c .before .before .before .before .before .before .before .pre in
-    let wide′ = c .before .wide in
-    fire-lent _ _ _ _ _ _ _ pre′ (wide′ .ensures .0)
+slice-aggregate-remove c = search fire-lent
 
 remove-requires : tie.Need-remove-requires
 remove-requires c κs =
@@ -37,22 +34,10 @@ append-body-requires c κs =
     (at-remove .remove .ensures)
 
 slice-relend-prefix-solve-rule : tie.Need-slice-relend-prefix-solve-rule
-slice-relend-prefix-solve-rule c =
-    let at-append-body = c .before .before .before in
-    let at-remove = at-append-body .before .before .before .before in
-    let at-wide = at-remove .before .before in
-    let start = at-wide .before .before .before .before .before .before in
-    fire-within _ _ _ _ _ _ _ (start .pre) (at-wide .wide .ensures .0) _ _ (at-remove .remove .kept .0)
-    (at-remove .remove .ensures) _ _ (at-append-body .append-body .kept .1 .1 .1 .0) (at-append-body .append-body .ensures)
+slice-relend-prefix-solve-rule c = search fire-within
 
 slice-aggregate-solve-rule : tie.Need-slice-aggregate-solve-rule
-slice-aggregate-solve-rule c =
-    let at-append-body = c .before .before .before .before in
-    let at-remove = at-append-body .before .before .before .before in
-    let at-wide = at-remove .before .before in
-    let start = at-wide .before .before .before .before .before .before in
-    fire-lends _ _ _ _ _ _ _ (start .pre) (at-wide .wide .ensures .0) _ _ (at-remove .remove .kept .0)
-    (at-remove .remove .ensures) _ _ (at-append-body .append-body .kept .1 .1 .1 .0) (at-append-body .append-body .ensures)
+slice-aggregate-solve-rule c = search fire-lends
 
 solve-rule-requires : tie.Need-solve-rule-requires
 solve-rule-requires c κs =
@@ -64,15 +49,7 @@ solve-rule-requires c κs =
     (at-remove .remove .ensures) _ _ (at-append-body .append-body .kept .1 .1 .1 .0) (at-append-body .append-body .ensures)
 
 returns : tie.Need-returns
-returns c =
-    let at-solve-rule = c .before .before .before .before in
-    let at-append-body = at-solve-rule .before .before .before .before .before in
-    let at-remove = at-append-body .before .before .before .before in
-    let at-wide = at-remove .before .before in
-    let start = at-wide .before .before .before .before .before .before in
-    fire-done _ _ _ _ _ _ _ (start .pre) (at-wide .wide .ensures .0) _ _ (at-remove .remove .kept .0)
-    (at-remove .remove .ensures) _ _ (at-append-body .append-body .kept .1 .1 .1 .0) (at-append-body .append-body .ensures)
-    _ _ _ _ (at-solve-rule .solve-rule .kept .1 .1 .1 .1 .0) (at-solve-rule .solve-rule .ensures)
+returns c = search fire-done
 
 pub fire-spec : {M : Type 1} → statement M
 fire-spec =

@@ -10,10 +10,7 @@ use Rattle.engine.proofs.firing.at_most_four.Reads as at-most-four-read
 use Rattle.engine.proofs.solving.solve.Reads as solve-reads
 
 slice-aggregate-instantiate : tie.Need-slice-aggregate-instantiate
-slice-aggregate-instantiate c =
-    let pre′ = c .before .before .before .before .before .before .before .before .pre in
-    let count′ = c .before .before .at-most-four in
-    equations-room _ _ _ _ _ pre′ (count′ .ensures)
+slice-aggregate-instantiate c = search equations-room
 
 instantiate-requires : tie.Need-instantiate-requires
 instantiate-requires c κs =
@@ -22,34 +19,16 @@ instantiate-requires c κs =
     equations-asked _ _ _ _ _ pre′ (count′ .ensures)
 
 array-borrow-prefix-equations-2 : tie.Need-array-borrow-prefix-equations-2
-array-borrow-prefix-equations-2 c =
-    let at-instantiate = c .before in
-    let at-count = at-instantiate .before .before .before in
-    let start = at-count .before .before .before .before .before .before in
-    equations-prefix _ _ _ _ _ (start .pre) (at-count .at-most-four .ensures) _ _ (at-instantiate .instantiate .ensures)
+array-borrow-prefix-equations-2 c = search equations-prefix
 
 slice-aggregate-solve : tie.Need-slice-aggregate-solve
-slice-aggregate-solve c =
-    let at-instantiate = c .before .before in
-    let at-count = at-instantiate .before .before .before in
-    let start = at-count .before .before .before .before .before .before in
-    equations-lent _ _ _ _ _ (start .pre) (at-count .at-most-four .ensures) _ _ (at-instantiate .instantiate .ensures)
+slice-aggregate-solve c = search equations-lent
 
 solve-requires : tie.Need-solve-requires
-solve-requires c κs =
-    let at-instantiate = c .before .before .before .before in
-    let at-count = at-instantiate .before .before .before in
-    let start = at-count .before .before .before .before .before .before in
-    equations-solvable _ _ _ _ _ (start .pre) (at-count .at-most-four .ensures) _ _ (at-instantiate .instantiate .ensures)
+solve-requires c κs = search equations-solvable
 
 returns : tie.Need-returns
-returns c =
-    let at-solve = c .before .before .before .before .before in
-    let at-instantiate = at-solve .before .before .before .before .before in
-    let at-count = at-instantiate .before .before .before in
-    let start = at-count .before .before .before .before .before .before in
-    rule-solved _ _ _ _ _ (start .pre) (at-count .at-most-four .ensures) _ _ (at-instantiate .instantiate .ensures) _ _ _ _
-    (at-solve .solve .ensures)
+returns c = search rule-solved
 
 pub solve-rule-spec : {M : Type 1} → statement M
 solve-rule-spec =

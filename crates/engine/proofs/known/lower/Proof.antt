@@ -29,20 +29,13 @@ lowered-requires c κs =
     (at-mark .mark .ensures) (at-wide .wide .ensures .0)
 
 loop-again : tie.Need-loop-again Inv-loop μ-loop
-loop-again c =
-    let at-note = c .before .before in
-    let at-lowered = at-note .before .before in
-    let at-known-at = at-lowered .before in
-    let at-loop-test = at-known-at .before .before .before .before in
-    let at-loop = at-loop-test .before in
-    lowering-next _ _ _ _ _ _ _ _ (at-loop .loop .inv) (at-loop-test .loop-test .taken) _ _ _ (at-known-at .known-at
-    .ensures) (at-lowered .lowered .ensures) (at-note .note .ensures)
+loop-again c = search lowering-next
 
 same-length : tie.Need-same-length Inv-loop μ-loop
 same-length c = c .before .loop .inv .size
 
 returns : tie.Need-returns Inv-loop μ-loop
-returns c = lowering-end _ _ _ _ _ _ _ _ (c .before .loop .inv) (c .loop-test .left)
+returns c = search lowering-end
 
 pub lower-spec : {M : Type 1} → statement M
 lower-spec =

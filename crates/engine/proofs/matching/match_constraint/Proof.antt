@@ -6,10 +6,7 @@ use Rattle.engine.proofs.matching.match_constraint.Statement.{statement
 use Rattle.engine.proofs.matching.match_constraint.Tie as tie
 
 returns : tie.Need-returns
-returns c =
-    let at-match-terms = c .before .before in
-    let at-if1 = at-match-terms .before .before in
-    match-symbols _ _ _ _ _ (at-if1 .if1 .taken) (at-match-terms .match-terms .ensures)
+returns c = search match-symbols
 
 returns-2 : tie.Need-returns-2
 returns-2 c = match-others _ _ _ (c .if1 .left) ((c .before .before .before .before .before .before .pre))

@@ -15,10 +15,7 @@ returns-2 c =
     match-new _ _ _ (at-if1 .if1 .left) (at-pre .pre .0) (at-pre .pre .1) (at-pre .pre .2) (c .if2 .taken)
 
 returns-3 : tie.Need-returns-3
-returns-3 c =
-    let at-if1 = c .before .before in
-    let at-pre = at-if1 .before in
-    match-settled _ _ _ (at-if1 .if1 .left) (at-pre .pre .2) (c .if2 .left)
+returns-3 c = search match-settled
 
 pub match-term-spec : {M : Type 1} → statement M
 match-term-spec =

@@ -63,15 +63,7 @@ returns c =
     )
 
 loop-again : tie.Need-loop-again Inv-loop μ-loop
-loop-again c =
-    let at-note2 = c .before .before in
-    let at-if2 = at-note2 .before .before in
-    let at-find-rule = at-if2 .before in
-    let at-loop-test = at-find-rule .before .before .before .before .before in
-    let at-loop = at-loop-test .before in
-    let at-pre = at-loop .before .before .before .before in
-    noting-next _ _ _ _ _ _ _ (at-pre .pre .0) (at-loop .loop .inv) (at-loop-test .loop-test .taken) (at-pre .pre
-    .1) _ _ _ (at-find-rule .find-rule .ensures) (at-if2 .if2 .left) _ (at-note2 .note2 .ensures)
+loop-again c = search noting-next
 
 loop-again-2 : tie.Need-loop-again-2 Inv-loop μ-loop
 loop-again-2 c =

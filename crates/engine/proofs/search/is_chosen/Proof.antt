@@ -24,19 +24,10 @@ returns c =
     looking-found _ _ _ _ (pre′ .0) (pre′ .1) (loop′ .inv) (loop-test′ .taken) (if1′ .taken)
 
 loop-again : tie.Need-loop-again Inv-loop μ-loop
-loop-again c =
-    let pre′ = c .before .before .before .pre in
-    let loop′ = c .before .before .loop in
-    let loop-test′ = c .before .loop-test in
-    let if1′ = c .if1 in
-    looking-next _ _ _ _ (pre′ .0) (pre′ .1) (loop′ .inv) (loop-test′ .taken) (if1′ .left)
+loop-again c = search looking-next
 
 returns-2 : tie.Need-returns-2 Inv-loop μ-loop
-returns-2 c =
-    let pre′ = c .before .before .pre in
-    let loop′ = c .before .loop in
-    let loop-test′ = c .loop-test in
-    looking-end _ _ _ _ (pre′ .0) (pre′ .1) (loop′ .inv) (loop-test′ .left)
+returns-2 c = search looking-end
 
 pub is-chosen-spec : {M : Type 1} → statement M
 is-chosen-spec =

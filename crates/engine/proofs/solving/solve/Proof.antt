@@ -41,20 +41,10 @@ same-length-3 c =
     at-unify .unify .kept .1 .1 .1 .1 .0 ∙ at-loop .loop .inv .cells-size
 
 returns : tie.Need-returns Inv-loop μ-loop
-returns c =
-    let at-unify = c .before .before .before .before .before .before .before in
-    let at-loop-test = at-unify .before .before .before .before .before .before in
-    let at-loop = at-loop-test .before in
-    solving-clash _ _ _ _ _ _ _ _ (at-loop .loop .inv) (at-loop-test .loop-test .taken) _ _ _ _ (at-unify .unify .ensures)
-    (not-true _ (c .if1 .taken))
+returns c = search (solving-clash, not-true)
 
 loop-again : tie.Need-loop-again Inv-loop μ-loop
-loop-again c =
-    let at-unify = c .before .before .before .before .before .before .before in
-    let at-loop-test = at-unify .before .before .before .before .before .before in
-    let at-loop = at-loop-test .before in
-    solving-next _ _ _ _ _ _ _ _ (at-loop .loop .inv) (at-loop-test .loop-test .taken) _ _ _ _ (at-unify .unify .ensures)
-    (not-false _ (c .if1 .left))
+loop-again c = search (solving-next, not-false)
 
 same-length-4 : tie.Need-same-length-4 Inv-loop μ-loop
 same-length-4 c =
@@ -69,10 +59,7 @@ same-length-6 c =
     (c .before .loop) .inv .cells-size
 
 returns-2 : tie.Need-returns-2 Inv-loop μ-loop
-returns-2 c =
-    let loop′ = c .before .loop in
-    let loop-test′ = c .loop-test in
-    solving-end _ _ _ _ _ _ _ _ (loop′ .inv) (loop-test′ .left)
+returns-2 c = search solving-end
 
 pub solve-spec : {M : Type 1} → statement M
 solve-spec =
