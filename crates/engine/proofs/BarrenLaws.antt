@@ -18,7 +18,7 @@ use lib.Dec.{eqb, leb, ltb}
 use lib.ListN.{length, take, drop, getElem?}
 use lib.Seq.{take-append-le}
 use borrow.Author.Tests.{le-leb, lt-leb, ltb-true}
-use mathlib.Core.Logic.{_⊎_, inl, inr, ⊎-elim}
+use mathlib.Core.Logic.{_⊎_, inl, inr}
 use Rattle.tables.proofs.CellLaws.{either, le-or-lt}
 use Rattle.text.specs.Lists.{bind, orElse, has}
 use Rattle.semantics.specs.Terms.{Constraint}

@@ -4,21 +4,19 @@ use Prim.Native.Nat.{ℕ, suc, _+_, _-_, _*_, _≤_, _<_}
 use native.Mathlib.Omega.{arith}
 use native.Mathlib.Numerals.{add-one}
 use mathlib.Core.Bool.{true, false, cond}
-use mathlib.Core.List.{List, [], _∷_, _++_, append-assoc, append-nil}
+use mathlib.Core.List.{List, [], _∷_, _++_}
 use mathlib.Core.Logic.{_⊎_, inl, inr, ⊎-elim}
 use mathlib.Core.Path.{_≡_, refl, ap, sym, _∙_}
 use lib.Dec.{eqb, ltb}
-use lib.ListN.{length, getD, set, take, drop, length-set, length-drop, drop-of-length-le}
-use lib.Seq.{paste, paste-zero, paste-suc, length-paste, take-paste, drop-paste, getD-drop, drop-drop}
-use lib.Seq.{length-take-le}
+use lib.ListN.{length, getD, set, take, drop, length-set, length-drop}
+use lib.Seq.{paste, paste-zero, paste-suc, drop-paste, getD-drop, drop-drop}
 use borrow.Author.Tests.{ne-eqb, eqb-false, lt-ltb, le-ltb}
-use Rattle.text.specs.Lists.{onward, has}
+use Rattle.text.specs.Lists.{onward}
 use Rattle.semantics.specs.Terms.{var, Constraint, isBelow, alphabet}
-use Rattle.semantics.specs.Firing.{without, instance}
+use Rattle.semantics.specs.Firing.{instance}
 use Rattle.tables.specs.Cells.{cellTerm, cellConstraints, rowConstraint}
 use Rattle.engine.specs.Cells.{assigned, instanceCell, movedRow}
-use Rattle.engine.specs.States.{Removed}
-use Rattle.tables.proofs.CellLaws.{either, le-or-lt, cell-low, cell-high, constraints-at}
+use Rattle.tables.proofs.CellLaws.{either, le-or-lt, cell-low, cell-high}
 use Rattle.tables.proofs.MapLaws.{Acts}
 
 -- instantiating cells is instantiating terms

@@ -6,24 +6,12 @@ use Prim.Native.Nat.{ℕ, zero, suc, _+_, _-_, _*_, _≤_, _<_}
 use native.Mathlib.Nat.{add-zero}
 use native.Mathlib.Omega.{arith}
 use native.Mathlib.Numerals.{add-one}
-use mathlib.Core.Bool.{true, false, cond}
+use mathlib.Core.Bool.{true, false}
 use mathlib.Core.List.{List, [], _∷_, _++_, append-assoc, append-nil}
 use mathlib.Core.Path.{_≡_, refl, ap, sym, _∙_}
 use lib.Dec.{eqb}
 use lib.ListN.{length, getD, set, take, drop, length-drop, drop-of-length-le}
-use lib.Seq.{
-  paste,
-  take-paste,
-  length-paste,
-  take-suc,
-  drop-cons,
-  take-take,
-  take-add,
-  take-all,
-  take-append-le,
-  take-at,
-  drop-at,
-}
+use lib.Seq.{paste, take-paste, take-suc, drop-cons, take-take, take-add, take-all, take-append-le, drop-at}
 use lib.Seq.{length-take-le}
 use Rattle.text.specs.Lists.{has}
 use Rattle.semantics.specs.Terms.{Constraint}
@@ -74,9 +62,6 @@ module _ (k p : ℕ) (start : List ℕ) (l : p < k) (fits : 5 * k ≤ length sta
       record { here = omega arith; moved = rw none-yet (moving-start (5 * p + 5) (5 * p) (5 * k - 5 - 5 * p) start) }
 
   module _ (cells : List ℕ) (i : ℕ) (w : Closing k p start cells i) where
-    pub closing-size : length cells ≡ length start
-    closing-size = w .moved .size
-
     pub closing-next : i < 5 * k - 5 → Closing k p start (set cells i (getD cells (i + 5) 0)) (i + 1)
     closing-next h =
         let to : 5 * p + (i - 5 * p) ≡ i = omega (arith, w .here) in

@@ -3,16 +3,16 @@
 --   lowered-…, Lowering      what `lowered` answers, and the loop of `lower`
 --   knows-start, knows-fired    nothing is known at the start, and what is known after a firing
 -- Assumes nothing.
-use Prim.Native.Nat.{ℕ, zero, suc, _+_, _-_, _*_, _≤_, _<_, min}
+use Prim.Native.Nat.{ℕ, zero, suc, _+_, _-_, _*_, _≤_, _<_}
 use native.Mathlib.Omega.{arith}
 use native.Mathlib.Numerals.{add-one}
 use mathlib.Core.Bool.{Bool, true, false, cond, _||_}
 use mathlib.Core.List.{List, [], _∷_, _++_, map, append-nil}
-use mathlib.Core.Logic.{_⊎_, inl, inr, ⊎-elim}
+use mathlib.Core.Logic.{_⊎_, ⊎-elim}
 use mathlib.Core.Option.{none}
 use mathlib.Core.Path.{_≡_, refl, sym, ap, _∙_}
 use lib.Dec.{eqb, ltb}
-use lib.ListN.{length, getD, set, take, drop, replicate, length-drop, length-take, length-set}
+use lib.ListN.{length, getD, set, take, drop, replicate, length-take, length-set}
 use lib.ListN.{List·getD-eq-default, take-append-drop}
 use lib.Seq.{getD-take, getD-drop, take-all, length-take-le, getD-set-same, getD-set-other, take-add}
 use borrow.Author.Tests.{eq-eqb, ne-eqb, lt-ltb, le-ltb, ltb-true, ltb-false, eqb-true, eqb-false}
@@ -32,7 +32,7 @@ use Rattle.engine.specs.Runs.{storeOf}
 use Rattle.engine.specs.Known.{Barren, Knows, hasSymbol, concerns, Possible, Marks, Clear, loweredOf, Lowered, Keeps}
 use Rattle.engine.proofs.BarrenLaws.{absent-first, barren-fired, barren-strange}
 use Rattle.engine.proofs.GapLaws.{take-constraints, drop-constraints}
-use Rattle.engine.proofs.ChooseLaws.{lentRow, row-cells, noted-at, zeros-zero}
+use Rattle.engine.proofs.ChooseLaws.{lentRow, row-cells, zeros-zero}
 use Rattle.engine.proofs.FiredLaws.{fired-plain}
 
 -- behind the end of a table nothing is set

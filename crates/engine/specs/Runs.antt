@@ -10,7 +10,7 @@ use mathlib.Core.Bool.{Bool, true, false, cond}
 use mathlib.Core.List.{List, [], map}
 use mathlib.Core.Option.{none, some}
 use mathlib.Core.Path.{_≡_}
-use lib.ListN.{length, take, drop}
+use lib.ListN.{length, take}
 use Rattle.text.specs.Lists.{total, every}
 use Rattle.semantics.specs.Terms.{Constraint, live}
 use Rattle.semantics.specs.Strategy.{advance, normalise}

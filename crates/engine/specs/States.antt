@@ -6,13 +6,13 @@
 --   Skips, Placed               where the state begins in its cells
 -- Assumes nothing.
 use Prim.Native.Nat.{ℕ, _+_, _-_, _*_, _≤_, _<_}
-use mathlib.Core.Bool.{Bool, true, false, cond, not}
+use mathlib.Core.Bool.{Bool, true, false, not}
 use mathlib.Core.List.{List, [], _++_, map}
 use mathlib.Core.Path.{_≡_}
 use lib.Dec.{leb}
 use lib.ListN.{length, take, drop, getD}
 use Rattle.text.specs.Lists.{every, has}
-use Rattle.semantics.specs.Terms.{State, failed, live, mapTerms, mapSides}
+use Rattle.semantics.specs.Terms.{live, mapTerms, mapSides}
 use Rattle.semantics.specs.Solving.{solve}
 use Rattle.semantics.specs.Firing.{without, instance, settle, fired}
 use Rattle.tables.specs.Layout.{constraintSize, headsCell, bodyCell}

@@ -9,18 +9,6 @@ returns : tie.Need-returns
 returns c =
     instance-low _ _ _ ((c .if1) .taken)
 
-wide-requires : tie.Need-wide-requires
-wide-requires c κs = search needs
-
-mul-settled : tie.Need-mul-settled
-mul-settled c = search needs
-
-shared-slice-read-settled : tie.Need-shared-slice-read-settled
-shared-slice-read-settled c = search needs
-
-add-result : tie.Need-add-result
-add-result c = search needs
-
 returns-2 : tie.Need-returns-2
 returns-2 c =
     let if1′ = c .before .before .before .before .if1 in
@@ -49,10 +37,7 @@ instance-spec =
     tie.close
     (tie.spec
     returns
-    wide-requires
-    mul-settled
-    shared-slice-read-settled
-    add-result
+    (λ c κs. search needs) (λ c. search needs) (λ c. search needs) (λ c. search needs)
     returns-2
     returns-3
     returns-4)

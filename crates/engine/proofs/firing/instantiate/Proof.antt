@@ -19,28 +19,10 @@ loop-holds : tie.Need-loop-holds Inv-loop μ-loop
 loop-holds c =
     mapped-start _ _ _ ((c .before .before .before .pre) .0)
 
-mul-instance : tie.Need-mul-instance Inv-loop μ-loop
-mul-instance c = omega arith
-
-shared-slice-read-instance : tie.Need-shared-slice-read-instance Inv-loop μ-loop
-shared-slice-read-instance c = omega arith
-
 instance-requires : tie.Need-instance-requires Inv-loop μ-loop
 instance-requires c κs =
     let pre′ = c .before .before .before .before .before .before .pre in
     (pre′ .1, pre′ .2)
-
-mul-out : tie.Need-mul-out Inv-loop μ-loop
-mul-out c = omega arith
-
-slice-write-out : tie.Need-slice-write-out Inv-loop μ-loop
-slice-write-out c = omega arith
-
-add-i : tie.Need-add-i Inv-loop μ-loop
-add-i c = omega arith
-
-loop-less : tie.Need-loop-less Inv-loop μ-loop
-loop-less c = omega arith
 
 loop-again : tie.Need-loop-again Inv-loop μ-loop
 loop-again c =
@@ -66,13 +48,9 @@ instantiate-spec =
     Inv-loop
     μ-loop
     loop-holds
-    mul-instance
-    shared-slice-read-instance
+    (λ c. omega arith) (λ c. omega arith)
     instance-requires
-    mul-out
-    slice-write-out
-    add-i
-    loop-less
+    (λ c. omega arith) (λ c. omega arith) (λ c. omega arith) (λ c. omega arith)
     loop-again
     same-length
     returns)

@@ -12,38 +12,8 @@ Inv-loop cells₀ from to a b j₀ cells j = Moving (5 * from) (5 * to) 5 cells�
 abbrev μ-loop : tie.MeasureT-loop
 μ-loop cells₀ from to a b j₀ cells j = 5 - j
 
-mul-a : tie.Need-mul-a Inv-loop μ-loop
-mul-a c = omega arith
-
-mul-b : tie.Need-mul-b Inv-loop μ-loop
-mul-b c = omega arith
-
 loop-holds : tie.Need-loop-holds Inv-loop μ-loop
 loop-holds c = moving-start _ _ _ _
-
-add-cells : tie.Need-add-cells Inv-loop μ-loop
-add-cells c = omega arith
-
-mul-cells : tie.Need-mul-cells Inv-loop μ-loop
-mul-cells c = omega arith
-
-slice-read-cells : tie.Need-slice-read-cells Inv-loop μ-loop
-slice-read-cells c = omega arith
-
-add-cells-2 : tie.Need-add-cells-2 Inv-loop μ-loop
-add-cells-2 c = omega arith
-
-mul-cells-2 : tie.Need-mul-cells-2 Inv-loop μ-loop
-mul-cells-2 c = omega arith
-
-slice-write-cells : tie.Need-slice-write-cells Inv-loop μ-loop
-slice-write-cells c = omega arith
-
-add-j : tie.Need-add-j Inv-loop μ-loop
-add-j c = omega arith
-
-loop-less : tie.Need-loop-less Inv-loop μ-loop
-loop-less c = omega arith
 
 loop-again : tie.Need-loop-again Inv-loop μ-loop
 loop-again c =
@@ -69,17 +39,10 @@ move-row-spec =
     (tie.spec
     Inv-loop
     μ-loop
-    mul-a
-    mul-b
+    (λ c. omega arith) (λ c. omega arith)
     loop-holds
-    add-cells
-    mul-cells
-    slice-read-cells
-    add-cells-2
-    mul-cells-2
-    slice-write-cells
-    add-j
-    loop-less
+    (λ c. omega arith) (λ c. omega arith) (λ c. omega arith) (λ c. omega arith) (λ c. omega arith)
+    (λ c. omega arith) (λ c. omega arith) (λ c. omega arith)
     loop-again
     same-length
     returns)

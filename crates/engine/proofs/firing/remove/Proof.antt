@@ -15,23 +15,11 @@ Inv-loop cells₀ m positions n k₀ top₀ cells k top = Removing m (take n pos
 abbrev μ-loop : tie.MeasureT-loop
 μ-loop cells₀ m positions n k₀ top₀ cells k top = top
 
-highest-requires : tie.Need-highest-requires Inv-loop μ-loop
-highest-requires c κs = search needs
-
 loop-holds : tie.Need-loop-holds Inv-loop μ-loop
 loop-holds c = removing-start _ _ _ _ (c .before .before .pre .0) (c .highest .ensures)
 
-sub-p : tie.Need-sub-p Inv-loop μ-loop
-sub-p c = omega arith
-
 close-gap-requires : tie.Need-close-gap-requires Inv-loop μ-loop
 close-gap-requires c κs = removing-room _ _ _ _ _ _ (c .before .before .loop .inv) (c .before .loop-test .taken)
-
-sub-k : tie.Need-sub-k Inv-loop μ-loop
-sub-k c = omega arith
-
-highest-requires-2 : tie.Need-highest-requires-2 Inv-loop μ-loop
-highest-requires-2 c κs = search needs
 
 loop-less : tie.Need-loop-less Inv-loop μ-loop
 loop-less c = omega (arith, c .highest2 .ensures .below)
@@ -51,12 +39,11 @@ remove-spec =
     (tie.spec
     Inv-loop
     μ-loop
-    highest-requires
+    (λ c κs. search needs)
     loop-holds
-    sub-p
+    (λ c. omega arith)
     close-gap-requires
-    sub-k
-    highest-requires-2
+    (λ c. omega arith) (λ c κs. search needs)
     loop-less
     loop-again
     same-length

@@ -9,38 +9,8 @@ use Rattle.engine.proofs.firing.instantiate.Reads as instantiate-reads
 use Rattle.engine.proofs.firing.at_most_four.Reads as at-most-four-reads
 use Rattle.engine.proofs.solving.solve.Reads as solve-reads
 
-shared-slice-read-at-most-four : tie.Need-shared-slice-read-at-most-four
-shared-slice-read-at-most-four c = search needs
-
-at-most-four-requires : tie.Need-at-most-four-requires
-at-most-four-requires c κs = search needs
-
-mul-e : tie.Need-mul-e
-mul-e c = search needs
-
-add-e : tie.Need-add-e
-add-e c = search needs
-
-mul-t : tie.Need-mul-t
-mul-t c = search needs
-
-sub-instantiate : tie.Need-sub-instantiate
-sub-instantiate c = search needs
-
-part-instantiate-start : tie.Need-part-instantiate-start
-part-instantiate-start c = search needs
-
-part-instantiate-end : tie.Need-part-instantiate-end
-part-instantiate-end c = search needs
-
-array-borrow-prefix-equations : tie.Need-array-borrow-prefix-equations
-array-borrow-prefix-equations c = search needs
-
 slice-aggregate-instantiate : tie.Need-slice-aggregate-instantiate
-slice-aggregate-instantiate c =
-    let pre′ = c .before .before .before .before .before .before .before .before .pre in
-    let count′ = c .before .before .at-most-four in
-    equations-room _ _ _ _ _ pre′ (count′ .ensures)
+slice-aggregate-instantiate c = search equations-room
 
 instantiate-requires : tie.Need-instantiate-requires
 instantiate-requires c κs =
@@ -49,59 +19,27 @@ instantiate-requires c κs =
     equations-asked _ _ _ _ _ pre′ (count′ .ensures)
 
 array-borrow-prefix-equations-2 : tie.Need-array-borrow-prefix-equations-2
-array-borrow-prefix-equations-2 c =
-    let at-instantiate = c .before in
-    let at-count = at-instantiate .before .before .before in
-    let start = at-count .before .before .before .before .before .before in
-    equations-prefix _ _ _ _ _ (start .pre) (at-count .at-most-four .ensures) _ _ (at-instantiate .instantiate .ensures)
+array-borrow-prefix-equations-2 c = search equations-prefix
 
 slice-aggregate-solve : tie.Need-slice-aggregate-solve
-slice-aggregate-solve c =
-    let at-instantiate = c .before .before in
-    let at-count = at-instantiate .before .before .before in
-    let start = at-count .before .before .before .before .before .before in
-    equations-lent _ _ _ _ _ (start .pre) (at-count .at-most-four .ensures) _ _ (at-instantiate .instantiate .ensures)
+slice-aggregate-solve c = search equations-lent
 
 solve-requires : tie.Need-solve-requires
-solve-requires c κs =
-    let at-instantiate = c .before .before .before .before in
-    let at-count = at-instantiate .before .before .before in
-    let start = at-count .before .before .before .before .before .before in
-    equations-solvable _ _ _ _ _ (start .pre) (at-count .at-most-four .ensures) _ _ (at-instantiate .instantiate .ensures)
-
-same-length : tie.Need-same-length
-same-length c = search needs
-
-same-length-2 : tie.Need-same-length-2
-same-length-2 c = search needs
+solve-requires c κs = search equations-solvable
 
 returns : tie.Need-returns
-returns c =
-    let at-solve = c .before .before .before .before .before in
-    let at-instantiate = at-solve .before .before .before .before .before in
-    let at-count = at-instantiate .before .before .before in
-    let start = at-count .before .before .before .before .before .before in
-    rule-solved _ _ _ _ _ (start .pre) (at-count .at-most-four .ensures) _ _ (at-instantiate .instantiate .ensures) _ _ _ _
-    (at-solve .solve .ensures)
+returns c = search rule-solved
 
 pub solve-rule-spec : {M : Type 1} → statement M
 solve-rule-spec =
     tie.close
     (tie.spec
-    shared-slice-read-at-most-four
-    at-most-four-requires
-    mul-e
-    add-e
-    mul-t
-    sub-instantiate
-    part-instantiate-start
-    part-instantiate-end
-    array-borrow-prefix-equations
+    (λ c. search needs) (λ c κs. search needs) (λ c. search needs) (λ c. search needs) (λ c. search needs)
+    (λ c. search needs) (λ c. search needs) (λ c. search needs) (λ c. search needs)
     slice-aggregate-instantiate
     instantiate-requires
     array-borrow-prefix-equations-2
     slice-aggregate-solve
     solve-requires
-    same-length
-    same-length-2
+    (λ c. search needs) (λ c. search needs)
     returns)

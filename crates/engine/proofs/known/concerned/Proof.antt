@@ -20,32 +20,8 @@ returns c = search meeting-none
 loop-holds : tie.Need-loop-holds Inv-loop μ-loop
 loop-holds c = meeting-start _ _
 
-mul-loop : tie.Need-mul-loop Inv-loop μ-loop
-mul-loop c = omega arith
-
-add-loop : tie.Need-add-loop Inv-loop μ-loop
-add-loop c = omega arith
-
-mul-is-fresh : tie.Need-mul-is-fresh Inv-loop μ-loop
-mul-is-fresh c = omega arith
-
-mul-is-fresh-2 : tie.Need-mul-is-fresh-2 Inv-loop μ-loop
-mul-is-fresh-2 c = omega arith
-
-shared-slice-read-is-fresh : tie.Need-shared-slice-read-is-fresh Inv-loop μ-loop
-shared-slice-read-is-fresh c = omega arith
-
-is-fresh-requires : tie.Need-is-fresh-requires Inv-loop μ-loop
-is-fresh-requires c κs = search needs
-
 returns-2 : tie.Need-returns-2 Inv-loop μ-loop
 returns-2 c = search meeting-found
-
-add-i : tie.Need-add-i Inv-loop μ-loop
-add-i c = omega arith
-
-loop-less : tie.Need-loop-less Inv-loop μ-loop
-loop-less c = omega arith
 
 loop-again : tie.Need-loop-again Inv-loop μ-loop
 loop-again c = search meeting-next
@@ -61,14 +37,9 @@ concerned-spec =
     μ-loop
     returns
     loop-holds
-    mul-loop
-    add-loop
-    mul-is-fresh
-    mul-is-fresh-2
-    shared-slice-read-is-fresh
-    is-fresh-requires
+    (λ c. omega arith) (λ c. omega arith) (λ c. omega arith) (λ c. omega arith) (λ c. omega arith)
+    (λ c κs. search needs)
     returns-2
-    add-i
-    loop-less
+    (λ c. omega arith) (λ c. omega arith)
     loop-again
     returns-3)

@@ -13,59 +13,11 @@ Inv-loop rules n row known₀ m count d fresh i₀ known i = Lowering rules n ro
 abbrev μ-loop : tie.MeasureT-loop
 μ-loop rules n row known₀ m count d fresh i₀ known i = n - i
 
-shared-slice-read-wide : tie.Need-shared-slice-read-wide Inv-loop μ-loop
-shared-slice-read-wide c = search needs
-
-wide-requires : tie.Need-wide-requires Inv-loop μ-loop
-wide-requires c κs = search needs
-
-mul-d : tie.Need-mul-d Inv-loop μ-loop
-mul-d c = search needs
-
-add-d : tie.Need-add-d Inv-loop μ-loop
-add-d c = search needs
-
-sub-mark : tie.Need-sub-mark Inv-loop μ-loop
-sub-mark c = omega arith
-
-part-mark-start : tie.Need-part-mark-start Inv-loop μ-loop
-part-mark-start c = omega arith
-
-part-mark-end : tie.Need-part-mark-end Inv-loop μ-loop
-part-mark-end c = search needs
-
-slice-aggregate-mark : tie.Need-slice-aggregate-mark Inv-loop μ-loop
-slice-aggregate-mark c = omega arith
-
 mark-requires : tie.Need-mark-requires Inv-loop μ-loop
 mark-requires c κs = clear-start 64
 
 loop-holds : tie.Need-loop-holds Inv-loop μ-loop
 loop-holds c = lowering-start _ _ _ _ _ _
-
-mul-a : tie.Need-mul-a Inv-loop μ-loop
-mul-a c = omega arith
-
-add-e : tie.Need-add-e Inv-loop μ-loop
-add-e c = omega arith
-
-mul-lowered : tie.Need-mul-lowered Inv-loop μ-loop
-mul-lowered c = omega arith
-
-sub-lowered : tie.Need-sub-lowered Inv-loop μ-loop
-sub-lowered c = omega arith
-
-part-lowered-start : tie.Need-part-lowered-start Inv-loop μ-loop
-part-lowered-start c = omega arith
-
-part-lowered-end : tie.Need-part-lowered-end Inv-loop μ-loop
-part-lowered-end c = omega arith
-
-slice-aggregate-lowered : tie.Need-slice-aggregate-lowered Inv-loop μ-loop
-slice-aggregate-lowered c = omega arith
-
-known-at-requires : tie.Need-known-at-requires Inv-loop μ-loop
-known-at-requires c κs = search needs
 
 lowered-requires : tie.Need-lowered-requires Inv-loop μ-loop
 lowered-requires c κs =
@@ -76,30 +28,14 @@ lowered-requires c κs =
     lowering-row _ _ _ _ _ _ _ (at-pre .pre .0) (at-loop-test .loop-test .taken) (at-pre .pre .1) (at-pre .pre .2)
     (at-mark .mark .ensures) (at-wide .wide .ensures .0)
 
-note-requires : tie.Need-note-requires Inv-loop μ-loop
-note-requires c κs = search needs
-
-add-i : tie.Need-add-i Inv-loop μ-loop
-add-i c = omega arith
-
-loop-less : tie.Need-loop-less Inv-loop μ-loop
-loop-less c = omega arith
-
 loop-again : tie.Need-loop-again Inv-loop μ-loop
-loop-again c =
-    let at-note = c .before .before in
-    let at-lowered = at-note .before .before in
-    let at-known-at = at-lowered .before in
-    let at-loop-test = at-known-at .before .before .before .before in
-    let at-loop = at-loop-test .before in
-    lowering-next _ _ _ _ _ _ _ _ (at-loop .loop .inv) (at-loop-test .loop-test .taken) _ _ _ (at-known-at .known-at
-    .ensures) (at-lowered .lowered .ensures) (at-note .note .ensures)
+loop-again c = search lowering-next
 
 same-length : tie.Need-same-length Inv-loop μ-loop
 same-length c = c .before .loop .inv .size
 
 returns : tie.Need-returns Inv-loop μ-loop
-returns c = lowering-end _ _ _ _ _ _ _ _ (c .before .loop .inv) (c .loop-test .left)
+returns c = search lowering-end
 
 pub lower-spec : {M : Type 1} → statement M
 lower-spec =
@@ -107,28 +43,14 @@ lower-spec =
     (tie.spec
     Inv-loop
     μ-loop
-    shared-slice-read-wide
-    wide-requires
-    mul-d
-    add-d
-    sub-mark
-    part-mark-start
-    part-mark-end
-    slice-aggregate-mark
+    (λ c. search needs) (λ c κs. search needs) (λ c. search needs) (λ c. search needs) (λ c. omega arith)
+    (λ c. omega arith) (λ c. search needs) (λ c. omega arith)
     mark-requires
     loop-holds
-    mul-a
-    add-e
-    mul-lowered
-    sub-lowered
-    part-lowered-start
-    part-lowered-end
-    slice-aggregate-lowered
-    known-at-requires
+    (λ c. omega arith) (λ c. omega arith) (λ c. omega arith) (λ c. omega arith) (λ c. omega arith)
+    (λ c. omega arith) (λ c. omega arith) (λ c κs. search needs)
     lowered-requires
-    note-requires
-    add-i
-    loop-less
+    (λ c κs. search needs) (λ c. omega arith) (λ c. omega arith)
     loop-again
     same-length
     returns)

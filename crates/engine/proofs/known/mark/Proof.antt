@@ -18,33 +18,6 @@ abbrev μ-loop : tie.MeasureT-loop
 loop-holds : tie.Need-loop-holds Inv-loop μ-loop
 loop-holds c = marking-start _ _ ((c .before .before .pre))
 
-mul-loop : tie.Need-mul-loop Inv-loop μ-loop
-mul-loop c = omega arith
-
-add-loop : tie.Need-add-loop Inv-loop μ-loop
-add-loop c = omega arith
-
-mul-wide : tie.Need-mul-wide Inv-loop μ-loop
-mul-wide c = omega arith
-
-mul-wide-2 : tie.Need-mul-wide-2 Inv-loop μ-loop
-mul-wide-2 c = omega arith
-
-shared-slice-read-wide : tie.Need-shared-slice-read-wide Inv-loop μ-loop
-shared-slice-read-wide c = omega arith
-
-wide-requires : tie.Need-wide-requires Inv-loop μ-loop
-wide-requires c κs = search needs
-
-add-i : tie.Need-add-i Inv-loop μ-loop
-add-i c = omega arith
-
-slice-write-fresh : tie.Need-slice-write-fresh Inv-loop μ-loop
-slice-write-fresh c = omega arith
-
-loop-less : tie.Need-loop-less Inv-loop μ-loop
-loop-less c = omega arith
-
 loop-again : tie.Need-loop-again Inv-loop μ-loop
 loop-again c =
     let at-wide = c .before in
@@ -52,9 +25,6 @@ loop-again c =
     let at-loop = at-loop-test .before in
     marking-next _ _ _ _ (at-loop .loop .inv) (at-loop-test .loop-test .taken) _ _ (at-wide .wide .ensures .0) (c
     .if1 .taken) refl
-
-loop-less-2 : tie.Need-loop-less-2 Inv-loop μ-loop
-loop-less-2 c = omega arith
 
 loop-again-2 : tie.Need-loop-again-2 Inv-loop μ-loop
 loop-again-2 c =
@@ -77,17 +47,10 @@ mark-spec =
     Inv-loop
     μ-loop
     loop-holds
-    mul-loop
-    add-loop
-    mul-wide
-    mul-wide-2
-    shared-slice-read-wide
-    wide-requires
-    add-i
-    slice-write-fresh
-    loop-less
+    (λ c. omega arith) (λ c. omega arith) (λ c. omega arith) (λ c. omega arith) (λ c. omega arith)
+    (λ c κs. search needs) (λ c. omega arith) (λ c. omega arith) (λ c. omega arith)
     loop-again
-    loop-less-2
+    (λ c. omega arith)
     loop-again-2
     same-length
     returns)

@@ -8,24 +8,6 @@ use Rattle.engine.proofs.matching.match_term.Tie as tie
 returns : tie.Need-returns
 returns c = match-constant _ _ _ (c .if1 .taken) (c .before .pre .2)
 
-cast-x : tie.Need-cast-x
-cast-x c = search needs
-
-mul-settled : tie.Need-mul-settled
-mul-settled c = search needs
-
-slice-read-settled : tie.Need-slice-read-settled
-slice-read-settled c = search needs
-
-mul-bindings : tie.Need-mul-bindings
-mul-bindings c = search needs
-
-slice-write-bindings : tie.Need-slice-write-bindings
-slice-write-bindings c = search needs
-
-same-length : tie.Need-same-length
-same-length c = search needs
-
 returns-2 : tie.Need-returns-2
 returns-2 c =
     let at-if1 = c .before .before in
@@ -33,21 +15,14 @@ returns-2 c =
     match-new _ _ _ (at-if1 .if1 .left) (at-pre .pre .0) (at-pre .pre .1) (at-pre .pre .2) (c .if2 .taken)
 
 returns-3 : tie.Need-returns-3
-returns-3 c =
-    let at-if1 = c .before .before in
-    let at-pre = at-if1 .before in
-    match-settled _ _ _ (at-if1 .if1 .left) (at-pre .pre .2) (c .if2 .left)
+returns-3 c = search match-settled
 
 pub match-term-spec : {M : Type 1} → statement M
 match-term-spec =
     tie.close
     (tie.spec
     returns
-    cast-x
-    mul-settled
-    slice-read-settled
-    mul-bindings
-    slice-write-bindings
-    same-length
+    (λ c. search needs) (λ c. search needs) (λ c. search needs) (λ c. search needs) (λ c. search needs)
+    (λ c. search needs)
     returns-2
     returns-3)

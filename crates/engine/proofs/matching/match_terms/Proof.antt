@@ -17,37 +17,11 @@ abbrev μ-loop : tie.MeasureT-loop
 loop-holds : tie.Need-loop-holds Inv-loop μ-loop
 loop-holds c = walk-start _ _ _ ((c .before .before .before .pre))
 
-mul-h : tie.Need-mul-h Inv-loop μ-loop
-mul-h c = omega arith
-
-shared-slice-read-h : tie.Need-shared-slice-read-h Inv-loop μ-loop
-shared-slice-read-h c = omega arith
-
-mul-t : tie.Need-mul-t Inv-loop μ-loop
-mul-t c = omega arith
-
-shared-slice-read-t : tie.Need-shared-slice-read-t Inv-loop μ-loop
-shared-slice-read-t c = omega arith
-
-same-length : tie.Need-same-length Inv-loop μ-loop
-same-length c = omega arith
-
 returns : tie.Need-returns Inv-loop μ-loop
-returns c =
-    let at-loop-test = c .before .before .before in
-    let at-loop = at-loop-test .before in
-    walk-head-ends _ _ _ _ _ (at-loop .loop .inv) (at-loop-test .loop-test .taken) (c .if1 .taken)
-
-same-length-2 : tie.Need-same-length-2 Inv-loop μ-loop
-same-length-2 c = omega arith
+returns c = search walk-head-ends
 
 returns-2 : tie.Need-returns-2 Inv-loop μ-loop
-returns-2 c =
-    let at-if1 = c .before in
-    let at-loop-test = at-if1 .before .before .before in
-    let at-loop = at-loop-test .before in
-    walk-constraint-ends _ _ _ _ _ (at-loop .loop .inv) (at-loop-test .loop-test .taken) (at-if1 .if1 .left) (c .if2
-    .taken)
+returns-2 c = search walk-constraint-ends
 
 match-term-requires : tie.Need-match-term-requires Inv-loop μ-loop
 match-term-requires c κs =
@@ -67,20 +41,7 @@ same-length-3 : tie.Need-same-length-3 Inv-loop μ-loop
 same-length-3 c = omega (arith, c .before .before .before .match-term .ensures .size)
 
 returns-3 : tie.Need-returns-3 Inv-loop μ-loop
-returns-3 c =
-    let at-match-term = c .before .before .before in
-    let at-if2 = at-match-term .before .before in
-    let at-if1 = at-if2 .before in
-    let at-loop-test = at-if1 .before .before .before in
-    let at-loop = at-loop-test .before in
-    walk-fails _ _ _ _ _ (at-loop .loop .inv) (at-loop-test .loop-test .taken) (at-if1 .if1 .left) (at-if2 .if2
-    .left) _ _ (at-match-term .match-term .ensures) (not-true _ (c .if3 .taken))
-
-add-i : tie.Need-add-i Inv-loop μ-loop
-add-i c = omega arith
-
-loop-less : tie.Need-loop-less Inv-loop μ-loop
-loop-less c = omega arith
+returns-3 c = search (walk-fails, not-true)
 
 loop-again : tie.Need-loop-again Inv-loop μ-loop
 loop-again c =
@@ -92,11 +53,8 @@ loop-again c =
     walk-fits _ _ _ _ _ (at-loop .loop .inv) (at-loop-test .loop-test .taken) (at-if1 .if1 .left) (at-if2 .if2
     .left) _ _ (at-match-term .match-term .ensures) (not-false _ (c .if3 .left))
 
-same-length-4 : tie.Need-same-length-4 Inv-loop μ-loop
-same-length-4 c = omega arith
-
 returns-4 : tie.Need-returns-4 Inv-loop μ-loop
-returns-4 c = walk-end _ _ _ _ _ (c .before .loop .inv) (c .loop-test .left)
+returns-4 c = search walk-end
 
 pub match-terms-spec : {M : Type 1} → statement M
 match-terms-spec =
@@ -105,19 +63,14 @@ match-terms-spec =
     Inv-loop
     μ-loop
     loop-holds
-    mul-h
-    shared-slice-read-h
-    mul-t
-    shared-slice-read-t
-    same-length
+    (λ c. omega arith) (λ c. omega arith) (λ c. omega arith) (λ c. omega arith) (λ c. omega arith)
     returns
-    same-length-2
+    (λ c. omega arith)
     returns-2
     match-term-requires
     same-length-3
     returns-3
-    add-i
-    loop-less
+    (λ c. omega arith) (λ c. omega arith)
     loop-again
-    same-length-4
+    (λ c. omega arith)
     returns-4)

@@ -141,8 +141,8 @@ module _ (t : ℕ) where
       let called = c .before .before in
       let found = called .before .before .before in
       let turn = found .before .before .before in
-      seek-misfit _ _ _ _ _ _ _ (entry turn .pre .1 .0) (placed turn .if1 .left) _ (sought (found .before)) (found .if2 .taken) _ _
-      (called .fit-at .ensures) (c .if3 .left)
+      seek-misfit _ _ _ _ _ _ _ (entry turn .pre .1 .0) (placed turn .if1 .left) _ (sought (found .before)) (found .if2 .taken)
+      _ _ (called .fit-at .ensures) (c .if3 .left)
 
   loop-again-3 : lts.Need-loop-again-3 (calls t) (Pre t) find.Post Inv μ
   loop-again-3 c = sought (c .before)

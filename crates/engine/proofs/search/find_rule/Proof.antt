@@ -7,27 +7,6 @@ use Rattle.engine.proofs.search.find_rule.Tie as tie
 use Rattle.engine.proofs.search.find.Reads as find-reads
 use Rattle.tables.proofs.wide.Reads as wide-reads
 
-shared-slice-read-wide : tie.Need-shared-slice-read-wide
-shared-slice-read-wide c = search needs
-
-wide-requires : tie.Need-wide-requires
-wide-requires c κs = search needs
-
-mul-e : tie.Need-mul-e
-mul-e c = search needs
-
-add-e : tie.Need-add-e
-add-e c = search needs
-
-sub-find : tie.Need-sub-find
-sub-find c = search needs
-
-part-find-start : tie.Need-part-find-start
-part-find-start c = search needs
-
-part-find-end : tie.Need-part-find-end
-part-find-end c = search needs
-
 find-requires : tie.Need-find-requires
 find-requires c κs =
     let at-wide = c .before in
@@ -48,12 +27,7 @@ pub find-rule-spec : {M : Type 1} → statement M
 find-rule-spec =
     tie.close
     (tie.spec
-    shared-slice-read-wide
-    wide-requires
-    mul-e
-    add-e
-    sub-find
-    part-find-start
-    part-find-end
+    (λ c. search needs) (λ c κs. search needs) (λ c. search needs) (λ c. search needs) (λ c. search needs)
+    (λ c. search needs) (λ c. search needs)
     find-requires
     returns)

@@ -5,20 +5,11 @@ use borrow.Author.Needs.{needs}
 use Rattle.engine.proofs.search.fit_at.Statement.{statement}
 use Rattle.engine.proofs.search.fit_at.Tie as tie
 
-is-chosen-requires : tie.Need-is-chosen-requires
-is-chosen-requires c κs = search needs
-
 returns : tie.Need-returns
 returns c =
     let at-is-chosen = c .before in
     let at-pre = at-is-chosen .before .before .before .before in
     fit-chosen _ _ _ (rw (c .if1 .taken) at (at-is-chosen .is-chosen .ensures)) (at-pre .pre .0 .bindings-size)
-
-match-constraint-requires : tie.Need-match-constraint-requires
-match-constraint-requires c κs = search needs
-
-same-length : tie.Need-same-length
-same-length c = search needs
 
 returns-2 : tie.Need-returns-2
 returns-2 c =
@@ -30,4 +21,4 @@ returns-2 c =
 
 pub fit-at-spec : {M : Type 1} → statement M
 fit-at-spec =
-    tie.close (tie.spec is-chosen-requires returns match-constraint-requires same-length returns-2)
+    tie.close (tie.spec (λ c κs. search needs) returns (λ c κs. search needs) (λ c. search needs) returns-2)

@@ -15,12 +15,6 @@ abbrev μ-loop : tie.MeasureT-loop
 loop-holds : tie.Need-loop-holds Inv-loop μ-loop
 loop-holds c = looking-start _ _ _
 
-mul-if1 : tie.Need-mul-if1 Inv-loop μ-loop
-mul-if1 c = omega arith
-
-array-read-if1 : tie.Need-array-read-if1 Inv-loop μ-loop
-array-read-if1 c = omega arith
-
 returns : tie.Need-returns Inv-loop μ-loop
 returns c =
     let pre′ = c .before .before .before .pre in
@@ -29,26 +23,11 @@ returns c =
     let if1′ = c .if1 in
     looking-found _ _ _ _ (pre′ .0) (pre′ .1) (loop′ .inv) (loop-test′ .taken) (if1′ .taken)
 
-add-i : tie.Need-add-i Inv-loop μ-loop
-add-i c = omega arith
-
-loop-less : tie.Need-loop-less Inv-loop μ-loop
-loop-less c = omega arith
-
 loop-again : tie.Need-loop-again Inv-loop μ-loop
-loop-again c =
-    let pre′ = c .before .before .before .pre in
-    let loop′ = c .before .before .loop in
-    let loop-test′ = c .before .loop-test in
-    let if1′ = c .if1 in
-    looking-next _ _ _ _ (pre′ .0) (pre′ .1) (loop′ .inv) (loop-test′ .taken) (if1′ .left)
+loop-again c = search looking-next
 
 returns-2 : tie.Need-returns-2 Inv-loop μ-loop
-returns-2 c =
-    let pre′ = c .before .before .pre in
-    let loop′ = c .before .loop in
-    let loop-test′ = c .loop-test in
-    looking-end _ _ _ _ (pre′ .0) (pre′ .1) (loop′ .inv) (loop-test′ .left)
+returns-2 c = search looking-end
 
 pub is-chosen-spec : {M : Type 1} → statement M
 is-chosen-spec =
@@ -57,10 +36,8 @@ is-chosen-spec =
     Inv-loop
     μ-loop
     loop-holds
-    mul-if1
-    array-read-if1
+    (λ c. omega arith) (λ c. omega arith)
     returns
-    add-i
-    loop-less
+    (λ c. omega arith) (λ c. omega arith)
     loop-again
     returns-2)

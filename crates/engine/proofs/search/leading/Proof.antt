@@ -5,12 +5,6 @@ use borrow.Author.Needs.{needs}
 use Rattle.engine.proofs.search.leading.Statement.{statement}
 use Rattle.engine.proofs.search.leading.Tie as tie
 
-shared-slice-read-if1 : tie.Need-shared-slice-read-if1
-shared-slice-read-if1 c = search needs
-
-array-read-result : tie.Need-array-read-result
-array-read-result c = search needs
-
 returns : tie.Need-returns
 returns c = rw (eq-eqb _ 0 (c .if1 .taken))
 
@@ -18,4 +12,4 @@ returns-2 : tie.Need-returns-2
 returns-2 c = rw (ne-eqb _ 0 (c .if1 .left))
 
 pub leading-spec : {M : Type 1} → statement M
-leading-spec = tie.close (tie.spec shared-slice-read-if1 array-read-result returns returns-2)
+leading-spec = tie.close (tie.spec (λ c. search needs) (λ c. search needs) returns returns-2)

@@ -34,7 +34,6 @@ seek-spec =
     loop-holds
     (λ c κs. omega arith)
     returns
-    (λ c. omega arith)
-    (λ c. omega arith)
+    (λ c. omega arith) (λ c. omega arith)
     loop-again
     returns-2)

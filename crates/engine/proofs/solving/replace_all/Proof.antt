@@ -19,26 +19,8 @@ abbrev μ-loop : tie.MeasureT-loop
 loop-holds : tie.Need-loop-holds Inv-loop μ-loop
 loop-holds c = mapped-start _ _ _ refl
 
-mul-swapped : tie.Need-mul-swapped Inv-loop μ-loop
-mul-swapped c = omega arith
-
-slice-read-swapped : tie.Need-slice-read-swapped Inv-loop μ-loop
-slice-read-swapped c = omega arith
-
 swapped-requires : tie.Need-swapped-requires Inv-loop μ-loop
 swapped-requires c κs = tt
-
-mul-cells : tie.Need-mul-cells Inv-loop μ-loop
-mul-cells c = omega arith
-
-slice-write-cells : tie.Need-slice-write-cells Inv-loop μ-loop
-slice-write-cells c = omega arith
-
-add-i : tie.Need-add-i Inv-loop μ-loop
-add-i c = omega arith
-
-loop-less : tie.Need-loop-less Inv-loop μ-loop
-loop-less c = omega arith
 
 loop-again : tie.Need-loop-again Inv-loop μ-loop
 loop-again c =
@@ -65,13 +47,9 @@ replace-all-spec =
     Inv-loop
     μ-loop
     loop-holds
-    mul-swapped
-    slice-read-swapped
+    (λ c. omega arith) (λ c. omega arith)
     swapped-requires
-    mul-cells
-    slice-write-cells
-    add-i
-    loop-less
+    (λ c. omega arith) (λ c. omega arith) (λ c. omega arith) (λ c. omega arith)
     loop-again
     same-length
     returns)

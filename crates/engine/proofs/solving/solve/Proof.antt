@@ -19,24 +19,6 @@ loop-holds : tie.Need-loop-holds Inv-loop μ-loop
 loop-holds c =
     solving-start _ _ _ _ ((c .before .before .before .pre))
 
-mul-at : tie.Need-mul-at Inv-loop μ-loop
-mul-at c = omega arith
-
-mul-a : tie.Need-mul-a Inv-loop μ-loop
-mul-a c = omega arith
-
-slice-read-a : tie.Need-slice-read-a Inv-loop μ-loop
-slice-read-a c = omega arith
-
-add-b : tie.Need-add-b Inv-loop μ-loop
-add-b c = omega arith
-
-mul-b : tie.Need-mul-b Inv-loop μ-loop
-mul-b c = omega arith
-
-slice-read-b : tie.Need-slice-read-b Inv-loop μ-loop
-slice-read-b c = omega arith
-
 unify-requires : tie.Need-unify-requires Inv-loop μ-loop
 unify-requires c κs = tt
 
@@ -59,26 +41,10 @@ same-length-3 c =
     at-unify .unify .kept .1 .1 .1 .1 .0 ∙ at-loop .loop .inv .cells-size
 
 returns : tie.Need-returns Inv-loop μ-loop
-returns c =
-    let at-unify = c .before .before .before .before .before .before .before in
-    let at-loop-test = at-unify .before .before .before .before .before .before in
-    let at-loop = at-loop-test .before in
-    solving-clash _ _ _ _ _ _ _ _ (at-loop .loop .inv) (at-loop-test .loop-test .taken) _ _ _ _ (at-unify .unify .ensures)
-    (not-true _ (c .if1 .taken))
-
-add-i : tie.Need-add-i Inv-loop μ-loop
-add-i c = omega arith
-
-loop-less : tie.Need-loop-less Inv-loop μ-loop
-loop-less c = omega arith
+returns c = search (solving-clash, not-true)
 
 loop-again : tie.Need-loop-again Inv-loop μ-loop
-loop-again c =
-    let at-unify = c .before .before .before .before .before .before .before in
-    let at-loop-test = at-unify .before .before .before .before .before .before in
-    let at-loop = at-loop-test .before in
-    solving-next _ _ _ _ _ _ _ _ (at-loop .loop .inv) (at-loop-test .loop-test .taken) _ _ _ _ (at-unify .unify .ensures)
-    (not-false _ (c .if1 .left))
+loop-again c = search (solving-next, not-false)
 
 same-length-4 : tie.Need-same-length-4 Inv-loop μ-loop
 same-length-4 c =
@@ -93,10 +59,7 @@ same-length-6 c =
     (c .before .loop) .inv .cells-size
 
 returns-2 : tie.Need-returns-2 Inv-loop μ-loop
-returns-2 c =
-    let loop′ = c .before .loop in
-    let loop-test′ = c .loop-test in
-    solving-end _ _ _ _ _ _ _ _ (loop′ .inv) (loop-test′ .left)
+returns-2 c = search solving-end
 
 pub solve-spec : {M : Type 1} → statement M
 solve-spec =
@@ -105,19 +68,14 @@ solve-spec =
     Inv-loop
     μ-loop
     loop-holds
-    mul-at
-    mul-a
-    slice-read-a
-    add-b
-    mul-b
-    slice-read-b
+    (λ c. omega arith) (λ c. omega arith) (λ c. omega arith) (λ c. omega arith) (λ c. omega arith)
+    (λ c. omega arith)
     unify-requires
     same-length
     same-length-2
     same-length-3
     returns
-    add-i
-    loop-less
+    (λ c. omega arith) (λ c. omega arith)
     loop-again
     same-length-4
     same-length-5

@@ -17,15 +17,6 @@ Inv-loop row cells m positions n e heads bindings₀ h₀ bindings h =
 abbrev μ-loop : tie.MeasureT-loop
 μ-loop row cells m positions n e heads bindings₀ h₀ bindings h = n - h
 
-shared-slice-read-wide : tie.Need-shared-slice-read-wide Inv-loop μ-loop
-shared-slice-read-wide c = search needs
-
-wide-requires : tie.Need-wide-requires Inv-loop μ-loop
-wide-requires c κs = search needs
-
-part-heads-end : tie.Need-part-heads-end Inv-loop μ-loop
-part-heads-end c = search needs
-
 loop-holds : tie.Need-loop-holds Inv-loop μ-loop
 loop-holds c =
     let start = c .before .before .before .before .before in
@@ -61,11 +52,10 @@ match-at-spec =
     (tie.spec
     Inv-loop
     μ-loop
-    shared-slice-read-wide
-    wide-requires
+    (λ c. search needs) (λ c κs. search needs)
     -- e and the heads' cells
     (λ c. search needs) (λ c. search needs) (λ c. search needs) (λ c. search needs)
-    part-heads-end
+    (λ c. search needs)
     loop-holds
     -- p
     (λ c. omega arith) (λ c. omega arith)
