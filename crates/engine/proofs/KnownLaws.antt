@@ -12,7 +12,7 @@ use mathlib.Core.Logic.{_⊎_, ⊎-elim}
 use mathlib.Core.Option.{none}
 use mathlib.Core.Path.{_≡_, refl, sym, ap, _∙_}
 use lib.Dec.{eqb, ltb}
-use lib.ListN.{length, getD, set, take, drop, replicate, length-take, length-set}
+use lib.ListN.{length, getD, set, take, drop, replicate, length-take, length-set, length-drop}
 use lib.ListN.{List·getD-eq-default, take-append-drop}
 use lib.Seq.{getD-take, getD-drop, take-all, length-take-le, getD-set-same, getD-set-other, take-add}
 use borrow.Author.Tests.{eq-eqb, ne-eqb, lt-ltb, le-ltb, ltb-true, ltb-false, eqb-true, eqb-false}
