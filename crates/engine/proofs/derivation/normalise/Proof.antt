@@ -18,7 +18,7 @@ abbrev μ-loop : tie.MeasureT-loop
     512 - firings
 
 loop-holds : tie.Need-loop-holds Inv-loop μ-loop
-loop-holds c = search holding-start
+loop-holds c = holding-start _ _ _ _ _ _ (c .before .before .before .pre)
 
 make-room-requires : tie.Need-make-room-requires Inv-loop μ-loop
 make-room-requires c κs =
