@@ -138,7 +138,8 @@ module _ (names symbols : List ℕ) (s : ℕ) (rules : List ℕ) (n : ℕ) (r : 
   declared-below c h =
       let l : c .symbol < length declaredTable =
       ltb-true (c .symbol) (length declaredTable)
-      (and-true (ltb (c .symbol) (length declaredTable)) (eqb (length (c .terms)) (symbolAt declaredTable (c .symbol) .arity)) h .0) in
+      (and-true (ltb (c .symbol) (length declaredTable))
+      (eqb (length (c .terms)) (symbolAt declaredTable (c .symbol) .arity)) h .0) in
       omega (arith, length-table)
 
   declared-low : (c : Constraint) → isDeclared declaredTable c ≡ true → isLow c ≡ true
@@ -150,10 +151,8 @@ module _ (names symbols : List ℕ) (s : ℕ) (rules : List ℕ) (n : ℕ) (r : 
   unfolding weightBy weight
   weight-same [] h = refl
   weight-same (c ∷ cs) h =
-      rw (
-        weigh-same (c .symbol) (declared-below c (and-true (isDeclared declaredTable c) (every (isDeclared declaredTable) cs) h .0)),
-        weight-same cs (and-true (isDeclared declaredTable c) (every (isDeclared declaredTable) cs) h .1),
-      )
+      let both = and-true (isDeclared declaredTable c) (every (isDeclared declaredTable) cs) h in
+      rw (weigh-same (c .symbol) (declared-below c (both .0)), weight-same cs (both .1))
 
   -- a rule of the program
   module _ (i : ℕ) (l : i < n) where
@@ -167,29 +166,33 @@ module _ (names symbols : List ℕ) (s : ℕ) (rules : List ℕ) (n : ℕ) (r : 
         (every-at (isRuleOf declaredTable) (tabled (ruleOf names rules) n) i (ruleOf names rules i) (r .well-formed)
         (omega (arith, length-tabled (ruleOf names rules) n)))
 
+    -- its heads, its body, its equations, and the tests of them
+    abbrev hs : List Constraint
+    hs = ruleOfRow [] row .heads
+
+    abbrev bs : List Constraint
+    bs = ruleOfRow [] row .body
+
+    abbrev es : List Equation
+    es = ruleOfRow [] row .equations
+
+    abbrev below : Equation → Bool
+    below = λ e. isBelow alphabet (e .left) && isBelow alphabet (e .right)
+
+    abbrev ofRule : Constraint → Bool
+    ofRule = isOfRule declaredTable
+
     -- what its being well formed says, part by part
     parts :
-        (every (isOfRule declaredTable) (ruleOfRow [] row .heads) ≡ true) × (every (isOfRule declaredTable) (ruleOfRow [] row .body) ≡ true)
-        × (every (λ (e : Equation). isBelow alphabet (e .left) && isBelow alphabet (e .right))
-        (ruleOfRow [] row .equations) ≡ true)
-        × (weight declaredTable (ruleOfRow [] row .body) < weight declaredTable (ruleOfRow [] row .heads))
+        (every ofRule hs ≡ true) × (every ofRule bs ≡ true) × (every below es ≡ true)
+        × (weight declaredTable bs < weight declaredTable hs)
     unfolding isRuleOf ruleOfRow
     parts =
-        let three = and-true (every (isOfRule declaredTable) (ruleOfRow [] row .heads) && every (isOfRule declaredTable)
-        (ruleOfRow [] row .body)
-        && every (λ (e : Equation). isBelow alphabet (e .left) && isBelow alphabet (e .right)) (ruleOfRow [] row .equations))
-        (ltb (weight declaredTable (ruleOfRow [] row .body)) (weight declaredTable (ruleOfRow [] row .heads))) rule-of in
-        let two = and-true (every (isOfRule declaredTable) (ruleOfRow [] row .heads) && every (isOfRule declaredTable) (ruleOfRow [] row .body))
-        (every (λ (e : Equation). isBelow alphabet (e .left) && isBelow alphabet (e .right)) (ruleOfRow [] row .equations))
-        (three .0) in
-        let one = and-true (every (isOfRule declaredTable) (ruleOfRow [] row .heads)) (every (isOfRule declaredTable) (ruleOfRow [] row .body))
-        (two .0) in (
-          one .0,
-          one .1,
-          two .1,
-          ltb-true (weight declaredTable (ruleOfRow [] row .body)) (weight declaredTable (ruleOfRow [] row .heads))
-              (three .1),
-        )
+        let light = ltb (weight declaredTable bs) (weight declaredTable hs) in
+        let three = and-true (every ofRule hs && every ofRule bs && every below es) light rule-of in
+        let two = and-true (every ofRule hs && every ofRule bs) (every below es) (three .0) in
+        let one = and-true (every ofRule hs) (every ofRule bs) (two .0) in
+        (one .0, one .1, two .1, ltb-true (weight declaredTable bs) (weight declaredTable hs) (three .1))
 
     of-rule : (c : Constraint) → isOfRule declaredTable c ≡ true → (isDeclared declaredTable c ≡ true) × (isLettered c ≡ true)
     unfolding isOfRule isLettered
@@ -199,12 +202,12 @@ module _ (names symbols : List ℕ) (s : ℕ) (rules : List ℕ) (n : ℕ) (r : 
     of-body c h = rw (declared-low c (of-rule c h .0), of-rule c h .1)
 
     of-equations :
-        (e : Equation) → (isBelow alphabet (e .left) && isBelow alphabet (e .right)) ≡ true
-        → (isUsed (e .left) && isUsed (e .right)) ≡ true → (isSide (e .left) && isSide (e .right)) ≡ true
+        (e : Equation) → below e ≡ true → (isUsed (e .left) && isUsed (e .right)) ≡ true
+        → (isSide (e .left) && isSide (e .right)) ≡ true
     of-equations e h k =
-        let below = and-true (isBelow alphabet (e .left)) (isBelow alphabet (e .right)) h in
+        let low = and-true (isBelow alphabet (e .left)) (isBelow alphabet (e .right)) h in
         let used = and-true (isUsed (e .left)) (isUsed (e .right)) k in
-        rw (side-of (e .left) (below .0) (used .0), side-of (e .right) (below .1) (used .1))
+        rw (side-of (e .left) (low .0) (used .0), side-of (e .right) (low .1) (used .1))
 
     read-row : Row row
     read-row =
@@ -212,21 +215,16 @@ module _ (names symbols : List ℕ) (s : ℕ) (rules : List ℕ) (n : ℕ) (r : 
           size = length-take-le 64 (drop (64 * i) rules) (omega (arith, r .size, length-drop (64 * i) rules));
           heads-few = r .heads-few i l;
           body-few = r .body-few i l;
-          heads = every-weaker (isOfRule declaredTable) isLettered (ruleOfRow [] row .heads) (λ c h. of-rule c h .1) (parts .0);
-          body = every-weaker (isOfRule declaredTable) (λ (c : Constraint). isLow c && isLettered c) (ruleOfRow [] row .body) of-body
-              (parts .1);
-          equations = every-both (λ (e : Equation). isBelow alphabet (e .left) && isBelow alphabet (e .right))
-              (λ (e : Equation). isUsed (e .left) && isUsed (e .right)) (λ (e : Equation). isSide (e .left) && isSide
-              (e .right))
-              (ruleOfRow [] row .equations) of-equations (parts .2) (r .used i l);
+          heads = every-weaker ofRule isLettered hs (λ c h. of-rule c h .1) (parts .0);
+          body = every-weaker ofRule (λ (c : Constraint). isLow c && isLettered c) bs of-body (parts .1);
+          equations = every-both below (λ (e : Equation). isUsed (e .left) && isUsed (e .right))
+              (λ (e : Equation). isSide (e .left) && isSide (e .right)) es of-equations (parts .2) (r .used i l);
         }
 
-    falls : weightBy weigh (ruleOfRow [] row .body) < weightBy weigh (ruleOfRow [] row .heads)
+    falls : weightBy weigh bs < weightBy weigh hs
     falls =
-        let body = weight-same (ruleOfRow [] row .body)
-        (every-weaker (isOfRule declaredTable) (isDeclared declaredTable) (ruleOfRow [] row .body) (λ c h. of-rule c h .0) (parts .1)) in
-        let heads = weight-same (ruleOfRow [] row .heads)
-        (every-weaker (isOfRule declaredTable) (isDeclared declaredTable) (ruleOfRow [] row .heads) (λ c h. of-rule c h .0) (parts .0)) in
+        let body = weight-same bs (every-weaker ofRule (isDeclared declaredTable) bs (λ c h. of-rule c h .0) (parts .1)) in
+        let heads = weight-same hs (every-weaker ofRule (isDeclared declaredTable) hs (λ c h. of-rule c h .0) (parts .0)) in
         omega (arith, parts .3, body, heads)
 
   -- the engine runs the rules of such a table
@@ -241,8 +239,9 @@ module _ (names symbols : List ℕ) (s : ℕ) (rules : List ℕ) (n : ℕ) (r : 
     declared : every (isDeclared declaredTable) (g .constraints) ≡ true
     unfolding isGoalOf programOf
     declared =
-        every-weaker (λ (c : Constraint). isDeclared declaredTable c && every (isBelow (g .variables)) (c .terms)) (isDeclared declaredTable)
-        (g .constraints) (λ c h. and-true (isDeclared declaredTable c) (every (isBelow (g .variables)) (c .terms)) h .0) is-goal
+        every-weaker (λ (c : Constraint). isDeclared declaredTable c && every (isBelow (g .variables)) (c .terms))
+        (isDeclared declaredTable) (g .constraints)
+        (λ c h. and-true (isDeclared declaredTable c) (every (isBelow (g .variables)) (c .terms)) h .0) is-goal
 
     goal-weighs : weightBy weigh (g .constraints) ≡ weight declaredTable (g .constraints)
     goal-weighs = weight-same (g .constraints) declared

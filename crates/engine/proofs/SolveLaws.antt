@@ -13,7 +13,8 @@ use mathlib.Core.Path.{_≡_, refl, ap, sym, fun-ext, _∙_}
 use lib.Dec.{eqb, ltb, leb}
 use lib.ListN.{length, getD, drop, length-map, drop-of-length-le}
 use lib.Seq.{drop-cons}
-use borrow.Author.Tests.{eq-eqb, ne-eqb, eqb-true, eqb-false, lt-ltb, le-ltb, le-leb, lt-leb, ltb-true, leb-true, not-true, not-false}
+use borrow.Author.Tests.{eq-eqb, ne-eqb, eqb-true, eqb-false, lt-ltb, le-ltb, le-leb, lt-leb, ltb-true, leb-true}
+use borrow.Author.Tests.{not-true, not-false}
 use Rattle.text.specs.Lists.{bind, every}
 use Rattle.semantics.specs.Terms.{Term, Constraint, Equation, failed, live, mapTerms, mapSides}
 use Rattle.semantics.specs.Solving.{replace, unify, solve}
