@@ -93,30 +93,6 @@ pub fn follow_both(
     Ends { first, second }
 }
 
-// Runs both sides of an overlap to their ends: `one` and `two` hold the constraints then, and what the goal variables became is
-// in `bound_one` and `bound_two`.
-pub fn both_ends(
-    rules: &[u16],
-    peak: Peak,
-    goal: &[u16],
-    bound_one: &mut [u16],
-    one: &mut [u16],
-    bound_two: &mut [u16],
-    two: &mut [u16],
-) -> Ends
-    requires { ⌜ Lent (now rules) (peak .rules) (peak .first) (peak .second) (peak .positions) (peak .count)
-        (peak .variables) (now goal) (now «bound_one») (now one) (now «bound_two») (now two) ⌝ }
-    ensures { λ r. ⌜ EndOf firstEnd (now (rules .entry)) (peak .rules) (peak .first) (peak .second) (peak .positions)
-        (peak .variables) (now (goal .entry)) (r .first .alive) (r .first .count) (r .first .next) (r .first .firings)
-        (now («bound_one» .exit)) (now (one .exit))
-        × EndOf secondEnd (now (rules .entry)) (peak .rules) (peak .first) (peak .second) (peak .positions)
-        (peak .variables) (now (goal .entry)) (r .second .alive) (r .second .count) (r .second .next) (r .second .firings)
-        (now («bound_two» .exit)) (now (two .exit)) ⌝ }
-{
-    let steps = begin_both(rules, peak, goal, bound_one, one, bound_two, two);
-    follow_both(rules, peak, goal, steps, bound_one, one, bound_two, two)
-}
-
 // Whether both sides are in the same live state after their own firings.
 pub fn same_step(
     steps: Steps,
