@@ -38,9 +38,9 @@ pub fn put_check(input: &[u8], out: &mut [u8; 32768]) -> usize
     ensures { λ r. ⌜ Printed (sheetcheck (now (input .entry))) (now (out .entry)) (now (out .exit)) r ⌝ }
 {
     match check(input, out) {
-        CheckReply::Refused(refusal) => {
-            let text = refusal.text;
-            put_refusal(out, refusal.number, text, refusal.line)
+        CheckReply::Refused(turned) => {
+            let text = turned.text;
+            put_refusal(out, turned.number, text, turned.line)
         }
         CheckReply::Confluent(n) => n,
         CheckReply::Unjoined(n) => n,

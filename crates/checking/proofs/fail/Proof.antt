@@ -27,7 +27,8 @@ same-length-4 c = search needs
 
 returns : tie.Need-returns
 returns c =
-    let at-list = c .before .before .before .before .before .before .before .before .before .before in
+    let at-lent = c .before .before .before .before .before .before .before in
+    let at-list = at-lent .before .before .before in
     overlap-short (at-list .list-overlap .ensures) (c .enum-told .given .1)
 
 same-length-5 : tie.Need-same-length-5
@@ -45,7 +46,8 @@ same-length-8 c = search needs
 returns-2 : tie.Need-returns-2
 returns-2 c =
     let n′ = c .before .n .given in
-    let at-list = c .before .before .before .before .before .before .before .before .before .before .before in
+    let at-lent = c .before .before .before .before .before .before .before .before in
+    let at-list = at-lent .before .before .before in
     overlap-written (at-list .list-overlap .ensures) (n′ .0 .0) (n′ .1)
 
 pub fail-spec : {M : Type 1} → statement M

@@ -12,6 +12,16 @@ mul-e c = search needs
 add-w : tie.Need-add-w
 add-w c = search needs
 
+returns : tie.Need-returns
+returns c =
+    let at-fail = c .before .before .before .before .before .before .before .before in
+    let at-end = at-fail .before .before .before .before .before .before in
+    let at-cells = at-end .before .before .before in
+    let at-one = at-cells .before in
+    let start = at-one .before .before .before .before .before .before .before .before .before in
+    show-replies (start .pre) (at-one .listed-cells .ensures) (at-cells .listed-cells2 .ensures)
+    (at-end .before .end-shown .ensures) (at-end .end-shown2 .ensures) (at-fail .fail .ensures)
+
 listed-cells-requires : tie.Need-listed-cells-requires
 listed-cells-requires c κs =
     let start = c .before .before .before .before .before .before .before .before in
@@ -31,7 +41,8 @@ end-shown-requires-2 c κs = search needs
 slice-aggregate-fail : tie.Need-slice-aggregate-fail
 slice-aggregate-fail c =
     let at-cells = c .before .before .before .before in
-    let start = at-cells .before .before .before .before .before .before .before .before .before .before in
+    let at-one = at-cells .before in
+    let start = at-one .before .before .before .before .before .before .before .before .before in
     let shown = start .pre .unjoined-in in
     front-length _ _ (omega (arith, shown .count-few, shown .heads-few, start .pre .goal-size))
 
@@ -41,39 +52,45 @@ slice-relend-prefix-fail c = search needs
 slice-aggregate-fail-2 : tie.Need-slice-aggregate-fail-2
 slice-aggregate-fail-2 c =
     let at-cells = c .before .before .before .before .before in
-    let start = at-cells .before .before .before .before .before .before .before .before .before .before in
+    let at-one = at-cells .before in
+    let start = at-one .before .before .before .before .before .before .before .before .before in
     front-length _ _ (omega (arith, start .pre .unjoined-in .variables-few, start .pre .bounds-size))
 
 slice-relend-prefix-fail-2 : tie.Need-slice-relend-prefix-fail-2
 slice-relend-prefix-fail-2 c =
     let at-cells = c .before .before .before .before .before in
-    let start = at-cells .before .before .before .before .before .before .before .before .before .before in
-    listed-within (start .pre .unjoined-in .first-end) (at-cells .before .listed-cells .ensures)
+    let at-one = at-cells .before in
+    let start = at-one .before .before .before .before .before .before .before .before .before in
+    listed-within (start .pre .unjoined-in .first-end) (at-one .listed-cells .ensures)
 
 slice-aggregate-fail-3 : tie.Need-slice-aggregate-fail-3
 slice-aggregate-fail-3 c =
     let at-cells = c .before .before .before .before .before .before in
-    let start = at-cells .before .before .before .before .before .before .before .before .before .before in
-    front-length _ _ (listed-within (start .pre .unjoined-in .first-end) (at-cells .before .listed-cells .ensures))
+    let at-one = at-cells .before in
+    let start = at-one .before .before .before .before .before .before .before .before .before in
+    front-length _ _ (listed-within (start .pre .unjoined-in .first-end) (at-one .listed-cells .ensures))
 
 slice-relend-prefix-fail-3 : tie.Need-slice-relend-prefix-fail-3
 slice-relend-prefix-fail-3 c =
     let at-cells = c .before .before .before .before .before .before in
-    let start = at-cells .before .before .before .before .before .before .before .before .before .before in
+    let at-one = at-cells .before in
+    let start = at-one .before .before .before .before .before .before .before .before .before in
     listed-within (start .pre .unjoined-in .second-end) (at-cells .listed-cells2 .ensures)
 
 slice-aggregate-fail-4 : tie.Need-slice-aggregate-fail-4
 slice-aggregate-fail-4 c =
     let at-cells = c .before .before .before .before .before .before .before in
-    let start = at-cells .before .before .before .before .before .before .before .before .before .before in
+    let at-one = at-cells .before in
+    let start = at-one .before .before .before .before .before .before .before .before .before in
     front-length _ _ (listed-within (start .pre .unjoined-in .second-end) (at-cells .listed-cells2 .ensures))
 
 fail-requires : tie.Need-fail-requires
 fail-requires c κs =
     let at-end = c .before .before .before .before .before in
     let at-cells = at-end .before .before .before in
-    let start = at-cells .before .before .before .before .before .before .before .before .before .before in
-    show-listable (start .pre) (at-cells .before .listed-cells .ensures) (at-cells .listed-cells2 .ensures)
+    let at-one = at-cells .before in
+    let start = at-one .before .before .before .before .before .before .before .before .before in
+    show-listable (start .pre) (at-one .listed-cells .ensures) (at-cells .listed-cells2 .ensures)
     (at-end .before .end-shown .ensures) (at-end .end-shown2 .ensures) (search (front-few, start .pre .goal-size))
 
 same-length : tie.Need-same-length
@@ -87,15 +104,6 @@ same-length-3 c = search needs
 
 same-length-4 : tie.Need-same-length-4
 same-length-4 c = search needs
-
-returns : tie.Need-returns
-returns c =
-    let at-fail = c .before .before .before .before .before .before .before .before in
-    let at-end = at-fail .before .before .before .before .before .before in
-    let at-cells = at-end .before .before .before in
-    let start = at-cells .before .before .before .before .before .before .before .before .before .before in
-    show-replies (start .pre) (at-cells .before .listed-cells .ensures) (at-cells .listed-cells2 .ensures)
-    (at-end .before .end-shown .ensures) (at-end .end-shown2 .ensures) (at-fail .fail .ensures)
 
 pub show-spec : {M : Type 1} → statement M
 show-spec =

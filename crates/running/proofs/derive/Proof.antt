@@ -10,6 +10,13 @@ start-bound-requires c κs = search needs
 cast-v : tie.Need-cast-v
 cast-v c = search needs
 
+returns : tie.Need-returns
+returns c =
+    let at-end = c .before .before .before .before in
+    let at-start = at-end .before .before .before .before .before in
+    let start = at-start .before .before .before .before .before in
+    entered-ended (start .args .bound .now) (at-end .normalise .ensures) (search needs) (search needs) (search needs)
+
 normalise-requires : tie.Need-normalise-requires
 normalise-requires c κs = search needs
 
@@ -18,9 +25,6 @@ same-length c = search needs
 
 same-length-2 : tie.Need-same-length-2
 same-length-2 c = search needs
-
-returns : tie.Need-returns
-returns c = search (needs, entered-ended)
 
 pub derive-spec : {M : Type 1} → statement M
 derive-spec =

@@ -41,8 +41,9 @@ slice-aggregate-run-goal-4 c = search needs
 
 run-goal-requires : tie.Need-run-goal-requires
 run-goal-requires c κs =
-    let at-read = c .before .before .before .before .before .before .before .before .before .before .before .before in
-    let counts′ = c .before .before .before .before .before .before .counts in
+    let at-counts = c .before .before .before .before .before .before in
+    let at-read = at-counts .before .before .before .before .before .before in
+    let counts′ = at-counts .counts in
     program-ready (at-read .read-program .ensures) (counts′ .given .0 .0) (counts′ .given .1) refl
 
 returns : tie.Need-returns

@@ -27,7 +27,8 @@ slice-aggregate-read-goal-3 c = search needs
 
 read-goal-requires : tie.Need-read-goal-requires
 read-goal-requires c κs =
-    let start = c .before .before .before .before .before .before .before .before .before .before .before .before .before in
+    let at-counts = c .before .before .before .before .before in
+    let start = at-counts .before .before .before .before .before .before .before .before in
     (tabled-room (goal-tabled (start .pre)) (omega arith) (omega arith), few-own (start .pre))
 
 enum-known-number : tie.Need-enum-known-number
@@ -38,25 +39,31 @@ enum-known-found c = search needs
 
 array-share-prefix-letters : tie.Need-array-share-prefix-letters
 array-share-prefix-letters c =
-    let at-read = c .before .before .before .before .before .before .before .before .before .before in
-    let start = at-read .before .before .before .before .before .before .before .before .before .before .before .before .before .before in
-    few-letters (start .pre) (start .args .goal .now) (at-read .read-goal .ensures) (c .before .before .found .given .1)
+    let at-found = c .before .before in
+    let at-read = at-found .before .before .before .before .before .before .before .before in
+    let at-counts = at-read .before .before .before .before .before .before in
+    let start = at-counts .before .before .before .before .before .before .before .before in
+    few-letters (start .pre) (start .args .goal .now) (at-read .read-goal .ensures) (at-found .found .given .1)
 
 slice-aggregate-run-read : tie.Need-slice-aggregate-run-read
 slice-aggregate-run-read c =
-    let at-read = c .before .before .before .before .before .before .before .before .before .before .before in
-    let start = at-read .before .before .before .before .before .before .before .before .before .before .before .before .before .before in
+    let at-found = c .before .before .before in
+    let at-read = at-found .before .before .before .before .before .before .before .before in
+    let at-counts = at-read .before .before .before .before .before .before in
+    let start = at-counts .before .before .before .before .before .before .before .before in
     sym (length-take-le _ _
-    (few-letters (start .pre) (start .args .goal .now) (at-read .read-goal .ensures) (c .before .before .before .found .given .1)))
+    (few-letters (start .pre) (start .args .goal .now) (at-read .read-goal .ensures) (at-found .found .given .1)))
 
 slice-aggregate-run-read-2 : tie.Need-slice-aggregate-run-read-2
 slice-aggregate-run-read-2 c = search needs
 
 run-read-requires : tie.Need-run-read-requires
 run-read-requires c κs =
-    let at-read = c .before .before .before .before .before .before .before .before .before .before .before .before .before in
-    let start = at-read .before .before .before .before .before .before .before .before .before .before .before .before .before .before in
-    goal-ready (start .pre) (start .args .goal .now) (at-read .read-goal .ensures) (c .before .before .before .before .before .found .given .1)
+    let at-found = c .before .before .before .before .before in
+    let at-read = at-found .before .before .before .before .before .before .before .before in
+    let at-counts = at-read .before .before .before .before .before .before in
+    let start = at-counts .before .before .before .before .before .before .before .before in
+    goal-ready (start .pre) (start .args .goal .now) (at-read .read-goal .ensures) (at-found .found .given .1)
     (at-read .read-goal .kept .1 .1 .1 .1 .1 .0)
 
 same-length : tie.Need-same-length
@@ -68,7 +75,8 @@ same-length-2 c = search needs
 returns : tie.Need-returns
 returns c =
     let at-read = c .before .before .before .before .before .before .before .before .before in
-    let start = at-read .before .before .before .before .before .before .before .before .before .before .before .before .before .before in
+    let at-counts = at-read .before .before .before .before .before .before in
+    let start = at-counts .before .before .before .before .before .before .before .before in
     let number′ = c .before .number in
     goal-refused (start .pre) (start .args .goal .now) (at-read .read-goal .ensures) (number′ .given .0 .0)
     (number′ .given .0 .1 .0) (number′ .given .1)

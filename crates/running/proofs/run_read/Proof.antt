@@ -24,19 +24,22 @@ derive-requires c κs =
 array-borrow-prefix-bound-2 : tie.Need-array-borrow-prefix-bound-2
 array-borrow-prefix-bound-2 c =
     let at-derive = c .before .before .before in
-    let start = at-derive .before .before .before .before .before .before .before .before .before .before in
+    let at-bound = at-derive .before .before in
+    let start = at-bound .before .before .before .before .before .before .before .before in
     back-few (start .pre) _ refl (at-derive .derive .kept .1 .0) _ (at-derive .derive .ensures)
 
 slice-aggregate-list-final : tie.Need-slice-aggregate-list-final
 slice-aggregate-list-final c =
     let at-derive = c .before .before .before .before in
-    let start = at-derive .before .before .before .before .before .before .before .before .before .before in
+    let at-bound = at-derive .before .before in
+    let start = at-bound .before .before .before .before .before .before .before .before in
     back-size (start .pre) _ refl (at-derive .derive .kept .1 .0) _ (at-derive .derive .ensures)
 
 list-final-requires : tie.Need-list-final-requires
 list-final-requires c κs =
     let at-derive = c .before .before .before .before .before .before in
-    let start = at-derive .before .before .before .before .before .before .before .before .before .before in
+    let at-bound = at-derive .before .before in
+    let start = at-bound .before .before .before .before .before .before .before .before in
     back-listable (start .pre) _ refl (at-derive .derive .kept .1 .0) _ (at-derive .derive .ensures)
     (at-derive .derive .kept .1 .1 .0)
 
@@ -50,7 +53,8 @@ returns : tie.Need-returns
 returns c =
     let at-list = c .before .before .before .before .before in
     let at-derive = at-list .before .before .before .before .before .before .before in
-    let start = at-derive .before .before .before .before .before .before .before .before .before .before in
+    let at-bound = at-derive .before .before in
+    let start = at-bound .before .before .before .before .before .before .before .before in
     back-replies (start .pre) _ refl (at-derive .derive .kept .1 .0) _ (at-derive .derive .ensures) (at-list .list-final .ensures)
 
 pub run-read-spec : {M : Type 1} → statement M

@@ -34,7 +34,9 @@ part-put-head-end c = search needs
 
 put-head-requires : tie.Need-put-head-requires
 put-head-requires c κs =
-    let start = c .before .before .before .before .before .before .before .before .before .before .before .before in
+    let at-number = c .before .before .before in
+    let at-copy = at-number .before .before .before .before in
+    let start = at-copy .before .before .before .before .before in
     rest-counted (start .args .number) (start .args .line) (start .args .named .now) (start .args .out .now) (start .pre)
 
 returns : tie.Need-returns
@@ -49,7 +51,10 @@ returns c =
 
 add-result : tie.Need-add-result
 add-result c =
-    let start = c .before .before .before .before .before .before .before .before .before .before .before .before .before .before .before in
+    let at-head = c .before .before in
+    let at-number = at-head .before .before .before .before in
+    let at-copy = at-number .before .before .before .before in
+    let start = at-copy .before .before .before .before .before in
     omega (
       arith,
       returns c .counted,

@@ -47,8 +47,9 @@ same-length c = search needs
 
 returns : tie.Need-returns
 returns c =
-    let numbered = c .before .before .before .before .number in
-    let dropped = c .before .before .before .before .before .before .before .before .before .before in
+    let at-number = c .before .before .before .before in
+    let numbered = at-number .number in
+    let dropped = at-number .before .before .before .before .before .before in
     let start = dropped .before .before .before in
     let room = goal-room _ _ _ _ (start .pre) _ _ (dropped .drop-joined .ensures) (dropped .drop-joined .kept .0) in
     goal-finished _ _ _ _ (start .pre) _ _ (dropped .drop-joined .ensures) (dropped .drop-joined .kept .0) _ _ _ _

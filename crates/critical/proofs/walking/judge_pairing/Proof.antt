@@ -90,7 +90,8 @@ joins-requires c κs =
 
 add-t27 : tie.Need-add-t27
 add-t27 c =
-    let finished = c .before .before .before .before .before .before .before .before .before .before .before .before in
+    let at = c .before .before .before .before .before .before .before .before .before in
+    let finished = at .before .before .before in
     let start = finished .before .before .before .before .before .before .before in
     omega (arith, leaf-count _ _ _ _ _ _ _ _ _ (start .pre .0))
 
@@ -102,8 +103,8 @@ same-length-2 c = search needs
 
 returns-2 : tie.Need-returns-2
 returns-2 c =
-    let finished = c .before .before .before .before .before .before .before .before .before .before .before .before in
     let at = c .before .before .before .before .before .before .before .before .before in
+    let finished = at .before .before .before in
     let alone = finished .before .before .before in
     let start = alone .before .before .before .before in
     leaf-joins _ _ _ _ _ _ _ _ _ (start .pre .0) _ (finished .before .before .if1 .left) (alone .is-alone .ensures) _ _ _
@@ -119,8 +120,8 @@ same-length-4 c = search needs
 
 returns-3 : tie.Need-returns-3
 returns-3 c =
-    let finished = c .before .before .before .before .before .before .before .before .before .before .before .before in
     let at = c .before .before .before .before .before .before .before .before .before in
+    let finished = at .before .before .before in
     let alone = finished .before .before .before in
     let start = alone .before .before .before .before in
     leaf-parts _ _ _ _ _ _ _ _ _ (start .pre .0) _ (finished .before .before .if1 .left) (alone .is-alone .ensures) _ _ _

@@ -103,10 +103,11 @@ same-length-2 c = search needs
 
 returns : tie.Need-returns
 returns c =
-    let counted = c .before .before .before .before .before .before .before .before .before .before in
+    let at-walk = c .before .before .before .before in
+    let counted = at-walk .before .before .before .before .before .before in
     let start = counted .before .before .before .before .before .before .before .before .before in
     pair-walked _ _ _ _ (start .pre .0) (start .pre .1) (start .pre .2) _ _ (counted .before .before .wide .ensures .0)
-    (counted .wide2 .ensures .0) _ _ _ _ (c .before .before .before .before .walk .ensures)
+    (counted .wide2 .ensures .0) _ _ _ _ (at-walk .walk .ensures)
 
 pub walk-pairings-spec : {M : Type 1} → statement M
 walk-pairings-spec =

@@ -8,8 +8,8 @@ use Rattle.roketuma.proofs.printing.put_check.Tie as tie
 check-requires : tie.Need-check-requires
 check-requires c κs = search needs
 
-enum-known-refusal : tie.Need-enum-known-refusal
-enum-known-refusal c = search needs
+enum-known-turned : tie.Need-enum-known-turned
+enum-known-turned c = search needs
 
 put-refusal-requires : tie.Need-put-refusal-requires
 put-refusal-requires c κs = search needs
@@ -22,12 +22,12 @@ enum-known-n-2 c = search needs
 
 returns : tie.Need-returns
 returns c =
-    let refusal′ = c .before .before .before .refusal .given in
+    let turned′ = c .before .before .before .turned .given in
     let at-check = c .before .before .before .before .before in
     let start = at-check .before .before .before in
     let put = c .put-refusal in
     check-turned (start .args .input .now) (at-check .check .ensures .0) (at-check .before .check-arg .given .0 .1)
-    (refusal′ .0 .0) (put .last .0) (put .result) (refusal′ .1) (put .ensures)
+    (turned′ .0 .0) (put .last .0) (put .result) (turned′ .1) (put .ensures)
 
 returns-2 : tie.Need-returns-2
 returns-2 c =
@@ -50,7 +50,7 @@ put-check-spec =
     tie.close
     (tie.spec
     check-requires
-    enum-known-refusal
+    enum-known-turned
     put-refusal-requires
     enum-known-n
     enum-known-n-2
