@@ -4,22 +4,14 @@ use Rattle.answers.proofs.PrintLaws.{printed-within, printed-front}
 use Rattle.rehearsal.proofs.answer.Statement.{statement}
 use Rattle.rehearsal.proofs.answer.Tie as tie
 
-put-answer-requires : tie.Need-put-answer-requires
-put-answer-requires c κs = search needs
-
 array-share-prefix-out : tie.Need-array-share-prefix-out
 array-share-prefix-out c = printed-within (c .put-answer .ensures)
 
 slice-aggregate-write-all : tie.Need-slice-aggregate-write-all
 slice-aggregate-write-all c = printed-front _ (c .before .put-answer .ensures)
 
-write-all-requires : tie.Need-write-all-requires
-write-all-requires c κs = search needs
-
-returns : tie.Need-returns
-returns c = search needs
-
 pub answer-spec : {M : Type 1} → statement M
 answer-spec =
     tie.close
-    (tie.spec put-answer-requires array-share-prefix-out slice-aggregate-write-all write-all-requires returns)
+    (tie.spec (λ c κs. search needs) array-share-prefix-out slice-aggregate-write-all (λ c κs. search needs)
+    (λ c. search needs))

@@ -5,21 +5,6 @@ use Rattle.rehearsal.proofs.SweepLaws.{refused-digit, listed-digit}
 use Rattle.rehearsal.proofs.sweep.met.Statement.{statement}
 use Rattle.rehearsal.proofs.sweep.met.Tie as tie
 
-slice-aggregate-run : tie.Need-slice-aggregate-run
-slice-aggregate-run c = search needs
-
-run-requires : tie.Need-run-requires
-run-requires c κs = search needs
-
-enum-known-refusal : tie.Need-enum-known-refusal
-enum-known-refusal c = search needs
-
-digit-requires : tie.Need-digit-requires
-digit-requires c κs = search needs
-
-enum-told : tie.Need-enum-told
-enum-told c = search needs
-
 returns : tie.Need-returns
 unfolding ample
 returns c =
@@ -41,10 +26,6 @@ pub met-spec : {M : Type 1} → statement M
 met-spec =
     tie.close
     (tie.spec
-    slice-aggregate-run
-    run-requires
-    enum-known-refusal
-    digit-requires
-    enum-told
+    (λ c. search needs) (λ c κs. search needs) (λ c. search needs) (λ c κs. search needs) (λ c. search needs)
     returns
     returns-2)

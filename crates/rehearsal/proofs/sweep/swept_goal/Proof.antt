@@ -5,18 +5,6 @@ use Rattle.rehearsal.specs.Sweep.{sweptGoal, goalProgram}
 use Rattle.rehearsal.proofs.sweep.swept_goal.Statement.{statement}
 use Rattle.rehearsal.proofs.sweep.swept_goal.Tie as tie
 
-array-write-text : tie.Need-array-write-text
-array-write-text c = search needs
-
-slice-aggregate-met : tie.Need-slice-aggregate-met
-slice-aggregate-met c = search needs
-
-slice-aggregate-met-2 : tie.Need-slice-aggregate-met-2
-slice-aggregate-met-2 c = search needs
-
-met-requires : tie.Need-met-requires
-met-requires c κs = search needs
-
 returns : tie.Need-returns
 unfolding sweptGoal goalProgram ascii
 returns c = c .met .ensures
@@ -24,4 +12,4 @@ returns c = c .met .ensures
 pub swept-goal-spec : {M : Type 1} → statement M
 swept-goal-spec =
     tie.close
-    (tie.spec array-write-text slice-aggregate-met slice-aggregate-met-2 met-requires returns)
+    (tie.spec (λ c. search needs) (λ c. search needs) (λ c. search needs) (λ c κs. search needs) returns)
