@@ -44,16 +44,16 @@ use Rattle.judging.specs.Judging.{endIn}
 use Rattle.critical.specs.declared.deciding.Shown.{Shown}
 use Rattle.critical.specs.Walks.{Holds, ruleAt}
 use Rattle.critical.specs.Verdicts.{Deciding, finalIn, EndIn, ShownIn, UnjoinedIn}
-use Rattle.listing.specs.Listing.{decimal, lineOf, namingOf, verdictListing}
+use Rattle.listing.specs.Listing.{decimal, lineOf, namingOf}
+use Rattle.verdicts.specs.Verdicts.{verdictListing}
 use Rattle.listing.specs.Writing.{listedIn, listedOver, ListedAs}
 use Rattle.listing.specs.Ends.{Listable}
-use Rattle.listing.specs.Checks.{finalOf, OverlapListable, ShownBy, OverlapListed}
+use Rattle.verdicts.specs.Checks.{finalOf, OverlapListable, ShownBy, OverlapListed}
 use Rattle.listing.specs.declared.End.{End}
 use Rattle.listing.specs.declared.Listed.{Listed}
 use Rattle.listing.specs.declared.Listed.the-variants.{TooShort, Written}
-use Rattle.listing.specs.declared.checks.Shown.{Shown as Listing}
-use Rattle.listing.proofs.NamingLaws.{overlap-named}
-use Rattle.listing.proofs.CheckLaws.{pass-listed}
+use Rattle.verdicts.specs.declared.Shown.{Shown as Listing}
+use Rattle.verdicts.proofs.CheckLaws.{pass-listed, overlap-named}
 use Rattle.replies.specs.Replies.{programText, refusal, listing, replyOf, fitted, checkListing, checkReply, outputAfter}
 use Rattle.replies.proofs.ShortNames.{Termed, TermedProgram, program-termed, reads-accepted}
 use Rattle.answers.specs.Answers.{textMeant}

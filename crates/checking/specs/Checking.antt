@@ -22,10 +22,11 @@ use Rattle.tables.specs.Names.{nameIn, Placed}
 use Rattle.engine.specs.declared.derivation.Final.{Final}
 use Rattle.critical.specs.declared.deciding.Shown.{Shown}
 use Rattle.critical.specs.Verdicts.{UnjoinedIn}
-use Rattle.listing.specs.Listing.{decimal, lineOf, verdictListing}
-use Rattle.listing.specs.Checks.{finalOf, ShownBy}
+use Rattle.listing.specs.Listing.{decimal, lineOf}
+use Rattle.verdicts.specs.Verdicts.{verdictListing}
+use Rattle.verdicts.specs.Checks.{finalOf, ShownBy}
 use Rattle.listing.specs.declared.End.{End}
-use Rattle.listing.specs.declared.checks.Shown.{Shown as Listed}
+use Rattle.verdicts.specs.declared.Shown.{Shown as Listed}
 use Rattle.replies.specs.Replies.{programText, fitted, checkReply}
 use Rattle.answers.specs.declared.CheckReply.{CheckReply}
 use Rattle.answers.specs.declared.CheckReply.the-variants.{Confluent, Unjoined}

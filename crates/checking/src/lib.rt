@@ -9,18 +9,18 @@ use critical::deciding::decide;
 use engine::derivation::Final;
 use listing::End;
 use listing::Listed;
-use listing::checks::list_overlap;
-use listing::checks::list_pass;
 use programs::ProgramRead;
 use programs::read_program;
 use tables::layout::CONSTRAINT_SIZE;
 use tables::wide;
+use verdicts::list_overlap;
+use verdicts::list_pass;
 ghost use mathlib.Core.Bool.{true};
 ghost use mathlib.Core.Path.{_≡_};
 ghost use Prim.Native.Nat.{_*_, _≤_};
 ghost use lib.ListN.{length};
 ghost use Rattle.tables.specs.Layout.{constraintSize};
-ghost use Rattle.listing.specs.Checks.{OverlapListable};
+ghost use Rattle.verdicts.specs.Checks.{OverlapListable};
 ghost use Rattle.replies.specs.Replies.{checkReply};
 ghost use Rattle.answers.specs.Promises.{CheckReplied, Demand3Of};
 ghost use Rattle.checking.specs.Checking.{listedCells, endShown, CheckReady, ShowReady};
@@ -48,7 +48,7 @@ fn fail<'a>(
     bounds: &mut [u16],
     one: &mut [u16],
     two: &mut [u16],
-    shown: listing::checks::Shown,
+    shown: verdicts::Shown,
     output: &mut [u8],
 ) -> CheckReply
     requires { ⌜ OverlapListable (now goal) (now bounds) (now one) (now two) shown ⌝ }
@@ -115,7 +115,7 @@ fn show<'a>(
     let a = listed_cells(shown.one);
     let b = listed_cells(shown.two);
     let partners = shown.partners;
-    let listed = listing::checks::Shown {
+    let listed = verdicts::Shown {
         first: shown.first,
         second: shown.second,
         heads: shown.heads,

@@ -6,4 +6,3 @@ pub mod LineLaws
 pub mod EndLaws
 pub mod SizeLaws
 pub mod NamingLaws
-pub mod CheckLaws

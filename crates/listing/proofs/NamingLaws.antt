@@ -1,7 +1,6 @@
 -- Two namings that agree on what a state uses list it alike; the naming of the tables is that of what they hold.
 --   usesOnly        whether a state uses only symbols and constants that pass a test
 --   state-named     it is listed alike under namings that agree on these, and names that agree on its goal variables
---   overlap-named   so is an unjoined overlap whose goal and ends use only these
 --   symbol-named, constant-named     the naming of tables whose names stand where the places say
 --   variable-named  the name of a goal variable that has a letter
 -- Assumes nothing.
@@ -15,8 +14,7 @@ use lib.ListN.{length, getD}
 use Rattle.text.specs.Bytes.{ascii}
 use Rattle.text.specs.Lists.{every}
 use Rattle.semantics.specs.Terms.{Term, con, var, Constraint, Symbol, State, failed, live, noSymbol, symbolAt}
-use Rattle.semantics.specs.Strategy.{Final}
-use Rattle.semantics.specs.Overlaps.{Overlap, appearingIn, appearing}
+use Rattle.semantics.specs.Overlaps.{appearingIn, appearing}
 use Rattle.semantics.specs.Verdict.{unjoined}
 use Rattle.text.proofs.Laws.{tabled-at}
 use Rattle.text.proofs.Bools.{and-true}
@@ -25,7 +23,7 @@ use Rattle.tables.specs.Layout.{maxNames}
 use Rattle.tables.specs.Rows.{nameOf, symbolOf, symbolsOf, constantsOf, lettersOf}
 use Rattle.tables.specs.Names.{nameIn, Placed}
 use Rattle.listing.specs.Listing.{Naming, decimal, lineOf, termShown, constraintShown, constraintLines, unbound, boundLines}
-use Rattle.listing.specs.Listing.{namingOf, variableName, stateListing, endListing, pairLines, verdictListing}
+use Rattle.listing.specs.Listing.{namingOf, variableName, stateListing}
 
 -- whether a term is a variable, or a constant that passes a test
 unfoldable pub usesIn : (ℕ → Bool) → Term → Bool
@@ -58,7 +56,7 @@ module _ (known : ℕ → Bool) (one two : Naming) (same : (n : ℕ) → known n
       let both = and-true (usesIn known t) (every (usesIn known) ts) h in
       ap₂ (λ (x : List ℕ) (l : List (List ℕ)). x ∷ l) (term-named t (both .0)) (terms-named ts (both .1))
 
-  rows-named : (first : List ℕ) (cs : List Constraint) → every (usesOf known) cs ≡ true
+  pub rows-named : (first : List ℕ) (cs : List Constraint) → every (usesOf known) cs ≡ true
       → constraintLines first one shown cs ≡ constraintLines first two shown cs
   unfolding constraintLines constraintShown usesOf
   rows-named first [] h = refl
@@ -91,23 +89,6 @@ state-named known one two u v f (live next bound cs) same names h =
     ap₂ (λ (b r : List ℕ). lineOf (ascii "END") (decimal f ∷ []) ++ (b ++ r))
     (bounds-named known one two same shown u v 0 bound (both .0) (λ i l. names i (omega arith)))
     (rows-named known one two same shown (ascii "S") cs (both .1))
-
--- an unjoined overlap is listed alike
-pub overlap-named :
-    (known : ℕ → Bool) (one two : Naming) (o : Overlap) (e f : Final) → ((n : ℕ) → known n ≡ true → one n ≡ two n)
-    → every (usesOf known) (o .goal .constraints) ≡ true → usesOnly known (e .state) ≡ true → usesOnly known (f .state) ≡ true
-    → verdictListing one (unjoined o e f) ≡ verdictListing two (unjoined o e f)
-unfolding verdictListing endListing
-overlap-named known one two o e f same g h k =
-    let variable = variableName [] in
-    let front = lineOf (ascii "UNJOINED") (o .first .rule .name ∷ o .second .rule .name ∷ []) in
-    let ends : (stateListing one variable (e .firings) (e .state) ++ stateListing one variable (f .firings) (f .state))
-    ≡ (stateListing two variable (e .firings) (e .state) ++ stateListing two variable (f .firings) (f .state)) =
-    ap₂ (λ (a b : List ℕ). a ++ b)
-    (state-named known one two variable variable (e .firings) (e .state) same (λ i l. refl) h)
-    (state-named known one two variable variable (f .firings) (f .state) same (λ i l. refl) k) in
-    ap₂ (λ (a b : List ℕ). front ++ (pairLines 1 (o .partners) ++ (a ++ b)))
-    (rows-named known one two same variable (ascii "G") (o .goal .constraints) g) ends
 
 -- the naming of tables whose names stand where the places say is that of the symbols and constants that they hold
 module _ (program goal names places symbols : List ℕ) (s k : ℕ) (placed : Placed program goal names places) where

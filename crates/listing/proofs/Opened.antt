@@ -3,14 +3,13 @@
 use Prim.Native.Nat.{ℕ}
 use Rattle.listing.specs.Listing.{decimalFrom, decimal, fieldsBehind, lineOf, namingOf, termShown, constraintShown}
 use Rattle.listing.specs.Listing.{constraintLines, numberedAs, unbound, variableName, boundLines, stateListing}
-use Rattle.listing.specs.Listing.{endListing, pairLines, verdictListing}
+use Rattle.listing.specs.Listing.{endListing}
 use Rattle.listing.specs.Writing.{laid, listedIn, listedOver, ample}
 use Rattle.listing.specs.Ends.{cellShown, boundLine, liveBytes, numberedEnd, endBytes, maxBound, maxCells}
-use Rattle.listing.specs.Checks.{rulesLine, frontBytes, numberedEnds, shownBytes, finalOf}
 
 -- a name to say on an `unfolding` line
 unfoldable pub opened : ℕ
 unfolding decimalFrom decimal fieldsBehind lineOf namingOf termShown constraintShown constraintLines numberedAs unbound
-    variableName boundLines stateListing endListing pairLines verdictListing laid listedIn listedOver ample cellShown boundLine
-    liveBytes numberedEnd endBytes maxBound maxCells rulesLine frontBytes numberedEnds shownBytes finalOf
+    variableName boundLines stateListing endListing laid listedIn listedOver ample cellShown boundLine
+    liveBytes numberedEnd endBytes maxBound maxCells
 opened = 0

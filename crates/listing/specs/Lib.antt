@@ -2,4 +2,3 @@
 pub mod Listing
 pub mod Writing
 pub mod Ends
-pub mod Checks

@@ -3,7 +3,6 @@
 --   Naming, namingOf        the name of each symbol and constant
 --   variableName            the name of each goal variable
 --   endListing              `END` with its A and S lines, or `FAILED`
---   verdictListing          `CONFLUENT`, or `UNJOINED` with P and G lines and both ends
 -- Assumes nothing.
 use Prim.Native.Nat.{ℕ, zero, suc, _+_, _-_, _/_, _%_}
 use mathlib.Core.Bool.{cond}
@@ -15,7 +14,6 @@ use Rattle.text.specs.Lists.{indexFrom, gather}
 use Rattle.semantics.specs.Terms.{Term, con, var, Constraint, Symbol, State, failed, live, symbolAt}
 use Rattle.semantics.specs.Strategy.{Final}
 use Rattle.semantics.specs.Overlaps.{appearingIn, appearing}
-use Rattle.semantics.specs.Verdict.{Verdict, confluent, unjoined}
 use Rattle.syntax.specs.Forms.{firstConstant}
 
 -- the decimal digits of n in front of others, at most `fuel` of them
@@ -89,19 +87,3 @@ stateListing naming variable f (live next bound cs) =
 -- an end, with the name of each goal variable
 unfoldable pub endListing : Naming → (ℕ → List ℕ) → Final → List ℕ
 endListing naming variable e = stateListing naming variable (e .firings) (e .state)
-
--- a line for each joined pair of heads, numbered from 1, the first of these of the first rule being n
-unfoldable pub pairLines : ℕ → List ℕ → List ℕ
-pairLines n [] = []
-pairLines n (zero ∷ ds) = pairLines (suc n) ds
-pairLines n (suc d ∷ ds) = lineOf (ascii "P") (decimal n ∷ decimal (suc d) ∷ []) ++ pairLines (suc n) ds
-
--- the listing of a verdict; no letter stands for a variable of an overlap's goal
-unfoldable pub verdictListing : Naming → Verdict → List ℕ
-verdictListing naming (confluent n) = lineOf (ascii "CONFLUENT") (decimal n ∷ [])
-verdictListing naming (unjoined o one two) =
-    let variable = variableName [] in
-    lineOf (ascii "UNJOINED") (o .first .rule .name ∷ o .second .rule .name ∷ [])
-    ++ (pairLines 1 (o .partners)
-    ++ (constraintLines (ascii "G") naming variable (o .goal .constraints)
-    ++ (endListing naming variable one ++ endListing naming variable two)))

@@ -1,6 +1,5 @@
 // The bytes of the listings, written into the lent output; where they might not fit, counted first by the same functions.
 // Each function equals the definition that its contract names, through the decodings of `tables`.
-pub mod checks;
 pub mod ends;
 pub mod putting;
 pub mod writing;

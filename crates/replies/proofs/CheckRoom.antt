@@ -42,7 +42,7 @@ use Rattle.syntax.specs.Programs.{Reading, readProgram}
 use Rattle.syntax.proofs.WellFormed.{read-wellFormed}
 use Rattle.syntax.proofs.Vocabulary.{SymbolSmall, ReadSmall, read-small}
 use Rattle.listing.specs.Listing.{decimal, lineOf, Naming, namingOf, termShown, constraintLines, variableName, endListing}
-use Rattle.listing.specs.Listing.{pairLines, verdictListing}
+use Rattle.verdicts.specs.Verdicts.{pairLines, verdictListing}
 use Rattle.listing.proofs.SizeLaws.{Short, decimal-short, number-short, line-few, ShortRow, rows-few}
 use Rattle.replies.specs.Replies.{Text, programText, refusal, replyOf, fitted, checkListing, checkReply}
 use Rattle.replies.specs.Replies.{printed, ample, sheetcheck}

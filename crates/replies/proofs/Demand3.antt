@@ -18,7 +18,8 @@ use Rattle.semantics.proofs.Demand3.{verdict-exact}
 use Rattle.syntax.specs.Answers.{accepted}
 use Rattle.syntax.specs.Programs.{Reading, readProgram}
 use Rattle.syntax.proofs.WellFormed.{read-wellFormed}
-use Rattle.listing.specs.Listing.{lineOf, verdictListing}
+use Rattle.listing.specs.Listing.{lineOf}
+use Rattle.verdicts.specs.Verdicts.{verdictListing}
 use Rattle.listing.proofs.Decimals.{decimal-exact}
 use Rattle.replies.specs.Replies.{Reply, refusal, listing, Text, programText, replyOf, fitted, checkListing, checkReply}
 use Rattle.replies.specs.Claims.{verdictReply, passes, fails, Checked, Demand3On}

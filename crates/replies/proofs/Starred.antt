@@ -11,12 +11,13 @@ use Rattle.text.proofs.Opened.{opened as textOpened}
 use Rattle.semantics.proofs.Opened.{opened as semanticsOpened}
 use Rattle.syntax.proofs.Opened.{opened as syntaxOpened}
 use Rattle.listing.proofs.Opened.{opened as listingOpened}
+use Rattle.verdicts.proofs.Opened.{opened as verdictsOpened}
 use Rattle.replies.proofs.Opened.{opened}
 use Rattle.replies.specs.Starred.{shown, holding, starred}
 
 -- each row of the table shows what it must
 pub starred-hold : map (λ r. shown (r .case)) starred ≡ map (λ r. r .expected) starred
-unfolding textOpened semanticsOpened syntaxOpened listingOpened opened
+unfolding textOpened semanticsOpened syntaxOpened listingOpened verdictsOpened opened
 starred-hold = refl
 
 -- p(U1,U2) and p(U1,U1) are not equal, either way round

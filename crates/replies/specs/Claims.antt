@@ -24,7 +24,8 @@ use Rattle.semantics.specs.Correspondence.{Demand2}
 use Rattle.syntax.specs.Answers.{accepted}
 use Rattle.syntax.specs.Programs.{Reading}
 use Rattle.syntax.specs.Goals.{GoalReading, readGoal}
-use Rattle.listing.specs.Listing.{decimal, namingOf, endListing, verdictListing}
+use Rattle.listing.specs.Listing.{decimal, namingOf, endListing}
+use Rattle.verdicts.specs.Verdicts.{verdictListing}
 use Rattle.replies.specs.Replies.{Reply, listing, runListing, checkListing, runReply, checkReply, printed}
 use Rattle.replies.specs.Replies.{sheetcheck}
 

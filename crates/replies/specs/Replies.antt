@@ -18,7 +18,8 @@ use Rattle.semantics.specs.Verdict.{verdict}
 use Rattle.syntax.specs.Answers.{Answer, refused, accepted}
 use Rattle.syntax.specs.Programs.{Reading, readProgram}
 use Rattle.syntax.specs.Goals.{GoalReading, readGoal}
-use Rattle.listing.specs.Listing.{decimal, lineOf, namingOf, endListing, verdictListing}
+use Rattle.listing.specs.Listing.{decimal, lineOf, namingOf, endListing}
+use Rattle.verdicts.specs.Verdicts.{verdictListing}
 unfoldable pub use Rattle.listing.specs.Writing.{ample}
 
 -- the text that a refusal names: S for a program's (document 01: the sheet's), G for a goal's

@@ -1,4 +1,4 @@
--- `listing::list_numbered` meets its contract: an ample output holds the listing, and for any other it is counted into no output and
+-- `listing::list_numbered` meets its contract: an ample output holds the listing; for any other it is counted into no output and
 -- then written. Assumes nothing.
 use borrow.Author.Needs.{needs}
 use native.Mathlib.Omega.{arith}

@@ -8,7 +8,8 @@ use Rattle.text.specs.Bytes.{ascii}
 use Rattle.tables.specs.Cells.{cellTerm}
 use Rattle.tables.specs.Names.{nameIn}
 use Rattle.listing.specs.Listing.{numberedAs, variableName, boundLines}
-use Rattle.listing.proofs.WriteLaws.{Writing, writing-start, writing-first, writing-room, writing-line, writing-end, count-front}
+use Rattle.listing.proofs.WriteLaws.{Writing, writing-start, writing-first, writing-room, writing-line, writing-end}
+use Rattle.listing.proofs.WriteLaws.{count-front}
 use Rattle.listing.proofs.LineLaws.{boundsFrom, bounds-here, bounds-done}
 use Rattle.listing.proofs.putting.put_bounds.Statement.{statement}
 use Rattle.listing.proofs.putting.put_bounds.Tie as tie

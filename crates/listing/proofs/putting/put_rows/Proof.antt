@@ -7,7 +7,8 @@ use lib.ListN.{length}
 use Rattle.tables.specs.Cells.{cellConstraints}
 use Rattle.tables.specs.Names.{nameIn}
 use Rattle.listing.specs.Listing.{constraintLines, numberedAs}
-use Rattle.listing.proofs.WriteLaws.{Writing, writing-start, writing-first, writing-room, writing-line, writing-end, count-front}
+use Rattle.listing.proofs.WriteLaws.{Writing, writing-start, writing-first, writing-room, writing-line, writing-end}
+use Rattle.listing.proofs.WriteLaws.{count-front}
 use Rattle.listing.proofs.LineLaws.{rowsFrom, cut-size, rows-here, rows-done}
 use Rattle.listing.proofs.putting.put_rows.Statement.{statement}
 use Rattle.listing.proofs.putting.put_rows.Tie as tie

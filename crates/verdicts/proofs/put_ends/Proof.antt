@@ -1,11 +1,11 @@
--- `listing::checks::put_ends` meets its contract: one end behind the other. Assumes nothing.
+-- `verdicts::put_ends` meets its contract: one end behind the other. Assumes nothing.
 use borrow.Author.Needs.{needs}
 use mathlib.Core.Path.{sym}
 use native.Mathlib.Omega.{arith}
 use lib.Seq.{length-take-le}
-use Rattle.listing.proofs.CheckLaws.{lent-writable, ends-room, ends-all-room, ends-wrote}
-use Rattle.listing.proofs.checks.put_ends.Statement.{statement}
-use Rattle.listing.proofs.checks.put_ends.Tie as tie
+use Rattle.verdicts.proofs.CheckLaws.{lent-writable, ends-room, ends-all-room, ends-wrote}
+use Rattle.verdicts.proofs.put_ends.Statement.{statement}
+use Rattle.verdicts.proofs.put_ends.Tie as tie
 
 sub-put-end : tie.Need-sub-put-end
 sub-put-end c = omega (arith, c .behind .ensures)

@@ -1,8 +1,8 @@
--- `listing::checks::list_shown` meets its contract: it is counted into no output and then written. Assumes nothing.
+-- `verdicts::list_shown` meets its contract: it is counted into no output and then written. Assumes nothing.
 use borrow.Author.Needs.{needs}
 use Rattle.listing.proofs.EndLaws.{listed-short, listed-written}
-use Rattle.listing.proofs.checks.list_shown.Statement.{statement}
-use Rattle.listing.proofs.checks.list_shown.Tie as tie
+use Rattle.verdicts.proofs.list_shown.Statement.{statement}
+use Rattle.verdicts.proofs.list_shown.Tie as tie
 
 returns : tie.Need-returns
 returns c = listed-short (c .before .before .put-overlap .ensures) (c .if1 .taken)

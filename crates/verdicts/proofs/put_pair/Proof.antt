@@ -1,10 +1,10 @@
--- `listing::checks::put_pair` meets its contract: nothing, or its letter, the two numbers and the line feed. Assumes nothing.
+-- `verdicts::put_pair` meets its contract: nothing, or its letter, the two numbers and the line feed. Assumes nothing.
 use borrow.Author.Needs.{needs}
 use mathlib.Core.Path.{sym}
 use Rattle.listing.proofs.WriteLaws.{wrote-then, wrote-is, count-is, count-first, count-next}
-use Rattle.listing.proofs.CheckLaws.{pair-none, pair-is}
-use Rattle.listing.proofs.checks.put_pair.Statement.{statement}
-use Rattle.listing.proofs.checks.put_pair.Tie as tie
+use Rattle.verdicts.proofs.CheckLaws.{pair-none, pair-is}
+use Rattle.verdicts.proofs.put_pair.Statement.{statement}
+use Rattle.verdicts.proofs.put_pair.Tie as tie
 
 returns : tie.Need-returns
 returns c = pair-none _ _ _ (c .if1 .taken)

@@ -1,26 +1,27 @@
 // The listing of a check: the pass, or an unjoined overlap with its pairs of heads, its goal and both ends.
 // All names are in the program's text: the goal's is empty, and no letter stands for a variable of an overlap's goal.
-use crate::End;
-use crate::Listed;
-use crate::ends::number_end;
-use crate::ends::put_end;
-use crate::putting::Mark;
-use crate::putting::put_head;
-use crate::putting::put_rows;
-use crate::writing::behind;
-use crate::writing::copy;
-use crate::writing::put_byte;
-use crate::writing::put_decimal;
+use listing::End;
+use listing::Listed;
+use listing::ends::number_end;
+use listing::ends::put_end;
+use listing::putting::Mark;
+use listing::putting::put_head;
+use listing::putting::put_rows;
+use listing::writing::behind;
+use listing::writing::copy;
+use listing::writing::put_byte;
+use listing::writing::put_decimal;
 use tables::layout::FIRST_RULE;
 use tables::names::name;
 ghost use mathlib.Core.List.{[], _∷_};
 ghost use Prim.Native.Nat.{_<_};
 ghost use Rattle.text.specs.Bytes.{ascii};
 ghost use Rattle.tables.specs.Names.{nameIn};
-ghost use Rattle.listing.specs.Listing.{decimal, lineOf, pairLines};
+ghost use Rattle.listing.specs.Listing.{decimal, lineOf};
 ghost use Rattle.listing.specs.Writing.{Countable, Writes, ListedAs};
-ghost use Rattle.listing.specs.Checks.{rulesLine, frontBytes, numberedEnds, shownBytes};
-ghost use Rattle.listing.specs.Checks.{Shaped, EndsWritable, OverlapWritable, OverlapListable, OverlapListed};
+ghost use Rattle.verdicts.specs.Verdicts.{pairLines};
+ghost use Rattle.verdicts.specs.Checks.{rulesLine, frontBytes, numberedEnds, shownBytes};
+ghost use Rattle.verdicts.specs.Checks.{Shaped, EndsWritable, OverlapWritable, OverlapListable, OverlapListed};
 
 // The overlap that is shown: the numbers of its rules, how many heads the first has, the partner of each of these (from 1, or 0),
 // how many variables its goal has, and both ends.

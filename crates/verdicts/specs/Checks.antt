@@ -17,12 +17,13 @@ use Rattle.semantics.specs.Verdict.{unjoined}
 use Rattle.tables.specs.Layout.{firstRule}
 use Rattle.tables.specs.Cells.{cellConstraints, stateOf}
 use Rattle.tables.specs.Names.{nameIn}
-use Rattle.listing.specs.Listing.{Naming, lineOf, pairLines, constraintLines, variableName, verdictListing}
+use Rattle.listing.specs.Listing.{Naming, lineOf, constraintLines, variableName}
+use Rattle.verdicts.specs.Verdicts.{pairLines, verdictListing}
 use Rattle.listing.specs.Writing.{Countable, ListedAs}
 use Rattle.listing.specs.Ends.{numberedEnd, Listable, Writable}
 use Rattle.listing.specs.declared.End.{End}
 use Rattle.listing.specs.declared.Listed.{Listed}
-use Rattle.listing.specs.declared.checks.Shown.{Shown}
+use Rattle.verdicts.specs.declared.Shown.{Shown}
 
 -- the line of an overlap's rules
 unfoldable pub rulesLine : Naming → ℕ → ℕ → List ℕ

@@ -1,13 +1,13 @@
--- `listing::checks::put_front` meets its contract: the rules, the pairs and the goal. Assumes nothing.
+-- `verdicts::put_front` meets its contract: the rules, the pairs and the goal. Assumes nothing.
 use borrow.Author.Needs.{needs}
 use mathlib.Core.Path.{_≡_, sym}
 use native.Mathlib.Omega.{arith}
 use lib.ListN.{length}
 use lib.Seq.{length-take-le}
 use Rattle.listing.proofs.WriteLaws.{wrote-then, wrote-is, count-is, count-first, count-next}
-use Rattle.listing.proofs.CheckLaws.{front-is}
-use Rattle.listing.proofs.checks.put_front.Statement.{statement}
-use Rattle.listing.proofs.checks.put_front.Tie as tie
+use Rattle.verdicts.proofs.CheckLaws.{front-is}
+use Rattle.verdicts.proofs.put_front.Statement.{statement}
+use Rattle.verdicts.proofs.put_front.Tie as tie
 
 put-rules-requires : tie.Need-put-rules-requires
 put-rules-requires c κs =

@@ -1,11 +1,11 @@
--- `listing::checks::list_pass` meets its contract: counted into no output, and then written. Assumes nothing.
+-- `verdicts::list_pass` meets its contract: counted into no output, and then written. Assumes nothing.
 use borrow.Author.Needs.{needs}
 use native.Mathlib.Omega.{arith}
 use Rattle.listing.proofs.WriteLaws.{wrote-is}
 use Rattle.listing.proofs.EndLaws.{listed-short, listed-written}
-use Rattle.listing.proofs.CheckLaws.{pass-is, pass-count}
-use Rattle.listing.proofs.checks.list_pass.Statement.{statement}
-use Rattle.listing.proofs.checks.list_pass.Tie as tie
+use Rattle.verdicts.proofs.CheckLaws.{pass-is, pass-count}
+use Rattle.verdicts.proofs.list_pass.Statement.{statement}
+use Rattle.verdicts.proofs.list_pass.Tie as tie
 
 put-head-requires : tie.Need-put-head-requires
 put-head-requires c κs =

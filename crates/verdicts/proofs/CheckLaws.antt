@@ -5,6 +5,7 @@
 --   half-…, whole-…          `bounds` while its two parts are numbered
 --   overlap-writable         the listing of an overlap can be counted
 --   overlap-listed           it is that of the verdict on the overlap that the tables hold
+--   overlap-named            and the same under namings that agree on what it holds
 -- Assumes nothing.
 use mathlib.Core.Path.{_≡_, refl, sym, ap, ap₂, _∙_, subst, fun-ext}
 use mathlib.Core.Bool.{Bool, true}
@@ -16,6 +17,8 @@ use borrow.Author.Tests.{le-ltb}
 use lib.ListN.{length, take, drop, getD, length-append, length-take, length-drop, drop-of-length-le}
 use lib.Seq.{drop-cons, take-at, drop-at, getD-drop, length-take-le}
 use Rattle.text.specs.Bytes.{ascii}
+use Rattle.text.specs.Lists.{every}
+use Rattle.semantics.specs.Strategy.{Final}
 use Rattle.semantics.specs.Overlaps.{Overlap}
 use Rattle.semantics.specs.Verdict.{confluent, unjoined}
 use Rattle.semantics.proofs.Configurations.{also}
@@ -23,18 +26,20 @@ use Rattle.semantics.proofs.Configurations as C
 use Rattle.tables.specs.Cells.{cellConstraints}
 use Rattle.tables.specs.Names.{nameIn}
 use Rattle.tables.proofs.NameLaws.{lent-rest}
 use Rattle.listing.specs.Listing.{Naming, decimal, fieldsBehind, lineOf, constraintLines, numberedAs, variableName}
-use Rattle.listing.specs.Listing.{pairLines, verdictListing}
+use Rattle.listing.specs.Listing.{stateListing, endListing}
+use Rattle.verdicts.specs.Verdicts.{pairLines, verdictListing}
 use Rattle.listing.specs.Writing.{Countable, Writes, ListedAs}
 use Rattle.listing.specs.Ends.{numberedEnd, endBytes, Listable, EndNumbered, Writable}
-use Rattle.listing.specs.Checks.{rulesLine, frontBytes, numberedEnds, shownBytes, finalOf, Shaped, OverlapWritable}
-use Rattle.listing.specs.Checks.{OverlapListable, ShownBy, OverlapListed}
+use Rattle.verdicts.specs.Checks.{rulesLine, frontBytes, numberedEnds, shownBytes, finalOf, Shaped, OverlapWritable}
+use Rattle.verdicts.specs.Checks.{OverlapListable, ShownBy, OverlapListed}
 use Rattle.listing.specs.declared.Listed.{Listed}
-use Rattle.listing.specs.declared.checks.Shown.{Shown}
+use Rattle.verdicts.specs.declared.Shown.{Shown}
 use Rattle.listing.proofs.WriteLaws.{wrote-none, wrote-is, wrote-both, count-is}
 use Rattle.listing.proofs.WriteLaws.{partFrom, partBack}
+use Rattle.listing.proofs.NamingLaws.{usesOf, usesOnly, rows-named, state-named}
 use Rattle.listing.proofs.EndLaws.{end-numbered, listed-is}
 use Rattle.listing.proofs.SizeLaws.{Short, Cells, machine-digits, line-few, cells-few, end-few, end-writable}
 
 -- the line of a pass
 abbrev pub passBytes : ℕ → List ℕ
@@ -318,3 +323,20 @@ overlap-listed program places goal bounds bounds′ one one′ two two′ s m n 
     (end-numbered program [] places [] (take v bounds) one (take v bounds′) one′ (s .one) m a)
     (end-numbered program [] places [] (drop v bounds) two (drop v bounds′) two′ (s .two) n z) in
     record { listed = λ o h. listed-is (ends ∙ verdict-is program places goal bounds one two s o h) l }
+
+-- an unjoined overlap is listed alike
+pub overlap-named :
+    (known : ℕ → Bool) (one two : Naming) (o : Overlap) (e f : Final) → ((n : ℕ) → known n ≡ true → one n ≡ two n)
+    → every (usesOf known) (o .goal .constraints) ≡ true → usesOnly known (e .state) ≡ true → usesOnly known (f .state) ≡ true
+    → verdictListing one (unjoined o e f) ≡ verdictListing two (unjoined o e f)
+unfolding verdictListing endListing
+overlap-named known one two o e f same g h k =
+    let variable = variableName [] in
+    let front = lineOf (ascii "UNJOINED") (o .first .rule .name ∷ o .second .rule .name ∷ []) in
+    let ends : (stateListing one variable (e .firings) (e .state) ++ stateListing one variable (f .firings) (f .state))
+    ≡ (stateListing two variable (e .firings) (e .state) ++ stateListing two variable (f .firings) (f .state)) =
+    ap₂ (λ (a b : List ℕ). a ++ b)
+    (state-named known one two variable variable (e .firings) (e .state) same (λ i l. refl) h)
+    (state-named known one two variable variable (f .firings) (f .state) same (λ i l. refl) k) in
+    ap₂ (λ (a b : List ℕ). front ++ (pairLines 1 (o .partners) ++ (a ++ b)))
+    (rows-named known one two same variable (ascii "G") (o .goal .constraints) g) ends

@@ -1,10 +1,10 @@
--- `listing::checks::put_rules` meets its contract: the word, the two names and the line feed. Assumes nothing.
+-- `verdicts::put_rules` meets its contract: the word, the two names and the line feed. Assumes nothing.
 use borrow.Author.Needs.{needs}
 use mathlib.Core.Path.{sym}
 use Rattle.listing.proofs.WriteLaws.{wrote-then, wrote-is, count-is, count-first, count-next}
-use Rattle.listing.proofs.CheckLaws.{rules-is}
-use Rattle.listing.proofs.checks.put_rules.Statement.{statement}
-use Rattle.listing.proofs.checks.put_rules.Tie as tie
+use Rattle.verdicts.proofs.CheckLaws.{rules-is}
+use Rattle.verdicts.proofs.put_rules.Statement.{statement}
+use Rattle.verdicts.proofs.put_rules.Tie as tie
 
 copy-requires : tie.Need-copy-requires
 copy-requires c κs =

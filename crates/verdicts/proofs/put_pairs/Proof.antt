@@ -1,13 +1,13 @@
--- `listing::checks::put_pairs` meets its contract: the lines of the heads before i are written. Assumes nothing.
+-- `verdicts::put_pairs` meets its contract: the lines of the heads before i are written. Assumes nothing.
 use borrow.Author.Needs.{needs}
 use Prim.Native.Nat.{_≤_, _-_}
 use native.Mathlib.Omega.{arith}
 use lib.ListN.{length}
-use Rattle.listing.specs.Listing.{pairLines}
+use Rattle.verdicts.specs.Verdicts.{pairLines}
 use Rattle.listing.proofs.WriteLaws.{Writing, writing-start, writing-first, writing-room, writing-line, writing-end, count-front}
-use Rattle.listing.proofs.CheckLaws.{pairsFrom, pairs-here, pairs-done}
-use Rattle.listing.proofs.checks.put_pairs.Statement.{statement}
-use Rattle.listing.proofs.checks.put_pairs.Tie as tie
+use Rattle.verdicts.proofs.CheckLaws.{pairsFrom, pairs-here, pairs-done}
+use Rattle.verdicts.proofs.put_pairs.Statement.{statement}
+use Rattle.verdicts.proofs.put_pairs.Tie as tie
 
 abbrev Inv-loop : tie.InvT-loop
 Inv-loop out₀ at partners end₀ i₀ out end i =

@@ -1,10 +1,10 @@
--- `listing::checks::put_overlap` meets its contract: the ends behind the lines in front of them. Assumes nothing.
+-- `verdicts::put_overlap` meets its contract: the ends behind the lines in front of them. Assumes nothing.
 use borrow.Author.Needs.{needs}
 use mathlib.Core.Path.{sym}
 use Rattle.listing.proofs.WriteLaws.{wrote-then, wrote-is, count-is, count-first, count-next}
-use Rattle.listing.proofs.CheckLaws.{shown-is}
-use Rattle.listing.proofs.checks.put_overlap.Statement.{statement}
-use Rattle.listing.proofs.checks.put_overlap.Tie as tie
+use Rattle.verdicts.proofs.CheckLaws.{shown-is}
+use Rattle.verdicts.proofs.put_overlap.Statement.{statement}
+use Rattle.verdicts.proofs.put_overlap.Tie as tie
 
 put-front-requires : tie.Need-put-front-requires
 put-front-requires c κs =

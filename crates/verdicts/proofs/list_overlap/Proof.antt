@@ -1,4 +1,4 @@
--- `listing::checks::list_overlap` meets its contract: its ends are numbered, and it is listed as it was before. Assumes nothing.
+-- `verdicts::list_overlap` meets its contract: its ends are numbered, and it is listed as it was before. Assumes nothing.
 use borrow.Author.Needs.{needs}
 use mathlib.Core.Path.{sym}
 use Prim.Native.Nat.{ℕ}
@@ -8,10 +8,10 @@ use lib.Seq.{length-take-le}
 use mir.Syntax.{w64}
 use mir.Val.{Fits}
 use Rattle.tables.proofs.NameLaws.{name-short}
-use Rattle.listing.proofs.CheckLaws.{half-listable, whole-size, first-numbered, second-numbered, overlap-writable}
-use Rattle.listing.proofs.CheckLaws.{overlap-listed}
-use Rattle.listing.proofs.checks.list_overlap.Statement.{statement}
-use Rattle.listing.proofs.checks.list_overlap.Tie as tie
+use Rattle.verdicts.proofs.CheckLaws.{half-listable, whole-size, first-numbered, second-numbered, overlap-writable}
+use Rattle.verdicts.proofs.CheckLaws.{overlap-listed}
+use Rattle.verdicts.proofs.list_overlap.Statement.{statement}
+use Rattle.verdicts.proofs.list_overlap.Tie as tie
 
 -- a partner is one of the machine's numbers
 partner : (s : tie.Start) (i : ℕ) → Fits w64 (getD (s .args .shown .partners) i 0)
