@@ -30,7 +30,8 @@ returns c =
       first = first-ends _ _ _ _ _ _ _ _ (start .pre .0 .overlapping) _ _ _ _ _ _ _ _ _ _ _ _ (start .pre .0 .first-bound)
           (omega (arith, start .pre .0 .first-room, at-follow .follow .kept)) (at-follow .follow .ensures) (start .pre .1 .first);
       second = second-ends _ _ _ _ _ _ _ _ (start .pre .0 .overlapping) _ _ _ _ _ _ _ _ _ _ _ _ (start .pre .0 .second-bound)
-          (omega (arith, start .pre .0 .second-room, at-follow2 .follow2 .kept)) (at-follow2 .follow2 .ensures) (start .pre .1 .second);
+          (omega (arith, start .pre .0 .second-room, at-follow2 .follow2 .kept)) (at-follow2 .follow2 .ensures)
+          (start .pre .1 .second);
     }
 
 pub follow-both-spec : {M : Type 1} → statement M

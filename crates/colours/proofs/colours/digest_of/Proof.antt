@@ -18,7 +18,9 @@ abbrev μ-loop : tie.MeasureT-loop
 μ-loop cells n colours sum₀ i₀ sum i = n - i
 
 -- a row has five cells
-row : (s : tie.In-loop Inv-loop μ-loop) → length (lent (s .before .before .before .before .args .cells .now) (s .before .loop .i)) ≡ 5
+row :
+    (s : tie.In-loop Inv-loop μ-loop)
+    → length (lent (s .before .before .before .before .args .cells .now) (s .before .loop .i)) ≡ 5
 row s =
     let start = s .before .before .before .before in
     lent-length (start .args .cells .now) (s .before .loop .i) _ (start .pre .0) (s .loop-test .taken)

@@ -15,7 +15,9 @@ abbrev μ-loop : tie.MeasureT-loop
 μ-loop start terms colours s₀ i₀ s i = length terms - i
 
 -- a term lies in the table
-room : (s : tie.After-wide Inv-loop μ-loop) → s .wide .result < length (s .before .before .before .before .before .before .before .args .colours .now)
+room :
+    (s : tie.After-wide Inv-loop μ-loop)
+    → s .wide .result < length (s .before .before .before .before .before .before .before .args .colours .now)
 room s =
     let at-loop-test = s .before .before .before in
     let at-loop = at-loop-test .before in

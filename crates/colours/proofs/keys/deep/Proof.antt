@@ -15,7 +15,10 @@ part-row-end c =
     omega (arith, start .pre .0 .size, start .pre .1)
 
 -- a row has five cells
-row : (s : tie.After-copy) → length (lent (s .before .before .before .before .before .before .args .cells .now) (s .before .before .before .before .before .before .args .i)) ≡ 5
+row :
+    (s : tie.After-copy)
+    → length (lent (s .before .before .before .before .before .before .args .cells .now)
+    (s .before .before .before .before .before .before .args .i)) ≡ 5
 row s =
     let start = s .before .before .before .before .before .before in
     lent-length (start .args .cells .now) (start .args .i) _ (start .pre .0 .size) (start .pre .1)
@@ -80,7 +83,10 @@ deep-spec =
     (λ c κs. search needs) (λ c. omega (arith, part-row-end c)) (λ c. omega (arith, part-row-end c)) (λ c. search needs)
     (λ c. search needs) (λ c. search needs)
     part-row-end
-    (λ c. omega (arith, row (c .before .before .before .before))) (λ c. omega (arith, row (c .before .before .before .before))) (λ c. omega (arith, row (c .before .before .before .before))) (λ c. omega (arith, row (c .before .before .before .before)))
+    (λ c. omega (arith, row (c .before .before .before .before)))
+    (λ c. omega (arith, row (c .before .before .before .before)))
+    (λ c. omega (arith, row (c .before .before .before .before)))
+    (λ c. omega (arith, row (c .before .before .before .before)))
     light-requires
     refine-times-requires
     digest-of-requires

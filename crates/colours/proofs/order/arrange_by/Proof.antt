@@ -9,7 +9,8 @@ use Rattle.colours.proofs.order.arrange_by.Statement.{statement}
 use Rattle.colours.proofs.order.arrange_by.Tie as tie
 
 abbrev Inv-loop : tie.InvT-loop
-Inv-loop cells₀ n seen₀ counts₀ k₀ cells seen counts k = Arranging cells₀ cells k n (length seen) (length seen₀) × (length counts ≡ length seen₀)
+Inv-loop cells₀ n seen₀ counts₀ k₀ cells seen counts k = Arranging cells₀ cells k n (length seen) (length seen₀)
+    × (length counts ≡ length seen₀)
 
 abbrev μ-loop : tie.MeasureT-loop
 μ-loop cells₀ n seen₀ counts₀ k₀ cells seen counts k = n - k
