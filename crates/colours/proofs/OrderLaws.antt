@@ -1,6 +1,6 @@
 -- Constraints in another order: one law for each way that the code goes.
 --   term-room          a term has its place
---   swapping-…         two constraints change places
+--   swapping-…         two constraints change positions
 --   swapped-multiset   they are the same constraints then
 --   reordered-…        one change after the other
 -- Assumes nothing.
@@ -148,7 +148,7 @@ insert-cancel {A} {a} {b} (there {l = m} {m = l} i) e = put e i (multiset-refl (
 cancel : {A : Type 0} {a : A} {k l : List A} → SameMultiset _≡_ (a ∷ k) (a ∷ l) → SameMultiset _≡_ k l
 cancel (put r i s) = multiset-right s (insert-cancel i r)
 
--- two elements change places
+-- two elements change positions
 pub swapped-multiset :
     {A : Type 0} (l : List A) (i j : ℕ) (z : A) → i < length l → j < length l
     → SameMultiset _≡_ (set (set l i (getD l j z)) j (getD l i z)) l

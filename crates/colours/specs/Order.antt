@@ -1,7 +1,7 @@
 -- Constraints in another order.
 --   Ordering      what choosing the next constraint asks
---   swapped       the number of the constraint that comes to stand at a position when two change places
---   Swapped       two constraints change places
+--   swapped       the number of the constraint that comes to stand at a position when two change positions
+--   Swapped       two constraints change positions
 --   Reordered     the same constraints, in any order
 -- Assumes nothing.
 use Prim.Native.Nat.{ℕ, _+_, _*_, _≤_, _<_}
@@ -24,7 +24,7 @@ pub record Ordering (cells : List ℕ) (k n m : ℕ) : Type 0 where
 unfoldable pub swapped : ℕ → ℕ → ℕ → ℕ
 swapped i j k = cond (eqb k i) j (cond (eqb k j) i k)
 
--- two constraints change places
+-- two constraints change positions
 pub record Swapped (i j : ℕ) (cells cells′ : List ℕ) : Type 0 where
   pub at : (k c : ℕ) → c < 5 → getD cells′ (5 * k + c) 0 ≡ getD cells (5 * swapped i j k + c) 0
 

@@ -17,7 +17,7 @@ ghost use Rattle.colours.specs.Classes.{Colourable, Classified};
 // Room for the colours of all cells: constants, 28 goal variables, and as many more as 512 constraints have cells.
 const ROOM: usize = 2844;
 
-// How keys are made: by how many rounds, and whether each constraint is made to stand out.
+// How keys are made: by how many rounds, and whether each constraint is marked.
 pub struct Depth {
     pub rounds: usize,
     pub deep: bool,

@@ -95,7 +95,7 @@ pub fn give_all(cells: &[u16], n: usize, colours: &[u32], received: &mut [u32])
     }
 }
 
-// Each colour mixed with what its term received, of which nothing is left.
+// Each colour mixed with what its term received, which is then set to zero.
 pub fn absorb(colours: &mut [u32], received: &mut [u32])
     requires { ⌜ length (now received) ≡ length (now colours) ⌝ }
     ensures { λ _. ⌜ Absorbed (now (colours .entry)) (now (received .entry)) (now (colours .exit)) (now (received .exit)) ⌝ }
@@ -119,7 +119,7 @@ pub fn refine(cells: &[u16], n: usize, colours: &mut [u32], received: &mut [u32]
     absorb(colours, received);
 }
 
-// Makes the terms of one constraint stand out, each by its column.
+// Marks the terms of one constraint, each by its column.
 pub fn light(symbol: u16, terms: &[u16], colours: &mut [u32], received: &mut [u32])
     requires { ⌜ Below (length (now colours)) (now terms) × (length (now received) ≡ length (now colours)) × Empty
         (now received) ⌝ }

@@ -18,7 +18,7 @@ ghost use Rattle.colours.specs.Bounds.{Below, TermsBelow};
 ghost use Rattle.colours.specs.Colours.{Colours, Empty, Ready, Summed};
 ghost use Rattle.colours.specs.Keys.{plainOf, deepOf, keyOf, summed, classOf, Keyed, Relabelled};
 
-// The colours of a state's terms: what the goal variables became stands out before t rounds.
+// The colours of a state's terms: what the goal variables became is marked before t rounds.
 pub fn colour(
     t: usize,
     cells: &[u16],
@@ -37,7 +37,7 @@ pub fn colour(
     refine_times(t, cells, n, colours, received);
 }
 
-// One number for all constraints, t rounds after constraint i was made to stand out.
+// One number for all constraints, t rounds after constraint i was marked.
 pub fn deep(
     t: usize,
     cells: &[u16],
@@ -83,7 +83,7 @@ pub fn plain_keys(cells: &[u16], n: usize, colours: &[u32], keys: &mut [u64])
     }
 }
 
-// The keys of all constraints, each where it stands out.
+// The keys of all constraints, each where it is marked.
 pub fn deep_keys(
     t: usize,
     cells: &[u16],
@@ -132,7 +132,7 @@ pub fn class(keys: &[u64], key: u64) -> usize
     i
 }
 
-// Puts the classes of constraints in the place of their symbols: each by its own key, among the keys of one side.
+// Puts the classes of constraints instead of their symbols: each by its own key, among the keys of one side.
 pub fn relabel(cells: &mut [u16], own: &[u64], keys: &[u64])
     requires { ⌜ (length (now cells) ≡ 5 * length (now own)) × (length (now keys) ≤ 512) ⌝ }
     ensures { λ _. ⌜ Relabelled (now (own .entry)) (now (keys .entry)) (now (cells .entry)) (now (cells .exit)) ⌝ }

@@ -1,5 +1,5 @@
 // The constraints of one state in an order in which each shares variables with those before it, where one does: the search then
-// goes on next to what is placed already. Which order is taken says nothing of the answer.
+// takes a constraint that shares variables with those placed already. The answer does not depend on the order.
 use std::num::wrapping_add_u16;
 use std::num::wrapping_sub_u16;
 use tables::wide;
@@ -132,7 +132,7 @@ pub fn see(cells: &[u16], i: usize, seen: &mut [bool], counts: &mut [u16])
     }
 }
 
-// Two constraints change places.
+// Two constraints change positions.
 pub fn swap_rows(cells: &mut [u16], i: usize, j: usize)
     requires { ⌜ (5 * i + 5 ≤ length (now cells)) × (5 * j + 5 ≤ length (now cells)) ⌝ }
     ensures { λ _. ⌜ Swapped i j (now (cells .entry)) (now (cells .exit)) ⌝ }

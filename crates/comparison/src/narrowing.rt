@@ -52,9 +52,9 @@ pub fn weigh(
     }
 }
 
-// The depth of a step: constraints that stand out, for one round, which tells most of what signatures do not, at a ninth of the
-// cost of nine; signatures after as many rounds as there are constraints; then constraints that stand out, for nine rounds and
-// for a quarter of the constraints more. A ring of constraints is told from a longer one by half as many rounds as it has, and
+// The depth of a step: marked constraints, for one round, which tells most of what signatures do not, at a ninth of the cost of
+// nine; signatures after as many rounds as there are constraints; then marked constraints, for nine rounds and for a quarter of
+// the constraints more. A ring of constraints is told from a longer one by half as many rounds as it has, and
 // there is room for two such rings.
 fn depth_at(step: usize, n: usize) -> Depth {
     if step == 0 {

@@ -1,6 +1,6 @@
 -- How joined heads stand in cells, five to a head.
 --   joinedOf          what joining answers
---   termsFrom         the terms of cells from a place on
+--   termsFrom         the terms of cells from an index on
 --   Heads, Partner    what joining asks
 --   Unjoined          the goal's heads
 --   headsOf           the heads of two rules, before they are joined
@@ -23,11 +23,11 @@ use Rattle.engine.specs.Positions.{Row}
 unfoldable pub joinedOf : Bool → List ℕ → Option (List Constraint)
 joinedOf unify cells = cond unify (some (cellConstraints cells)) none
 
--- the terms of k cells from a place on
+-- the terms of k cells from an index on
 unfoldable pub termsFrom : List ℕ → ℕ → ℕ → List Term
 termsFrom cells at k = cellTerms (take k (drop at cells))
 
--- what joining the heads at two places asks: all symbols lie below the variables' cells
+-- what joining the heads at two indices asks: all symbols lie below the variables' cells
 pub record Heads (cells : List ℕ) (a b : ℕ) : Type 0 where
   pub low : every isLow (cellConstraints cells) ≡ true
   pub first : a + constraintSize ≤ length cells

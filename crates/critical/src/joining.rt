@@ -11,7 +11,7 @@ ghost use Rattle.tables.specs.Cells.{rowConstraint, cellConstraints};
 ghost use Rattle.critical.specs.Joins.{joinedTerms, joined, joinNext};
 ghost use Rattle.critical.specs.Cells.{joinedOf, termsFrom, Heads, Partner};
 
-// Makes the terms of the rows at two places equal throughout, column by column; false where they do not unify.
+// Makes the terms of the rows at two indices equal throughout, column by column; false where they do not unify.
 pub fn join_terms(cells: &mut [u16], a: usize, b: usize) -> bool
     requires { ⌜ Heads (now cells) a b ⌝ }
     ensures { λ r. ⌜ joinedOf r (now (cells .exit))

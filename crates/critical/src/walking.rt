@@ -1,4 +1,4 @@
-// The walk over the pairings of two rules, partner by partner, which cuts off what cannot unify and judges each overlap.
+// The walk over the pairings of two rules, partner by partner, which leaves out what cannot unify and judges each overlap.
 use crate::finishing::finish;
 use crate::finishing::second_positions;
 use crate::joining::join_partner;

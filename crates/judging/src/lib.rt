@@ -120,7 +120,7 @@ pub fn same_step(
     same_cells(&one[..e], &two[..e])
 }
 
-// Whether two ends that live are equal, both of n constraints. Cells that say nothing become 0.
+// Whether two ends that live are equal, both of n constraints. Cells that hold no term become 0.
 pub fn same_ends(
     n: usize,
     bound_one: &[u16],

@@ -1,4 +1,4 @@
-// Cells behind the last terms of constraints, which say nothing: here they become 0.
+// Cells behind the last terms of constraints, which hold no term: here they become 0.
 use tables::layout::CONSTRAINT_SIZE;
 ghost use mathlib.Core.Bool.{cond};
 ghost use mathlib.Core.Path.{_≡_};

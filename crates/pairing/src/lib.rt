@@ -102,7 +102,7 @@ pub fn pair_rows(a: &[u16], b: &[u16], forth: &mut [u16], back: &mut [u16]) -> L
     Links { fits: true, fresh }
 }
 
-// Forgets the partners that were made in the columns of two constraints.
+// Removes the partners that were made in the columns of two constraints.
 pub fn unpair(a: &[u16], b: &[u16], fresh: [bool; 4], forth: &mut [u16], back: &mut [u16])
     requires { ⌜ Rows (now a) (now b) (now forth) (now back) × (length fresh ≡ 4) ⌝ }
     ensures { λ _. ⌜ (now (forth .exit) ≡ cleared fresh (drop 1 (now (a .entry))) (now (forth .entry)))
