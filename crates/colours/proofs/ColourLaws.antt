@@ -34,7 +34,7 @@ square-small t =
     mul-le-mul h h
 
 -- at a 0, and behind the last cell, the terms end
-terms-end : (l : List ℕ) (i : ℕ) → length l ≤ i → cellTerms (drop i l) ≡ []
+pub terms-end : (l : List ℕ) (i : ℕ) → length l ≤ i → cellTerms (drop i l) ≡ []
 unfolding cellTerms
 terms-end l i h = rw (drop-of-length-le l {i = i} h)
 

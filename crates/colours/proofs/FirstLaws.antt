@@ -19,11 +19,11 @@ use Rattle.semantics.specs.Terms.{Term, con, var, sameTerm}
 use Rattle.semantics.specs.Variants.{OneToOne, TermVariant, sameCon, partners, Pointwise, empty, each, sameState}
 use Rattle.tables.specs.Cells.{cellTerm, cellTerms, cellConstraints, rowConstraint}
 use Rattle.tables.proofs.CellLaws.{either, le-or-lt, cell-low, cell-high, same-cell}
-use Rattle.tables.proofs.CellLaws.{terms-none, terms-more, terms-end, constraints-at}
+use Rattle.tables.proofs.CellLaws.{terms-none, terms-more, constraints-at}
 use Rattle.colours.specs.Ends.{endOf}
 use Rattle.colours.specs.Numbering.{Ascending, none, known, new}
 use Rattle.colours.specs.Colours.{mixed, plus, added, signed, signature, digest, clipped}
-use Rattle.colours.proofs.ColourLaws.{lent, lentTerms}
+use Rattle.colours.proofs.ColourLaws.{lent, lentTerms, terms-end}
 use Rattle.colours.proofs.RoundLaws.{row-signed}
 use Rattle.colours.proofs.AgreeLaws.{Agree, digest-agree}
 use Rattle.colours.proofs.ClassLaws.{not-variant}
