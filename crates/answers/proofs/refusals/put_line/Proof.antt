@@ -11,6 +11,16 @@ slice-aggregate-copy c = search needs
 copy-requires : tie.Need-copy-requires
 copy-requires c κs = search needs
 
+returns : tie.Need-returns
+returns c =
+    let at-head = c .before .before in
+    let at-number = at-head .before .before .before .before in
+    let at-copy = at-number .before .before .before .before in
+    let start = at-copy .before .before .before .before .before in
+    line-printed (start .args .number) (start .args .line) (start .args .named .now) (start .args .out .now) (start .pre)
+    (at-copy .copy .kept .0) (at-number .put-decimal .kept .0) (at-copy .copy .ensures) (at-number .put-decimal .ensures)
+    (at-head .put-head .ensures)
+
 put-decimal-requires : tie.Need-put-decimal-requires
 put-decimal-requires c κs =
     let at-copy = c .before .before .before in
@@ -38,16 +48,6 @@ put-head-requires c κs =
     let at-copy = at-number .before .before .before .before in
     let start = at-copy .before .before .before .before .before in
     rest-counted (start .args .number) (start .args .line) (start .args .named .now) (start .args .out .now) (start .pre)
-
-returns : tie.Need-returns
-returns c =
-    let at-head = c .before .before in
-    let at-number = at-head .before .before .before .before in
-    let at-copy = at-number .before .before .before .before in
-    let start = at-copy .before .before .before .before .before in
-    line-printed (start .args .number) (start .args .line) (start .args .named .now) (start .args .out .now) (start .pre)
-    (at-copy .copy .kept .0) (at-number .put-decimal .kept .0) (at-copy .copy .ensures) (at-number .put-decimal .ensures)
-    (at-head .put-head .ensures)
 
 add-result : tie.Need-add-result
 add-result c =
