@@ -12,7 +12,8 @@ list-numbered-requires c κs =
     let at-cells = c .before .before .before in
     let at-bound = at-cells .before .before in
     let at-number-end = at-bound .before .before in
-    let start = at-number-end .before .before .before .before .before .before .before .before .before .before in
+    let at-slices = at-number-end .before .before .before in
+    let start = at-slices .before .before .before .before .before .before .before in
     end-writable _ (name-short _ _ _) _ _ _ (λ i l. omega (arith, at-bound .slice-known4 .given i))
     (λ i l. omega (arith, at-cells .slice-known5 .given i)) _
     (λ h. omega (arith, start .pre .live h .few, at-number-end .number-end .kept .0, at-number-end .number-end .kept .1))
