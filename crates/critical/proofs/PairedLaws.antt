@@ -43,10 +43,6 @@ module _ (hs gs : List Constraint) where
       let p = joined-parts hs ds gs cs e in
       ap length (sym (p .same)) ∙ length-map (hs ++ gs) (mapTerms (p .solution)) ∙ length-append hs gs
 
-  pub paired-length : (ds : List ℕ) (cs : List Constraint) → paired hs ds gs ≡ some cs → length cs ≡ length hs + length gs
-  unfolding paired
-  paired-length ds cs e = joined-length ds cs (cond-some (isOneToOne ds) e .1)
-
   -- one more head, with its partner or none
   pub paired-next :
       (ds : List ℕ) (d : ℕ) (cs : List Constraint) → paired hs ds gs ≡ some cs → length ds < length hs → d ≤ length gs
