@@ -94,7 +94,7 @@ fn rank(cells: &[u16], i: usize, seen: &[bool], counts: &[u16]) -> u16
     least_count(cells, i, seen, counts)
 }
 
-// The first constraint from k on with the least rank.
+// The first constraint from k on with the least rank; none is looked for behind one that has at most one partner.
 pub fn choose_next(cells: &[u16], k: usize, n: usize, seen: &[bool], counts: &[u16]) -> usize
     requires { ⌜ Ordering (now cells) k n (length (now seen)) × (k < n) × (length (now counts) ≡ length (now seen)) ⌝ }
     ensures { λ r. ⌜ (k ≤ r) × (r < n) ⌝ }
@@ -106,6 +106,9 @@ pub fn choose_next(cells: &[u16], k: usize, n: usize, seen: &[bool], counts: &[u
         let at = i;
         let r = rank(cells, at, seen, counts);
         i += 1;
+        if r < 2 {
+            return at;
+        }
         if r < least {
             least = r;
             best = at;
