@@ -3,6 +3,8 @@
 --   barren-fired       the first of the constraints, after a firing
 --   barren-strange     all of them, where no constraint of the body has a symbol of the heads
 --   absent-first       heads fit nowhere where the first one's symbol stands nowhere
+--   absent-behind      one head fits nowhere where its symbol stands nowhere behind such constraints
+--   without-few        how many constraints a firing leaves
 --   barren-last        the search for the last head starts behind such constraints
 --   barren-first       where heads fit at the smallest positions, they fit nowhere before the first of them
 --   barren-next        where a head is placed among them, the later ones fit nowhere among them
@@ -238,6 +240,9 @@ without-length p ps (c ∷ cs) = go (without-length (suc p) ps cs) (atLeast-fall
     go more l true e = omega (arith, atLeast-here p ps e)
     go more l false e = omega arith
 
+pub without-few : (ps : List ℕ) (cs : List Constraint) → length cs ≤ length (without 0 ps cs) + length ps
+without-few ps cs = omega (arith, without-length 0 ps cs, atLeast-all 0 ps)
+
 -- an element of the first k
 taken-stands : {A : Type 0} (k : ℕ) (l : List A) (q : ℕ) (a : A) → getElem? (take k l) q ≡ some a
     → (q < k) × (getElem? l q ≡ some a)
@@ -269,16 +274,23 @@ symbol-stands (b ∷ body) zero c s = let same : b ≡ c = cc in rw (same, equal
 symbol-stands (b ∷ body) (suc i) c s = or-right (eqb (b .symbol) (c .symbol)) (hasSymbol (c .symbol) body)
     (symbol-stands body i c s)
 
+-- a head does not fit at a constraint of another symbol
+absent-here :
+    {A : Type 0} (h : Constraint) (cs : List Constraint) (θ : Assignment) → hasSymbol (h .symbol) cs ≡ false → (i : ℕ)
+    (c : Constraint) → getElem? cs i ≡ some c → (t : Bool) (f : Assignment → Option A)
+    → cond t none (bind (matchConstraint h c θ) f) ≡ none
+unfolding matchConstraint
+absent-here h cs θ e i c s t f =
+    let other : eqb (h .symbol) (c .symbol) ≡ false =
+    apart-eqb (λ (same : h .symbol ≡ c .symbol). true-false (symbol-stands cs i c s) (rw same at e)) in
+    rw (other, tested-nothing t)
+
 -- heads fit nowhere if no constraint has the first one's symbol
 pub absent-first :
     (h : Constraint) (hs cs : List Constraint) (chosen : List ℕ) (θ : Assignment) → hasSymbol (h .symbol) cs ≡ false
     → find (h ∷ hs) cs chosen θ ≡ none
-unfolding find matchConstraint
-absent-first h hs cs chosen θ e =
-    firstIn-nothing 0 cs _ (λ i c s.
-    let other : eqb (h .symbol) (c .symbol) ≡ false =
-    apart-eqb (λ (same : h .symbol ≡ c .symbol). true-false (symbol-stands cs i c s) (rw same at e)) in
-    rw (other, tested-nothing (has (0 + i) chosen)))
+unfolding find
+absent-first h hs cs chosen θ e = firstIn-nothing 0 cs _ (λ i c s. absent-here h cs θ e i c s (has (0 + i) chosen) _)
 
 -- a constraint of a body that has no symbol of the heads
 strange-stands :
@@ -358,6 +370,13 @@ module _ (h : Constraint) (cs : List Constraint) (chosen : List ℕ) (θ : Assig
   unfolding find
   barren-last [] e b = firstIn-behind from cs _ (b .nowhere)
   barren-last (k ∷ hs) e b = let z : _≡_ {A = ℕ} 0 1 = cc in absurd (omega arith)
+
+  -- and fits nowhere if no constraint behind it has its symbol
+  pub absent-behind : Barren (h ∷ []) cs chosen θ from → hasSymbol (h .symbol) (drop from cs) ≡ false
+      → find (h ∷ []) cs chosen θ ≡ none
+  absent-behind b e =
+      sym (barren-last [] refl b)
+      ∙ firstIn-nothing from (drop from cs) _ (λ i c s. absent-here h (drop from cs) θ e i c s (has (from + i) chosen) _)
 
   -- a head fits within the prefix, and the later ones fit nowhere in it
   pub barren-next :

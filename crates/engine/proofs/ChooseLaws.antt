@@ -21,10 +21,12 @@ use Rattle.tables.specs.Cells.{cellConstraints}
 use Rattle.tables.specs.Rows.{ruleOfRow, ruleOf, rulesOf, rowOf}
 use Rattle.engine.specs.Cells.{assigned}
 use Rattle.engine.specs.Positions.{foundOf, Seeking, Located, Row, Table, choiceOf, Chosen}
-use Rattle.engine.specs.Known.{Barren, Knows, Possible}
+use Rattle.engine.specs.Known.{Barren, prefixOf, Noted, Knows, Possible}
 use Rattle.tables.proofs.CellLaws.{constraints-length}
 use Rattle.tables.proofs.CellLaws.{either, le-or-lt}
 use Rattle.engine.proofs.BarrenLaws.{barren-first}
+use Rattle.engine.proofs.NotedLaws.{noted-nothing, noted-nowhere, noted-first, noted-passed, prefix-above}
+use Rattle.semantics.proofs.Options.{none-some}
 
 -- no cell of zeros is settled
 pub zeros-zero : (n x : ℕ) → _≡_ {A = ℕ} (getD (replicate n 0) x 0) 0
@@ -95,15 +97,15 @@ drop-tabled f n i h =
 
 -- an entry of a table with one entry set, which may lie behind its end
 pub noted-at :
-    (known : List ℕ) (i v : ℕ) (P : ℕ → Type 0) (j : ℕ) → P (getD known j 0) → (i ≡ j → P v)
-    → (length known ≤ i → i ≡ j → P 0) → P (getD (set known i v) j 0)
-noted-at known i v P j old new none-there =
+    (known : List ℕ) (d i v : ℕ) (P : ℕ → Type 0) (j : ℕ) → P (getD known j d) → (i ≡ j → P v) → P d
+    → P (getD (set known i v) j d)
+noted-at known d i v P j old new none-there =
     ⊎-elim
     (λ t. let e : i ≡ j = eqb-true i j t in rw (← e) (⊎-elim
-    (λ h. rw (List·getD-eq-default (set known i v) 0 {n = i} (omega (arith, length-set known i v))) (none-there h e))
-    (λ h. rw (getD-set-same known i v 0 h) (new e))
+    (λ h. rw (List·getD-eq-default (set known i v) d {n = i} (omega (arith, length-set known i v))) none-there)
+    (λ h. rw (getD-set-same known i v d h) (new e))
     (le-or-lt (length known) i)))
-    (λ t. rw (getD-set-other known i j v 0 (λ e. eqb-false i j t (sym e))) old)
+    (λ t. rw (getD-set-other known i j v d (λ e. eqb-false i j t (sym e))) old)
     (either (eqb i j))
 
 -- a table with one entry set is as long
@@ -172,32 +174,15 @@ module _ (rules : List ℕ) (n : ℕ) (cells : List ℕ) (m i : ℕ) (given : Ta
       }
 
   module _ (l : i < n) where
-    -- nothing fits where all is known
-    all-known : length cells ≡ 5 * m → (k : ℕ) → m < k → take k (cellConstraints cells) ≡ cellConstraints cells
-    all-known e k h = take-all k (cellConstraints cells) (omega (arith, constraints-length m cells e))
-
-    module _ (known : List ℕ) (ks : Knows rules n known (cellConstraints cells)) (from : ℕ) (z : from ≡ getD known i 0)
-        (size : length cells ≡ 5 * m) where
-      here : Barren (ruleOfRow [] (rowOf rules i) .heads) (cellConstraints cells) [] unassigned from
-      here = rw z (ks .barren i l)
-
-      -- what the search for the rule asks
-      pub choosing-row :
-          from ≤ m
-          → Row (lentRow rules i) × (length cells ≡ 5 * m)
-          × Barren (ruleOfRow [] (lentRow rules i) .heads) (cellConstraints cells) [] unassigned from × (from ≤ m)
-      choosing-row h = (rw (row-cells i) (given .rows i l), size, rw (row-cells i) here, h)
-
-      -- the rule is passed over
-      pub choosing-passed : m < from → Choosing rules n cells (i + 1)
-      unfolding rulesOf chooseFrom ruleOf ruleOfRow
-      choosing-passed k =
-          let nothing : find (ruleOfRow [] (rowOf rules i) .heads) (cellConstraints cells) [] unassigned ≡ none =
-          rw (all-known size from k) at (here .nowhere (omega arith)) in
-          rw (add-one i) (record {
-            within = l;
-            same = λ names. rw (drop-tabled (ruleOf names rules) n i l, nothing) at (w .same names);
-          })
+    -- a rule that fits nowhere is passed over
+    pub choosing-passed :
+        find (ruleOfRow [] (rowOf rules i) .heads) (cellConstraints cells) [] unassigned ≡ none → Choosing rules n cells (i + 1)
+    unfolding rulesOf chooseFrom ruleOf ruleOfRow
+    choosing-passed nothing =
+        rw (add-one i) (record {
+          within = l;
+          same = λ names. rw (drop-tabled (ruleOf names rules) n i l, nothing) at (w .same names);
+        })
 
     module _ (f : Bool) (ps b : List ℕ)
         (t : Located f (getD (lentRow rules i) 3 0) ps b
@@ -224,45 +209,22 @@ module _ (rules : List ℕ) (n : ℕ) (cells : List ℕ) (m i : ℕ) (given : Ta
       unfolding choiceOf foundOf
       choosing-next z = rw (add-one i) (record { within = l; same = λ names. rw z at (tried names) })
 
-      -- it is known now
-      pub choosing-noted :
-          f ≡ false → length cells ≡ 5 * m → (known known′ : List ℕ) → Knows rules n known (cellConstraints cells)
-          → known′ ≡ set known i (m + 1) → Knows rules n known′ (cellConstraints cells)
-      unfolding foundOf
-      choosing-noted z size known known′ ks e =
-          let nothing : find (ruleOfRow [] (rowOf rules i) .heads) (cellConstraints cells) [] unassigned ≡ none =
-          sym (rw (row-cells i, z) at (t .same)) in
-          rw e (record {
-            barren = λ j k.
-                noted-at known i (m + 1) (λ v. Barren (ruleOfRow [] (rowOf rules j) .heads)
-                (cellConstraints cells) [] unassigned v)
-                j (ks .barren j k)
-                (λ s. record {
-                  nowhere = λ o. rw (← s, all-known size (m + 1) (omega arith)) nothing;
-                })
-                (λ a s. record { nowhere = λ (o : 1 ≤ 0). absurd (omega arith) });
-          })
-
       -- what `leading` asks
       pub choosing-leads : Row (lentRow rules i) × (length ps ≡ 4)
       choosing-leads = (rw (row-cells i) (given .rows i l), t .positions-size)
 
-      -- it fits, and what is known then is noted
+      -- it fits nowhere before its first position
       pub choosing-first :
-          f ≡ true → (known known′ : List ℕ) (first : ℕ) → Knows rules n known (cellConstraints cells)
-          → first ≡ cond (eqb (getD (lentRow rules i) 3 0) 0) 0 (getD ps 0 0) → known′ ≡ set known i first
-          → Knows rules n known′ (cellConstraints cells)
+          f ≡ true → (first : ℕ) → first ≡ cond (eqb (getD (lentRow rules i) 3 0) 0) 0 (getD ps 0 0)
+          → Barren (ruleOfRow [] (rowOf rules i) .heads) (cellConstraints cells) [] unassigned first
+          × (find (ruleOfRow [] (rowOf rules i) .heads) (cellConstraints cells) [] unassigned ≡ none → ⊥)
       unfolding foundOf
-      choosing-first z known known′ first ks g e =
-          let found = rw (row-cells i, z) at (t .same) in
-          rw e (record {
-            barren = λ j k.
-                noted-at known i first (λ v. Barren (ruleOfRow [] (rowOf rules j) .heads) (cellConstraints cells) [] unassigned v)
-                j (ks .barren j k)
-                (λ s. rw (← s) (first-barren (ruleOfRow [] (rowOf rules i) .heads) (cellConstraints cells)
-                (getD (rowOf rules i) 3 0) ps b first (t .positions-size) found (rw (row-cells i) at g)))
-                (λ a s. record { nowhere = λ (o : 1 ≤ 0). absurd (omega arith) });
-          })
+      choosing-first z first g =
+          let found = rw (row-cells i, z) at (t .same) in (
+            first-barren (ruleOfRow [] (rowOf rules i) .heads) (cellConstraints cells) (getD (rowOf rules i) 3 0) ps b first
+                (t .positions-size) found (rw (row-cells i) at g),
+            λ e. none-some e (sym found),
+          )
 
       -- it does
       pub choosing-found : f ≡ true → Chosen rules n cells true i ps b
@@ -276,45 +238,113 @@ module _ (rules : List ℕ) (n : ℕ) (cells : List ℕ) (m i : ℕ) (given : Ta
             bindings-size = t .bindings-size;
           }
 
--- where a rule is found not to be possible, the search for it finds nothing
-pub impossible-located :
-    (row cells : List ℕ) (r : Bool) → Possible r row cells → r ≡ false
-    → Located false (getD row 3 0) (replicate 4 0) (replicate 26 0) (find (ruleOfRow [] row .heads) (cellConstraints cells) []
-    unassigned)
-unfolding foundOf
-impossible-located row cells r p z = record { same = sym (p .nowhere z); positions-size = refl; bindings-size = refl }
-
 -- the loop of `choose`: the choice is among the rules from i on, and what is known is true
-pub record Noting (rules : List ℕ) (n : ℕ) (start cells known : List ℕ) (i : ℕ) : Type 0 where
+pub record Noting (rules : List ℕ) (n : ℕ) (start last : List ℕ) (gone : ℕ) (cells known : List ℕ) (i : ℕ) : Type 0 where
   pub choosing : Choosing rules n cells i
-  pub knows : Knows rules n known (cellConstraints cells)
+  pub knows : Knows rules n known last gone (cellConstraints cells)
   pub size : length known ≡ length start
 
 pub noting-start :
-    (rules : List ℕ) (n : ℕ) (start cells : List ℕ) → Knows rules n start (cellConstraints cells)
-    → Noting rules n start cells start 0
-noting-start rules n start cells ks = record { choosing = choosing-start rules n cells; knows = ks; size = refl }
+    (rules : List ℕ) (n : ℕ) (start last : List ℕ) (gone : ℕ) (cells : List ℕ) → Knows rules n start last gone (cellConstraints cells)
+    → Noting rules n start last gone cells start 0
+noting-start rules n start last gone cells ks = record { choosing = choosing-start rules n cells; knows = ks; size = refl }
 
-module _ (rules : List ℕ) (n : ℕ) (start cells known : List ℕ) (m i : ℕ) (given : Table rules n)
-    (w : Noting rules n start cells known i) (l : i < n) (e : length cells ≡ 5 * m) where
-  -- the rule does not fit, which is noted
-  pub noting-next :
-      (f : Bool) (ps b : List ℕ)
-      → Located f (getD (lentRow rules i) 3 0) ps b
-      (find (ruleOfRow [] (lentRow rules i) .heads) (cellConstraints cells) [] unassigned)
-      → f ≡ false → (known′ : List ℕ) → known′ ≡ set known i (m + 1) → Noting rules n start cells known′ (i + 1)
-  noting-next f ps b t z known′ g =
+module _ (rules : List ℕ) (n : ℕ) (start last : List ℕ) (gone : ℕ) (cells known : List ℕ) (m i : ℕ) (given : Table rules n)
+    (e : length cells ≡ 5 * m) (few : gone + m ≤ 6000) (w : Noting rules n start last gone cells known i) (l : i < n) where
+  abbrev heads : List Constraint
+  heads = ruleOfRow [] (rowOf rules i) .heads
+
+  count : length (cellConstraints cells) ≡ m
+  count = constraints-length m cells e
+
+  -- a number noted
+  noting-noted :
+      (v : ℕ) (known′ : List ℕ) → known′ ≡ set known i v → Noted heads (cellConstraints cells) last gone v
+      → Knows rules n known′ last gone (cellConstraints cells)
+  noting-noted v known′ g new =
+      rw g (record {
+        noted = λ j k.
+            noted-at known 8192 i v (Noted (ruleOfRow [] (rowOf rules j) .heads) (cellConstraints cells) last gone)
+            j (w .knows .noted j k) (λ s. rw (← s) new) (noted-nothing _ (cellConstraints cells) last gone);
+        bounded = w .knows .bounded;
+      })
+
+  module _ (v : ℕ) (z : v ≡ getD known i 8192) where
+    here : Noted heads (cellConstraints cells) last gone v
+    here = rw z (w .knows .noted i l)
+
+    -- what a first look at the rule asks
+    pub noting-look :
+        Row (lentRow rules i) × (length cells ≡ 5 * m) × (gone + m ≤ 6000)
+        × Noted (ruleOfRow [] (lentRow rules i) .heads) (cellConstraints cells) last gone v
+    noting-look = (rw (row-cells i) (given .rows i l), e, few, rw (row-cells i) here)
+
+    -- what the search for it asks
+    pub noting-row :
+        (from : ℕ) → from ≡ prefixOf v - gone
+        → Row (lentRow rules i) × (length cells ≡ 5 * m)
+        × Barren (ruleOfRow [] (lentRow rules i) .heads) (cellConstraints cells) [] unassigned from × (from ≤ m)
+    noting-row from g = (
+      rw (row-cells i) (given .rows i l),
+      e,
+      rw (row-cells i, g) (here .barren),
+      omega (arith, here .earlier, count),
+    )
+
+    -- it was found not to fit just now
+    pub noting-passed : v ≡ gone + m → Noting rules n start last gone cells known (i + 1)
+    noting-passed g =
+        record {
+          choosing = choosing-passed rules n cells m i given (w .choosing) l
+              (noted-passed heads (cellConstraints cells) last gone v here (w .knows .bounded) (omega (arith, count))
+              (omega arith));
+          knows = w .knows;
+          size = w .size;
+        }
+
+  -- it fits nowhere, which is noted
+  noting-nowhere :
+      find heads (cellConstraints cells) [] unassigned ≡ none → (known′ : List ℕ) → known′ ≡ set known i (gone + m)
+      → Noting rules n start last gone cells known′ (i + 1)
+  noting-nowhere nothing known′ g =
       record {
-        choosing = choosing-next rules n cells m i given (w .choosing) l f ps b t z;
-        knows = choosing-noted rules n cells m i given (w .choosing) l f ps b t z e known known′ (w .knows) g;
-        size = noted-size start known known′ i (m + 1) g (w .size);
+        choosing = choosing-passed rules n cells m i given (w .choosing) l nothing;
+        knows = noting-noted (gone + m) known′ g (noted-nowhere heads (cellConstraints cells) last gone (gone + m)
+            (omega (arith, count)) (omega arith) nothing);
+        size = noted-size start known known′ i (gone + m) g (w .size);
       }
 
-  -- it is known not to fit
-  pub noting-passed : (from : ℕ) → from ≡ getD known i 0 → m < from → Noting rules n start cells known (i + 1)
-  noting-passed from z h =
-      record {
-        choosing = choosing-passed rules n cells m i given (w .choosing) l known (w .knows) from z e h;
-        knows = w .knows;
-        size = w .size;
-      }
+  -- a first look finds that
+  pub noting-impossible :
+      (r : Bool) → Possible r (lentRow rules i) cells → r ≡ false → (known′ : List ℕ) → known′ ≡ set known i (gone + m)
+      → Noting rules n start last gone cells known′ (i + 1)
+  noting-impossible r p z known′ g = noting-nowhere (rw (row-cells i) at (p .nowhere z)) known′ g
+
+  module _ (f : Bool) (ps b : List ℕ)
+      (t : Located f (getD (lentRow rules i) 3 0) ps b
+      (find (ruleOfRow [] (lentRow rules i) .heads) (cellConstraints cells) [] unassigned)) where
+    -- the search finds that
+    pub noting-next :
+        f ≡ false → (known′ : List ℕ) → known′ ≡ set known i (gone + m) → Noting rules n start last gone cells known′ (i + 1)
+    unfolding foundOf
+    noting-next z known′ g = noting-nowhere (sym (rw (row-cells i, z) at (t .same))) known′ g
+
+    -- it fits, and where it does first is noted
+    pub noting-found :
+        f ≡ true → (first : ℕ) → first ≡ cond (eqb (getD (lentRow rules i) 3 0) 0) 0 (getD ps 0 0) → (known′ : List ℕ)
+        → known′ ≡ set known i (8192 + gone + first)
+        → Chosen rules n cells true i ps b × Knows rules n known′ last gone (cellConstraints cells)
+    noting-found z first h known′ g =
+        let k = choosing-first rules n cells m i given (w .choosing) l f ps b t z first h in (
+          choosing-found rules n cells m i given (w .choosing) l f ps b t z,
+          noting-noted (8192 + gone + first) known′ g (noted-first heads (cellConstraints cells) last gone first
+              (8192 + gone + first) refl (k .0) (k .1)),
+        )
+
+    -- the first position lies among the constraints
+    pub noting-room :
+        f ≡ true → (first : ℕ) → first ≡ cond (eqb (getD (lentRow rules i) 3 0) 0) 0 (getD ps 0 0) → 8192 + gone + first ≤ 65000
+    noting-room z first h =
+        let k = choosing-first rules n cells m i given (w .choosing) l f ps b t z first h in
+        let known = noted-first heads (cellConstraints cells) last gone first (8192 + gone + first) refl (k .0) (k .1) in
+        omega (arith, known .earlier, prefix-above (8192 + gone + first) (omega arith), count)

@@ -1,6 +1,8 @@
 -- What a firing of a rule that matches leaves.
 --   fired-lighter      it lowers every weighing that the rule lowers
 --   fired-low          its symbols lie below the variables
+--   fired-plain        a rule without equations leaves the others as they are
+--   fired-length       how many constraints it leaves
 -- Assumes nothing.
 use Prim.Native.Nat.{ℕ, _+_, _<_}
 use native.Mathlib.Omega.{arith}
@@ -8,7 +10,7 @@ use mathlib.Core.Bool.{Bool, true, false, cond}
 use mathlib.Core.List.{List, [], _++_, map}
 use mathlib.Core.Option.{Option, none, some}
 use mathlib.Core.Path.{_≡_, refl, ap, _∙_}
-use lib.ListN.{getD, take}
+use lib.ListN.{length, getD, take, length-append, length-map}
 use Rattle.text.specs.Lists.{every}
 use Rattle.semantics.specs.Terms.{Term, Constraint, live, mapTerms, mapSides}
 use Rattle.semantics.specs.Matching.{unassigned, matchAt}
@@ -69,6 +71,17 @@ module _ (row ps b : List ℕ) (next : ℕ) (bound cells : List ℕ) (m : ℕ) (
   fired-plain y e =
       let same = rw (y, e) at (done .same []) in
       settled-plain (next + 26) _ _ _ _ _ same
+
+  -- equations remove no constraint
+  pub fired-length :
+      alive ≡ true
+      → length (storeOf cells′ count) ≡ length (without 0 (take (getD row 3 0) ps) (storeOf cells m)) + length
+      (ruleOfRow [] row .body)
+  unfolding before
+  fired-length y =
+      ap length (after y .same) ∙ length-map before (mapTerms (after y .solution))
+      ∙ length-append (without 0 (take (getD row 3 0) ps) (storeOf cells m)) _
+      ∙ rw (length-map (ruleOfRow [] row .body) (mapTerms (instance next (assigned b))))
 
   module _ (w : ℕ → ℕ)
       (fits : matchAt (ruleOfRow [] row .heads) (take (getD row 3 0) ps) (storeOf cells m) [] unassigned ≡ some (assigned b))

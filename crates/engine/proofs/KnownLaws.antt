@@ -1,6 +1,7 @@
--- What is known of rules, after a firing.
---   Scanning, Meeting, Marking    the loops of `has_symbol`, `concerned` and `mark`
---   lowered-…, Lowering      what `lowered` answers, and the loop of `lower`
+-- What is known of rules: the loops that read and write the tables, a first look at a rule, and a firing.
+--   Scanning, Meeting, Marking, Forgetting    the loops of `has_symbol`, `is_concerned`, `mark` and `forget`
+--   possible-…, absent-…     what a first look at a rule finds
+--   remembered-…             what `remember` writes
 --   knows-start, knows-fired    nothing is known at the start, and what is known after a firing
 -- Assumes nothing.
 use Prim.Native.Nat.{ℕ, zero, suc, _+_, _-_, _*_, _≤_, _<_}
@@ -9,31 +10,30 @@ use native.Mathlib.Numerals.{add-one}
 use mathlib.Core.Bool.{Bool, true, false, cond, _||_}
 use mathlib.Core.List.{List, [], _∷_, _++_, map, append-nil}
 use mathlib.Core.Logic.{_⊎_, ⊎-elim}
-use mathlib.Core.Option.{none}
 use mathlib.Core.Path.{_≡_, refl, sym, ap, _∙_}
 use lib.Dec.{eqb, ltb}
-use lib.ListN.{length, getD, set, take, drop, replicate, length-take, length-set, length-drop}
+use lib.ListN.{length, getD, set, take, drop, replicate, length-set, length-drop, length-map}
 use lib.ListN.{List·getD-eq-default, take-append-drop}
-use lib.Seq.{getD-take, getD-drop, take-all, length-take-le, getD-set-same, getD-set-other, take-add}
+use lib.Seq.{getD-take, getD-drop, length-take-le, getD-set-same, getD-set-other, take-add}
 use borrow.Author.Tests.{eq-eqb, ne-eqb, lt-ltb, le-ltb, ltb-true, ltb-false, eqb-true, eqb-false}
-use Rattle.text.specs.Lists.{has}
 use Rattle.semantics.specs.Terms.{Term, Constraint, mapTerms}
 use Rattle.semantics.specs.Matching.{unassigned}
-use Rattle.semantics.specs.Strategy.{find}
 use Rattle.semantics.specs.Firing.{without, instance}
 use Rattle.tables.specs.Cells.{cellConstraints, cellEquations, rowConstraint}
 use Rattle.tables.specs.Rows.{ruleOfRow, rowOf}
 use Rattle.tables.proofs.CellLaws.{constraints-length}
 use Rattle.tables.proofs.CellLaws.{either, le-or-lt, constraints-at, constraints-short}
 use Rattle.engine.specs.Cells.{assigned}
-use Rattle.engine.specs.Positions.{Row, Table}
+use Rattle.engine.specs.Positions.{Row}
 use Rattle.engine.specs.States.{Fired}
 use Rattle.engine.specs.Runs.{storeOf}
-use Rattle.engine.specs.Known.{Barren, Knows, hasSymbol, concerns, Possible, Marks, Clear, loweredOf, Lowered, Keeps}
-use Rattle.engine.proofs.BarrenLaws.{absent-first, barren-fired, barren-strange}
-use Rattle.engine.proofs.GapLaws.{take-constraints, drop-constraints}
-use Rattle.engine.proofs.ChooseLaws.{lentRow, row-cells, zeros-zero}
-use Rattle.engine.proofs.FiredLaws.{fired-plain}
+use Rattle.engine.specs.Known.{Barren, prefixOf, hasSymbol, concerns, isConcerned, Noted, Knows, Possible}
+use Rattle.engine.specs.Known.{Marked, Forgotten, Remembered, Keeps}
+use Rattle.engine.proofs.BarrenLaws.{absent-first, absent-behind, without-few}
+use Rattle.engine.proofs.NotedLaws.{prefix-below, noted-nothing, noted-fired, marked-bounded}
+use Rattle.engine.proofs.GapLaws.{drop-constraints}
+use Rattle.engine.proofs.FrontLaws.{behind, behind-all}
+use Rattle.engine.proofs.FiredLaws.{fired-plain, fired-length}
 
 -- behind the end of a table nothing is set
 pub set-behind : (l : List ℕ) (i v : ℕ) → length l ≤ i → l ≡ set l i v
@@ -42,8 +42,21 @@ set-behind (x ∷ l) zero v h = absurd (omega arith)
 set-behind (x ∷ l) (suc i) v h = ap (x ∷_) (set-behind l i v (omega arith))
 
 -- and nothing is there
-pub nothing-behind : (l : List ℕ) (i : ℕ) → length l ≤ i → 0 ≡ getD l i 0
-nothing-behind l i h = sym (List·getD-eq-default l 0 {n = i} h)
+pub nothing-behind : (l : List ℕ) (i d : ℕ) → length l ≤ i → d ≡ getD l i d
+nothing-behind l i d h = sym (List·getD-eq-default l d {n = i} h)
+
+-- what is there, whatever stands for nothing
+pub entry-there : (l : List ℕ) (i d r : ℕ) → r ≡ getD l i 0 → i < length l → r ≡ getD l i d
+entry-there [] i d r e h = absurd (omega arith)
+entry-there (x ∷ l) zero d r e h = e
+entry-there (x ∷ l) (suc i) d r e h = entry-there l i d r e (omega arith)
+
+-- the same at a symbol
+pub symbol-there : (l : List ℕ) (i s d r : ℕ) → i ≡ s → r ≡ getD l i 0 → i < length l → r ≡ getD l s d
+symbol-there l i s d r z e h = rw (← z) (entry-there l i d r e h)
+
+pub symbol-behind : (l : List ℕ) (i s d : ℕ) → i ≡ s → length l ≤ i → d ≡ getD l s d
+symbol-behind l i s d z h = rw (← z) (nothing-behind l i d h)
 
 -- the symbol of a row is its first cell
 row-symbol : (l : List ℕ) (i : ℕ) → rowConstraint (take 5 (drop (5 * i) l)) .symbol ≡ getD l (5 * i) 0
@@ -79,69 +92,99 @@ module _ (s : ℕ) (cells : List ℕ) (i : ℕ) (w : Scanning s cells i) where
     scanning-next e = rw (add-one i) (record { within = omega arith; same = rw (ne-eqb (getD cells (5 * i) 0) s e) at split })
 
 -- the heads from i on are concerned where all are
-pub record Meeting (heads body : List ℕ) (i : ℕ) : Type 0 where
+pub record Meeting (heads last : List ℕ) (v whole i : ℕ) : Type 0 where
   pub within : 5 * i ≤ length heads
-  pub same :
-      concerns (cellConstraints (drop (5 * i) heads)) (cellConstraints body) ≡ concerns (cellConstraints heads)
-      (cellConstraints body)
+  pub same : isConcerned last whole v (cellConstraints (drop (5 * i) heads)) ≡ isConcerned last whole v (cellConstraints heads)
 
--- a body without constraints concerns nothing
-pub concerns-none : (hs : List Constraint) → concerns hs [] ≡ false
-unfolding concerns hasSymbol
-concerns-none [] = refl
-concerns-none (h ∷ hs) = concerns-none hs
+pub meeting-start : (heads last : List ℕ) (v whole : ℕ) → Meeting heads last v whole 0
+meeting-start heads last v whole = record { within = omega arith; same = refl }
 
-pub meeting-none : (heads body : List ℕ) → length body ≡ 0 → false ≡ concerns (cellConstraints heads) (cellConstraints body)
-unfolding cellConstraints
-meeting-none heads [] e = sym (concerns-none (cellConstraints heads))
-meeting-none heads (x ∷ body) e = absurd (omega arith)
-
-pub meeting-start : (heads body : List ℕ) → Meeting heads body 0
-meeting-start heads body = record { within = omega arith; same = refl }
-
-module _ (heads body : List ℕ) (i : ℕ) (w : Meeting heads body i) where
-  pub meeting-end : length heads < 5 * i + 5 → false ≡ concerns (cellConstraints heads) (cellConstraints body)
-  unfolding concerns
+module _ (heads last : List ℕ) (v whole i : ℕ) (w : Meeting heads last v whole i) where
+  pub meeting-end : length heads < 5 * i + 5 → false ≡ isConcerned last whole v (cellConstraints heads)
+  unfolding isConcerned
   meeting-end h = rw (constraints-short heads i (omega arith)) at (w .same)
 
-  module _ (h : 5 * i + 5 ≤ length heads) (r : Bool) (e : r ≡ hasSymbol (getD heads (5 * i) 0) (cellConstraints body)) where
+  module _ (h : 5 * i + 5 ≤ length heads) (x : ℕ) (e : x ≡ getD last (getD heads (5 * i) 0) whole) where
     split-heads :
-        (r || concerns (cellConstraints (drop (5 * suc i) heads)) (cellConstraints body)) ≡ concerns (cellConstraints heads)
-        (cellConstraints body)
-    unfolding concerns
+        (ltb v x || isConcerned last whole v (cellConstraints (drop (5 * suc i) heads))) ≡ isConcerned last whole v
+        (cellConstraints heads)
+    unfolding isConcerned
     split-heads = rw (constraints-at heads i h, row-symbol heads i, ← e) at (w .same)
 
-    pub meeting-found : r ≡ true → true ≡ concerns (cellConstraints heads) (cellConstraints body)
-    meeting-found z = rw z at split-heads
+    pub meeting-found : v < x → true ≡ isConcerned last whole v (cellConstraints heads)
+    meeting-found z = rw (lt-ltb v x z) at split-heads
 
-    pub meeting-next : r ≡ false → Meeting heads body (i + 1)
-    meeting-next z = rw (add-one i) (record { within = omega arith; same = rw z at split-heads })
+    pub meeting-next : x ≤ v → Meeting heads last v whole (i + 1)
+    meeting-next z = rw (add-one i) (record { within = omega arith; same = rw (le-ltb v x z) at split-heads })
 
 -- a rule that is not found impossible
 pub possible-still : (row cells : List ℕ) → Possible true row cells
 possible-still row cells =
     record { nowhere = λ (z : true ≡ false). let y : _≡_ {A = ℕ} 0 1 = cc in absurd (omega arith) }
 
--- a rule with heads, whose first one's symbol stands nowhere, fits nowhere
-pub absent-rule :
-    (row cells : List ℕ) (r : Bool) → length row ≡ 64 → getD row 3 0 ≤ 4 → (getD row 3 0 ≡ 0 → ⊥)
-    → r ≡ hasSymbol (getD row 6 0) (cellConstraints cells) → Possible r row cells
+-- a number that is not 0
+positive : (k : ℕ) → (k ≡ 0 → ⊥) → 1 ≤ k
+positive zero h = absurd (h refl)
+positive (suc k) h = omega arith
+
+module _ (row cells : List ℕ) (r : Bool) (n : ℕ) (given : Row row) (e : n ≡ getD row 3 0) where
+  abbrev heads : List ℕ
+  heads = take (5 * getD row 3 0) (drop 6 row)
+
+  long : length (take (5 * getD row 3 0) (drop 6 row)) ≡ 5 * n
+  long =
+      length-take-le (5 * getD row 3 0) (drop 6 row) (omega (arith, given .size, given .heads-few, length-drop 6 row))
+      ∙ omega arith
+
+  first-symbol : 1 ≤ n → rowConstraint (take 5 (drop (5 * 0) heads)) .symbol ≡ getD row 6 0
+  first-symbol h =
+      row-symbol heads 0 ∙ getD-take (5 * getD row 3 0) (drop 6 row) 0 0 (omega arith) ∙ getD-drop 6 row 0 0
+
+  -- a rule with heads fits nowhere if the first one's symbol stands nowhere
+  pub absent-rule : (n ≡ 0 → ⊥) → r ≡ hasSymbol (getD row 6 0) (cellConstraints cells) → Possible r row cells
+  unfolding ruleOfRow
+  absent-rule some-heads g =
+      let one : 1 ≤ n = positive n some-heads in
+      record {
+        nowhere = λ z. rw (constraints-at heads 0 (omega (arith, long))) (absent-first _ _ (cellConstraints cells) [] unassigned
+            (rw (first-symbol one, ← g) z));
+      }
+
+  -- a rule with one head fits nowhere if its symbol stands nowhere behind constraints where it fits nowhere
+  pub absent-tail :
+      n ≡ 1 → (from p : ℕ) → Barren (ruleOfRow [] row .heads) (cellConstraints cells) [] unassigned from → p ≡ from
+      → r ≡ hasSymbol (getD row 6 0) (cellConstraints (behind (5 * p) cells)) → Possible r row cells
+  unfolding ruleOfRow
+  absent-tail one from p b k g =
+      let only : cellConstraints heads ≡ rowConstraint (take 5 (drop (5 * 0) heads)) ∷ [] =
+      constraints-at heads 0 (omega (arith, long))
+      ∙ ap (rowConstraint (take 5 (drop (5 * 0) heads)) ∷_) (constraints-short heads 1 (omega (arith, long))) in
+      let o : r ≡ hasSymbol (getD row 6 0) (drop from (cellConstraints cells)) =
+      rw (behind-all (5 * p) cells, drop-constraints p cells, k) at g in
+      record {
+        nowhere = λ z. rw only (absent-behind _ (cellConstraints cells) [] unassigned from (rw only at b)
+            (rw (first-symbol (omega arith), ← o) z));
+      }
+
+-- a rule that fitted nowhere fits nowhere if no symbol of its heads came since
+pub possible-since :
+    (row cells last : List ℕ) (m gone v a : ℕ) (r : Bool)
+    → Noted (ruleOfRow [] row .heads) (cellConstraints cells) last gone v → length cells ≡ 5 * m → v < 8192 → a ≡ getD row 3 0
+    → r ≡ isConcerned last (gone + m) v (cellConstraints (take (6 + 5 * a - 6) (drop 6 row))) → Possible r row cells
 unfolding ruleOfRow
-absent-rule row cells r size few some-heads e =
-    let heads = take (5 * getD row 3 0) (drop 6 row) in
-    let one : 1 ≤ getD row 3 0 = positive (getD row 3 0) some-heads in
-    let long : 5 ≤ length heads =
-    omega (arith, length-take-le (5 * getD row 3 0) (drop 6 row) (omega (arith, length-drop 6 row))) in
-    let symbol : getD heads 0 0 ≡ getD row 6 0 =
-    getD-take (5 * getD row 3 0) (drop 6 row) 0 0 (omega arith) ∙ getD-drop 6 row 0 0 in
-    record {
-      nowhere = λ z. rw (constraints-at heads 0 long) (absent-first _ _ (cellConstraints cells) [] unassigned
-          (rw (row-symbol heads 0, symbol, ← e) z));
-    }
-  where
-    positive : (k : ℕ) → (k ≡ 0 → ⊥) → 1 ≤ k
-    positive zero h = absurd (h refl)
-    positive (suc k) h = omega arith
+possible-since row cells last m gone v a r known size l e g =
+    let k : 6 + 5 * a - 6 ≡ 5 * getD row 3 0 = omega arith in
+    let n : length (cellConstraints cells) ≡ m = constraints-length m cells size in
+    record { nowhere = λ z. known .settled l (rw n (sym (rw k at g) ∙ z)) }
+
+-- what a look at the first head asks
+pub possible-asks :
+    (row cells last : List ℕ) (m gone v : ℕ) → Noted (ruleOfRow [] row .heads) (cellConstraints cells) last gone v
+    → length cells ≡ 5 * m → Row row
+    → Row row × (5 * (prefixOf v - gone) ≤ length cells)
+    × Barren (ruleOfRow [] row .heads) (cellConstraints cells) [] unassigned (prefixOf v - gone)
+possible-asks row cells last m gone v known size given =
+    (given, omega (arith, known .earlier, constraints-length m cells size), known .barren)
 
 -- a symbol among constraints with one more
 symbol-last :
@@ -157,26 +200,23 @@ symbol-last s (d ∷ cs) c = rw (symbol-last s cs c) (go (eqb (d .symbol) s) (eq
     go false false = refl
 
 -- the first i constraints are marked
-pub record Marking (start body fresh : List ℕ) (i : ℕ) : Type 0 where
+pub record Marking (start body : List ℕ) (whole : ℕ) (last : List ℕ) (i : ℕ) : Type 0 where
   pub within : 5 * i ≤ length body
-  pub size : length fresh ≡ length start
-  pub marks : Marks fresh (take i (cellConstraints body))
+  pub size : length last ≡ length start
+  pub marks : Marked start (take i (cellConstraints body)) whole last
 
-pub clear-start : (k : ℕ) → Clear (replicate k 0)
-clear-start k = record { clear = zeros-zero k }
-
-pub marking-start : (start body : List ℕ) → Clear start → Marking start body start 0
+pub marking-start : (start body : List ℕ) (whole : ℕ) → Marking start body whole start 0
 unfolding hasSymbol
-marking-start start body z =
-    record { within = omega arith; size = refl; marks = record { marked = λ s l. z .clear s } }
+marking-start start body whole =
+    record { within = omega arith; size = refl; marks = record { marked = λ s. refl } }
 
-module _ (start body fresh : List ℕ) (i : ℕ) (w : Marking start body fresh i) where
-  pub marking-end : length body < 5 * i + 5 → Marks fresh (cellConstraints body)
+module _ (start body : List ℕ) (whole : ℕ) (last : List ℕ) (i : ℕ) (w : Marking start body whole last i) where
+  pub marking-end : length body < 5 * i + 5 → Marked start (cellConstraints body) whole last
   marking-end h =
       let all : drop i (cellConstraints body) ≡ [] = sym (drop-constraints i body) ∙ constraints-short body i (omega arith) in
-      let whole : take i (cellConstraints body) ≡ cellConstraints body =
+      let every-one : take i (cellConstraints body) ≡ cellConstraints body =
       sym (append-nil (take i (cellConstraints body))) ∙ (rw all at (take-append-drop i (cellConstraints body))) in
-      rw whole at (w .marks)
+      rw every-one at (w .marks)
 
   module _ (h : 5 * i + 5 ≤ length body) where
     one-more :
@@ -194,170 +234,109 @@ module _ (start body fresh : List ℕ) (i : ℕ) (w : Marking start body fresh i
         ∙ rw (row-symbol body i))
 
     -- the table has no entry for it
-    pub marking-other : (x : ℕ) → x ≡ getD body (5 * i) 0 → length fresh ≤ x → Marking start body fresh (i + 1)
+    pub marking-other : (x : ℕ) → x ≡ getD body (5 * i) 0 → length last ≤ x → Marking start body whole last (i + 1)
     marking-other x z l =
         rw (add-one i) (record {
           within = omega arith;
           size = w .size;
           marks = record {
-            marked = λ s k. rw (more-marked s, ne-eqb (getD body (5 * i) 0) s (λ e. omega arith)) (w .marks .marked s k);
+            marked = λ s. rw (more-marked s) (⊎-elim
+                (λ t. let e : getD body (5 * i) 0 ≡ s = eqb-true (getD body (5 * i) 0) s t in
+                rw t (List·getD-eq-default last whole {n = s} (omega arith)))
+                (λ t. rw t (w .marks .marked s))
+                (either (eqb (getD body (5 * i) 0) s)));
           };
         })
 
     -- it is marked
     pub marking-next :
-        (fresh′ : List ℕ) (x : ℕ) → x ≡ getD body (5 * i) 0 → x < length fresh → fresh′ ≡ set fresh x 1
-        → Marking start body fresh′ (i + 1)
-    marking-next fresh′ x z l g =
+        (last′ : List ℕ) (x : ℕ) → x ≡ getD body (5 * i) 0 → x < length last → last′ ≡ set last x whole
+        → Marking start body whole last′ (i + 1)
+    marking-next last′ x z l g =
         rw (add-one i, g, z) (record {
           within = omega arith;
-          size = length-set fresh (getD body (5 * i) 0) 1 ∙ w .size;
+          size = length-set last (getD body (5 * i) 0) whole ∙ w .size;
           marks = record {
-            marked = λ s k. rw (more-marked s) (⊎-elim
+            marked = λ s. rw (more-marked s) (⊎-elim
                 (λ t. let e : getD body (5 * i) 0 ≡ s = eqb-true (getD body (5 * i) 0) s t in
-                rw (t, ← e) (getD-set-same fresh (getD body (5 * i) 0) 1 0 (omega arith)))
-                (λ t. rw t (getD-set-other fresh (getD body (5 * i) 0) s 1 0
+                rw (t, ← e) (getD-set-same last (getD body (5 * i) 0) whole whole (omega arith)))
+                (λ t. rw t (getD-set-other last (getD body (5 * i) 0) s whole whole
                 (λ e. eqb-false (getD body (5 * i) 0) s t (sym e))
-                ∙ w .marks .marked s (omega (arith, length-set fresh (getD body (5 * i) 0) 1))))
+                ∙ w .marks .marked s))
                 (either (eqb (getD body (5 * i) 0) s)));
           };
         })
 
--- what an entry says
-pub marked-is :
-    (fresh : List ℕ) (cs : List Constraint) → Marks fresh cs → (s x : ℕ) → x ≡ s → x < length fresh
-    → eqb (getD fresh x 0) 1 ≡ hasSymbol s cs
-marked-is fresh cs given s x e l = rw e (go (hasSymbol s cs) (given .marked s (omega arith)))
-  where
-    go : (t : Bool) → getD fresh s 0 ≡ cond t 1 0 → eqb (getD fresh s 0) 1 ≡ t
-    go true e = eq-eqb (getD fresh s 0) 1 e
-    go false e = ne-eqb (getD fresh s 0) 1 (λ z. omega arith)
-
-module _ (other row : List ℕ) (m count v : ℕ) where
-  -- nothing is known after equations
-  pub lowered-equated : 0 < getD row 5 0 → 0 ≡ loweredOf other row m count v
-  unfolding loweredOf
-  lowered-equated h = rw (lt-ltb 0 (getD row 5 0) h)
-
-  module _ (none-equated : getD row 5 0 ≤ 0) where
-    plain : ltb 0 (getD row 5 0) ≡ false
-    plain = le-ltb 0 (getD row 5 0) (omega arith)
-
-    -- a part was known
-    pub lowered-part : v ≤ m → (n r : ℕ) → n ≡ getD row 3 0 → r ≡ v - n → r ≡ loweredOf other row m count v
-    unfolding loweredOf
-    lowered-part h n r e g = rw (plain, le-ltb m v (omega arith), ← e) g
-
-    module _ (h : m < v) (a b : ℕ) (c : Bool) (x : a ≡ getD other 3 0) (y : b ≡ getD row 4 0)
-        (e : c ≡ concerns (cellConstraints (take (6 + 5 * a - 6) (drop 6 other)))
-        (cellConstraints (take (26 + 5 * b - 26) (drop 26 row)))) where
-      asked : concerns (ruleOfRow [] other .heads) (ruleOfRow [] row .body) ≡ c
-      unfolding ruleOfRow
-      asked =
-          let k : 6 + 5 * a - 6 ≡ 5 * getD other 3 0 = omega arith in
-          let l : 26 + 5 * b - 26 ≡ 5 * getD row 4 0 = omega arith in
-          sym (rw (k, l) at e)
-
-      -- all was known, and the body concerns the rule
-      pub lowered-concerned : c ≡ true → (n r : ℕ) → n ≡ getD row 3 0 → r ≡ m - n → r ≡ loweredOf other row m count v
-      unfolding loweredOf
-      lowered-concerned z n r s g = rw (plain, lt-ltb m v h, asked, z, ← s) g
-
-      -- it does not
-      pub lowered-strange : c ≡ false → count + 1 ≡ loweredOf other row m count v
-      unfolding loweredOf
-      lowered-strange z = rw (plain, lt-ltb m v h, asked, z)
-
--- the body's marks, as the code lends the body
-pub lowered-asks :
-    (row fresh : List ℕ) (b : ℕ) → Marks fresh (ruleOfRow [] row .body) → b ≡ getD row 4 0
-    → Marks fresh (cellConstraints (take (26 + 5 * b - 26) (drop 26 row)))
-unfolding ruleOfRow
-lowered-asks row fresh b given y = let l : 26 + 5 * b - 26 ≡ 5 * getD row 4 0 = omega arith in rw l given
-
-pub lowered-marks :
-    (row fresh : List ℕ) (b : ℕ) → Marks fresh (cellConstraints (take (26 + 5 * b - 26) (drop 26 row))) → b ≡ getD row 4 0
-    → Marks fresh (ruleOfRow [] row .body)
-unfolding ruleOfRow
-lowered-marks row fresh b given y = let l : 26 + 5 * b - 26 ≡ 5 * getD row 4 0 = omega arith in rw l at given
-
--- where nothing was known, nothing is
-lowered-nothing : (other row : List ℕ) (m count : ℕ) → loweredOf other row m count 0 ≡ 0
-unfolding loweredOf
-lowered-nothing other row m count = go (ltb 0 (getD row 5 0))
-  where
-    go : (t : Bool) → cond t 0 (cond (ltb m 0) (cond (concerns (ruleOfRow [] other .heads) (ruleOfRow [] row .body))
-        (m - getD row 3 0) (count + 1)) (0 - getD row 3 0)) ≡ 0
-    go true = refl
-    go false = let z : 0 - getD row 3 0 ≡ 0 = omega arith in rw (le-ltb m 0 (omega arith), z)
-
--- the entries before i are those after the firing, and the others as they were
-pub record Lowering (rules : List ℕ) (n : ℕ) (row : List ℕ) (m count : ℕ) (start known : List ℕ) (i : ℕ) : Type 0 where
-  pub within : i ≤ n
+-- nothing is known of the first i rules
+pub record Forgetting (start known : List ℕ) (i : ℕ) : Type 0 where
   pub size : length known ≡ length start
-  pub done : (j : ℕ) → j < i → getD known j 0 ≡ loweredOf (rowOf rules j) row m count (getD start j 0)
-  pub left : (j : ℕ) → i ≤ j → getD known j 0 ≡ getD start j 0
+  pub done : (j : ℕ) → j < i → getD known j 8192 ≡ 8192
 
-pub lowering-start : (rules : List ℕ) (n : ℕ) (row : List ℕ) (m count : ℕ) (start : List ℕ)
-    → Lowering rules n row m count start start 0
-lowering-start rules n row m count start =
-    record { within = omega arith; size = refl; done = λ j h. absurd (omega arith); left = λ j h. refl }
+pub forgetting-start : (start : List ℕ) → Forgetting start start 0
+forgetting-start start = record { size = refl; done = λ j h. absurd (omega arith) }
 
-module _ (rules : List ℕ) (n : ℕ) (row : List ℕ) (m count : ℕ) (start known : List ℕ) (i : ℕ)
-    (w : Lowering rules n row m count start known i) where
-  pub lowering-end : n ≤ i → Lowered rules n row m count start known
-  lowering-end h = record { same = λ j k. w .done j (omega arith) }
+module _ (start known : List ℕ) (i : ℕ) (w : Forgetting start known i) where
+  pub forgetting-end : length known ≤ i → Forgotten known
+  forgetting-end h =
+      record {
+        forgotten = λ j. ⊎-elim (λ k. List·getD-eq-default known 8192 {n = j} (omega arith)) (w .done j) (le-or-lt i j);
+      }
 
-  pub lowering-next :
-      i < n → (old new : ℕ) (known′ : List ℕ) → old ≡ getD known i 0 → new ≡ loweredOf (lentRow rules i) row m count old
-      → known′ ≡ set known i new → Lowering rules n row m count start known′ (i + 1)
-  lowering-next l old new known′ e f g =
-      let before : old ≡ getD start i 0 = e ∙ w .left i (omega arith) in
-      let after : new ≡ loweredOf (rowOf rules i) row m count (getD start i 0) = rw (row-cells i, before) at f in
-      let at-i : (j : ℕ) → i ≡ j → getD (set known i new) j 0 ≡ loweredOf (rowOf rules j) row m count (getD start j 0) =
-      λ j s. rw (← s) (⊎-elim
-      (λ h.
-      let none-before : getD start i 0 ≡ 0 = sym (w .left i (omega arith)) ∙ List·getD-eq-default known 0 {n = i} h in
-      List·getD-eq-default (set known i new) 0 {n = i} (omega (arith, length-set known i new))
-      ∙ rw none-before (sym (lowered-nothing (rowOf rules i) row m count)))
-      (λ h. getD-set-same known i new 0 h ∙ after)
-      (le-or-lt (length known) i)) in
-      rw (g, add-one i) (record {
-        within = l;
-        size = length-set known i new ∙ w .size;
-        done = λ j h. ⊎-elim (λ k. at-i j (omega arith))
-            (λ k. getD-set-other known i j new 0 (λ s. omega arith) ∙ w .done j k) (le-or-lt i j);
-        left = λ j h. getD-set-other known i j new 0 (λ s. omega arith) ∙ w .left j (omega arith);
+  pub forgetting-next : (known′ : List ℕ) → i < length known → known′ ≡ set known i 8192 → Forgetting start known′ (i + 1)
+  forgetting-next known′ l g =
+      rw g (record {
+        size = length-set known i 8192 ∙ w .size;
+        done = λ j h. ⊎-elim
+            (λ k. let e : i ≡ j = omega arith in rw (← e) (getD-set-same known i 8192 8192 l))
+            (λ k. getD-set-other known i j 8192 8192 (λ e. omega arith) ∙ w .done j k)
+            (le-or-lt i j);
       })
 
--- what `lowered` asks
-pub lowering-row :
-    (rules : List ℕ) (n i : ℕ) (row : List ℕ) (count : ℕ) (fresh : List ℕ) (b : ℕ) → Table rules n → i < n → Row row
-    → count ≤ 65000 → Marks fresh (cellConstraints (take (26 + 5 * b - 26) (drop 26 row))) → b ≡ getD row 4 0
-    → Row (lentRow rules i) × Row row × (count ≤ 65000) × Marks fresh (ruleOfRow [] row .body)
-lowering-row rules n i row count fresh b given l r h k e =
-    (rw (row-cells i) (given .rows i l), r, h, lowered-marks row fresh b k e)
+module _ (row known last last′ : List ℕ) (whole b : ℕ)
+    (marks : Marked last (cellConstraints (take (26 + 5 * b - 26) (drop 26 row))) whole last′) (e : b ≡ getD row 4 0) where
+  body-marked : Marked last (ruleOfRow [] row .body) whole last′
+  unfolding ruleOfRow
+  body-marked = let l : 26 + 5 * b - 26 ≡ 5 * getD row 4 0 = omega arith in rw l at marks
+
+  -- after equations nothing is known
+  pub remembered-equated :
+      (known′ : List ℕ) → Forgotten known′ → 0 < getD row 5 0 → Remembered row whole known last known′ last′
+  remembered-equated known′ f h = record { marks = body-marked; equated = λ z. f; plain = λ z. absurd (omega arith) }
+
+  -- else what was known is
+  pub remembered-plain : getD row 5 0 ≤ 0 → Remembered row whole known last known last′
+  remembered-plain h = record { marks = body-marked; equated = λ z. absurd (omega arith); plain = λ z. refl }
 
 -- nothing is known at the start
-pub knows-start : (rules : List ℕ) (n k : ℕ) (cs : List Constraint) → Knows rules n (replicate k 0) cs
-knows-start rules n k cs =
-    record { barren = λ i l. record { nowhere = λ h. absurd (omega (arith, zeros-zero k i)) } }
+pub knows-start : (rules : List ℕ) (n k l : ℕ) (cs : List Constraint) → Knows rules n (replicate k 8192) (replicate l 0) 0 cs
+knows-start rules n k l cs =
+    record { noted = λ i h. rw (same k i) (noted-nothing _ cs (replicate l 0) 0); bounded = λ s. none-came l s (0 + length cs) }
+  where
+    same : (k i : ℕ) → _≡_ {A = ℕ} (getD (replicate k 8192) i 8192) 8192
+    same zero i = refl
+    same (suc k) zero = refl
+    same (suc k) (suc i) = same k i
 
-pub keeps-start : (rules : List ℕ) (n k : ℕ) (cells : List ℕ) (m : ℕ) → Keeps rules n (replicate k 0) cells true true m
-keeps-start rules n k cells m = record { knows = λ y z. knows-start rules n k (storeOf cells m) }
+    none-came : (l s w : ℕ) → getD (replicate l 0) s w ≤ w
+    none-came zero s w = omega arith
+    none-came (suc l) zero w = omega arith
+    none-came (suc l) (suc s) w = none-came l s w
 
--- and after a firing
-pub keeps-on :
-    (rules : List ℕ) (n : ℕ) (known cells : List ℕ) (f alive : Bool) (count : ℕ) → Keeps rules n known cells f alive count
-    → f ≡ true → Keeps rules n known cells true alive count
-keeps-on rules n known cells f alive count k e = rw e at k
+pub keeps-start :
+    (rules : List ℕ) (n k l : ℕ) (cells : List ℕ) (m : ℕ) → Keeps rules n (replicate k 8192) (replicate l 0) 0 cells true true m
+keeps-start rules n k l cells m = record { knows = λ y z. knows-start rules n k l (storeOf cells m) }
 
--- the same constraints in other cells
-pub keeps-placed :
-    (rules : List ℕ) (n : ℕ) (known cells cells′ : List ℕ) (f alive : Bool) (count : ℕ) → Keeps rules n known cells f alive count
-    → take (5 * count) cells′ ≡ take (5 * count) cells → Keeps rules n known cells′ f alive count
-unfolding storeOf
-keeps-placed rules n known cells cells′ f alive count k e = record { knows = λ y z. rw e (k .knows y z) }
+module _ (rules : List ℕ) (n : ℕ) (known last : List ℕ) (gone : ℕ) (cells : List ℕ) (f alive : Bool) (count : ℕ)
+    (k : Keeps rules n known last gone cells f alive count) where
+  -- and after a firing
+  pub keeps-on : f ≡ true → Keeps rules n known last gone cells true alive count
+  keeps-on e = rw e at k
+
+  -- the same constraints in other cells
+  pub keeps-placed :
+      (cells′ : List ℕ) → take (5 * count) cells′ ≡ take (5 * count) cells → Keeps rules n known last gone cells′ f alive count
+  unfolding storeOf
+  keeps-placed cells′ e = record { knows = λ y z. rw e (k .knows y z) }
 
 -- terms do not concern
 symbol-mapped : (s : ℕ) (σ : Term → Term) (cs : List Constraint) → hasSymbol s (map (mapTerms σ) cs) ≡ hasSymbol s cs
@@ -373,105 +352,59 @@ concerns-mapped (h ∷ hs) σ cs = rw (symbol-mapped (h .symbol) σ cs, concerns
 
 module _ (row ps b : List ℕ) (next : ℕ) (bound cells : List ℕ) (m : ℕ) (bound′ cells′ : List ℕ) (count : ℕ)
     (done : Fired row ps b next bound cells m bound′ cells′ true count) (given : Row row) (size : length ps ≡ 4)
-    (fits : 5 * m ≤ length cells) where
+    (there : 5 * count ≤ length cells′) (gone : ℕ) (last last′ : List ℕ)
+    (marks : Marked last (ruleOfRow [] row .body) (gone + getD row 3 0 + count) last′) where
   abbrev placed : List ℕ
   placed = take (getD row 3 0) ps
 
   placed-size : length (take (getD row 3 0) ps) ≡ getD row 3 0
   placed-size = length-take-le (getD row 3 0) ps (omega (arith, given .heads-few))
 
-  store-size : length (storeOf cells m) ≡ m
+  store-size : length (storeOf cells′ count) ≡ count
   unfolding storeOf
-  store-size = constraints-length m (take (5 * m) cells) (length-take-le (5 * m) cells fits)
+  store-size = constraints-length count (take (5 * count) cells′) (length-take-le (5 * count) cells′ there)
 
-  store-few : length (storeOf cells′ count) ≤ count
-  unfolding storeOf
-  store-few = rw (take-constraints count cells′) (omega (arith, length-take count (cellConstraints cells′)))
+  marked-now : Marked last (ruleOfRow [] row .body) (gone + getD row 3 0 + length (storeOf cells′ count)) last′
+  marked-now = rw store-size marks
 
-  module _ (plain : (0 < getD row 5 0 → ⊥)) (hs : List Constraint) where
-    no-equations : ruleOfRow [] row .equations ≡ []
-    unfolding ruleOfRow cellEquations
-    no-equations = let z : 2 * getD row 5 0 ≡ 0 = omega arith in rw z
+  -- no symbol came later than now
+  bounded-now :
+      ((s : ℕ) → getD last s (gone + length (storeOf cells m)) ≤ gone + length (storeOf cells m)) → (s : ℕ)
+      → getD last′ s (gone + getD row 3 0 + length (storeOf cells′ count)) ≤ gone + getD row 3 0 + length (storeOf cells′ count)
+  bounded-now =
+      marked-bounded last (ruleOfRow [] row .body) (gone + length (storeOf cells m)) _ last′ marked-now
+      (omega (
+        arith,
+        without-few placed (storeOf cells m),
+        placed-size,
+        fired-length row ps b next bound cells m bound′ cells′ true count done refl,
+      ))
 
-    after : storeOf cells′ count ≡ without 0 placed (storeOf cells m) ++ map (mapTerms (instance next (assigned b)))
-        (ruleOfRow [] row .body)
-    after = fired-plain row ps b next bound cells m bound′ cells′ true count done refl no-equations
-
-    -- a prefix that was barren, less the constraints that are removed
-    part-kept :
-        (k : ℕ) → k ≤ m → find hs (take k (storeOf cells m)) [] unassigned ≡ none
-        → find hs (take (k - getD row 3 0) (storeOf cells′ count)) [] unassigned ≡ none
-    part-kept k l e =
-        rw after (rw placed-size at (barren-fired hs (storeOf cells m) placed (map (mapTerms (instance next (assigned b)))
-        (ruleOfRow [] row .body)) unassigned k (omega (arith, store-size)) e))
-
-    -- all that was barren, where the body does not concern the heads
-    all-kept :
-        concerns hs (ruleOfRow [] row .body) ≡ false → find hs (storeOf cells m) [] unassigned ≡ none
-        → find hs (storeOf cells′ count) [] unassigned ≡ none
-    all-kept c e =
-        rw after (barren-strange hs (storeOf cells m) placed _ unassigned
-        (concerns-mapped hs (instance next (assigned b)) (ruleOfRow [] row .body) ∙ c) e)
-
-  module _ (other : List ℕ) (v v′ : ℕ) (e : v′ ≡ loweredOf other row m count v)
-      (known : Barren (ruleOfRow [] other .heads) (storeOf cells m) [] unassigned v) where
-    abbrev Kept : Type 0
-    Kept = Barren (ruleOfRow [] other .heads) (storeOf cells′ count) [] unassigned v′
-
-    -- a part was known
-    kept-part : ltb 0 (getD row 5 0) ≡ false → ltb m v ≡ false → Kept
-    unfolding loweredOf
-    kept-part p q =
-        let l : v ≤ m = ltb-false m v q in
-        let z : getD row 5 0 ≤ 0 = ltb-false 0 (getD row 5 0) p in
-        let r : v′ ≡ v - getD row 3 0 = rw (p, q) at e in
-        record {
-          nowhere = λ h. rw r (part-kept (λ x. omega arith) (ruleOfRow [] other .heads) v l (known .nowhere
-              (omega arith)));
-        }
-
-    module _ (p : ltb 0 (getD row 5 0) ≡ false) (q : ltb m v ≡ true) where
-      unequated : 0 < getD row 5 0 → ⊥
-      unequated x = let z : getD row 5 0 ≤ 0 = ltb-false 0 (getD row 5 0) p in omega arith
-
-      nowhere : find (ruleOfRow [] other .heads) (storeOf cells m) [] unassigned ≡ none
-      nowhere =
-          let l : m < v = ltb-true m v q in
-          rw (take-all v (storeOf cells m) (omega (arith, store-size))) at (known .nowhere (omega arith))
-
-      -- all was known, and the body concerns the rule
-      kept-concerned : concerns (ruleOfRow [] other .heads) (ruleOfRow [] row .body) ≡ true → Kept
-      unfolding loweredOf
-      kept-concerned c =
-          let r : v′ ≡ m - getD row 3 0 = rw (p, q, c) at e in
-          let whole : take m (storeOf cells m) ≡ storeOf cells m = take-all m (storeOf cells m) (omega (arith, store-size)) in
-          record { nowhere = λ h. rw r (part-kept unequated (ruleOfRow [] other .heads) m (omega arith) (rw whole nowhere)) }
-
-      -- it does not
-      kept-strange : concerns (ruleOfRow [] other .heads) (ruleOfRow [] row .body) ≡ false → Kept
-      unfolding loweredOf
-      kept-strange c =
-          let r : v′ ≡ count + 1 = rw (p, q, c) at e in
-          let whole : take (count + 1) (storeOf cells′ count) ≡ storeOf cells′ count =
-          take-all (count + 1) (storeOf cells′ count) (omega (arith, store-few)) in
-          record { nowhere = λ h. rw (r, whole) (all-kept unequated (ruleOfRow [] other .heads) c nowhere) }
-
-    -- what is known of a rule after the firing
-    lowered-barren : Kept
-    unfolding loweredOf
-    lowered-barren =
-        ⊎-elim (λ p. let z : v′ ≡ 0 = rw p at e in record { nowhere = λ h. absurd (omega arith) })
-        (λ p. ⊎-elim
-        (λ q. ⊎-elim (kept-concerned p q) (kept-strange p q) (either (concerns (ruleOfRow [] other .heads)
-        (ruleOfRow [] row .body))))
-        (kept-part p) (either (ltb m v)))
-        (either (ltb 0 (getD row 5 0)))
+  -- what is known of a rule after a firing without equations
+  plain-noted :
+      getD row 5 0 ≤ 0 → (hs : List Constraint) (v : ℕ) → Noted hs (storeOf cells m) last gone v
+      → Noted hs (storeOf cells′ count) last′ (gone + getD row 3 0) v
+  unfolding ruleOfRow cellEquations
+  plain-noted plain hs v known =
+      let no-equations : ruleOfRow [] row .equations ≡ [] = let z : 2 * getD row 5 0 ≡ 0 = omega arith in rw z in
+      let after = fired-plain row ps b next bound cells m bound′ cells′ true count done refl no-equations in
+      let body′ = map (mapTerms (instance next (assigned b))) (ruleOfRow [] row .body) in
+      let came : Marked last (ruleOfRow [] row .body) (gone + length placed + length (without 0 placed (storeOf cells m) ++ body′))
+          last′ = rw (placed-size, ← after) marked-now in
+      let new = noted-fired hs (storeOf cells m) placed (ruleOfRow [] row .body) body′ last last′ gone v known
+          (length-map (ruleOfRow [] row .body) _) (concerns-mapped hs _ (ruleOfRow [] row .body)) came in
+      rw after (rw placed-size at new)
 
   -- what is known of the rules after the firing
   pub knows-fired :
-      (rules : List ℕ) (n : ℕ) (known known′ : List ℕ) → Knows rules n known (storeOf cells m)
-      → Lowered rules n row m count known known′ → Knows rules n known′ (storeOf cells′ count)
-  knows-fired rules n known known′ ks lowers =
+      (rules : List ℕ) (n : ℕ) (known known′ : List ℕ) → Knows rules n known last gone (storeOf cells m)
+      → (0 < getD row 5 0 → Forgotten known′) → (getD row 5 0 ≤ 0 → known′ ≡ known)
+      → Knows rules n known′ last′ (gone + getD row 3 0) (storeOf cells′ count)
+  knows-fired rules n known known′ ks equated plain =
       record {
-        barren = λ i l. lowered-barren (rowOf rules i) (getD known i 0) (getD known′ i 0) (lowers .same i l) (ks .barren i l);
+        noted = λ i l. ⊎-elim
+            (λ h. rw (plain h) (plain-noted h _ (getD known i 8192) (ks .noted i l)))
+            (λ h. rw (equated h .forgotten i) (noted-nothing _ (storeOf cells′ count) last′ (gone + getD row 3 0)))
+            (le-or-lt (getD row 5 0) 0);
+        bounded = bounded-now (ks .bounded);
       }

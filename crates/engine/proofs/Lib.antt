@@ -3,6 +3,7 @@ pub mod Opened
 pub mod MatchLaws
 pub mod WantedLaws
 pub mod BarrenLaws
+pub mod NotedLaws
 pub mod FireLaws
 pub mod GapLaws
 pub mod SearchLaws

@@ -5,11 +5,11 @@ use Rattle.engine.specs.Cells.{assigned, fitOf, settledCell, wantedAt, a
 use Rattle.engine.specs.Cells.{instanceCell, movedRow, closedGap}
 use Rattle.engine.specs.Positions.{isLettered, foundOf, isSide, choiceOf}
 use Rattle.engine.specs.Runs.{weightBy, storeOf}
-use Rattle.engine.specs.Known.{hasSymbol, concerns, loweredOf}
+use Rattle.engine.specs.Known.{prefixOf, hasSymbol, concerns, isConcerned}
 use Rattle.engine.specs.Stated.{matchRow, fireRow}
 
 -- a name to say on an `unfolding` line
 unfoldable pub opened : ℕ
 unfolding assigned fitOf settledCell wantedAt agree isWanted swap clashes merge instanceCell movedRow closedGap
-    isLettered foundOf isSide choiceOf weightBy storeOf hasSymbol concerns loweredOf matchRow fireRow
+    isLettered foundOf isSide choiceOf weightBy storeOf prefixOf hasSymbol concerns isConcerned matchRow fireRow
 opened = 0

@@ -125,6 +125,9 @@ module _ (rules : List ℕ) (n : ℕ) (bound cells : List ℕ) (m next : ℕ) wh
               count-weight (s .runs .weigh) cells′ count (s .runs .positive) (r .there),
             )
 
+        pub fired-few : firings ≤ 512
+        fired-few = omega (arith, weight-left)
+
         -- what a step asks
         pub running-live : 5 * count + 30 ≤ length cells′ → Live rules n cells′ count number
         running-live l =

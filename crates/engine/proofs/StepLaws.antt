@@ -18,7 +18,7 @@ use Rattle.engine.specs.Cells.{assigned}
 use Rattle.engine.specs.Positions.{foundOf, Row, Table, choiceOf, Chosen}
 use Rattle.engine.specs.States.{Fires, Fired, Skips}
 use Rattle.engine.specs.Runs.{storeOf, Live, Stepped}
-use Rattle.engine.specs.Known.{Knows, Lowered, Keeps}
+use Rattle.engine.specs.Known.{Knows, Remembered, Keeps}
 use Rattle.engine.proofs.ChooseLaws.{lentRow, row-cells}
 use Rattle.engine.proofs.FiredLaws.{fired-lighter, fired-low}
 use Rattle.engine.proofs.KnownLaws.{knows-fired}
@@ -39,14 +39,21 @@ module _ (rules : List ℕ) (n : ℕ) (cells : List ℕ) (m next : ℕ) (s : Liv
 
   -- the choice may be lent any first rules of the table
   pub step-chooses :
-      (known : List ℕ) → Knows rules n known (storeOf cells m) → (k : ℕ) → k ≤ n
-      → Table rules k × (length (take (5 * m) cells) ≡ 5 * m) × Knows rules k known (cellConstraints (take (5 * m) cells))
+      (known last : List ℕ) (gone : ℕ) → Knows rules n known last gone (storeOf cells m) → gone + m ≤ 6000 → (k : ℕ) → k ≤ n
+      → Table rules k × (length (take (5 * m) cells) ≡ 5 * m) × (gone + m ≤ 6000)
+      × Knows rules k known last gone (cellConstraints (take (5 * m) cells))
   unfolding storeOf
-  step-chooses known ks k h = (
+  step-chooses known last gone ks few k h = (
     record { size = omega (arith, s .table .size); rows = λ i l. s .table .rows i (omega arith) },
     sym step-lent,
-    record { barren = λ i l. ks .barren i (omega arith) },
+    few,
+    record { noted = λ i l. ks .noted i (omega arith); bounded = ks .bounded },
   )
+
+  -- the constraints after a firing lie within the cells
+  pub step-there : (g : List ℕ) (skip count : ℕ) → length g ≡ length cells → Skips m skip count → 5 * count ≤ length
+      (drop (5 * skip) g)
+  step-there g skip count e k = omega (arith, k .within, s .space, length-drop (5 * skip) g)
 
   module _ (f : Bool) (i : ℕ) (ps b : List ℕ) (chosen : Chosen rules n (take (5 * m) cells) f i ps b) where
     -- no rule fits
@@ -66,8 +73,10 @@ module _ (rules : List ℕ) (n : ℕ) (cells : List ℕ) (m next : ℕ) (s : Liv
     step-skips = record { few = omega arith; within = omega arith }
 
     -- and nothing is kept
-    pub step-keeps-none : (known cells′ : List ℕ) (alive : Bool) (count : ℕ) → Keeps rules n known cells′ false alive count
-    step-keeps-none known cells′ alive count = record { knows = λ y. no-way y }
+    pub step-keeps-none :
+        (known last : List ℕ) (gone : ℕ) (cells′ : List ℕ) (alive : Bool) (count : ℕ)
+        → Keeps rules n known last gone cells′ false alive count
+    step-keeps-none known last gone cells′ alive count = record { knows = λ y. no-way y }
 
     module _ (z : f ≡ true) where
       pub step-row : 64 * i + 64 ≤ length rules
@@ -114,22 +123,34 @@ module _ (rules : List ℕ) (n : ℕ) (cells : List ℕ) (m next : ℕ) (s : Liv
         done : Fired row ps b next bound cells m bound′ cells′ alive count
         done = rw (row-cells i) at given
 
-        -- what lowering asks
-        pub step-lowers : m ≤ 512 → Table rules n × Row (lentRow rules i) × (count ≤ 65000)
-        step-lowers few = (s .table, rw (row-cells i) (s .table .rows i (chosen .within z)), omega (arith, done .few))
+        module _ (gone h : ℕ) (few : gone + m ≤ 6000) (e : h ≡ getD (lentRow rules i) 3 0) where
+          heads-few : h ≤ 4
+          heads-few =
+              let k : h ≡ getD row 3 0 = rw (row-cells i) at e in
+              omega (arith, s .table .rows i (chosen .within z) .heads-few)
 
-        -- what is known then
-        pub step-keeps :
-            (known known′ : List ℕ) → Knows rules n known (cellConstraints (take (5 * m) cells))
-            → Lowered rules n (lentRow rules i) m count known known′ → Keeps rules n known′ cells′ true alive count
-        unfolding storeOf
-        step-keeps known known′ ks lowered =
-            record {
-              knows = λ x y.
-                  knows-fired row ps b next bound cells m bound′ cells′ count (rw y at done)
-                  (s .table .rows i (chosen .within z)) (chosen .positions-size) (omega (arith, s .space)) rules n known known′ ks
-                  (rw (row-cells i) at lowered);
-            }
+          -- what remembering it asks
+          pub step-remembers : Row (lentRow rules i) × (gone + h + count ≤ 65000)
+          step-remembers = (rw (row-cells i) (s .table .rows i (chosen .within z)), omega (arith, done .few, heads-few))
+
+          -- not many more constraints have been there
+          pub step-few : gone + h + count ≤ gone + m + 10
+          step-few = omega (arith, done .few, heads-few)
+
+          -- what is known then
+          pub step-keeps :
+              (known known′ last last′ : List ℕ) → Knows rules n known last gone (cellConstraints (take (5 * m) cells))
+              → Remembered (lentRow rules i) (gone + h + count) known last known′ last′ → 5 * count ≤ length cells′
+              → Keeps rules n known′ last′ (gone + h) cells′ true alive count
+          unfolding storeOf
+          step-keeps known known′ last last′ ks remembered there =
+              let k : h ≡ getD row 3 0 = rw (row-cells i) at e in
+              let r : Remembered row (gone + getD row 3 0 + count) known last known′ last′ = rw (row-cells i, k) at remembered in
+              record {
+                knows = λ x y. rw k (knows-fired row ps b next bound cells m bound′ cells′ count (rw y at done)
+                    (s .table .rows i (chosen .within z)) (chosen .positions-size) there gone last last′ (r .marks)
+                    rules n known known′ ks (r .equated) (r .plain));
+              }
 
         -- a rule has fired
         pub step-moves : Stepped rules n bound cells m next bound′ cells′ true alive count

@@ -1,10 +1,11 @@
--- What a derivation knows already: prefixes of the state in which rules fit nowhere.
+-- What a derivation knows already of rules that fit nowhere.
 --   Barren                   heads fit nowhere among the first constraints
---   Knows                    the same for each rule, by a table of numbers
+--   loose, prefixOf          the numbers of the table of rules
 --   hasSymbol, concerns      whether constraints of one list have a symbol of another's
+--   isConcerned              whether a symbol of the heads came since, by the table of symbols
+--   Noted, Knows             what is known of one rule, and of each
 --   Possible                 what a first look at a rule promises
---   Marks, Clear             the symbols of constraints as a table
---   loweredOf, Lowered       the table after a firing
+--   Marked, Forgotten, Remembered    the tables after a firing
 --   Keeps                    a firing keeps what is known
 -- Assumes nothing.
 use Prim.Native.Nat.{ℕ, _+_, _-_, _≤_, _<_}
@@ -17,7 +18,7 @@ use lib.ListN.{length, take, getD}
 use Rattle.semantics.specs.Terms.{Constraint}
 use Rattle.semantics.specs.Matching.{Assignment, unassigned}
 use Rattle.semantics.specs.Strategy.{find}
-use Rattle.tables.specs.Layout.{headsCell, equationsCell}
+use Rattle.tables.specs.Layout.{equationsCell}
 use Rattle.tables.specs.Cells.{cellConstraints}
 use Rattle.tables.specs.Rows.{ruleOfRow, rowOf}
 use Rattle.engine.specs.Runs.{storeOf}
@@ -26,9 +27,13 @@ use Rattle.engine.specs.Runs.{storeOf}
 pub record Barren (hs cs : List Constraint) (chosen : List ℕ) (θ : Assignment) (from : ℕ) : Type 0 where
   pub nowhere : 1 ≤ from → find hs (take from cs) chosen θ ≡ none
 
--- each rule fits nowhere among as many of the first constraints as the table has for it
-pub record Knows (rules : List ℕ) (n : ℕ) (known : List ℕ) (cs : List Constraint) : Type 0 where
-  pub barren : (i : ℕ) → i < n → Barren (ruleOfRow [] (rowOf rules i) .heads) cs [] unassigned (getD known i 0)
+-- a number below it says when a rule fitted nowhere, any other that nothing is known but for the first constraints
+abbrev pub loose : ℕ
+loose = 8192
+
+-- among how many of the constraints so far a rule fits nowhere, those that are gone counted too
+unfoldable pub prefixOf : ℕ → ℕ
+prefixOf v = cond (ltb v loose) v (v - loose)
 
 -- whether a constraint of the symbol stands in a list
 unfoldable pub hasSymbol : ℕ → List Constraint → Bool
@@ -40,30 +45,42 @@ unfoldable pub concerns : List Constraint → List Constraint → Bool
 concerns [] cs = false
 concerns (h ∷ hs) cs = hasSymbol (h .symbol) cs || concerns hs cs
 
+-- whether a firing after v brought a symbol of the heads; of a symbol behind the table's end, the last one may have
+unfoldable pub isConcerned : List ℕ → ℕ → ℕ → List Constraint → Bool
+isConcerned last whole v [] = false
+isConcerned last whole v (h ∷ hs) = ltb v (getD last (h .symbol) whole) || isConcerned last whole v hs
+
+-- what a rule's number says, where so many constraints are gone: it fits nowhere among the first; and nowhere at all, if it
+-- fitted nowhere when the number was noted and no symbol of its heads came since
+pub record Noted (hs cs : List Constraint) (last : List ℕ) (gone v : ℕ) : Type 0 where
+  pub barren : Barren hs cs [] unassigned (prefixOf v - gone)
+  pub earlier : prefixOf v ≤ gone + length cs
+  pub settled : v < loose → isConcerned last (gone + length cs) v hs ≡ false → find hs cs [] unassigned ≡ none
+
+-- the same of each rule by the table, and no symbol came later than now
+pub record Knows (rules : List ℕ) (n : ℕ) (known last : List ℕ) (gone : ℕ) (cs : List Constraint) : Type 0 where
+  pub noted : (i : ℕ) → i < n → Noted (ruleOfRow [] (rowOf rules i) .heads) cs last gone (getD known i loose)
+  pub bounded : (s : ℕ) → getD last s (gone + length cs) ≤ gone + length cs
+
 -- a rule that is found not to be possible fits nowhere
 pub record Possible (r : Bool) (row cells : List ℕ) : Type 0 where
   pub nowhere : r ≡ false → find (ruleOfRow [] row .heads) (cellConstraints cells) [] unassigned ≡ none
 
--- a table of the symbols of constraints, as far as it goes: 1 at those that stand there, 0 at the others
-pub record Marks (fresh : List ℕ) (cs : List Constraint) : Type 0 where
-  pub marked : (s : ℕ) → s < length fresh → getD fresh s 0 ≡ cond (hasSymbol s cs) 1 0
+-- the table of symbols after these constraints came, as far as it goes
+pub record Marked (last : List ℕ) (cs : List Constraint) (whole : ℕ) (last′ : List ℕ) : Type 0 where
+  pub marked : (s : ℕ) → getD last′ s whole ≡ cond (hasSymbol s cs) whole (getD last s whole)
 
--- a table of zeros
-pub record Clear (fresh : List ℕ) : Type 0 where
-  pub clear : (s : ℕ) → getD fresh s 0 ≡ 0
+-- a table of rules that says nothing
+pub record Forgotten (known : List ℕ) : Type 0 where
+  pub forgotten : (i : ℕ) → getD known i loose ≡ loose
 
--- what is known of a rule after another fired that had v of m constraints, where count are left: nothing after equations; all
--- where all was known and the body has no symbol of the rule's heads; else less by the heads that were removed
-unfoldable pub loweredOf : List ℕ → List ℕ → ℕ → ℕ → ℕ → ℕ
-loweredOf other row m count v =
-    cond (ltb 0 (getD row equationsCell 0)) 0
-    (cond (ltb m v) (cond (concerns (ruleOfRow [] other .heads) (ruleOfRow [] row .body)) (m - getD row headsCell 0) (count + 1))
-    (v - getD row headsCell 0))
+-- the tables after a firing of the rule of a row: its body came, and after equations nothing is known
+pub record Remembered (row : List ℕ) (whole : ℕ) (known last known′ last′ : List ℕ) : Type 0 where
+  pub marks : Marked last (ruleOfRow [] row .body) whole last′
+  pub equated : 0 < getD row equationsCell 0 → Forgotten known′
+  pub plain : getD row equationsCell 0 ≤ 0 → known′ ≡ known
 
--- the table after a firing of the rule of a row
-pub record Lowered (rules : List ℕ) (n : ℕ) (row : List ℕ) (m count : ℕ) (known known′ : List ℕ) : Type 0 where
-  pub same : (i : ℕ) → i < n → getD known′ i 0 ≡ loweredOf (rowOf rules i) row m count (getD known i 0)
-
--- where a rule has fired and the state lives, the table is one of the new state
-pub record Keeps (rules : List ℕ) (n : ℕ) (known′ cells′ : List ℕ) (fired alive : Bool) (count : ℕ) : Type 0 where
-  pub knows : fired ≡ true → alive ≡ true → Knows rules n known′ (storeOf cells′ count)
+-- where a rule has fired and the state lives, the tables are those of the new state
+pub record Keeps (rules : List ℕ) (n : ℕ) (known′ last′ : List ℕ) (gone′ : ℕ) (cells′ : List ℕ) (fired alive : Bool) (count : ℕ)
+    : Type 0 where
+  pub knows : fired ≡ true → alive ≡ true → Knows rules n known′ last′ gone′ (storeOf cells′ count)

@@ -2,11 +2,13 @@
 use crate::firing::fire_front;
 use crate::firing::make_room;
 use crate::firing::move_down;
-use crate::known::lower;
+use crate::known::remember;
 use crate::search::choose;
 use tables::layout::CONSTRAINT_SIZE;
+use tables::layout::HEADS_CELL;
 use tables::layout::ROW_SIZE;
-ghost use Prim.Native.Nat.{_*_, _≤_};
+use tables::wide;
+ghost use Prim.Native.Nat.{_+_, _*_, _≤_};
 ghost use lib.ListN.{drop};
 ghost use Rattle.tables.specs.Layout.{constraintSize};
 ghost use Rattle.engine.specs.States.{Skips};
@@ -20,39 +22,53 @@ pub struct Step {
     pub count: usize,
 }
 
-// The same, and how many rows before the state are no longer its own.
+// The same, how many rows before the state are no longer its own, and how many constraints firings have removed.
 pub struct Forward {
     pub fired: bool,
     pub alive: bool,
     pub count: usize,
     pub skip: usize,
+    pub gone: usize,
+}
+
+// How far a derivation is: the constraints there are, the next variable, and how many constraints firings have removed.
+pub struct Stage {
+    pub count: usize,
+    pub next: u16,
+    pub gone: usize,
 }
 
 // The strategy's firing, if a rule fits.
 pub fn advance(
     rules: &[u16],
     n: usize,
-    known: &mut [usize],
+    known: &mut [u16],
+    last: &mut [u16],
     bound: &mut [u16],
     cells: &mut [u16],
-    m: usize,
-    next: u16,
+    stage: Stage,
 ) -> Forward
-    requires { ⌜ Live (now rules) n (now cells) m next × Knows (now rules) n (now known) (storeOf (now cells) m) × (m ≤ 512) ⌝ }
-    ensures { λ r. ⌜ Stepped (now (rules .entry)) n (now (bound .entry)) (now (cells .entry)) m next
+    requires { ⌜ Live (now rules) n (now cells) (stage .count) (stage .next)
+        × Knows (now rules) n (now known) (now last) (stage .gone) (storeOf (now cells) (stage .count))
+        × (stage .gone + stage .count ≤ 6000) ⌝ }
+    ensures { λ r. ⌜ Stepped (now (rules .entry)) n (now (bound .entry)) (now (cells .entry)) (stage .count) (stage .next)
         (now (bound .exit)) (drop (constraintSize * r .skip) (now (cells .exit))) (r .fired) (r .alive) (r .count)
-        × Keeps (now (rules .entry)) n (now (known .exit)) (drop (constraintSize * r .skip) (now (cells .exit)))
-        (r .fired) (r .alive) (r .count)
-        × Skips m (r .skip) (r .count) ⌝ }
+        × Keeps (now (rules .entry)) n (now (known .exit)) (now (last .exit)) (r .gone)
+        (drop (constraintSize * r .skip) (now (cells .exit))) (r .fired) (r .alive) (r .count)
+        × Skips (stage .count) (r .skip) (r .count)
+        × (r .gone + r .count ≤ stage .gone + stage .count + 10) ⌝ }
 {
+    let m = stage.count;
+    let gone = stage.gone;
     let e = CONSTRAINT_SIZE * m;
-    let choice = choose(rules, n, known, &cells[..e], m);
+    let choice = choose(rules, n, known, last, &cells[..e], m, gone);
     if !choice.found {
         return Forward {
             fired: false,
             alive: true,
             count: m,
             skip: 0,
+            gone,
         };
     }
     let number = choice.number;
@@ -60,16 +76,19 @@ pub fn advance(
     let bindings = choice.bindings;
     let a = ROW_SIZE * number;
     let b = a + ROW_SIZE;
-    let after = fire_front(&rules[a..b], positions, &bindings, next, bound, cells, m);
+    let row = &rules[a..b];
+    let after = fire_front(row, positions, &bindings, stage.next, bound, cells, m);
     let alive = after.alive;
     let count = after.count;
     let skip = after.skip;
-    lower(rules, n, &rules[a..b], known, m, count);
+    let removed = gone + wide(row[HEADS_CELL]);
+    remember(row, known, last, removed + count);
     Forward {
         fired: true,
         alive,
         count,
         skip,
+        gone: removed,
     }
 }
 
@@ -98,13 +117,17 @@ pub fn normalise(
     let mut count = m;
     let mut number = next;
     let mut firings = 0;
-    let mut known = [0usize; 32];
+    let mut known = [8192u16; 32];
+    let mut last = [0u16; 64];
+    let mut gone = 0;
     let mut at = 0;
     while alive {
         at = make_room(cells, at, count);
         let a = CONSTRAINT_SIZE * at;
-        let step = advance(rules, n, &mut known, bound, &mut cells[a..], count, number);
+        let stage = Stage { count, next: number, gone };
+        let step = advance(rules, n, &mut known, &mut last, bound, &mut cells[a..], stage);
         at += step.skip;
+        gone = step.gone;
         if !step.fired {
             move_down(cells, at, count);
             return Final {

@@ -1,7 +1,10 @@
 // The search for positions head by head, and the choice of a rule.
+use crate::known::LOOSE;
 use crate::known::has_symbol;
+use crate::known::is_concerned;
 use crate::known::known_at;
 use crate::known::note;
+use crate::known::prefix;
 use crate::matching::is_wanted;
 use crate::matching::match_constraint;
 use crate::matching::wanted;
@@ -14,7 +17,7 @@ ghost use mathlib.Core.Bool.{cond};
 ghost use mathlib.Core.List.{[]};
 ghost use mathlib.Core.Option.{none};
 ghost use mathlib.Core.Path.{_≡_};
-ghost use Prim.Native.Nat.{_≤_, _*_, _-_};
+ghost use Prim.Native.Nat.{_≤_, _+_, _*_, _-_};
 ghost use lib.Dec.{eqb, ltb};
 ghost use lib.ListN.{length, take, drop, getD};
 ghost use Rattle.text.specs.Lists.{has};
@@ -25,7 +28,7 @@ ghost use Rattle.tables.specs.Cells.{cellConstraints, rowConstraint};
 ghost use Rattle.tables.specs.Rows.{ruleOfRow};
 ghost use Rattle.engine.specs.Cells.{assigned, Rows, Matched, FirstWanted};
 ghost use Rattle.engine.specs.Positions.{Seeking, Located, Row, Table, Chosen};
-ghost use Rattle.engine.specs.Known.{Barren, Knows, Possible};
+ghost use Rattle.engine.specs.Known.{Barren, prefixOf, Noted, Knows, Possible};
 
 // Whether positions were found, with them and the bindings under which the heads fit there.
 pub struct Found {
@@ -197,41 +200,69 @@ pub fn leading(row: &[u16], positions: [usize; 4]) -> usize
     }
 }
 
-// A first look at a rule of which nothing is known yet: it fits nowhere if no constraint has its first head's symbol.
-pub fn is_possible(row: &[u16], cells: &[u16], from: usize) -> bool
-    requires { ⌜ Row (now row) ⌝ }
+// A first look at a rule by its first head: it fits nowhere if no constraint has the head's symbol, or none of those behind.
+pub fn is_possible(row: &[u16], cells: &[u16], v: usize, gone: usize) -> bool
+    requires { ⌜ Row (now row) × (constraintSize * (prefixOf v - gone) ≤ length (now cells))
+        × Barren (ruleOfRow [] (now row) .heads) (cellConstraints (now cells)) [] unassigned (prefixOf v - gone) ⌝ }
     ensures { λ r. ⌜ Possible r (now (row .entry)) (now (cells .entry)) ⌝ }
 {
-    if 0 < from {
+    let n = wide(row[HEADS_CELL]);
+    if LOOSE < v {
+        if n == 1 {
+            let s = CONSTRAINT_SIZE * prefix(v, gone);
+            return has_symbol(row[FIRST_HEAD], &cells[s..]);
+        }
         return true;
     }
-    if row[HEADS_CELL] == 0 {
+    if n == 0 {
         return true;
     }
     has_symbol(row[FIRST_HEAD], cells)
 }
 
-// The first rule that fits; what is known of it and of the rules before it is noted.
-pub fn choose(rules: &[u16], n: usize, known: &mut [usize], cells: &[u16], m: usize) -> Choice
-    requires { ⌜ Table (now rules) n × (length (now cells) ≡ constraintSize * m)
-        × Knows (now rules) n (now known) (cellConstraints (now cells)) ⌝ }
-    ensures { λ r. ⌜ Chosen (now (rules .entry)) n (now (cells .entry)) (r .found) (r .number) (r .positions) (r .bindings)
-        × Knows (now (rules .entry)) n (now (known .exit)) (cellConstraints (now (cells .entry))) ⌝ }
+// A first look at a rule by what is known of it: where it fitted nowhere, a firing must have brought a symbol of its heads.
+pub fn may_fit(row: &[u16], last: &[u16], v: usize, cells: &[u16], m: usize, gone: usize) -> bool
+    requires { ⌜ Row (now row) × (length (now cells) ≡ constraintSize * m) × (gone + m ≤ 6000)
+        × Noted (ruleOfRow [] (now row) .heads) (cellConstraints (now cells)) (now last) gone v ⌝ }
+    ensures { λ r. ⌜ Possible r (now (row .entry)) (now (cells .entry)) ⌝ }
 {
+    if v < LOOSE {
+        let e = FIRST_HEAD + CONSTRAINT_SIZE * wide(row[HEADS_CELL]);
+        return is_concerned(&row[FIRST_HEAD..e], last, v, gone + m);
+    }
+    is_possible(row, cells, v, gone)
+}
+
+// The first rule that fits; what is known of it and of the rules before it is noted.
+pub fn choose(
+    rules: &[u16],
+    n: usize,
+    known: &mut [u16],
+    last: &[u16],
+    cells: &[u16],
+    m: usize,
+    gone: usize,
+) -> Choice
+    requires { ⌜ Table (now rules) n × (length (now cells) ≡ constraintSize * m) × (gone + m ≤ 6000)
+        × Knows (now rules) n (now known) (now last) gone (cellConstraints (now cells)) ⌝ }
+    ensures { λ r. ⌜ Chosen (now (rules .entry)) n (now (cells .entry)) (r .found) (r .number) (r .positions) (r .bindings)
+        × Knows (now (rules .entry)) n (now (known .exit)) (now (last .entry)) gone (cellConstraints (now (cells .entry))) ⌝ }
+{
+    let whole = gone + m;
     let mut i = 0;
     while i < n {
         let q = i;
-        let from = known_at(known, q);
+        let v = known_at(known, q);
         i += 1;
-        if from <= m {
+        if v != whole {
             let a = ROW_SIZE * q;
             let e = a + ROW_SIZE;
-            if is_possible(&rules[a..e], cells, from) {
-                let place = find_rule(&rules[a..e], cells, m, from);
+            if may_fit(&rules[a..e], last, v, cells, m, gone) {
+                let place = find_rule(&rules[a..e], cells, m, prefix(v, gone));
                 if place.found {
                     let positions = place.positions;
                     let bindings = place.bindings;
-                    note(known, q, leading(&rules[a..e], positions));
+                    note(known, q, LOOSE + gone + leading(&rules[a..e], positions));
                     return Choice {
                         found: true,
                         number: q,
@@ -239,9 +270,9 @@ pub fn choose(rules: &[u16], n: usize, known: &mut [usize], cells: &[u16], m: us
                         bindings,
                     };
                 }
-                note(known, q, m + 1);
+                note(known, q, whole);
             } else {
-                note(known, q, m + 1);
+                note(known, q, whole);
             }
         }
     }

@@ -2,152 +2,121 @@
 -- Assumes nothing.
 use borrow.Author.Tests.{not-true, not-false}
 use native.Mathlib.Omega.{arith}
-use Rattle.engine.proofs.StepLaws.{step-lent, step-chooses, step-rests, step-keeps-none, step-skips, step-row}
-use Rattle.engine.proofs.StepLaws.{step-fires, step-moves, step-lowers, step-keeps}
 use borrow.Author.Needs.{needs}
+use Rattle.engine.proofs.StepLaws.{step-lent, step-chooses, step-there, step-rests, step-keeps-none, step-skips, step-row}
+use Rattle.engine.proofs.StepLaws.{step-fires, step-moves, step-remembers, step-few, step-keeps}
 use Rattle.engine.proofs.derivation.advance.Statement.{statement}
 use Rattle.engine.proofs.derivation.advance.Tie as tie
 
-mul-e : tie.Need-mul-e
-mul-e c = search needs
-
-slice-reshare-prefix-choose : tie.Need-slice-reshare-prefix-choose
-slice-reshare-prefix-choose c = search needs
-
 slice-aggregate-choose : tie.Need-slice-aggregate-choose
-slice-aggregate-choose c = step-lent _ _ _ _ _ (c .before .before .before .before .before .before .pre .0)
+slice-aggregate-choose c =
+    let start = c .before .before .before .before .before .before .before .before in
+    step-lent _ _ _ _ _ (start .pre .0)
 
 choose-requires : tie.Need-choose-requires
 choose-requires c κs =
-    let start = c .before .before .before .before .before .before in
-    step-chooses _ _ _ _ _ (start .pre .0) _ (start .pre .1) _ (omega arith)
-
-same-length : tie.Need-same-length
-same-length c = search needs
-
-same-length-2 : tie.Need-same-length-2
-same-length-2 c = search needs
+    let start = c .before .before .before .before .before .before .before .before in
+    step-chooses _ _ _ _ _ (start .pre .0) _ _ _ (start .pre .1) (start .pre .2) _ (omega arith)
 
 returns : tie.Need-returns
 returns c =
     let at-choose = c .before .before .before .before in
-    let start = at-choose .before .before .before .before .before .before .before in
-    let chosen′ = at-choose .choose .ensures .0 in (
-      step-rests _ _ _ _ _ (start .pre .0) _ _ _ _ chosen′ _ (not-true _ (c .if1 .taken)),
-      step-keeps-none _ _ _ _ _ (start .pre .0) _ _ _ _ chosen′ _ _ _ _,
-      step-skips _ _ _ _ _ (start .pre .0) _ _ _ _ chosen′,
+    let start = at-choose .before .before .before .before .before .before .before .before .before in (
+      step-rests _ _ _ _ _ (start .pre .0) _ _ _ _ (at-choose .choose .ensures .0) _ (not-true _ (c .if1 .taken)),
+      step-keeps-none _ _ _ _ _ (start .pre .0) _ _ _ _ (at-choose .choose .ensures .0) _ _ _ _ _ _,
+      step-skips _ _ _ _ _ (start .pre .0) _ _ _ _ (at-choose .choose .ensures .0),
+      omega arith,
     )
 
-part-fire-front-end : tie.Need-part-fire-front-end
-part-fire-front-end c =
+part-row-end : tie.Need-part-row-end
+part-row-end c =
     let at-if1 = c .before .before in
     let at-choose = at-if1 .before .before .before .before in
-    let start = at-choose .before .before .before .before .before .before .before in
+    let start = at-choose .before .before .before .before .before .before .before .before .before in
     step-row _ _ _ _ _ (start .pre .0) _ _ _ _ (at-choose .choose .ensures .0) (not-false _ (at-if1 .if1 .left))
 
 mul-a : tie.Need-mul-a
-mul-a c = omega (arith, part-fire-front-end c)
+mul-a c = omega (arith, part-row-end c)
 
 add-b : tie.Need-add-b
-add-b c = omega (arith, part-fire-front-end c)
+add-b c = omega (arith, part-row-end c)
 
-mul-fire-front : tie.Need-mul-fire-front
-mul-fire-front c = omega (arith, part-fire-front-end c)
-
-sub-fire-front : tie.Need-sub-fire-front
-sub-fire-front c = search needs
-
-part-fire-front-start : tie.Need-part-fire-front-start
-part-fire-front-start c = search needs
-
-slice-aggregate-fire-front : tie.Need-slice-aggregate-fire-front
-slice-aggregate-fire-front c = search needs
+mul-row : tie.Need-mul-row
+mul-row c = omega (arith, part-row-end c)
 
 fire-front-requires : tie.Need-fire-front-requires
 fire-front-requires c κs =
     let at-if1 = c .before .before .before .before .before .before in
     let at-choose = at-if1 .before .before .before .before in
-    let start = at-choose .before .before .before .before .before .before .before in
+    let start = at-choose .before .before .before .before .before .before .before .before .before in
     step-fires _ _ _ _ _ (start .pre .0) _ _ _ _ (at-choose .choose .ensures .0) (not-false _ (at-if1 .if1 .left))
 
-part-lower-end : tie.Need-part-lower-end
-part-lower-end c =
-    let at-bindings2 = c .before .before .before .before .before .before .before in
-    let at-if1 = at-bindings2 .before .before .before .before in
-    let at-choose = at-if1 .before .before .before .before in
-    let start = at-choose .before .before .before .before .before .before .before in
-    step-row _ _ _ _ _ (start .pre .0) _ _ _ _ (at-choose .choose .ensures .0) (not-false _ (at-if1 .if1 .left))
-
-mul-lower : tie.Need-mul-lower
-mul-lower c =
-    let at-bindings = c .before .before .before .before .before .before .before .before .before in
-    omega (arith, mul-fire-front (at-bindings))
-
-sub-lower : tie.Need-sub-lower
-sub-lower c = search needs
-
-part-lower-start : tie.Need-part-lower-start
-part-lower-start c = search needs
-
-lower-requires : tie.Need-lower-requires
-lower-requires c κs =
-    let at-fire-front = c .before .before .before .before .before .before in
+remember-requires : tie.Need-remember-requires
+remember-requires c κs =
+    let at-wide = c .before .before in
+    let at-fire-front = at-wide .before .before .before .before .before .before in
     let at-if1 = at-fire-front .before .before .before .before .before .before .before in
     let at-choose = at-if1 .before .before .before .before in
-    let start = at-choose .before .before .before .before .before .before .before in
-    step-lowers _ _ _ _ _ (start .pre .0) _ _ _ _ (at-choose .choose .ensures .0) (not-false _ (at-if1 .if1 .left))
-    _ _ _ _ _ (at-fire-front .fire-front .ensures .0) (start .pre .2)
+    let start = at-choose .before .before .before .before .before .before .before .before .before in
+    step-remembers _ _ _ _ _ (start .pre .0) _ _ _ _ (at-choose .choose .ensures .0) (not-false _ (at-if1 .if1 .left))
+    _ _ _ _ _ (at-fire-front .fire-front .ensures .0) _ _ (start .pre .2) (at-wide .wide .ensures .0)
 
-same-length-3 : tie.Need-same-length-3
-same-length-3 c = search needs
+add-remember : tie.Need-add-remember
+add-remember c =
+    let at-wide = c .before .before in
+    let at-fire-front = at-wide .before .before .before .before .before .before in
+    let at-if1 = at-fire-front .before .before .before .before .before .before .before in
+    let at-choose = at-if1 .before .before .before .before in
+    let start = at-choose .before .before .before .before .before .before .before .before .before in
+    omega (arith, start .pre .2, step-few _ _ _ _ _ (start .pre .0) _ _ _ _ (at-choose .choose .ensures .0) (not-false _ (at-if1 .if1 .left))
+    _ _ _ _ _ (at-fire-front .fire-front .ensures .0) _ _ (start .pre .2) (at-wide .wide .ensures .0))
 
-same-length-4 : tie.Need-same-length-4
-same-length-4 c = search needs
-
-same-length-5 : tie.Need-same-length-5
-same-length-5 c = search needs
+add-removed : tie.Need-add-removed
+add-removed c =
+    let at-bindings2 = c .before .before .before .before .before .before .before .before .before in
+    let at-choose-arg3 = at-bindings2 .before .before .before .before .before .before .before .before .before in
+    let start = at-choose-arg3 .before .before .before .before .before .before .before .before in
+    omega (arith, c .wide .ensures .1, start .pre .2)
 
 returns-2 : tie.Need-returns-2
 returns-2 c =
-    let at-lower = c .before .before in
-    let at-fire-front = at-lower .before .before .before .before .before .before .before in
+    let at-remember = c .before .before .before .before in
+    let at-wide = at-remember .before .before .before in
+    let at-fire-front = at-wide .before .before .before .before .before .before in
     let at-if1 = at-fire-front .before .before .before .before .before .before .before in
     let at-choose = at-if1 .before .before .before .before in
-    let start = at-choose .before .before .before .before .before .before .before in
-    let chosen′ = at-choose .choose .ensures in
+    let start = at-choose .before .before .before .before .before .before .before .before .before in
     let fits′ = not-false _ (at-if1 .if1 .left) in
-    let fired′ = at-fire-front .fire-front .ensures in (
-      step-moves _ _ _ _ _ (start .pre .0) _ _ _ _ (chosen′ .0) fits′ _ _ _ _ _ (fired′ .0),
-      step-keeps _ _ _ _ _ (start .pre .0) _ _ _ _ (chosen′ .0) fits′ _ _ _ _ _ (fired′ .0)
-          _ _ (chosen′ .1) (at-lower .lower .ensures),
+    let fired′ = at-fire-front .fire-front .ensures in
+    let heads′ = at-wide .wide .ensures .0 in (
+      step-moves _ _ _ _ _ (start .pre .0) _ _ _ _ (at-choose .choose .ensures .0) fits′ _ _ _ _ _ (fired′ .0),
+      step-keeps _ _ _ _ _ (start .pre .0) _ _ _ _ (at-choose .choose .ensures .0) fits′ _ _ _ _ _ (fired′ .0)
+          _ _ (start .pre .2) heads′ _ _ _ _ (at-choose .choose .ensures .1) (at-remember .remember .ensures)
+          (step-there _ _ _ _ _ (start .pre .0) _ _ _ (at-fire-front .fire-front .kept .1 .1 .1 .1 .1 .0) (fired′ .1)),
       fired′ .1,
+      step-few _ _ _ _ _ (start .pre .0) _ _ _ _ (at-choose .choose .ensures .0) fits′ _ _ _ _ _ (fired′ .0)
+          _ _ (start .pre .2) heads′,
     )
 
 pub advance-spec : {M : Type 1} → statement M
 advance-spec =
     tie.close
     (tie.spec
-    mul-e
-    slice-reshare-prefix-choose
+    (λ c. search needs) (λ c. search needs)
     slice-aggregate-choose
     choose-requires
-    same-length
-    same-length-2
+    (λ c. search needs) (λ c. search needs) (λ c. search needs)
     returns
     mul-a
     add-b
-    mul-fire-front
-    sub-fire-front
-    part-fire-front-start
-    part-fire-front-end
-    slice-aggregate-fire-front
+    mul-row
+    (λ c. search needs) (λ c. search needs)
+    part-row-end
+    (λ c. search needs)
     fire-front-requires
-    mul-lower
-    sub-lower
-    part-lower-start
-    part-lower-end
-    lower-requires
-    same-length-3
-    same-length-4
-    same-length-5
+    (λ c. search needs) (λ c κs. search needs)
+    add-removed
+    add-remember
+    remember-requires
+    (λ c. search needs) (λ c. search needs) (λ c. search needs) (λ c. search needs)
     returns-2)

@@ -10,11 +10,13 @@ use Rattle.engine.proofs.derivation.normalise.Statement.{statement}
 use Rattle.engine.proofs.derivation.normalise.Tie as tie
 
 abbrev Inv-loop : tie.InvT-loop
-Inv-loop rules n bound₀ cells₀ m next alive₀ count₀ number₀ firings₀ known₀ at₀ bound cells alive count number firings known at =
-    Holding rules n bound₀ cells₀ m next bound cells alive count number firings known at
+Inv-loop rules n bound₀ cells₀ m next alive₀ count₀ number₀ firings₀ known₀ last₀ gone₀ at₀ bound cells alive count number firings
+    known last gone at =
+    Holding rules n bound₀ cells₀ m next bound cells alive count number firings known last gone at
 
 abbrev μ-loop : tie.MeasureT-loop
-μ-loop rules n bound₀ cells₀ m next alive₀ count₀ number₀ firings₀ known₀ at₀ bound cells alive count number firings known at =
+μ-loop rules n bound₀ cells₀ m next alive₀ count₀ number₀ firings₀ known₀ last₀ gone₀ at₀ bound cells alive count number firings
+    known last gone at =
     512 - firings
 
 loop-holds : tie.Need-loop-holds Inv-loop μ-loop
@@ -25,86 +27,93 @@ make-room-requires c κs =
     let at-loop-test = c .before in
     let at-loop = at-loop-test .before in
     let start = at-loop .before .before .before .before in
-    holding-room _ _ _ _ _ _ (start .pre) _ _ _ _ _ _ _ _ (at-loop .loop .inv) (at-loop-test .loop-test .taken)
+    holding-room _ _ _ _ _ _ (start .pre) _ _ _ _ _ _ _ _ _ _ (at-loop .loop .inv)
+    (at-loop-test .loop-test .taken)
 
 mul-a : tie.Need-mul-a Inv-loop μ-loop
 mul-a c = omega (arith, c .before .before .make-room .ensures .space)
 
 slice-aggregate-advance : tie.Need-slice-aggregate-advance Inv-loop μ-loop
-slice-aggregate-advance c = omega (arith, c .before .before .before .before .before .before .loop .inv .known-size)
+slice-aggregate-advance c =
+    let at-loop = c .before .before .before .before .before .before in
+    omega (arith, at-loop .loop .inv .known-size)
+
+slice-aggregate-advance-2 : tie.Need-slice-aggregate-advance-2 Inv-loop μ-loop
+slice-aggregate-advance-2 c =
+    let at-loop = c .before .before .before .before .before .before .before in
+    omega (arith, at-loop .loop .inv .last-size)
 
 mul-advance : tie.Need-mul-advance Inv-loop μ-loop
-mul-advance c = omega (arith, c .before .before .before .before .make-room .ensures .space)
+mul-advance c =
+    let at-make-room = c .before .before .before .before .before in
+    omega (arith, at-make-room .make-room .ensures .space)
 
 sub-advance : tie.Need-sub-advance Inv-loop μ-loop
-sub-advance c = omega (arith, c .before .before .before .before .make-room .ensures .space)
+sub-advance c =
+    let at-make-room = c .before .before .before .before .before in
+    omega (arith, at-make-room .make-room .ensures .space)
 
 part-advance-start : tie.Need-part-advance-start Inv-loop μ-loop
-part-advance-start c = omega (arith, c .before .before .before .before .make-room .ensures .space)
+part-advance-start c =
+    let at-make-room = c .before .before .before .before .before in
+    omega (arith, at-make-room .make-room .ensures .space)
 
 part-advance-end : tie.Need-part-advance-end Inv-loop μ-loop
-part-advance-end c = omega (arith, c .before .before .before .before .make-room .ensures .space)
+part-advance-end c =
+    let at-make-room = c .before .before .before .before .before in
+    omega (arith, at-make-room .make-room .ensures .space)
 
 advance-requires : tie.Need-advance-requires Inv-loop μ-loop
 advance-requires c κs =
-    let at-make-room = c .before .before .before .before .before in
+    let at-make-room = c .before .before .before .before .before .before in
     let at-loop-test = at-make-room .before .before in
     let at-loop = at-loop-test .before in
     let start = at-loop .before .before .before .before in
-    let room = at-make-room .make-room in
-    holding-live _ _ _ _ _ _ (start .pre) _ _ _ _ _ _ _ _ (at-loop .loop .inv) (at-loop-test .loop-test .taken) _ _
-    (room .kept .0) (room .ensures)
+    holding-live _ _ _ _ _ _ (start .pre) _ _ _ _ _ _ _ _ _ _ (at-loop .loop .inv)
+    (at-loop-test .loop-test .taken) _ _ (at-make-room .make-room .kept .0) (at-make-room .make-room .ensures)
 
 add-at : tie.Need-add-at Inv-loop μ-loop
 add-at c =
-    let at-advance = c .before .before .before .before .before .before in
-    let at-slice-known3 = at-advance .before .before .before .before in
-    omega (arith, mul-a (at-slice-known3), at-advance .advance .ensures .2 .few)
+    let at-advance = c .before .before .before .before .before .before .before in
+    let at-slice-known3 = at-advance .before .before .before .before .before in
+    omega (arith, mul-a at-slice-known3, at-advance .advance .ensures .2 .few)
 
 move-down-requires : tie.Need-move-down-requires Inv-loop μ-loop
 move-down-requires c κs =
-    let at-advance = c .before .before .before .before .before .before .before .before .before in
-    let at-make-room = at-advance .before .before .before .before .before .before in
+    let at-known2 = c .before .before .before .before .before .before .before .before .before in
+    let at-advance = at-known2 .before in
+    let at-make-room = at-advance .before .before .before .before .before .before .before in
     let at-loop-test = at-make-room .before .before in
     let at-loop = at-loop-test .before in
     let start = at-loop .before .before .before .before in
-    let step = at-advance .advance in
-    let room = at-make-room .make-room in
-    holding-down _ _ _ _ _ _ (start .pre) _ _ _ _ _ _ _ _ (at-loop .loop .inv) (at-loop-test .loop-test .taken) _ _
-    (room .kept .0) (room .ensures) _ _ _ _ _ _ _ (step .ensures) (step .kept .1 .1 .1 .1 .0)
-
-same-length : tie.Need-same-length Inv-loop μ-loop
-same-length c = search needs
-
-same-length-2 : tie.Need-same-length-2 Inv-loop μ-loop
-same-length-2 c = search needs
+    holding-down _ _ _ _ _ _ (start .pre) _ _ _ _ _ _ _ _ _ _ (at-loop .loop .inv)
+    (at-loop-test .loop-test .taken) _ _ (at-make-room .make-room .kept .0) (at-make-room .make-room .ensures)
+    _ _ _ _ _ _ _ _ _ (at-advance .advance .ensures) (at-advance .advance .kept .1 .1 .1 .1 .1 .0)
 
 returns : tie.Need-returns Inv-loop μ-loop
 returns c =
     let at-move-down = c .before .before in
     let at-if1 = at-move-down .before .before in
-    let at-advance = at-if1 .before .before .before .before .before .before .before .before in
-    let at-make-room = at-advance .before .before .before .before .before .before in
+    let at-advance = at-if1 .before .before .before .before .before .before .before .before .before in
+    let at-make-room = at-advance .before .before .before .before .before .before .before in
     let at-loop-test = at-make-room .before .before in
     let at-loop = at-loop-test .before in
     let start = at-loop .before .before .before .before in
-    let step = at-advance .advance in
-    let room = at-make-room .make-room in
-    holding-rests _ _ _ _ _ _ (start .pre) _ _ _ _ _ _ _ _ (at-loop .loop .inv) (at-loop-test .loop-test .taken) _ _
-    (room .kept .0) (room .ensures) _ _ _ _ _ _ _ (step .ensures) (step .kept .1 .1 .1 .1 .0)
+    holding-rests _ _ _ _ _ _ (start .pre) _ _ _ _ _ _ _ _ _ _ (at-loop .loop .inv)
+    (at-loop-test .loop-test .taken) _ _ (at-make-room .make-room .kept .0) (at-make-room .make-room .ensures)
+    _ _ _ _ _ _ _ _ _ (at-advance .advance .ensures) (at-advance .advance .kept .1 .1 .1 .1 .1 .0)
     (not-true _ (at-if1 .if1 .taken)) _ (at-move-down .move-down .ensures)
 
 loop-less : tie.Need-loop-less Inv-loop μ-loop
 loop-less c =
-    let at-advance = c .before .before .before .before .before .before .before .before in
-    let at-make-room = at-advance .before .before .before .before .before .before in
+    let at-advance = c .before .before .before .before .before .before .before .before .before in
+    let at-make-room = at-advance .before .before .before .before .before .before .before in
     let at-loop-test = at-make-room .before .before in
     let at-loop = at-loop-test .before in
     let start = at-loop .before .before .before .before in
-    let step = at-advance .advance in
-    let room = at-make-room .make-room in
-    holding-less _ _ _ _ _ _ (start .pre) _ _ _ _ _ _ _ _ (at-loop .loop .inv) (at-loop-test .loop-test .taken) _ _
-    (room .kept .0) (room .ensures) _ _ _ _ _ _ _ (step .ensures) (step .kept .1 .1 .1 .1 .0)
+    holding-less _ _ _ _ _ _ (start .pre) _ _ _ _ _ _ _ _ _ _ (at-loop .loop .inv)
+    (at-loop-test .loop-test .taken) _ _ (at-make-room .make-room .kept .0) (at-make-room .make-room .ensures)
+    _ _ _ _ _ _ _ _ _ (at-advance .advance .ensures) (at-advance .advance .kept .1 .1 .1 .1 .1 .0)
     (not-false _ (c .if1 .left))
 
 add-number : tie.Need-add-number Inv-loop μ-loop
@@ -115,19 +124,16 @@ add-firings c = omega (arith, loop-less c)
 
 loop-again : tie.Need-loop-again Inv-loop μ-loop
 loop-again c =
-    let at-advance = c .before .before .before .before .before .before .before .before in
-    let at-make-room = at-advance .before .before .before .before .before .before in
+    let at-advance = c .before .before .before .before .before .before .before .before .before in
+    let at-make-room = at-advance .before .before .before .before .before .before .before in
     let at-loop-test = at-make-room .before .before in
     let at-loop = at-loop-test .before in
     let start = at-loop .before .before .before .before in
-    let step = at-advance .advance in
-    let room = at-make-room .make-room in
-    holding-next _ _ _ _ _ _ (start .pre) _ _ _ _ _ _ _ _ (at-loop .loop .inv) (at-loop-test .loop-test .taken) _ _
-    (room .kept .0) (room .ensures) _ _ _ _ _ _ _ (step .ensures) (step .kept .1 .1 .1 .1 .0)
-    (not-false _ (c .if1 .left)) (step .kept .1 .1 .1 .0) (step .kept .1 .1 .0)
-
-same-length-3 : tie.Need-same-length-3 Inv-loop μ-loop
-same-length-3 c = search needs
+    holding-next _ _ _ _ _ _ (start .pre) _ _ _ _ _ _ _ _ _ _ (at-loop .loop .inv)
+    (at-loop-test .loop-test .taken) _ _ (at-make-room .make-room .kept .0) (at-make-room .make-room .ensures)
+    _ _ _ _ _ _ _ _ _ (at-advance .advance .ensures) (at-advance .advance .kept .1 .1 .1 .1 .1 .0)
+    (not-false _ (c .if1 .left)) (at-advance .advance .kept .1 .1 .1 .1 .0) (at-advance .advance .kept .1 .1 .0)
+    (at-advance .advance .kept .1 .1 .1 .0)
 
 same-length-4 : tie.Need-same-length-4 Inv-loop μ-loop
 same-length-4 c = c .before .loop .inv .cells-size
@@ -145,6 +151,7 @@ normalise-spec =
     make-room-requires
     mul-a
     slice-aggregate-advance
+    slice-aggregate-advance-2
     mul-advance
     sub-advance
     part-advance-start
@@ -152,13 +159,12 @@ normalise-spec =
     advance-requires
     add-at
     move-down-requires
-    same-length
-    same-length-2
+    (λ c. search needs) (λ c. search needs)
     returns
     add-number
     add-firings
     loop-less
     loop-again
-    same-length-3
+    (λ c. search needs)
     same-length-4
     returns-2)

@@ -1,7 +1,7 @@
 -- `note` meets its contract: behind the end nothing is set.
 -- Assumes nothing.
-use Rattle.engine.proofs.KnownLaws.{set-behind}
 use borrow.Author.Needs.{needs}
+use Rattle.engine.proofs.KnownLaws.{set-behind}
 use Rattle.engine.proofs.known.note.Statement.{statement}
 use Rattle.engine.proofs.known.note.Tie as tie
 
@@ -9,4 +9,8 @@ returns-2 : tie.Need-returns-2
 returns-2 c = search set-behind
 
 pub note-spec : {M : Type 1} → statement M
-note-spec = tie.close (tie.spec (λ c. search needs) (λ c. search needs) (λ c. search needs) (λ c. search needs) returns-2)
+note-spec =
+    tie.close
+    (tie.spec
+    (λ c. search needs) (λ c. search needs) (λ c. search needs) (λ c. search needs) (λ c. search needs)
+    returns-2)

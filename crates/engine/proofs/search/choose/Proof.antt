@@ -1,107 +1,130 @@
 -- `choose` meets its contract: the rules from i on give the choice among all of them, and what is known stays true.
 -- Assumes nothing.
 use borrow.Author.Needs.{needs}
-use mathlib.Core.Path.{refl}
 use Prim.Native.Nat.{_-_}
 use native.Mathlib.Omega.{arith}
 use Rattle.engine.proofs.ChooseLaws.{
   Noting,
   noting-start,
-  noting-next,
+  noting-look,
+  noting-row,
   noting-passed,
+  noting-impossible,
+  noting-next,
+  noting-found,
+  noting-room,
   choosing-none,
-  choosing-row,
-  choosing-found,
-  choosing-first,
   choosing-leads,
-  impossible-located,
 }
 use Rattle.engine.proofs.search.choose.Statement.{statement}
 use Rattle.engine.proofs.search.choose.Tie as tie
 
 abbrev Inv-loop : tie.InvT-loop
-Inv-loop rules n known₀ cells m i₀ known i = Noting rules n known₀ cells known i
+Inv-loop rules n known₀ last cells m gone whole i₀ known i = Noting rules n known₀ last gone cells known i
 
 abbrev μ-loop : tie.MeasureT-loop
-μ-loop rules n known₀ cells m i₀ known i = n - i
+μ-loop rules n known₀ last cells m gone whole i₀ known i = n - i
 
 loop-holds : tie.Need-loop-holds Inv-loop μ-loop
-loop-holds c = noting-start _ _ _ _ (c .before .before .before .pre .2)
+loop-holds c = noting-start _ _ _ _ _ _ (c .before .before .before .before .pre .3)
 
-is-possible-requires : tie.Need-is-possible-requires Inv-loop μ-loop
-is-possible-requires c κs =
+may-fit-requires : tie.Need-may-fit-requires Inv-loop μ-loop
+may-fit-requires c κs =
     let at-known-at = c .before .before in
     let at-loop-test = at-known-at .before .before in
     let at-loop = at-loop-test .before in
-    let at-pre = at-loop .before .before .before .before in
-    choosing-row _ _ _ _ _ (at-pre .pre .0) (at-loop .loop .inv .choosing) (at-loop-test .loop-test .taken) _
-    (at-loop .loop .inv .knows) _ (at-known-at .known-at .ensures) (at-pre .pre .1) (c .before .if1 .taken) .0
+    let start = at-loop .before .before .before .before .before in
+    noting-look _ _ _ _ _ _ _ _ _ (start .pre .0) (start .pre .1) (start .pre .2) (at-loop .loop .inv)
+    (at-loop-test .loop-test .taken) _
+    (at-known-at .known-at .ensures)
 
 find-rule-requires : tie.Need-find-rule-requires Inv-loop μ-loop
 find-rule-requires c κs =
-    let at-if1 = c .before .before .before .before in
-    let at-known-at = at-if1 .before in
+    let at-known-at = c .before .before .before .before .before .before in
     let at-loop-test = at-known-at .before .before in
     let at-loop = at-loop-test .before in
-    let at-pre = at-loop .before .before .before .before in
-    choosing-row _ _ _ _ _ (at-pre .pre .0) (at-loop .loop .inv .choosing) (at-loop-test .loop-test .taken) _
-    (at-loop .loop .inv .knows) _ (at-known-at .known-at .ensures) (at-pre .pre .1) (at-if1 .if1 .taken)
+    let start = at-loop .before .before .before .before .before in
+    noting-row _ _ _ _ _ _ _ _ _ (start .pre .0) (start .pre .1) (start .pre .2) (at-loop .loop .inv)
+    (at-loop-test .loop-test .taken) _
+    (at-known-at .known-at .ensures) _ (c .prefix .ensures)
 
 leading-requires : tie.Need-leading-requires Inv-loop μ-loop
 leading-requires c κs =
     let at-find-rule = c .before .before .before .before .before in
-    let at-loop-test = at-find-rule .before .before .before .before .before .before .before .before in
+    let at-loop-test = at-find-rule .before .before .before .before .before .before .before .before .before in
     let at-loop = at-loop-test .before in
-    let at-args = at-loop .before .before .before .before in
-    choosing-leads _ _ _ (at-args .args .m) _ (at-args .pre .0) (at-loop .loop .inv .choosing) (at-loop-test
-    .loop-test .taken) _ _ _ (at-find-rule .find-rule .ensures)
+    let start = at-loop .before .before .before .before .before in
+    choosing-leads _ _ _ (start .args .m) _ (start .pre .0) (at-loop .loop .inv .choosing) (at-loop-test .loop-test .taken)
+    _ _ _ (at-find-rule .find-rule .ensures)
+
+note-requires : tie.Need-note-requires Inv-loop μ-loop
+note-requires c κs =
+    let at-if3 = c .before .before .before .before .before in
+    let at-find-rule = at-if3 .before in
+    let at-loop-test = at-find-rule .before .before .before .before .before .before .before .before .before in
+    let at-loop = at-loop-test .before in
+    let start = at-loop .before .before .before .before .before in
+    noting-room _ _ _ _ _ _ _ _ _ (start .pre .0) (start .pre .1) (start .pre .2) (at-loop .loop .inv)
+    (at-loop-test .loop-test .taken) _ _ _
+    (at-find-rule .find-rule .ensures) (at-if3 .if3 .taken) _ (c .leading .ensures)
+
+add-note-2 : tie.Need-add-note-2 Inv-loop μ-loop
+add-note-2 c =
+    let at-if3 = c .before .before .before .before .before in
+    let at-find-rule = at-if3 .before in
+    let at-loop-test = at-find-rule .before .before .before .before .before .before .before .before .before in
+    let at-loop = at-loop-test .before in
+    let start = at-loop .before .before .before .before .before in
+    omega (arith, noting-room _ _ _ _ _ _ _ _ _ (start .pre .0) (start .pre .1) (start .pre .2) (at-loop .loop .inv)
+    (at-loop-test .loop-test .taken) _ _ _
+    (at-find-rule .find-rule .ensures) (at-if3 .if3 .taken) _ (c .leading .ensures))
 
 returns : tie.Need-returns Inv-loop μ-loop
 returns c =
     let at-note = c .before .before in
     let at-leading = at-note .before in
-    let at-found = at-leading .before .before .before .before .before in
-    let at-find-rule = at-found .before in
-    let at-loop-test = at-find-rule .before .before .before .before .before .before .before .before in
+    let at-if3 = at-leading .before .before .before .before .before in
+    let at-find-rule = at-if3 .before in
+    let at-loop-test = at-find-rule .before .before .before .before .before .before .before .before .before in
     let at-loop = at-loop-test .before in
-    let at-args = at-loop .before .before .before .before in (
-      choosing-found _ _ _ (at-args .args .m) _ (at-args .pre .0) (at-loop .loop .inv .choosing) (at-loop-test
-          .loop-test .taken) _ _ _ (at-find-rule .find-rule .ensures) (at-found .if3 .taken),
-      choosing-first _ _ _ (at-args
-          .args .m) _ (at-args .pre .0) (at-loop .loop .inv .choosing) (at-loop-test .loop-test .taken) _ _ _
-          (at-find-rule .find-rule .ensures) (at-found .if3 .taken) _ _ _ (at-loop .loop .inv .knows) (at-leading .leading
-          .ensures) (at-note .note .ensures),
-    )
+    let start = at-loop .before .before .before .before .before in
+    noting-found _ _ _ _ _ _ _ _ _ (start .pre .0) (start .pre .1) (start .pre .2) (at-loop .loop .inv)
+    (at-loop-test .loop-test .taken) _ _ _
+    (at-find-rule .find-rule .ensures) (at-if3 .if3 .taken) _ (at-leading .leading .ensures) _ (at-note .note .ensures)
 
 loop-again : tie.Need-loop-again Inv-loop μ-loop
 loop-again c =
-    let at-note = c .before .before in
-    let at-found = at-note .before .before in
-    let at-find-rule = at-found .before in
-    let at-loop-test = at-find-rule .before .before .before .before .before .before .before .before in
+    let at-note2 = c .before .before in
+    let at-if3 = at-note2 .before .before in
+    let at-find-rule = at-if3 .before in
+    let at-loop-test = at-find-rule .before .before .before .before .before .before .before .before .before in
     let at-loop = at-loop-test .before in
-    let at-pre = at-loop .before .before .before .before in
-    noting-next _ _ _ _ _ _ _ (at-pre .pre .0) (at-loop .loop .inv) (at-loop-test .loop-test .taken) (at-pre .pre
-    .1) _ _ _ (at-find-rule .find-rule .ensures) (at-found .if3 .left) _ (at-note .note2 .ensures)
+    let start = at-loop .before .before .before .before .before in
+    noting-next _ _ _ _ _ _ _ _ _ (start .pre .0) (start .pre .1) (start .pre .2) (at-loop .loop .inv)
+    (at-loop-test .loop-test .taken) _ _ _
+    (at-find-rule .find-rule .ensures) (at-if3 .if3 .left) _ (at-note2 .note2 .ensures)
 
 loop-again-2 : tie.Need-loop-again-2 Inv-loop μ-loop
 loop-again-2 c =
-    let at-note = c .before .before in
-    let at-possible = at-note .before .before in
-    let at-loop-test = at-possible .before .before .before .before .before .before in
+    let at-note3 = c .before .before in
+    let at-if2 = at-note3 .before .before in
+    let at-may-fit = at-if2 .before in
+    let at-loop-test = at-may-fit .before .before .before .before .before in
     let at-loop = at-loop-test .before in
-    let at-pre = at-loop .before .before .before .before in
-    noting-next _ _ _ _ _ _ _ (at-pre .pre .0) (at-loop .loop .inv) (at-loop-test .loop-test .taken) (at-pre .pre .1) _ _ _
-    (impossible-located _ _ _ (at-possible .before .is-possible .ensures) (at-possible .if2 .left)) refl _ (at-note .note3 .ensures)
+    let start = at-loop .before .before .before .before .before in
+    noting-impossible _ _ _ _ _ _ _ _ _ (start .pre .0) (start .pre .1) (start .pre .2) (at-loop .loop .inv)
+    (at-loop-test .loop-test .taken) _
+    (at-may-fit .may-fit .ensures) (at-if2 .if2 .left) _ (at-note3 .note3 .ensures)
 
 loop-again-3 : tie.Need-loop-again-3 Inv-loop μ-loop
 loop-again-3 c =
     let at-known-at = c .before in
     let at-loop-test = at-known-at .before .before in
     let at-loop = at-loop-test .before in
-    let at-pre = at-loop .before .before .before .before in
-    noting-passed _ _ _ _ _ _ _ (at-pre .pre .0) (at-loop .loop .inv) (at-loop-test .loop-test .taken) (at-pre .pre
-    .1) _ (at-known-at .known-at .ensures) (c .if1 .left)
+    let start = at-loop .before .before .before .before .before in
+    noting-passed _ _ _ _ _ _ _ _ _ (start .pre .0) (start .pre .1) (start .pre .2) (at-loop .loop .inv)
+    (at-loop-test .loop-test .taken) _
+    (at-known-at .known-at .ensures) (c .if1 .left)
 
 same-length-2 : tie.Need-same-length-2 Inv-loop μ-loop
 same-length-2 c = c .before .loop .inv .size
@@ -109,8 +132,8 @@ same-length-2 c = c .before .loop .inv .size
 returns-2 : tie.Need-returns-2 Inv-loop μ-loop
 returns-2 c =
     let at-loop = c .before in
-    let at-args = at-loop .before .before .before .before in (
-      choosing-none _ _ _ (at-args .args .m) _ (at-args .pre .0) (at-loop .loop .inv .choosing) (c .loop-test .left),
+    let start = at-loop .before .before .before .before .before in (
+      choosing-none _ _ _ (start .args .m) _ (start .pre .0) (at-loop .loop .inv .choosing) (c .loop-test .left),
       at-loop .loop .inv .knows,
     )
 
@@ -120,36 +143,22 @@ choose-spec =
     (tie.spec
     Inv-loop
     μ-loop
+    (λ c. omega arith)
     loop-holds
-    (λ c κs. search needs)
-    (λ c. omega arith)
-    (λ c. omega arith)
-    (λ c. omega arith)
-    (λ c. omega arith)
-    (λ c. omega arith)
-    (λ c. omega arith)
-    (λ c. omega arith)
-    is-possible-requires
-    (λ c. omega arith)
-    (λ c. omega arith)
-    (λ c. omega arith)
-    (λ c. omega arith)
+    (λ c κs. search needs) (λ c. omega arith) (λ c. omega arith) (λ c. omega arith) (λ c. omega arith)
+    (λ c. omega arith) (λ c. omega arith) (λ c. omega arith)
+    may-fit-requires
+    (λ c. omega arith) (λ c. omega arith) (λ c. omega arith) (λ c. omega arith) (λ c κs. search needs)
     find-rule-requires
-    (λ c. omega arith)
-    (λ c. omega arith)
-    (λ c. omega arith)
-    (λ c. omega arith)
+    (λ c. omega arith) (λ c. omega arith) (λ c. omega arith) (λ c. omega arith) (λ c. omega arith)
     leading-requires
-    (λ c κs. search needs)
-    (λ c. search needs)
+    add-note-2
+    note-requires
+    (λ c. omega arith)
     returns
-    (λ c. omega arith)
-    (λ c κs. search needs)
-    (λ c. omega arith)
+    (λ c κs. search needs) (λ c. omega arith)
     loop-again
-    (λ c. omega arith)
-    (λ c κs. search needs)
-    (λ c. omega arith)
+    (λ c κs. search needs) (λ c. omega arith)
     loop-again-2
     (λ c. omega arith)
     loop-again-3
