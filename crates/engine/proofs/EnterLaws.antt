@@ -1,18 +1,28 @@
 -- A goal enters, cell by cell.
 --   Starting, starting-…     each goal variable is itself
 --   Copying, copying-…       the goal's cells in front
+--   Among, among-…           a position among those given
+--   CopyingRow, row-…        one of its constraints in the cells
+--   Freeing, freeing-…       its constraints at none of the positions in front
 -- Assumes nothing.
-use Prim.Native.Nat.{ℕ, suc, _+_, _-_, _≤_, _<_}
+use Prim.Native.Nat.{ℕ, suc, _+_, _-_, _*_, _≤_, _<_}
 use native.Mathlib.Omega.{arith}
 use native.Mathlib.Numerals.{add-one}
-use mathlib.Core.List.{List, [], _∷_, map, map-append}
+use mathlib.Core.Bool.{Bool, true, false, _||_}
+use mathlib.Core.List.{List, [], _∷_, _++_, map, map-append, append-assoc, append-nil}
 use mathlib.Core.Path.{_≡_, refl, ap, sym, _∙_}
-use lib.ListN.{length, getD, set, take, length-set}
-use lib.Seq.{take-suc, take-suc-set, take-all}
-use Rattle.text.specs.Lists.{tabled}
-use Rattle.semantics.specs.Terms.{Term, var}
-use Rattle.tables.specs.Cells.{cellTerm}
-use Rattle.tables.proofs.CellLaws.{cell-high}
+use lib.Dec.{eqb}
+use lib.ListN.{length, getD, set, take, drop, length-set, length-drop, drop-of-length-le}
+use lib.Seq.{take-suc, take-suc-set, take-all, drop-cons, getD-drop, length-take-le}
+use lib.Seq.{paste, paste-zero, paste-suc, take-paste, length-paste}
+use borrow.Author.Tests.{eq-eqb, ne-eqb}
+use Rattle.text.specs.Lists.{has, tabled}
+use Rattle.semantics.specs.Terms.{Term, Constraint, var}
+use Rattle.semantics.specs.Firing.{without}
+use Rattle.tables.specs.Cells.{cellTerm, cellConstraints, rowConstraint}
+use Rattle.tables.proofs.CellLaws.{cell-high, constraints-at}
+use Rattle.engine.specs.States.{Removed}
+use Rattle.engine.proofs.FireLaws.{constraints-append, row-constraints}
 
 -- the first i goal variables are themselves
 pub record Starting (start bound : List ℕ) (i : ℕ) : Type 0 where
@@ -69,3 +79,123 @@ module _ (goal start cells : List ℕ) (i : ℕ) (w : Copying goal start cells i
   copying-end l =
       let e : i ≡ length goal = omega (arith, w .within) in
       ap (λ k. take k cells) (sym e) ∙ w .same ∙ take-all i goal l
+
+-- the positions from i on hold p where all of them do
+pub record Among (positions : List ℕ) (p i : ℕ) : Type 0 where
+  pub within : i ≤ length positions
+  pub same : has p (drop i positions) ≡ has p positions
+
+pub among-start : (positions : List ℕ) (p : ℕ) → Among positions p 0
+among-start positions p = record { within = omega arith; same = refl }
+
+module _ (positions : List ℕ) (p i : ℕ) (w : Among positions p i) where
+  here : i < length positions → has p positions ≡ (eqb p (getD positions i 0) || has p (drop (suc i) positions))
+  here l = sym (w .same) ∙ rw (drop-cons positions i 0 l)
+
+  pub among-found : i < length positions → p ≡ getD positions i 0 → true ≡ has p positions
+  among-found l e = rw (here l, eq-eqb p (getD positions i 0) e)
+
+  pub among-next : i < length positions → (p ≡ getD positions i 0 → ⊥) → Among positions p (i + 1)
+  among-next l e = rw (add-one i) (record { within = l; same = rw (here l, ne-eqb p (getD positions i 0) e) })
+
+  pub among-end : length positions ≤ i → false ≡ has p positions
+  among-end l = rw (← w .same, drop-of-length-le positions {i = i} l)
+
+-- j cells of the goal's constraint at a position are copied
+pub record CopyingRow (goal : List ℕ) (from to : ℕ) (start cells : List ℕ) (j : ℕ) : Type 0 where
+  pub within : j ≤ 5
+  pub size : length cells ≡ length start
+  pub same : cells ≡ paste start (5 * to) (drop (5 * from) goal) j
+
+pub row-start : (goal : List ℕ) (from to : ℕ) (start : List ℕ) → CopyingRow goal from to start start 0
+row-start goal from to start =
+    record { within = omega arith; size = refl; same = paste-zero start (5 * to) (drop (5 * from) goal) }
+
+module _ (goal : List ℕ) (from to : ℕ) (start cells : List ℕ) (j : ℕ) (w : CopyingRow goal from to start cells j) where
+  pub row-next :
+      j < 5 → 5 * from + 5 ≤ length goal → 5 * to + 5 ≤ length start
+      → CopyingRow goal from to start (set cells (5 * to + j) (getD goal (5 * from + j) 0)) (j + 1)
+  row-next l g s =
+      rw (add-one j) (record {
+        within = l;
+        size = length-set cells (5 * to + j) (getD goal (5 * from + j) 0) ∙ w .size;
+        same = rw (w .same, ← getD-drop (5 * from) goal j 0) (paste-suc start (5 * to) (drop (5 * from) goal) j 0 (omega arith)
+            (omega (arith, length-drop (5 * from) goal)));
+      })
+
+  pub row-end : 5 ≤ j → cells ≡ paste start (5 * to) (drop (5 * from) goal) 5
+  row-end l = let e : j ≡ 5 = omega (arith, w .within) in rw e at (w .same)
+
+-- the constraints in front and those of the goal from p on that stay are all that stay
+pub record Freeing (goal : List ℕ) (m : ℕ) (ps start cells : List ℕ) (p k : ℕ) : Type 0 where
+  pub within : p ≤ m
+  pub fewer : k ≤ p
+  pub goal-size : length goal ≡ 5 * m
+  pub room : 5 * m ≤ length start
+  pub size : length cells ≡ length start
+  pub same :
+      cellConstraints (take (5 * k) cells) ++ without p ps (cellConstraints (drop (5 * p) goal))
+      ≡ without 0 ps (cellConstraints goal)
+
+pub freeing-start :
+    (goal : List ℕ) (m : ℕ) (ps start : List ℕ) → length goal ≡ 5 * m → 5 * m ≤ length start
+    → Freeing goal m ps start start 0 0
+unfolding cellConstraints
+freeing-start goal m ps start e l =
+    record { within = omega arith; fewer = omega arith; goal-size = e; room = l; size = refl; same = refl }
+
+module _ (goal : List ℕ) (m : ℕ) (ps start cells : List ℕ) (p k : ℕ) (w : Freeing goal m ps start cells p k) where
+  -- all have been looked at
+  pub freeing-end : m ≤ p → Removed m ps goal cells k
+  unfolding cellConstraints without
+  freeing-end l =
+      record {
+        few = omega (arith, w .fewer, w .within);
+        same = rw (drop-of-length-le goal {i = 5 * p} (omega (arith, w .goal-size)), append-nil) at (w .same);
+      }
+
+  module _ (l : p < m) where
+    this : Constraint
+    this = rowConstraint (take 5 (drop (5 * p) goal))
+
+    split :
+        cellConstraints (take (5 * k) cells) ++ without p ps (this ∷ cellConstraints (drop (5 * suc p) goal))
+        ≡ without 0 ps (cellConstraints goal)
+    unfolding this
+    split = rw (constraints-at goal p (omega (arith, w .goal-size))) at (w .same)
+
+    -- the constraint stands at a position
+    pub freeing-taken : (r : Bool) → r ≡ true → r ≡ has p ps → Freeing goal m ps start cells (p + 1) k
+    unfolding without
+    freeing-taken r e f =
+        rw (add-one p) (record {
+          within = l;
+          fewer = omega (arith, w .fewer);
+          goal-size = w .goal-size;
+          room = w .room;
+          size = w .size;
+          same = rw (sym f ∙ e) at split;
+        })
+
+    -- it stays
+    pub freeing-kept :
+        (r : Bool) (c : List ℕ) → r ≡ false → r ≡ has p ps → c ≡ paste cells (5 * k) (drop (5 * p) goal) 5
+        → Freeing goal m ps start c (p + 1) (k + 1)
+    unfolding without this
+    freeing-kept r c e f q =
+        let fits : 5 * k + 5 ≤ length cells = omega (arith, w .fewer, w .size, w .room) in
+        let tail : 5 ≤ length (drop (5 * p) goal) = omega (arith, length-drop (5 * p) goal, w .goal-size) in
+        let s : 5 * k + 5 ≡ 5 * suc k = omega arith in
+        let front : take (5 * suc k) c ≡ take (5 * k) cells ++ take 5 (drop (5 * p) goal) =
+        rw (q, ← s) (take-paste cells (5 * k) (drop (5 * p) goal) 5 (omega arith) tail) in
+        let rows : cellConstraints (take (5 * suc k) c) ≡ cellConstraints (take (5 * k) cells) ++ (this ∷ []) =
+        rw front (constraints-append k (take (5 * k) cells) (take 5 (drop (5 * p) goal))
+        (length-take-le (5 * k) cells (omega arith)) ∙ rw (row-constraints (drop (5 * p) goal) tail)) in
+        rw (add-one p, add-one k) (record {
+          within = l;
+          fewer = omega (arith, w .fewer);
+          goal-size = w .goal-size;
+          room = w .room;
+          size = rw q (length-paste cells (5 * k) (drop (5 * p) goal) 5 fits tail) ∙ w .size;
+          same = rw (rows, append-assoc) (rw (sym f ∙ e) at split);
+        })

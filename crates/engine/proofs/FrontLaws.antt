@@ -24,7 +24,7 @@ use Rattle.tables.proofs.CellLaws.{le-or-lt, constraints-length}
 use Rattle.engine.specs.States.{Equated, Fires, Fired, Skips, Placed}
 use Rattle.engine.proofs.FireLaws.{Moving, moving-next, moving-end}
 use Rattle.engine.proofs.GapLaws.{drop-constraints, drop-part}
-use Rattle.engine.proofs.RuleLaws.{kept-equated, kept-fired}
+use Rattle.engine.proofs.RuleLaws.{fires-equated, kept-equated, kept-fired}
 
 -- the cells from a place on, as they are lent, and all cells when those have come back
 abbrev pub behind : ℕ → List ℕ → List ℕ
@@ -129,7 +129,8 @@ module _ (row positions bindings : List ℕ) (next : ℕ) (cells : List ℕ) (m 
         × (5 * (m - w) + 30 ≤ length (behind (5 * w) cells))
     front-completes =
         rw (behind-all (5 * w) cells) (
-          kept-equated row positions bindings next cells m f (drop (5 * w) cells) (m - w) (omega arith) front-same,
+          kept-equated row positions bindings next cells m (drop (5 * w) cells) (m - w) (omega arith) front-same
+              (fires-equated row positions bindings next cells m f),
           omega (arith, f .space, length-drop (5 * w) cells),
         )
 
@@ -138,7 +139,7 @@ module _ (row positions bindings : List ℕ) (next : ℕ) (cells : List ℕ) (m 
       pub front-done : Fired row positions bindings next bound cells m b (drop (5 * w) (returned (5 * w) cells c)) alive n
       front-done =
           rw (returned-part (5 * w) cells c (omega (arith, f .space)))
-          (kept-fired row positions bindings next cells m f (drop (5 * w) cells) (m - w) (omega arith) front-same
+          (kept-fired row positions bindings next cells m (drop (5 * w) cells) (m - w) (omega arith) front-same
           bound b c alive n (rw (behind-all (5 * w) cells) at done))
 
       pub front-skips : Skips m w n

@@ -250,32 +250,38 @@ module _ (row bindings : List ℕ) (next : ℕ) (cells : List ℕ) (k : ℕ) (q 
           few = few-after;
         }
 
+module _ (row positions bindings : List ℕ) (next : ℕ) (cells : List ℕ) (m : ℕ) where
+  -- what solving the equations asks, of all constraints
+  pub fires-equated : Fires row positions bindings next cells m → Equated row bindings next (take (5 * m) cells)
+  fires-equated f =
+      record { given = f .given; bindings-size = f .bindings-size; room = f .room; low = f .low }
+
+  -- the constraints that are kept, wherever they stand
+  module _ (left : List ℕ) (k : ℕ) (few-left : k ≤ m)
+      (same : cellConstraints (take (5 * k) left)
+      ≡ without 0 (take (getD row 3 0) positions) (cellConstraints (take (5 * m) cells))) where
+    pub kept-equated : Equated row bindings next (take (5 * m) cells) → Equated row bindings next (take (5 * k) left)
+    kept-equated q =
+        record {
+          given = q .given;
+          bindings-size = q .bindings-size;
+          room = q .room;
+          low = rw same (low-without 0 (take (getD row 3 0) positions) (cellConstraints (take (5 * m) cells)) (q .low));
+        }
+
+    pub kept-fired :
+        (bound b c : List ℕ) (alive : Bool) (n : ℕ) → Fired row [] bindings next bound left k b c alive n
+        → Fired row positions bindings next bound cells m b c alive n
+    unfolding fired
+    kept-fired bound b c alive n done =
+        record {
+          same = λ names.
+              rw (take-nil (getD row 3 0), without-none 0 (cellConstraints (take (5 * k) left)), same) at (done .same names);
+          few = omega (arith, done .few);
+        }
+
 module _ (row positions bindings : List ℕ) (next : ℕ) (cells : List ℕ) (m : ℕ) (f : Fires row positions bindings next cells m)
   where
-    -- the constraints that are kept, wherever they stand
-    module _ (left : List ℕ) (k : ℕ) (few-left : k ≤ m)
-        (same : cellConstraints (take (5 * k) left)
-        ≡ without 0 (take (getD row 3 0) positions) (cellConstraints (take (5 * m) cells))) where
-      pub kept-equated : Equated row bindings next (take (5 * k) left)
-      kept-equated =
-          record {
-            given = f .given;
-            bindings-size = f .bindings-size;
-            room = f .room;
-            low = rw same (low-without 0 (take (getD row 3 0) positions) (cellConstraints (take (5 * m) cells)) (f .low));
-          }
-
-      pub kept-fired :
-          (bound b c : List ℕ) (alive : Bool) (n : ℕ) → Fired row [] bindings next bound left k b c alive n
-          → Fired row positions bindings next bound cells m b c alive n
-      unfolding fired
-      kept-fired bound b c alive n done =
-          record {
-            same = λ names.
-                rw (take-nil (getD row 3 0), without-none 0 (cellConstraints (take (5 * k) left)), same) at (done .same names);
-            few = omega (arith, done .few);
-          }
-
     module _ (w : ℕ) (z : w ≡ getD row 3 0) where
       -- the constraints that there are
       pub fire-lent : 5 * m ≡ length (take (5 * m) cells)
@@ -298,7 +304,8 @@ module _ (row positions bindings : List ℕ) (next : ℕ) (cells : List ℕ) (m 
         pub fire-completes : Equated row bindings next (take (5 * k) (left ++ drop (5 * m) cells))
             × (5 * k + 30 ≤ length (left ++ drop (5 * m) cells))
         fire-completes = (
-          kept-equated (left ++ drop (5 * m) cells) k (removed .few) same-left,
+          kept-equated row positions bindings next cells m (left ++ drop (5 * m) cells) k (removed .few) same-left
+              (fires-equated row positions bindings next cells m f),
           omega (arith, removed .few, f .space, length-append left (drop (5 * m) cells), length-drop (5 * m) cells, size-left),
         )
 
@@ -307,4 +314,4 @@ module _ (row positions bindings : List ℕ) (next : ℕ) (cells : List ℕ) (m 
             (bound b c : List ℕ) (alive : Bool) (n : ℕ)
             → Fired row [] bindings next bound (left ++ drop (5 * m) cells) k b c alive n
             → Fired row positions bindings next bound cells m b c alive n
-        fire-done = kept-fired (left ++ drop (5 * m) cells) k (removed .few) same-left
+        fire-done = kept-fired row positions bindings next cells m (left ++ drop (5 * m) cells) k (removed .few) same-left

@@ -10,21 +10,22 @@ use mathlib.Core.List.{List, [], _∷_, _++_}
 use mathlib.Core.Option.{Option, none, some}
 use mathlib.Core.Path.{_≡_, refl, sym, ap, _∙_}
 use lib.ListN.{length, getD, getElem?, take, drop, replicate, length-drop, drop-of-length-le}
-use lib.Seq.{drop-cons, getD-take, length-take-le, take-suc}
+use lib.Seq.{drop-cons, getD-take, length-take-le, take-suc, take-all}
 use Rattle.text.specs.Lists.{bind, has, every}
 use Rattle.semantics.specs.Terms.{Constraint}
 use Rattle.semantics.specs.Matching.{Assignment, unassigned, matchConstraint, matchAt}
-use Rattle.semantics.specs.Firing.{fireAt}
+use Rattle.semantics.specs.Firing.{without, fireAt}
 use Rattle.tables.specs.Cells.{cellConstraints, rowConstraint}
 use Rattle.tables.specs.Rows.{ruleOfRow}
 use Rattle.engine.specs.Cells.{assigned, fitOf, Rows, Matched}
 use Rattle.engine.specs.Positions.{isLettered, Row}
-use Rattle.engine.specs.States.{Fires, Fired}
+use Rattle.engine.specs.States.{Removed, Equated, Fired}
 use Rattle.engine.specs.Runs.{storeOf}
-use Rattle.engine.specs.Stated.{statedAt, matchRow, fireRow, Stated, FiredAt}
+use Rattle.engine.specs.Stated.{statedAt, matchRow, fireRow, Stated, FiredFrom}
 use Rattle.tables.proofs.CellLaws.{every-first, every-rest, constraints-at, element-row, element-none}
 use Rattle.engine.proofs.SearchLaws.{cond-none, cond-bind, lent, five, lent-size}
 use Rattle.engine.proofs.ChooseLaws.{zeros-unassigned}
+use Rattle.engine.proofs.RuleLaws.{kept-equated, kept-fired}
 use Rattle.engine.proofs.FiredLaws.{fired-lighter, fired-low}
 use Rattle.engine.proofs.StepLaws.{no-way, no-way-back}
 
@@ -159,58 +160,80 @@ module _ (heads : List ℕ) (n : ℕ) (cells : List ℕ) (m : ℕ) (positions bi
               same = rw (take-suc positions h 0 (omega (arith, w .positions-size, w .few))) (rw (← t .same, z) at tried);
             })
 
-module _ (row positions : List ℕ) (next : ℕ) (cells : List ℕ) (m : ℕ) (s : Stated row positions next cells m) where
-  -- the constraints that the match is lent
-  pub stated-lent : 5 * m ≡ length (take (5 * m) cells)
-  stated-lent = sym (length-take-le (5 * m) cells (omega (arith, s .space)))
+module _ (row positions : List ℕ) (next : ℕ) (goal : List ℕ) (m : ℕ) (cells : List ℕ)
+    (s : Stated row positions next goal m cells) where
+  pub stated-asks : Row row × (length positions ≡ 4) × (length goal ≡ 5 * m)
+  stated-asks = (s .given, s .positions-size, s .size)
 
-  pub stated-asks : Row row × (length positions ≡ 4) × (length (take (5 * m) cells) ≡ 5 * m)
-  stated-asks = (s .given, s .positions-size, sym stated-lent)
+  -- the goal finds room
+  pub stated-room : length goal ≤ length cells
+  stated-room = omega (arith, s .size, s .space)
 
-  module _ (f : Bool) (b : List ℕ) (given : Matched f b (matchRow row positions (take (5 * m) cells))) where
+  -- what copying the others asks
+  pub stated-frees : (length goal ≡ 5 * m) × (5 * m ≤ length cells)
+  stated-frees = (s .size, omega (arith, s .space))
+
+  -- the positions as they are lent
+  module _ (w : ℕ) (heads : w ≡ getD row 3 0) where
+    pub stated-within : w ≤ length positions
+    stated-within = omega (arith, s .given .heads-few, s .positions-size)
+
+    pub stated-lent : w ≡ length (take w positions)
+    stated-lent = sym (length-take-le w positions stated-within)
+
+  all : take (5 * m) goal ≡ goal
+  all = take-all (5 * m) goal (omega (arith, s .size))
+
+  module _ (f : Bool) (b : List ℕ) (given : Matched f b (matchRow row positions goal)) where
     matched : (name : List ℕ)
-        → matchAt (ruleOfRow name row .heads) (statedAt row positions) (storeOf cells m) [] unassigned ≡ fitOf f b
-    unfolding matchRow ruleOfRow storeOf
+        → matchAt (ruleOfRow name row .heads) (statedAt row positions) (cellConstraints goal) [] unassigned ≡ fitOf f b
+    unfolding matchRow ruleOfRow
     matched name = sym (given .same)
 
-    -- the rule does not fit there
-    pub stated-rests : (bound : List ℕ) → f ≡ false → FiredAt row positions next bound cells m bound cells false true m
-    unfolding fireRow fireAt fitOf
-    stated-rests bound z =
+    -- the rule does not fit there, and the goal has entered
+    pub stated-rests :
+        (bound c : List ℕ) → f ≡ false → take (length goal) c ≡ goal
+        → FiredFrom row positions next bound goal m bound c false true m
+    unfolding fireRow fireAt fitOf storeOf
+    stated-rests bound c z e =
         record {
-          rests = λ y. (refl, refl, λ name. rw (matched name, z));
+          rests = λ y. (refl, ap cellConstraints (rw (s .size) at e), λ name. rw (matched name, z));
           moves = λ y. no-way y;
           lighter = λ y. no-way y;
           low = λ y. no-way y;
           few = omega arith;
         }
 
-    module _ (z : f ≡ true) where
-      -- what firing asks
-      pub stated-fires : Fires row positions b next cells m
-      unfolding storeOf
-      stated-fires =
-          record {
-            given = s .given;
-            positions-size = s .positions-size;
-            bindings-size = given .size;
-            room = s .room;
-            space = s .space;
-            low = s .low;
-          }
+    module _ (z : f ≡ true) (w : ℕ) (heads : w ≡ getD row 3 0) where
+      module _ (c : List ℕ) (k : ℕ) (size : length c ≡ length cells) (kept : Removed m (take w positions) goal c k) where
+        left :
+            cellConstraints (take (5 * k) c) ≡ without 0 (take (getD row 3 0) positions) (cellConstraints (take (5 * m) goal))
+        left = rw (all, ← heads) (kept .same)
 
-      -- the rule has fired
-      pub stated-moves :
-          (bound bound′ cells′ : List ℕ) (alive : Bool) (count : ℕ)
-          → Fired row positions b next bound cells m bound′ cells′ alive count
-          → FiredAt row positions next bound cells m bound′ cells′ true alive count
-      unfolding fireRow fireAt fitOf storeOf
-      stated-moves bound bound′ cells′ alive count done =
-          record {
-            rests = λ y. no-way-back y;
-            moves = λ y name. rw (matched name, z) (ap some (sym (done .same name)));
-            lighter = λ y w lw.
-                fired-lighter row positions b next bound cells m bound′ cells′ alive count done w (matched [] ∙ rw z) lw;
-            low = λ y. fired-low row positions b next bound cells m bound′ cells′ alive count done (s .given) (s .low);
-            few = done .few;
-          }
+        -- what the rest of the firing asks
+        pub stated-completes : Equated row b next (take (5 * k) c) × (5 * k + 30 ≤ length c)
+        stated-completes = (
+          kept-equated row positions b next goal m c k (kept .few) left
+              (record { given = s .given; bindings-size = given .size; room = s .room; low = rw all (s .low) }),
+          omega (arith, kept .few, s .space),
+        )
+
+        -- the rule has fired
+        pub stated-moves :
+            (bound bound′ cells′ : List ℕ) (alive : Bool) (count : ℕ)
+            → Fired row [] b next bound c k bound′ cells′ alive count
+            → FiredFrom row positions next bound goal m bound′ cells′ true alive count
+        unfolding fireRow fireAt fitOf storeOf
+        stated-moves bound bound′ cells′ alive count rest =
+            let done : Fired row positions b next bound goal m bound′ cells′ alive count =
+            kept-fired row positions b next goal m c k (kept .few) left bound bound′ cells′ alive count rest in
+            record {
+              rests = λ y. no-way-back y;
+              moves = λ y name. rw (matched name, z) (ap some (sym (rw all at (done .same name))));
+              lighter = λ y v lw.
+                  rw all at (fired-lighter row positions b next bound goal m bound′ cells′ alive count done v
+                  (rw all (matched [] ∙ rw z)) lw);
+              low = λ y.
+                  fired-low row positions b next bound goal m bound′ cells′ alive count done (s .given) (rw all (s .low));
+              few = done .few;
+            }

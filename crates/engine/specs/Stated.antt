@@ -1,7 +1,7 @@
 -- Matching and firing at stated positions.
---   matchRow, fireRow      the definitions, for a rule's row and a live state of cells
+--   matchRow, fireRow      the definitions, for a rule's row and the cells of a goal
 --   Stated                 what firing asks
---   FiredAt                what it promises
+--   FiredFrom              what it promises
 -- Assumes nothing.
 use Prim.Native.Nat.{ℕ, _+_, _*_, _≤_, _<_}
 use mathlib.Core.Bool.{Bool, true, false, cond}
@@ -28,32 +28,34 @@ unfoldable pub matchRow : List ℕ → List ℕ → List ℕ → Option Assignme
 matchRow row positions cells =
     matchAt (ruleOfRow [] row .heads) (statedAt row positions) (cellConstraints cells) [] unassigned
 
--- a rule of some name fired at its positions in the live state of m constraints
-unfoldable pub fireRow : List ℕ → List ℕ → List ℕ → ℕ → List ℕ → List ℕ → ℕ → Option State
-fireRow name row positions next bound cells m =
-    fireAt (ruleOfRow name row) (statedAt row positions) (live next (map cellTerm bound) (storeOf cells m))
+-- a rule of some name fired at its positions in the live state of a goal's constraints
+unfoldable pub fireRow : List ℕ → List ℕ → List ℕ → ℕ → List ℕ → List ℕ → Option State
+fireRow name row positions next bound goal =
+    fireAt (ruleOfRow name row) (statedAt row positions) (live next (map cellTerm bound) (cellConstraints goal))
 
--- what firing at stated positions asks: a rule, room for four positions, and for six constraints more than the m that there are
-pub record Stated (row positions : List ℕ) (next : ℕ) (cells : List ℕ) (m : ℕ) : Type 0 where
+-- what firing at stated positions asks: a rule, room for four positions, a goal of m constraints, and room for six more
+pub record Stated (row positions : List ℕ) (next : ℕ) (goal : List ℕ) (m : ℕ) (cells : List ℕ) : Type 0 where
   pub given : Row row
   pub positions-size : length positions ≡ 4
   pub room : next ≤ 65000
+  pub size : length goal ≡ constraintSize * m
   pub space : constraintSize * m + 30 ≤ length cells
-  pub low : every isLow (storeOf cells m) ≡ true
+  pub low : every isLow (cellConstraints goal) ≡ true
 
--- the state after firing, whatever the rule's name is, or the same state where the rule does not fit there
-pub record FiredAt (row positions : List ℕ) (next : ℕ) (bound cells : List ℕ) (m : ℕ) (bound′ cells′ : List ℕ)
+-- the state after firing, whatever the rule's name is, or the goal's where the rule does not fit there
+pub record FiredFrom (row positions : List ℕ) (next : ℕ) (bound goal : List ℕ) (m : ℕ) (bound′ cells′ : List ℕ)
     (fired alive : Bool) (count : ℕ) : Type 0 where
   pub rests :
       fired ≡ false
-      → (bound′ ≡ bound) × (cells′ ≡ cells) × ((name : List ℕ) → fireRow name row positions next bound cells m ≡ none)
+      → (bound′ ≡ bound) × (storeOf cells′ m ≡ cellConstraints goal)
+      × ((name : List ℕ) → fireRow name row positions next bound goal ≡ none)
   pub moves :
       fired ≡ true
-      → (name : List ℕ) → fireRow name row positions next bound cells m
+      → (name : List ℕ) → fireRow name row positions next bound goal
       ≡ some (stateOf alive (next + 26) bound′ (take (constraintSize * count) cells′))
   pub lighter :
       fired ≡ true
       → (w : ℕ → ℕ) → weightBy w (ruleOfRow [] row .body) < weightBy w (ruleOfRow [] row .heads)
-      → cond alive (weightBy w (storeOf cells′ count)) 0 < weightBy w (storeOf cells m)
+      → cond alive (weightBy w (storeOf cells′ count)) 0 < weightBy w (cellConstraints goal)
   pub low : fired ≡ true → alive ≡ true → every isLow (storeOf cells′ count) ≡ true
   pub few : count ≤ m + 6

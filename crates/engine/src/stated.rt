@@ -1,6 +1,8 @@
 // Matching and firing a rule at stated positions.
 use crate::derivation::Step;
-use crate::firing::fire;
+use crate::entering::copy_free;
+use crate::entering::copy_goal;
+use crate::firing::complete;
 use crate::matching::Fit;
 use crate::search::fit_at;
 use tables::layout::CONSTRAINT_SIZE;
@@ -13,7 +15,7 @@ ghost use lib.ListN.{length};
 ghost use Rattle.tables.specs.Layout.{constraintSize};
 ghost use Rattle.engine.specs.Cells.{Matched};
 ghost use Rattle.engine.specs.Positions.{Row};
-ghost use Rattle.engine.specs.Stated.{matchRow, Stated, FiredAt};
+ghost use Rattle.engine.specs.Stated.{matchRow, Stated, FiredFrom};
 
 // The heads of a rule against the constraints at its positions, in written order; no position may serve two heads.
 pub fn match_at(row: &[u16], positions: [usize; 4], cells: &[u16], m: usize) -> Fit
@@ -51,22 +53,24 @@ pub fn match_at(row: &[u16], positions: [usize; 4], cells: &[u16], m: usize) -> 
     }
 }
 
-// The state after firing a rule at stated positions, if it fits there.
-pub fn fire_at(
+// The state after firing a rule at stated positions of a goal of m constraints, if it fits there; otherwise the goal enters.
+// Only what the rule leaves is copied.
+pub fn fire_from(
     row: &[u16],
     positions: [usize; 4],
     next: u16,
+    goal: &[u16],
+    m: usize,
     bound: &mut [u16],
     cells: &mut [u16],
-    m: usize,
 ) -> Step
-    requires { ⌜ Stated (now row) positions next (now cells) m ⌝ }
-    ensures { λ r. ⌜ FiredAt (now (row .entry)) positions next (now (bound .entry)) (now (cells .entry)) m
+    requires { ⌜ Stated (now row) positions next (now goal) m (now cells) ⌝ }
+    ensures { λ r. ⌜ FiredFrom (now (row .entry)) positions next (now (bound .entry)) (now (goal .entry)) m
         (now (bound .exit)) (now (cells .exit)) (r .fired) (r .alive) (r .count) ⌝ }
 {
-    let e = CONSTRAINT_SIZE * m;
-    let fit = match_at(row, positions, &cells[..e], m);
+    let fit = match_at(row, positions, goal, m);
     if !fit.fits {
+        copy_goal(goal, cells);
         return Step {
             fired: false,
             alive: true,
@@ -74,7 +78,9 @@ pub fn fire_at(
         };
     }
     let bindings = fit.bindings;
-    let after = fire(row, positions, &bindings, next, bound, cells, m);
+    let n = wide(row[HEADS_CELL]);
+    let kept = copy_free(goal, m, &positions[..n], cells);
+    let after = complete(row, &bindings, next, bound, cells, kept);
     Step {
         fired: true,
         alive: after.alive,

@@ -1,5 +1,5 @@
 -- A side on cells is a side on states: one law for each way that the code goes.
---   side-begins                           the goal has entered, and the rule has fired or does not fit
+--   side-begins                           the rule has fired, or does not fit and the goal has entered
 --   side-follows, side-ended              what follows can be asked for, and its end is the side's
 --   side-rests, side-fails, side-ends     the rule does not fit, the state fails, the strategy follows
 -- Assumes nothing.
@@ -19,7 +19,7 @@ use Rattle.tables.specs.Layout.{firstRule}
 use Rattle.tables.specs.Cells.{cellTerm, cellConstraints, stateOf}
 use Rattle.tables.specs.Rows.{nameOf, ruleOf, rowOf}
 use Rattle.engine.specs.Runs.{weightBy, Lowers, storeOf, Continued}
-use Rattle.engine.specs.Stated.{statedAt, fireRow, Stated, FiredAt}
+use Rattle.engine.specs.Stated.{statedAt, fireRow, Stated, FiredFrom}
 use Rattle.engine.proofs.ChooseLaws.{lentRow, row-cells}
 use Rattle.engine.proofs.RunLaws.{count-weight, normalise-rests, failed-rests}
 use Rattle.engine.proofs.StepLaws.{no-way}
@@ -37,52 +37,42 @@ module _ (rules : List ℕ) (n i : ℕ) (positions goal : List ℕ) (m v : ℕ) 
       rw all at (count-weight (s .runs .weigh) goal m (s .runs .positive) (omega (arith, s .goal-size))) in
       omega (arith, s .runs .light)
 
-  -- the goal's cells find room
-  pub side-room : length goal ≤ length cells
-  side-room = omega (arith, side-few, s .goal-size, s .space)
+  -- what firing asks
+  pub side-stated : Stated (lentRow rules i) positions v goal m cells
+  side-stated =
+      record {
+        given = rw (row-cells i) (s .runs .table .rows i (s .rule));
+        positions-size = s .positions-size;
+        room = omega (arith, s .variables);
+        size = s .goal-size;
+        space = omega (arith, side-few, s .space);
+        low = s .runs .low;
+      }
 
-  module _ (cells₁ : List ℕ) (c : take (length goal) cells₁ ≡ goal) (size : length cells₁ ≡ length cells) where
-    -- the goal has entered
-    store : storeOf cells₁ m ≡ cellConstraints goal
-    unfolding storeOf
-    store = ap cellConstraints (ap (λ k. take k cells₁) (sym (s .goal-size)) ∙ c)
+  module _ (bound₁ : List ℕ) (b : map cellTerm bound₁ ≡ tabled var v) (bound₂ cells₂ : List ℕ) (fired alive : Bool) (count : ℕ)
+      (given : FiredFrom (lentRow rules i) positions v bound₁ goal m bound₂ cells₂ fired alive count) where
+    f : FiredFrom (rowOf rules i) positions v bound₁ goal m bound₂ cells₂ fired alive count
+    f = rw (row-cells i) at given
 
-    -- what firing asks
-    pub side-stated : Stated (lentRow rules i) positions v cells₁ m
-    side-stated =
+    -- the side's own firing
+    own :
+        (names : List ℕ)
+        → fireAt (ruleOf names rules i) (statedAt (rowOf rules i) positions) (goalState (cellGoal v goal))
+        ≡ fireRow (nameOf names (firstRule + i)) (rowOf rules i) positions v bound₁ goal
+    unfolding fireRow ruleOf goalState cellGoal
+    own names = rw b
+
+    -- the rule has fired, or does not fit
+    pub side-begins : Begun rules i positions goal m v bound₂ cells₂ fired alive count
+    side-begins =
         record {
-          given = rw (row-cells i) (s .runs .table .rows i (s .rule));
-          positions-size = s .positions-size;
-          room = omega (arith, s .variables);
-          space = omega (arith, side-few, size, s .space);
-          low = rw store (s .runs .low);
+          rests = λ z.
+              rw (f .rests z .0) (b, f .rests z .1, λ names. own names ∙ f .rests z .2 (nameOf names (firstRule + i)));
+          moves = λ z names. own names ∙ f .moves z (nameOf names (firstRule + i));
+          lighter = f .lighter;
+          low = f .low;
+          few = f .few;
         }
-
-    module _ (bound₁ : List ℕ) (b : map cellTerm bound₁ ≡ tabled var v) (bound₂ cells₂ : List ℕ) (fired alive : Bool) (count : ℕ)
-        (given : FiredAt (lentRow rules i) positions v bound₁ cells₁ m bound₂ cells₂ fired alive count) where
-      f : FiredAt (rowOf rules i) positions v bound₁ cells₁ m bound₂ cells₂ fired alive count
-      f = rw (row-cells i) at given
-
-      -- the side's own firing
-      own :
-          (names : List ℕ)
-          → fireAt (ruleOf names rules i) (statedAt (rowOf rules i) positions) (goalState (cellGoal v goal))
-          ≡ fireRow (nameOf names (firstRule + i)) (rowOf rules i) positions v bound₁ cells₁ m
-      unfolding fireRow ruleOf goalState cellGoal
-      own names = rw (b, store)
-
-      -- the rule has fired, or does not fit
-      pub side-begins : Begun rules i positions goal m v bound₂ cells₂ fired alive count
-      side-begins =
-          record {
-            rests = λ z.
-                rw (f .rests z .0, f .rests z .1)
-                (b, store, λ names. own names ∙ f .rests z .2 (nameOf names (firstRule + i)));
-            moves = λ z names. own names ∙ f .moves z (nameOf names (firstRule + i));
-            lighter = λ z w h. rw (← store) (f .lighter z w h);
-            low = f .low;
-            few = f .few;
-          }
 
   -- what follows can be asked for
   pub side-follows :

@@ -2,15 +2,14 @@
 use engine::derivation::Final;
 use engine::derivation::Step;
 use engine::derivation::normalise_from;
-use engine::entering::copy_goal;
 use engine::entering::start_bound;
-use engine::stated::fire_at;
+use engine::stated::fire_from;
 use tables::layout::ROW_SIZE;
 ghost use lib.ListN.{length};
 ghost use Rattle.sides.specs.Sides.{Sidable, Beginnable, Begun, Followable, Followed, Sided};
 
-// A side's own firing: the goal of m constraints enters, with as many variables as `bound` has cells, and the rule of a number
-// fires at its positions, if it fits there.
+// A side's own firing: the rule of a number fires at its positions of the goal, which has m constraints and as many variables as
+// `bound` has cells. If it does not fit there, the goal enters as it is.
 pub fn begin(
     rules: &[u16],
     rule: usize,
@@ -25,11 +24,10 @@ pub fn begin(
         (now (bound .exit)) (now (cells .exit)) (r .fired) (r .alive) (r .count) ⌝ }
 {
     let next = bound.len() as u16;
-    copy_goal(goal, cells);
     start_bound(bound);
     let a = ROW_SIZE * rule;
     let b = a + ROW_SIZE;
-    fire_at(&rules[a..b], positions, next, bound, cells, m)
+    fire_from(&rules[a..b], positions, next, goal, m, bound, cells)
 }
 
 // The end of a side that began so: the strategy follows. Where the rule did not fit, the goal is the end.
