@@ -1,0 +1,2 @@
+-- Laws of weights and of variables that every renaming must pair. Assumes nothing.
+pub mod ForcedLaws

@@ -1,0 +1,1 @@
+// Variables that every renaming of two states must pair.
