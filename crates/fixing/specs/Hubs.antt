@@ -3,7 +3,7 @@
 --   Topped         what finding the heaviest variable promises
 --   Paired         two variables that are single, of one weight
 --   Fixable        what finding such variables asks
---   Fixed          what it promises of tables of weights, and of two states
+--   Fixed, Forced  what it promises, of tables of weights and of two states
 -- Assumes nothing.
 use Prim.Native.Nat.{ℕ, _≤_, _<_}
 use mathlib.Core.Bool.{Bool, true}
@@ -50,10 +50,10 @@ pub record Fixed (k k′ : ℕ) (f g f′ g′ left right : List ℕ) : Type 0 w
   pub left-below : Below (length left) (take k f) → Below (length left) (take k′ f′)
   pub right-below : Below (length right) (take k g) → Below (length right) (take k′ g′)
 
--- the same of two states whose terms lie below a size
-pub record Forced (k k′ size : ℕ) (a b f g f′ g′ : List ℕ) : Type 0 where
+-- the same of two states, whose cells lie below m and n
+pub record Forced (k k′ m n : ℕ) (a b f g f′ g′ : List ℕ) : Type 0 where
   pub grown : k ≤ k′
   pub within : k′ ≤ length f
   pub same : sameState (endOf (take k′ f′) a) (endOf (take k′ g′) b) ≡ sameState (endOf (take k f) a) (endOf (take k g) b)
-  pub left-below : Below size (take k′ f′)
-  pub right-below : Below size (take k′ g′)
+  pub left-below : Below m (take k′ f′)
+  pub right-below : Below n (take k′ g′)
