@@ -3,13 +3,11 @@
 --   weight-partner     a term with a weight has a partner
 --   forced             so such variables may be added to what is paired already
 -- Assumes nothing.
-use Prim.Native.Nat.{ℕ, suc, _+_, _-_, _%_, _^_, _≤_, _<_}
-use native.Mathlib.Nat.{mod-add-mod}
+use Prim.Native.Nat.{ℕ, _+_, _-_, _^_, _≤_, _<_}
 use native.Mathlib.Omega.{arith}
 use mathlib.Core.Bool.{Bool, true, false, cond, _||_}
 use mathlib.Core.List.{List, [], _∷_, _++_, map, map-append}
 use mathlib.Core.Path.{_≡_, refl, sym, ap, ap₂, _∙_, subst}
-use lib.Dec.{eqb}
 use lib.ListN.{length, length-map}
 use Rattle.text.specs.Lists.{has}
 use Rattle.semantics.specs.Terms.{Term, con, var, Constraint, sameTerm}
@@ -17,20 +15,19 @@ use Rattle.semantics.specs.Variants.{OneToOne, TermVariant, sameCon, partners, 
 use Rattle.semantics.specs.Variants.{Inserted, here, there, SameMultiset, done, put, sameState}
 use Rattle.semantics.proofs.Configurations.{Or, inl, inr}
 use Rattle.semantics.proofs.Multisets.{pointwise-append, pointwise-parts}
-use Rattle.semantics.proofs.Options.{decide, true-false, same-equal}
+use Rattle.semantics.proofs.Options.{decide, same-equal}
 use Rattle.tables.specs.Cells.{cellTerm, cellConstraints}
-use Rattle.tables.proofs.CellLaws.{eqb-iff, same-cell, cell-high}
+use Rattle.tables.proofs.CellLaws.{same-cell, cell-high}
 use Rattle.colours.specs.Ends.{endOf}
 use Rattle.colours.proofs.RowLaws.{pointwise-at}
+use Rattle.colours.proofs.AgreeLaws.{mod-swap, same-agree}
 use Rattle.colours.proofs.ClassLaws.{same-iff}
 use Rattle.fixing.specs.Weights.{plus, tripled, weighed, weightIn, freeWeight}
 
 -- sums may be made in any order
 plus-swap : (t a b : ℕ) → plus (plus t a) b ≡ plus (plus t b) a
 unfolding plus
-plus-swap t a b =
-    let e : t + a + b ≡ t + b + a = omega arith in
-    mod-add-mod (t + a) (2 ^ 16) b ∙ (ap (λ n. n % 2 ^ 16) e ∙ sym (mod-add-mod (t + b) (2 ^ 16) a))
+plus-swap t a b = mod-swap (2 ^ 16) t a b
 
 -- so may the weight in terms and another number
 weighed-plus : (t : Term) (f : ℕ) (us : List Term) (w a : ℕ) → weighed t f us (plus w a) ≡ plus (weighed t f us w) a
@@ -70,15 +67,6 @@ weight-inserted t {c} (there {b = d} {l = l} i) w =
     ap (weightIn t l) (weighed-swap t 1 (d .terms) 1 (c .terms) w) ∙ weight-inserted t i (weighed t 1 (d .terms) w)
 
 module _ (ρ : ℕ → ℕ → Type 0) (o : OneToOne ρ) where
-  -- terms are the same where their partners are
-  same-agree : {s t u w : Term} → TermVariant ρ s t → TermVariant ρ u w → sameTerm s u ≡ sameTerm t w
-  unfolding sameTerm
-  same-agree sameCon sameCon = refl
-  same-agree sameCon (partners q) = refl
-  same-agree (partners r) sameCon = refl
-  same-agree (partners {x = x} {y = y} r) (partners {x = z} {y = w} q) =
-      eqb-iff x z y w (λ e. o .0 x y w r (rw (sym e) at q)) (λ e. o .1 x z y r (rw (sym e) at q))
-
   -- the weight in terms
   weighed-agree :
       {s t : Term} → TermVariant ρ s t → {us vs : List Term} → Pointwise (TermVariant ρ) us vs → (f w : ℕ)
@@ -87,7 +75,7 @@ module _ (ρ : ℕ → ℕ → Type 0) (o : OneToOne ρ) where
   weighed-agree r empty f w = refl
   weighed-agree {s} {t} r (each {a = u} {b = v} {m = vs} q p) f w =
       weighed-agree r p (tripled f) (cond (sameTerm s u) (plus w f) w)
-      ∙ ap (λ b. weighed t (tripled f) vs (cond b (plus w f) w)) (same-agree r q)
+      ∙ ap (λ b. weighed t (tripled f) vs (cond b (plus w f) w)) (same-agree ρ o r q)
 
   -- a term that a list of terms gives a weight to has a partner
   weighed-partner :
@@ -140,7 +128,7 @@ module _ (ρ : ℕ → ℕ → Type 0) (o : OneToOne ρ) where
   has-agree x z r [] (y ∷ g) p = elim p [ ]
   has-agree x z r (y ∷ f) [] p = elim p [ ]
   has-agree x z r (y ∷ f) (w ∷ g) (each q p) =
-      ap₂ _||_ (sym (same-cell x y) ∙ (same-agree r q ∙ same-cell z w)) (has-agree x z r f g p)
+      ap₂ _||_ (sym (same-cell x y) ∙ (same-agree ρ o r q ∙ same-cell z w)) (has-agree x z r f g p)
 
   module _ (f g a b : List ℕ) (p : Pointwise (TermVariant ρ) (map cellTerm f) (map cellTerm g))
       (s : SameMultiset (ConstraintVariant ρ) (cellConstraints a) (cellConstraints b)) where

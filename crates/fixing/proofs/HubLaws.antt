@@ -7,15 +7,14 @@
 use Prim.Native.Nat.{ℕ, zero, suc, _+_, _≤_, _<_}
 use native.Mathlib.Omega.{arith}
 use native.Mathlib.Numerals.{add-one}
-use mathlib.Core.Bool.{Bool, true, false, cond}
+use mathlib.Core.Bool.{Bool, true, false}
 use mathlib.Core.List.{List, [], _∷_, _++_}
-use mathlib.Core.Logic.{_⊎_, inl, inr, ⊎-elim}
-use mathlib.Core.Path.{_≡_, refl, sym, ap, _∙_, subst₂}
+use mathlib.Core.Logic.{_⊎_, inl, inr}
+use mathlib.Core.Path.{_≡_, refl, sym, _∙_}
 use lib.Dec.{eqb, ltb}
 use lib.ListN.{length, getD, set, take, replicate, length-set, List·getD-eq-default}
 use lib.Seq.{getD-set-same, getD-set-other, take-suc-set, length-take-le}
 use borrow.Author.Tests.{eqb-true, eqb-false, ltb-true}
-use Rattle.text.specs.Lists.{has}
 use Rattle.semantics.specs.Variants.{sameState}
 use Rattle.semantics.proofs.Options.{true-false}
 use Rattle.semantics.proofs.Removal.{has-last, has-other}
@@ -26,7 +25,7 @@ use Rattle.colours.specs.Ends.{endOf}
 use Rattle.colours.specs.Classes.{Colourable}
 use Rattle.colours.proofs.ClassLaws.{zeros-length}
 use Rattle.fixing.specs.Weights.{freeWeight, Free}
-use Rattle.fixing.specs.Hubs.{Single, Topped, Paired, Fixable, Fixed, Forced}
+use Rattle.fixing.specs.Hubs.{Topped, Paired, Fixable, Fixed, Forced}
 use Rattle.fixing.proofs.ForcedLaws.{forced}
 
 -- the heaviest of the variables before i

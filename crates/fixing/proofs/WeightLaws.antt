@@ -8,20 +8,20 @@ use Prim.Native.Nat.{ℕ, suc, _+_, _*_, _≤_, _<_}
 use native.Mathlib.Omega.{arith}
 use native.Mathlib.Numerals.{add-one}
 use mathlib.Core.Bool.{Bool, true, false, cond, _||_}
-use mathlib.Core.List.{List, [], _∷_}
+use mathlib.Core.List.{List, _∷_}
 use mathlib.Core.Logic.{_⊎_, inl, inr}
-use mathlib.Core.Path.{_≡_, refl, sym, ap, _∙_}
+use mathlib.Core.Path.{_≡_, refl, ap, _∙_}
 use lib.Dec.{eqb}
 use lib.ListN.{length, getD, set, take, drop, length-set, drop-of-length-le}
 use lib.Seq.{getD-set-same, getD-set-other, drop-cons}
 use borrow.Author.Tests.{eqb-true, eqb-false}
 use Rattle.text.specs.Lists.{has}
-use Rattle.semantics.specs.Terms.{Term, Constraint}
+use Rattle.semantics.specs.Terms.{Term}
 use Rattle.tables.specs.Cells.{cellTerm, cellTerms, cellConstraints, rowConstraint}
 use Rattle.tables.proofs.CellLaws.{either, same-cell, terms-none, terms-more, constraints-at}
 use Rattle.colours.specs.Bounds.{Below}
 use Rattle.colours.specs.Colours.{withTerms, Empty}
-use Rattle.colours.proofs.ColourLaws.{terms-end, lent, lentTerms, lent-constraint}
+use Rattle.colours.proofs.ColourLaws.{terms-end, lentTerms, lent-constraint}
 use Rattle.fixing.specs.Weights.{plus, tripled, weighed, weightIn, freeWeight, RowWeighed, Weighed, Lightened, Free}
 
 -- the terms from i on, from the weights by now, give the weights for all

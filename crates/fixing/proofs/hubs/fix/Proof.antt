@@ -1,6 +1,6 @@
 -- `fix` meets its contract: the used cells are paired by now.
 -- Assumes nothing.
-use Prim.Native.Nat.{_-_, _<_}
+use Prim.Native.Nat.{_-_}
 use borrow.Author.Needs.{needs}
 use native.Mathlib.Omega.{arith}
 use mathlib.Core.Path.{sym}
@@ -34,9 +34,10 @@ loop-holds c = fix-start _ _ _ _ _ (c .before .before .before .before .pre)
 find-tops-requires : tie.Need-find-tops-requires Inv-loop μ-loop
 find-tops-requires c κs =
     let at-loop = c .before .before .before in
-    let start = at-loop .before .before .before .before .before in
-    (omega (arith, at-loop .loop .inv .left-size, start .pre .left-size),
-     omega (arith, at-loop .loop .inv .right-size, start .pre .right-size))
+    let start = at-loop .before .before .before .before .before in (
+      omega (arith, at-loop .loop .inv .left-size, start .pre .left-size),
+      omega (arith, at-loop .loop .inv .right-size, start .pre .right-size),
+    )
 
 returns : tie.Need-returns Inv-loop μ-loop
 returns c = fix-done _ _ _ _ _ _ _ _ _ _ (c .before .before .before .before .before .before .loop .inv)

@@ -1,6 +1,5 @@
 -- `free_weights` meets its contract: all are weighed, and those of paired cells set to zero.
 -- Assumes nothing.
-use mathlib.Core.Path.{_∙_}
 use borrow.Author.Needs.{needs}
 use Rattle.fixing.proofs.WeightLaws.{free-done}
 use Rattle.fixing.proofs.weights.free_weights.Statement.{statement}
