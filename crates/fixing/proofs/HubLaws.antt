@@ -3,6 +3,7 @@
 --   tops-…          those of two states
 --   fix-…           they are added to what is paired
 --   forced-done, zeros-…    of two states, and with tables of zeros
+--   longer-…        the longer lists can be compared and coloured with
 -- Assumes nothing.
 use Prim.Native.Nat.{ℕ, zero, suc, _+_, _≤_, _<_}
 use native.Mathlib.Omega.{arith}
@@ -277,3 +278,18 @@ pub zeros-forced :
     → Forced k k′ (length {A = ℕ} (take size (replicate 2844 0))) (length {A = ℕ} (take size (replicate 2844 0))) a b f g f′ g′
     → Forced k k′ size size a b f g f′ g′
 zeros-forced k k′ size a b f g f′ g′ h p = rw (zeros-length size 2844 h) at p
+
+-- the longer lists are as long as each other, and both states can be coloured with them
+module _ (k k′ m n : ℕ) (a b f g f′ g′ : List ℕ) (p : Forced k k′ m n a b f g f′ g′) where
+  pub longer-lengths :
+      length g ≡ length f → length f′ ≡ length f → length g′ ≡ length g → length (take k′ f′) ≡ length (take k′ g′)
+  longer-lengths e u v =
+      length-take-le k′ f′ (omega (arith, p .within)) ∙ sym (length-take-le k′ g′ (omega (arith, p .within)))
+
+  pub longer-left : (bound : List ℕ) (c : ℕ) → Colourable a bound m c → Colourable a (take k′ f′) m c
+  longer-left bound c h =
+      record { count = h .count; room = h .room; terms = h .terms; bound-below = p .left-below }
+
+  pub longer-right : (bound : List ℕ) (c : ℕ) → Colourable b bound n c → Colourable b (take k′ g′) n c
+  longer-right bound c h =
+      record { count = h .count; room = h .room; terms = h .terms; bound-below = p .right-below }
