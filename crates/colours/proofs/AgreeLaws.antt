@@ -1,6 +1,7 @@
 -- What a renaming cannot change: colours, signatures, digests and keys of two states that it makes equal are the same.
 --   Agree               colours that a renaming keeps
 --   folded-multiset     steps in any order
+--   mod-swap, same-agree    sums with a remainder, and equal terms
 --   refined-agree       a round keeps that
 --   key-agree           the keys of constraints that a renaming makes equal are the same
 -- Assumes nothing.
@@ -49,7 +50,7 @@ folded-multiset f g same comm (put {a = a} {b = b} {l = l} r i s) n =
     ap (folded f l) (same a b n r) ∙ (folded-multiset f g same comm s (g b n) ∙ inserted-folded g comm i n)
 
 -- sums with a remainder may be made in any order
-mod-swap : (m t a b : ℕ) → ((t + a) % m + b) % m ≡ ((t + b) % m + a) % m
+pub mod-swap : (m t a b : ℕ) → ((t + a) % m + b) % m ≡ ((t + b) % m + a) % m
 mod-swap m t a b =
     let e : t + a + b ≡ t + b + a = omega arith in
     mod-add-mod (t + a) m b ∙ (ap (λ n. n % m) e ∙ sym (mod-add-mod (t + b) m a))
@@ -113,7 +114,7 @@ module _ (ρ : ℕ → ℕ → Type 0) (o : OneToOne ρ) where
       signed-agree κ ν a (v .terms) (c .symbol) ∙ ap (λ k. signed ν k (d .terms)) (v .symbols)
 
   -- terms are the same where their partners are
-  same-agree : {s t u w : Term} → TermVariant ρ s t → TermVariant ρ u w → sameTerm s u ≡ sameTerm t w
+  pub same-agree : {s t u w : Term} → TermVariant ρ s t → TermVariant ρ u w → sameTerm s u ≡ sameTerm t w
   unfolding sameTerm
   same-agree sameCon sameCon = refl
   same-agree sameCon (partners q) = refl
