@@ -45,38 +45,40 @@ module _ (row cells : List ℕ) (m w : ℕ) (r : Row row) (k : length cells ≡ 
   heads-cells : 6 + 5 * w - 6 ≡ 5 * getD row 3 0
   heads-cells = omega arith
 
-  -- what the search for a rule's heads asks
-  pub rule-seeking : Seeking (take (6 + 5 * w - 6) (drop 6 row)) w w cells m (replicate 4 0) (replicate 26 0)
-  unfolding ruleOfRow
-  rule-seeking =
-      record {
-        heads-size = length-take-le (6 + 5 * w - 6) (drop 6 row)
-            (omega (arith, length-drop 6 row, r .size, r .heads-few)) ∙ omega arith;
-        few = omega (arith, r .heads-few);
-        there = omega arith;
-        cells-size = k;
-        chosen-size = refl;
-        bindings-size = refl;
-        letters = rw (heads-cells, none-placed) (r .heads);
-      }
+  module _ (positions : List ℕ) (four : length positions ≡ 4) where
+    -- what the search for a rule's heads asks
+    pub rule-seeking : Seeking (take (6 + 5 * w - 6) (drop 6 row)) w w cells m positions (replicate 26 0)
+    unfolding ruleOfRow
+    rule-seeking =
+        record {
+          heads-size = length-take-le (6 + 5 * w - 6) (drop 6 row)
+              (omega (arith, length-drop 6 row, r .size, r .heads-few)) ∙ omega arith;
+          few = omega (arith, r .heads-few);
+          there = omega arith;
+          cells-size = k;
+          chosen-size = four;
+          bindings-size = refl;
+          letters = rw (heads-cells, none-placed) (r .heads);
+        }
 
-  -- what is known of all heads
-  pub rule-barren :
-      (from : ℕ) → Barren (ruleOfRow [] row .heads) (cellConstraints cells) [] unassigned from
-      → Barren (cellConstraints (drop (5 * (w - w)) (take (6 + 5 * w - 6) (drop 6 row)))) (cellConstraints cells)
-      (take (w - w) (replicate 4 0)) (assigned (replicate 26 0)) from
-  unfolding ruleOfRow
-  rule-barren from b = rw (heads-cells, none-placed, zeros-unassigned) b
+    -- what is known of all heads
+    pub rule-barren :
+        (from : ℕ) → Barren (ruleOfRow [] row .heads) (cellConstraints cells) [] unassigned from
+        → Barren (cellConstraints (drop (5 * (w - w)) (take (6 + 5 * w - 6) (drop 6 row)))) (cellConstraints cells)
+        (take (w - w) positions) (assigned (replicate 26 0)) from
+    unfolding ruleOfRow
+    rule-barren from b = rw (heads-cells, none-placed, zeros-unassigned) b
 
-  -- what it answers
-  pub rule-located :
-      (f : Bool) (ps b : List ℕ)
-      → Located f w ps b (find (cellConstraints (drop (5 * (w - w)) (take (6 + 5 * w - 6) (drop 6 row))))
-      (cellConstraints cells)
-      (take (w - w) (replicate 4 0)) (assigned (replicate 26 0)))
-      → Located f (getD row 3 0) ps b (find (ruleOfRow [] row .heads) (cellConstraints cells) [] unassigned)
-  unfolding ruleOfRow
-  rule-located f ps b l = let k : 6 + 5 * w - 6 ≡ 5 * w = omega arith in rw (← e) (rw (k, none-placed, zeros-unassigned) at l)
+    -- what it answers
+    pub rule-located :
+        (f : Bool) (ps b : List ℕ)
+        → Located f w ps b (find (cellConstraints (drop (5 * (w - w)) (take (6 + 5 * w - 6) (drop 6 row))))
+        (cellConstraints cells)
+        (take (w - w) positions) (assigned (replicate 26 0)))
+        → Located f (getD row 3 0) ps b (find (ruleOfRow [] row .heads) (cellConstraints cells) [] unassigned)
+    unfolding ruleOfRow
+    rule-located f ps b l =
+        let k : 6 + 5 * w - 6 ≡ 5 * w = omega arith in rw (← e) (rw (k, none-placed, zeros-unassigned) at l)
 
 -- the entries of a table
 pub length-tabled : {A : Type 0} (f : ℕ → A) (n : ℕ) → length (tabled f n) ≡ n
@@ -161,16 +163,17 @@ choosing-start rules n cells = record { within = omega arith; same = λ names. r
 
 module _ (rules : List ℕ) (n : ℕ) (cells : List ℕ) (m i : ℕ) (given : Table rules n) (w : Choosing rules n cells i) where
   -- no rule is left
-  pub choosing-none : n ≤ i → Chosen rules n cells false n (replicate 4 0) (replicate 26 0)
+  pub choosing-none :
+      n ≤ i → (ps b : List ℕ) → length ps ≡ 4 → length b ≡ 26 → Chosen rules n cells false n ps b
   unfolding choiceOf foundOf rulesOf chooseFrom
-  choosing-none l =
+  choosing-none l ps b four letters =
       record {
         same = λ names. rw (drop-of-length-le (tabled (ruleOf names rules) n) {i = i}
             (omega (arith, length-tabled (ruleOf names rules) n))) at (w .same names);
         within = λ (z : false ≡ true). let y : _≡_ {A = ℕ} 0 1 = cc in absurd (omega arith);
         fits = λ (z : false ≡ true). let y : _≡_ {A = ℕ} 0 1 = cc in absurd (omega arith);
-        positions-size = refl;
-        bindings-size = refl;
+        positions-size = four;
+        bindings-size = letters;
       }
 
   module _ (l : i < n) where

@@ -7,10 +7,10 @@ use mathlib.Core.Bool.{Bool, true, false, cond, _||_}
 use mathlib.Core.List.{List, [], _∷_, _++_}
 use mathlib.Core.Option.{Option, none}
 use mathlib.Core.Logic.{⊎-elim}
-use mathlib.Core.Path.{_≡_, refl, sym, ap, _∙_}
+use mathlib.Core.Path.{_≡_, refl, sym, ap, subst, _∙_}
 use lib.Dec.{eqb, ltb}
 use lib.ListN.{length, getD, set, take, drop, length-set, drop-of-length-le, length-drop}
-use lib.Seq.{drop-cons, getD-take, getD-drop, length-take-le, take-suc-set}
+use lib.Seq.{drop-cons, getD-take, getD-drop, length-take-le, take-suc-set, take-take, take-set-le}
 use borrow.Author.Tests.{eq-eqb, ne-eqb, eqb-true}
 use Rattle.text.specs.Lists.{bind, orElse, has, every}
 use Rattle.semantics.specs.Terms.{Constraint, isBelow, alphabet}
@@ -337,3 +337,84 @@ seek-fits n left heads cells m chosen bindings s l p w k f b given z o =
     seek-found n left heads cells m chosen bindings s l p w k f b given z true (set chosen (n - left) p) b
     (seek-done n (left - 1) heads cells m (set chosen (n - left) p) b
     (seek-next n left heads cells m chosen bindings s l p b (given .size)) (omega arith)) refl
+
+-- the search goes on with the positions and bindings of its start: those of the heads before are as they were
+pub record Hunting (heads : List ℕ) (n left : ℕ) (cells : List ℕ) (m : ℕ) (chosen₀ bindings₀ chosen bindings : List ℕ) (p : ℕ)
+    : Type 0 where
+  pub seeking : Seeking heads n left cells m chosen bindings
+  pub sought : Sought heads (n - left) cells m chosen bindings p
+  pub kept : take (n - left) chosen ≡ take (n - left) chosen₀
+  pub same : bindings ≡ bindings₀
+
+pub hunting-start :
+    (heads : List ℕ) (n left : ℕ) (cells : List ℕ) (m : ℕ) (chosen bindings : List ℕ) (p : ℕ)
+    → Seeking heads n left cells m chosen bindings → Sought heads (n - left) cells m chosen bindings p
+    → Hunting heads n left cells m chosen bindings chosen bindings p
+hunting-start heads n left cells m chosen bindings p s w = record { seeking = s; sought = w; kept = refl; same = refl }
+
+module _ (heads : List ℕ) (n left : ℕ) (cells : List ℕ) (m : ℕ) (chosen₀ bindings₀ chosen bindings : List ℕ) (p : ℕ)
+    (w : Hunting heads n left cells m chosen₀ bindings₀ chosen bindings p) where
+  -- at another position
+  pub hunting-at :
+      (q : ℕ) → Sought heads (n - left) cells m chosen bindings q
+      → Hunting heads n left cells m chosen₀ bindings₀ chosen bindings q
+  hunting-at q v = record { seeking = w .seeking; sought = v; kept = w .kept; same = w .same }
+
+  -- behind a stretch of positions whose constraints are not wanted
+  pub hunting-past :
+      (left ≡ 0 → ⊥) → (one two r : ℕ) → one ≡ wantedAt bindings₀ (lent heads (n - left)) 1
+      → two ≡ wantedAt bindings₀ (lent heads (n - left)) 2 → FirstWanted (getD (lent heads (n - left)) 0 0) one two cells p m r
+      → Hunting heads n left cells m chosen₀ bindings₀ chosen bindings r
+  hunting-past l one two r a b f =
+      hunting-at r (seek-past n left heads cells m chosen bindings (w .seeking) l p (w .sought) one two r (rw (w .same) a)
+      (rw (w .same) b) f)
+
+  -- what is known of the heads that are left
+  pub hunting-barren :
+      (hs cs : List Constraint) (from : ℕ) → Barren hs cs (take (n - left) chosen₀) (assigned bindings₀) from
+      → Barren hs cs (take (n - left) chosen) (assigned bindings) from
+  hunting-barren hs cs from b = rw (w .kept, w .same) b
+
+  -- the answer is that of the start
+  pub hunting-located :
+      (r : Bool) (ps b : List ℕ) → Located r n ps b (answer heads (n - left) cells chosen bindings)
+      → (s : Bool) → r ≡ s → Located s n ps b (answer heads (n - left) cells chosen₀ bindings₀)
+  hunting-located r ps b l s e = rw (← e, ← w .kept, ← w .same) l
+
+  -- the positions before are kept where those up to this head are those that were chosen
+  pub hunting-kept :
+      (left ≡ 0 → ⊥) → (q : ℕ) (ps : List ℕ) → take (n - (left - 1)) ps ≡ take (n - (left - 1)) (set chosen (n - left) q)
+      → take (n - left) ps ≡ take (n - left) chosen₀
+  hunting-kept l q ps e =
+      let few : n - left ≤ n - (left - 1) = omega (arith, w .seeking .there) in
+      sym (take-take (n - left) (n - (left - 1)) ps few) ∙ ap (take (n - left)) e
+      ∙ take-take (n - left) (n - (left - 1)) (set chosen (n - left) q) few
+      ∙ take-set-le (n - left) chosen (n - left) q (omega arith) ∙ w .kept
+
+  -- and the search goes on
+  pub hunting-again :
+      (left ≡ 0 → ⊥) → (q : ℕ) (ps : List ℕ) → take (n - (left - 1)) ps ≡ take (n - (left - 1)) (set chosen (n - left) q)
+      → length ps ≡ 4 → (r : ℕ) → Sought heads (n - left) cells m chosen bindings r
+      → Hunting heads n left cells m chosen₀ bindings₀ ps bindings r
+  hunting-again l q ps e size r v =
+      let same-front : take (n - left) ps ≡ take (n - left) chosen = hunting-kept l q ps e ∙ sym (w .kept) in
+      let front-gives : List ℕ → Type 0 =
+      λ front. firstIn r (cellConstraints (drop (5 * r) cells))
+      (λ i c. cond (has i front) none
+      (bind (matchConstraint (headAt heads (n - left)) c (assigned bindings))
+      (find (cellConstraints (drop (5 * suc (n - left)) heads)) (cellConstraints cells) (front ++ (i ∷ [])))))
+      ≡ find (cellConstraints (drop (5 * (n - left)) heads)) (cellConstraints cells) front (assigned bindings) in
+      record {
+        seeking = record {
+          heads-size = w .seeking .heads-size;
+          few = w .seeking .few;
+          there = w .seeking .there;
+          cells-size = w .seeking .cells-size;
+          chosen-size = size;
+          bindings-size = w .seeking .bindings-size;
+          letters = w .seeking .letters;
+        };
+        sought = record { within = v .within; same = subst front-gives (sym same-front) (v .same) };
+        kept = hunting-kept l q ps e;
+        same = w .same;
+      }

@@ -40,14 +40,17 @@ module _ (rules : List ℕ) (n : ℕ) (cells : List ℕ) (m next : ℕ) (s : Liv
   -- the choice may be lent any first rules of the table
   pub step-chooses :
       (known last : List ℕ) (gone : ℕ) → Knows rules n known last gone (storeOf cells m) → gone + m ≤ 6000 → (k : ℕ) → k ≤ n
+      → (ps b : List ℕ) → length ps ≡ 4 → length b ≡ 26
       → Table rules k × (length (take (5 * m) cells) ≡ 5 * m) × (gone + m ≤ 6000)
-      × Knows rules k known last gone (cellConstraints (take (5 * m) cells))
+      × Knows rules k known last gone (cellConstraints (take (5 * m) cells)) × (length ps ≡ 4) × (length b ≡ 26)
   unfolding storeOf
-  step-chooses known last gone ks few k h = (
+  step-chooses known last gone ks few k h ps b four letters = (
     record { size = omega (arith, s .table .size); rows = λ i l. s .table .rows i (omega arith) },
     sym step-lent,
     few,
     record { noted = λ i l. ks .noted i (omega arith); bounded = ks .bounded },
+    four,
+    letters,
   )
 
   -- the constraints after a firing lie within the cells

@@ -2,6 +2,7 @@
 use crate::firing::fire_front;
 use crate::firing::make_room;
 use crate::firing::move_down;
+use crate::known::Stage;
 use crate::known::remember;
 use crate::search::choose;
 use tables::layout::CONSTRAINT_SIZE;
@@ -31,13 +32,6 @@ pub struct Forward {
     pub gone: usize,
 }
 
-// How far a derivation is: the constraints there are, the next variable, and how many constraints firings have removed.
-pub struct Stage {
-    pub count: usize,
-    pub next: u16,
-    pub gone: usize,
-}
-
 // The strategy's firing, if a rule fits.
 pub fn advance(
     rules: &[u16],
@@ -61,7 +55,9 @@ pub fn advance(
     let m = stage.count;
     let gone = stage.gone;
     let e = CONSTRAINT_SIZE * m;
-    let choice = choose(rules, n, known, last, &cells[..e], m, gone);
+    let mut positions = [0; 4];
+    let mut bindings = [0; 26];
+    let choice = choose(rules, n, known, last, &cells[..e], stage, &mut positions, &mut bindings);
     if !choice.found {
         return Forward {
             fired: false,
@@ -72,8 +68,6 @@ pub fn advance(
         };
     }
     let number = choice.number;
-    let positions = choice.positions;
-    let bindings = choice.bindings;
     let a = ROW_SIZE * number;
     let b = a + ROW_SIZE;
     let row = &rules[a..b];

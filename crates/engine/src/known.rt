@@ -20,6 +20,13 @@ ghost use Rattle.engine.specs.Known.{loose, prefixOf, hasSymbol, isConce
 // More than `whole` becomes: from it on a number tells of the first constraints only.
 pub const LOOSE: usize = 8192;
 
+// How far a derivation is: the constraints there are, the next variable, and how many constraints firings have removed.
+pub struct Stage {
+    pub count: usize,
+    pub next: u16,
+    pub gone: usize,
+}
+
 // What is known of rule i; nothing behind the table's end.
 pub fn known_at(known: &[u16], i: usize) -> usize
     ensures { λ r. ⌜ r ≡ getD (now (known .entry)) i loose ⌝ }

@@ -1,5 +1,6 @@
 // The search for positions head by head, and the choice of a rule.
 use crate::known::LOOSE;
+use crate::known::Stage;
 use crate::known::has_symbol;
 use crate::known::is_concerned;
 use crate::known::known_at;
@@ -29,13 +30,6 @@ ghost use Rattle.tables.specs.Rows.{ruleOfRow};
 ghost use Rattle.engine.specs.Cells.{assigned, Rows, Matched, FirstWanted};
 ghost use Rattle.engine.specs.Positions.{Seeking, Located, Row, Table, Chosen};
 ghost use Rattle.engine.specs.Known.{Barren, prefixOf, Noted, Knows, Possible};
-
-// Whether positions were found, with them and the bindings under which the heads fit there.
-pub struct Found {
-    pub positions: [usize; 4],
-    pub bindings: [u16; 26],
-    pub found: bool,
-}
 
 // Whether a position is among the first h that are chosen.
 pub fn is_chosen(chosen: [usize; 4], h: usize, p: usize) -> bool
@@ -102,38 +96,36 @@ pub fn seek(cells: &[u16], p: usize, m: usize, symbol: u16, one: u16, two: u16) 
     m
 }
 
-// Positions for the heads that are left, each over the positions still free: the first that lets the later heads fit too.
+// Positions for the heads that are left, each over the positions still free: the first that lets the later heads fit too. They
+// stand behind those chosen before, and the bindings under which all fit are put in; where there are none, false.
 pub fn find(
     heads: &[u16],
     n: usize,
     left: usize,
     cells: &[u16],
     m: usize,
-    chosen: [usize; 4],
-    bindings: [u16; 26],
+    chosen: &mut [usize; 4],
+    bindings: &mut [u16; 26],
     from: usize,
-) -> Found
-    requires { ⌜ Seeking (now heads) n left (now cells) m chosen bindings
+) -> bool
+    requires { ⌜ Seeking (now heads) n left (now cells) m (now chosen) (now bindings)
         × Barren (cellConstraints (drop (constraintSize * (n - left)) (now heads))) (cellConstraints (now cells))
-        (take (n - left) chosen) (assigned bindings) from × (from ≤ m) ⌝ }
-    ensures { λ r. ⌜ Located (r .found) n (r .positions) (r .bindings)
+        (take (n - left) (now chosen)) (assigned (now bindings)) from × (from ≤ m) ⌝ }
+    ensures { λ r. ⌜ Located r n (now (chosen .exit)) (now (bindings .exit))
         (find (cellConstraints (drop (constraintSize * (n - left)) (now (heads .entry)))) (cellConstraints (now (cells .entry)))
-        (take (n - left) chosen) (assigned bindings)) ⌝ }
+        (take (n - left) (now (chosen .entry))) (assigned (now (bindings .entry))))
+        × (take (n - left) (now (chosen .exit)) ≡ take (n - left) (now (chosen .entry))) ⌝ }
 {
     if left == 0 {
-        return Found {
-            found: true,
-            positions: chosen,
-            bindings,
-        };
+        return true;
     }
     let h = n - left;
     let a = CONSTRAINT_SIZE * h;
     let e = a + CONSTRAINT_SIZE;
     let head = &heads[a..e];
     let symbol = head[0];
-    let one = wanted(head, 1, &bindings);
-    let two = wanted(head, 2, &bindings);
+    let one = wanted(head, 1, bindings);
+    let two = wanted(head, 2, bindings);
     let mut p = start(left, from);
     while p < m {
         p = seek(cells, p, m, symbol, one, two);
@@ -142,50 +134,43 @@ pub fn find(
             p += 1;
             let b = CONSTRAINT_SIZE * q;
             let d = b + CONSTRAINT_SIZE;
-            let mut settled = bindings;
-            if fit_at(head, &cells[b..d], h, q, chosen, &mut settled) {
-                let mut more = chosen;
-                more[h] = q;
+            let mut settled = *bindings;
+            if fit_at(head, &cells[b..d], h, q, *chosen, &mut settled) {
+                chosen[h] = q;
                 if left == 1 {
-                    return Found {
-                        found: true,
-                        positions: more,
-                        bindings: settled,
-                    };
+                    *bindings = settled;
+                    return true;
                 }
                 let since = still(from, q);
-                let found = find(heads, n, left - 1, cells, m, more, settled, since);
-                if found.found {
-                    return found;
+                if find(heads, n, left - 1, cells, m, chosen, &mut settled, since) {
+                    *bindings = settled;
+                    return true;
                 }
             }
         }
     }
-    Found {
-        found: false,
-        positions: chosen,
-        bindings,
-    }
-}
-
-// A rule that fits, by its number, and where it fits.
-pub struct Choice {
-    pub positions: [usize; 4],
-    pub bindings: [u16; 26],
-    pub number: usize,
-    pub found: bool,
+    false
 }
 
 // Positions for all heads of a rule, which fit nowhere among the first `from` constraints.
-pub fn find_rule(row: &[u16], cells: &[u16], m: usize, from: usize) -> Found
+pub fn find_rule(
+    row: &[u16],
+    cells: &[u16],
+    m: usize,
+    from: usize,
+    positions: &mut [usize; 4],
+    bindings: &mut [u16; 26],
+) -> bool
     requires { ⌜ Row (now row) × (length (now cells) ≡ constraintSize * m)
-        × Barren (ruleOfRow [] (now row) .heads) (cellConstraints (now cells)) [] unassigned from × (from ≤ m) ⌝ }
-    ensures { λ r. ⌜ Located (r .found) (getD (now (row .entry)) headsCell 0) (r .positions) (r .bindings)
+        × Barren (ruleOfRow [] (now row) .heads) (cellConstraints (now cells)) [] unassigned from × (from ≤ m)
+        × (length (now positions) ≡ 4) ⌝ }
+    ensures { λ r. ⌜ Located r (getD (now (row .entry)) headsCell 0) (now (positions .exit)) (now (bindings .exit))
         (find (ruleOfRow [] (now (row .entry)) .heads) (cellConstraints (now (cells .entry))) [] unassigned) ⌝ }
 {
     let n = wide(row[HEADS_CELL]);
     let e = FIRST_HEAD + CONSTRAINT_SIZE * n;
-    find(&row[FIRST_HEAD..e], n, n, cells, m, [0; 4], [0; 26], from)
+    *bindings = [0; 26];
+    find(&row[FIRST_HEAD..e], n, n, cells, m, positions, bindings, from)
 }
 
 // In how many of the first constraints a rule fits nowhere, where it fits at these smallest positions.
@@ -233,21 +218,33 @@ pub fn may_fit(row: &[u16], last: &[u16], v: usize, cells: &[u16], m: usize, gon
     is_possible(row, cells, v, gone)
 }
 
-// The first rule that fits; what is known of it and of the rules before it is noted.
+// Whether a rule fits, and its number.
+pub struct Choice {
+    pub found: bool,
+    pub number: usize,
+}
+
+// The first rule that fits, with its positions and bindings; what is known of it and of the rules before it is noted.
 pub fn choose(
     rules: &[u16],
     n: usize,
     known: &mut [u16],
     last: &[u16],
     cells: &[u16],
-    m: usize,
-    gone: usize,
+    stage: Stage,
+    positions: &mut [usize; 4],
+    bindings: &mut [u16; 26],
 ) -> Choice
-    requires { ⌜ Table (now rules) n × (length (now cells) ≡ constraintSize * m) × (gone + m ≤ 6000)
-        × Knows (now rules) n (now known) (now last) gone (cellConstraints (now cells)) ⌝ }
-    ensures { λ r. ⌜ Chosen (now (rules .entry)) n (now (cells .entry)) (r .found) (r .number) (r .positions) (r .bindings)
-        × Knows (now (rules .entry)) n (now (known .exit)) (now (last .entry)) gone (cellConstraints (now (cells .entry))) ⌝ }
+    requires { ⌜ Table (now rules) n × (length (now cells) ≡ constraintSize * stage .count) × (stage .gone + stage .count ≤ 6000)
+        × Knows (now rules) n (now known) (now last) (stage .gone) (cellConstraints (now cells))
+        × (length (now positions) ≡ 4) × (length (now bindings) ≡ 26) ⌝ }
+    ensures { λ r. ⌜ Chosen (now (rules .entry)) n (now (cells .entry)) (r .found) (r .number) (now (positions .exit))
+        (now (bindings .exit))
+        × Knows (now (rules .entry)) n (now (known .exit)) (now (last .entry)) (stage .gone)
+        (cellConstraints (now (cells .entry))) ⌝ }
 {
+    let m = stage.count;
+    let gone = stage.gone;
     let whole = gone + m;
     let mut i = 0;
     while i < n {
@@ -258,16 +255,11 @@ pub fn choose(
             let a = ROW_SIZE * q;
             let e = a + ROW_SIZE;
             if may_fit(&rules[a..e], last, v, cells, m, gone) {
-                let place = find_rule(&rules[a..e], cells, m, prefix(v, gone));
-                if place.found {
-                    let positions = place.positions;
-                    let bindings = place.bindings;
-                    note(known, q, LOOSE + gone + leading(&rules[a..e], positions));
+                if find_rule(&rules[a..e], cells, m, prefix(v, gone), positions, bindings) {
+                    note(known, q, LOOSE + gone + leading(&rules[a..e], *positions));
                     return Choice {
                         found: true,
                         number: q,
-                        positions,
-                        bindings,
                     };
                 }
                 note(known, q, whole);
@@ -279,7 +271,5 @@ pub fn choose(
     Choice {
         found: false,
         number: n,
-        positions: [0; 4],
-        bindings: [0; 26],
     }
 }

@@ -2,11 +2,19 @@
 -- Assumes nothing.
 use borrow.Author.Tests.{not-true, not-false}
 use native.Mathlib.Omega.{arith}
+use mathlib.Core.Path.{refl, sym}
+use lib.ListN.{replicate}
 use borrow.Author.Needs.{needs}
 use Rattle.engine.proofs.StepLaws.{step-lent, step-chooses, step-there, step-rests, step-keeps-none, step-skips, step-row}
 use Rattle.engine.proofs.StepLaws.{step-fires, step-moves, step-remembers, step-few, step-keeps}
 use Rattle.engine.proofs.derivation.advance.Statement.{statement}
 use Rattle.engine.proofs.derivation.advance.Tie as tie
+
+-- from the choice, where the function starts
+abbrev entry : tie.After-choose → tie.Start
+entry c =
+    let lent = c .before .before .before in
+    lent .before .before .before .before .before .before .before .before
 
 slice-aggregate-choose : tie.Need-slice-aggregate-choose
 slice-aggregate-choose c =
@@ -15,13 +23,15 @@ slice-aggregate-choose c =
 
 choose-requires : tie.Need-choose-requires
 choose-requires c κs =
-    let start = c .before .before .before .before .before .before .before .before in
+    let lent = c .before .before in
+    let start = lent .before .before .before .before .before .before .before .before in
     step-chooses _ _ _ _ _ (start .pre .0) _ _ _ (start .pre .1) (start .pre .2) _ (omega arith)
+    (replicate 4 0) (replicate 26 0) refl refl
 
 returns : tie.Need-returns
 returns c =
     let at-choose = c .before .before .before .before in
-    let start = at-choose .before .before .before .before .before .before .before .before .before in (
+    let start = entry at-choose in (
       step-rests _ _ _ _ _ (start .pre .0) _ _ _ _ (at-choose .choose .ensures .0) _ (not-true _ (c .if1 .taken)),
       step-keeps-none _ _ _ _ _ (start .pre .0) _ _ _ _ (at-choose .choose .ensures .0) _ _ _ _ _ _,
       step-skips _ _ _ _ _ (start .pre .0) _ _ _ _ (at-choose .choose .ensures .0),
@@ -30,10 +40,8 @@ returns c =
 
 part-row-end : tie.Need-part-row-end
 part-row-end c =
-    let at-if1 = c .before .before in
-    let at-choose = at-if1 .before .before .before .before in
-    let start = at-choose .before .before .before .before .before .before .before .before .before in
-    step-row _ _ _ _ _ (start .pre .0) _ _ _ _ (at-choose .choose .ensures .0) (not-false _ (at-if1 .if1 .left))
+    let at-choose = c .before .before .before .before in
+    step-row _ _ _ _ _ (entry at-choose .pre .0) _ _ _ _ (at-choose .choose .ensures .0) (not-false _ (c .if1 .left))
 
 mul-a : tie.Need-mul-a
 mul-a c = omega (arith, part-row-end c)
@@ -44,48 +52,57 @@ add-b c = omega (arith, part-row-end c)
 mul-row : tie.Need-mul-row
 mul-row c = omega (arith, part-row-end c)
 
+slice-aggregate-fire-front : tie.Need-slice-aggregate-fire-front
+slice-aggregate-fire-front c =
+    let at-choose = c .before .before .before .before .before .before in
+    sym (at-choose .choose .ensures .0 .bindings-size)
+
 fire-front-requires : tie.Need-fire-front-requires
 fire-front-requires c κs =
-    let at-if1 = c .before .before .before .before .before .before in
+    let at-if1 = c .before .before .before .before in
     let at-choose = at-if1 .before .before .before .before in
-    let start = at-choose .before .before .before .before .before .before .before .before .before in
-    step-fires _ _ _ _ _ (start .pre .0) _ _ _ _ (at-choose .choose .ensures .0) (not-false _ (at-if1 .if1 .left))
+    step-fires _ _ _ _ _ (entry at-choose .pre .0) _ _ _ _ (at-choose .choose .ensures .0) (not-false _ (at-if1 .if1 .left))
+
+-- from the count of heads, where the rule has fired; from there, where a rule was found
+abbrev fired : tie.After-wide → tie.After-fire-front
+fired c = c .before .before .before .before .before .before
+
+abbrev found : tie.After-fire-front → tie.Else1
+found c = c .before .before .before .before .before
 
 remember-requires : tie.Need-remember-requires
 remember-requires c κs =
     let at-wide = c .before .before in
-    let at-fire-front = at-wide .before .before .before .before .before .before in
-    let at-if1 = at-fire-front .before .before .before .before .before .before .before in
+    let at-fire-front = fired at-wide in
+    let at-if1 = found at-fire-front in
     let at-choose = at-if1 .before .before .before .before in
-    let start = at-choose .before .before .before .before .before .before .before .before .before in
+    let start = entry at-choose in
     step-remembers _ _ _ _ _ (start .pre .0) _ _ _ _ (at-choose .choose .ensures .0) (not-false _ (at-if1 .if1 .left))
     _ _ _ _ _ (at-fire-front .fire-front .ensures .0) _ _ (start .pre .2) (at-wide .wide .ensures .0)
 
 add-remember : tie.Need-add-remember
 add-remember c =
     let at-wide = c .before .before in
-    let at-fire-front = at-wide .before .before .before .before .before .before in
-    let at-if1 = at-fire-front .before .before .before .before .before .before .before in
+    let at-fire-front = fired at-wide in
+    let at-if1 = found at-fire-front in
     let at-choose = at-if1 .before .before .before .before in
-    let start = at-choose .before .before .before .before .before .before .before .before .before in
+    let start = entry at-choose in
     omega (arith, start .pre .2, step-few _ _ _ _ _ (start .pre .0) _ _ _ _ (at-choose .choose .ensures .0) (not-false _ (at-if1 .if1 .left))
     _ _ _ _ _ (at-fire-front .fire-front .ensures .0) _ _ (start .pre .2) (at-wide .wide .ensures .0))
 
 add-removed : tie.Need-add-removed
 add-removed c =
-    let at-bindings2 = c .before .before .before .before .before .before .before .before .before in
-    let at-choose-arg3 = at-bindings2 .before .before .before .before .before .before .before .before .before in
-    let start = at-choose-arg3 .before .before .before .before .before .before .before .before in
-    omega (arith, c .wide .ensures .1, start .pre .2)
+    let at-choose = found (fired c) .before .before .before .before in
+    omega (arith, c .wide .ensures .1, entry at-choose .pre .2)
 
 returns-2 : tie.Need-returns-2
 returns-2 c =
     let at-remember = c .before .before .before .before in
     let at-wide = at-remember .before .before .before in
-    let at-fire-front = at-wide .before .before .before .before .before .before in
-    let at-if1 = at-fire-front .before .before .before .before .before .before .before in
+    let at-fire-front = fired at-wide in
+    let at-if1 = found at-fire-front in
     let at-choose = at-if1 .before .before .before .before in
-    let start = at-choose .before .before .before .before .before .before .before .before .before in
+    let start = entry at-choose in
     let fits′ = not-false _ (at-if1 .if1 .left) in
     let fired′ = at-fire-front .fire-front .ensures in
     let heads′ = at-wide .wide .ensures .0 in (
@@ -112,7 +129,7 @@ advance-spec =
     mul-row
     (λ c. search needs) (λ c. search needs)
     part-row-end
-    (λ c. search needs)
+    slice-aggregate-fire-front
     fire-front-requires
     (λ c. search needs) (λ c κs. search needs)
     add-removed

@@ -2,6 +2,8 @@
 -- Assumes nothing.
 use borrow.Author.Needs.{needs}
 use Prim.Native.Nat.{_-_}
+use mathlib.Core.Path.{_≡_}
+use lib.ListN.{length}
 use native.Mathlib.Omega.{arith}
 use Rattle.engine.proofs.ChooseLaws.{
   Noting,
@@ -20,13 +22,16 @@ use Rattle.engine.proofs.search.choose.Statement.{statement}
 use Rattle.engine.proofs.search.choose.Tie as tie
 
 abbrev Inv-loop : tie.InvT-loop
-Inv-loop rules n known₀ last cells m gone whole i₀ known i = Noting rules n known₀ last gone cells known i
+Inv-loop rules n known₀ last cells positions₀ bindings₀ m gone whole i₀ known positions bindings i =
+    Noting rules n known₀ last gone cells known i × (length positions ≡ 4) × (length bindings ≡ 26)
 
 abbrev μ-loop : tie.MeasureT-loop
-μ-loop rules n known₀ last cells m gone whole i₀ known i = n - i
+μ-loop rules n known₀ last cells positions₀ bindings₀ m gone whole i₀ known positions bindings i = n - i
 
 loop-holds : tie.Need-loop-holds Inv-loop μ-loop
-loop-holds c = noting-start _ _ _ _ _ _ (c .before .before .before .before .pre .3)
+loop-holds c =
+    let start = c .before .before .before .before in
+    (noting-start _ _ _ _ _ _ (start .pre .3), start .pre .4, start .pre .5)
 
 may-fit-requires : tie.Need-may-fit-requires Inv-loop μ-loop
 may-fit-requires c κs =
@@ -34,48 +39,52 @@ may-fit-requires c κs =
     let at-loop-test = at-known-at .before .before in
     let at-loop = at-loop-test .before in
     let start = at-loop .before .before .before .before .before in
-    noting-look _ _ _ _ _ _ _ _ _ (start .pre .0) (start .pre .1) (start .pre .2) (at-loop .loop .inv)
+    noting-look _ _ _ _ _ _ _ _ _ (start .pre .0) (start .pre .1) (start .pre .2) (at-loop .loop .inv .0)
     (at-loop-test .loop-test .taken) _
     (at-known-at .known-at .ensures)
 
 find-rule-requires : tie.Need-find-rule-requires Inv-loop μ-loop
 find-rule-requires c κs =
-    let at-known-at = c .before .before .before .before .before .before in
+    let at-prefix = c .before .before in
+    let at-known-at = at-prefix .before .before .before .before .before .before in
     let at-loop-test = at-known-at .before .before in
     let at-loop = at-loop-test .before in
     let start = at-loop .before .before .before .before .before in
-    noting-row _ _ _ _ _ _ _ _ _ (start .pre .0) (start .pre .1) (start .pre .2) (at-loop .loop .inv)
-    (at-loop-test .loop-test .taken) _
-    (at-known-at .known-at .ensures) _ (c .prefix .ensures)
+    let row = noting-row _ _ _ _ _ _ _ _ _ (start .pre .0) (start .pre .1) (start .pre .2) (at-loop .loop .inv .0)
+    (at-loop-test .loop-test .taken) _ (at-known-at .known-at .ensures) _ (at-prefix .prefix .ensures) in
+    (row .0, row .1, row .2, row .3, at-loop .loop .inv .1)
 
 leading-requires : tie.Need-leading-requires Inv-loop μ-loop
 leading-requires c κs =
-    let at-find-rule = c .before .before .before .before .before in
-    let at-loop-test = at-find-rule .before .before .before .before .before .before .before .before .before in
+    let at-find-rule = c .before .before .before .before in
+    let at-may-fit = at-find-rule .before .before .before .before .before .before in
+    let at-loop-test = at-may-fit .before .before .before .before .before in
     let at-loop = at-loop-test .before in
     let start = at-loop .before .before .before .before .before in
-    choosing-leads _ _ _ (start .args .m) _ (start .pre .0) (at-loop .loop .inv .choosing) (at-loop-test .loop-test .taken)
-    _ _ _ (at-find-rule .find-rule .ensures)
+    choosing-leads _ _ _ (start .args .stage .count) _ (start .pre .0) (at-loop .loop .inv .0 .choosing)
+    (at-loop-test .loop-test .taken) _ _ _ (at-find-rule .find-rule .ensures)
 
 note-requires : tie.Need-note-requires Inv-loop μ-loop
 note-requires c κs =
-    let at-if3 = c .before .before .before .before .before in
+    let at-if3 = c .before .before .before .before in
     let at-find-rule = at-if3 .before in
-    let at-loop-test = at-find-rule .before .before .before .before .before .before .before .before .before in
+    let at-may-fit = at-find-rule .before .before .before .before .before .before in
+    let at-loop-test = at-may-fit .before .before .before .before .before in
     let at-loop = at-loop-test .before in
     let start = at-loop .before .before .before .before .before in
-    noting-room _ _ _ _ _ _ _ _ _ (start .pre .0) (start .pre .1) (start .pre .2) (at-loop .loop .inv)
+    noting-room _ _ _ _ _ _ _ _ _ (start .pre .0) (start .pre .1) (start .pre .2) (at-loop .loop .inv .0)
     (at-loop-test .loop-test .taken) _ _ _
     (at-find-rule .find-rule .ensures) (at-if3 .if3 .taken) _ (c .leading .ensures)
 
 add-note-2 : tie.Need-add-note-2 Inv-loop μ-loop
 add-note-2 c =
-    let at-if3 = c .before .before .before .before .before in
+    let at-if3 = c .before .before .before .before in
     let at-find-rule = at-if3 .before in
-    let at-loop-test = at-find-rule .before .before .before .before .before .before .before .before .before in
+    let at-may-fit = at-find-rule .before .before .before .before .before .before in
+    let at-loop-test = at-may-fit .before .before .before .before .before in
     let at-loop = at-loop-test .before in
     let start = at-loop .before .before .before .before .before in
-    omega (arith, noting-room _ _ _ _ _ _ _ _ _ (start .pre .0) (start .pre .1) (start .pre .2) (at-loop .loop .inv)
+    omega (arith, noting-room _ _ _ _ _ _ _ _ _ (start .pre .0) (start .pre .1) (start .pre .2) (at-loop .loop .inv .0)
     (at-loop-test .loop-test .taken) _ _ _
     (at-find-rule .find-rule .ensures) (at-if3 .if3 .taken) _ (c .leading .ensures))
 
@@ -83,12 +92,13 @@ returns : tie.Need-returns Inv-loop μ-loop
 returns c =
     let at-note = c .before .before in
     let at-leading = at-note .before in
-    let at-if3 = at-leading .before .before .before .before .before in
+    let at-if3 = at-leading .before .before .before .before in
     let at-find-rule = at-if3 .before in
-    let at-loop-test = at-find-rule .before .before .before .before .before .before .before .before .before in
+    let at-may-fit = at-find-rule .before .before .before .before .before .before in
+    let at-loop-test = at-may-fit .before .before .before .before .before in
     let at-loop = at-loop-test .before in
     let start = at-loop .before .before .before .before .before in
-    noting-found _ _ _ _ _ _ _ _ _ (start .pre .0) (start .pre .1) (start .pre .2) (at-loop .loop .inv)
+    noting-found _ _ _ _ _ _ _ _ _ (start .pre .0) (start .pre .1) (start .pre .2) (at-loop .loop .inv .0)
     (at-loop-test .loop-test .taken) _ _ _
     (at-find-rule .find-rule .ensures) (at-if3 .if3 .taken) _ (at-leading .leading .ensures) _ (at-note .note .ensures)
 
@@ -97,12 +107,16 @@ loop-again c =
     let at-note2 = c .before .before in
     let at-if3 = at-note2 .before .before in
     let at-find-rule = at-if3 .before in
-    let at-loop-test = at-find-rule .before .before .before .before .before .before .before .before .before in
+    let at-may-fit = at-find-rule .before .before .before .before .before .before in
+    let at-loop-test = at-may-fit .before .before .before .before .before in
     let at-loop = at-loop-test .before in
     let start = at-loop .before .before .before .before .before in
-    noting-next _ _ _ _ _ _ _ _ _ (start .pre .0) (start .pre .1) (start .pre .2) (at-loop .loop .inv)
-    (at-loop-test .loop-test .taken) _ _ _
-    (at-find-rule .find-rule .ensures) (at-if3 .if3 .left) _ (at-note2 .note2 .ensures)
+    let located = at-find-rule .find-rule .ensures in (
+      noting-next _ _ _ _ _ _ _ _ _ (start .pre .0) (start .pre .1) (start .pre .2) (at-loop .loop .inv .0)
+          (at-loop-test .loop-test .taken) _ _ _ located (at-if3 .if3 .left) _ (at-note2 .note2 .ensures),
+      located .positions-size,
+      located .bindings-size,
+    )
 
 loop-again-2 : tie.Need-loop-again-2 Inv-loop μ-loop
 loop-again-2 c =
@@ -111,30 +125,37 @@ loop-again-2 c =
     let at-may-fit = at-if2 .before in
     let at-loop-test = at-may-fit .before .before .before .before .before in
     let at-loop = at-loop-test .before in
-    let start = at-loop .before .before .before .before .before in
-    noting-impossible _ _ _ _ _ _ _ _ _ (start .pre .0) (start .pre .1) (start .pre .2) (at-loop .loop .inv)
-    (at-loop-test .loop-test .taken) _
-    (at-may-fit .may-fit .ensures) (at-if2 .if2 .left) _ (at-note3 .note3 .ensures)
+    let start = at-loop .before .before .before .before .before in (
+      noting-impossible _ _ _ _ _ _ _ _ _ (start .pre .0) (start .pre .1) (start .pre .2) (at-loop .loop .inv .0)
+          (at-loop-test .loop-test .taken) _
+          (at-may-fit .may-fit .ensures) (at-if2 .if2 .left) _ (at-note3 .note3 .ensures),
+      at-loop .loop .inv .1,
+      at-loop .loop .inv .2,
+    )
 
 loop-again-3 : tie.Need-loop-again-3 Inv-loop μ-loop
 loop-again-3 c =
     let at-known-at = c .before in
     let at-loop-test = at-known-at .before .before in
     let at-loop = at-loop-test .before in
-    let start = at-loop .before .before .before .before .before in
-    noting-passed _ _ _ _ _ _ _ _ _ (start .pre .0) (start .pre .1) (start .pre .2) (at-loop .loop .inv)
-    (at-loop-test .loop-test .taken) _
-    (at-known-at .known-at .ensures) (c .if1 .left)
+    let start = at-loop .before .before .before .before .before in (
+      noting-passed _ _ _ _ _ _ _ _ _ (start .pre .0) (start .pre .1) (start .pre .2) (at-loop .loop .inv .0)
+          (at-loop-test .loop-test .taken) _
+          (at-known-at .known-at .ensures) (c .if1 .left),
+      at-loop .loop .inv .1,
+      at-loop .loop .inv .2,
+    )
 
 same-length-2 : tie.Need-same-length-2 Inv-loop μ-loop
-same-length-2 c = c .before .loop .inv .size
+same-length-2 c = c .before .loop .inv .0 .size
 
 returns-2 : tie.Need-returns-2 Inv-loop μ-loop
 returns-2 c =
     let at-loop = c .before in
     let start = at-loop .before .before .before .before .before in (
-      choosing-none _ _ _ (start .args .m) _ (start .pre .0) (at-loop .loop .inv .choosing) (c .loop-test .left),
-      at-loop .loop .inv .knows,
+      choosing-none _ _ _ (start .args .stage .count) _ (start .pre .0) (at-loop .loop .inv .0 .choosing) (c .loop-test .left)
+          _ _ (at-loop .loop .inv .1) (at-loop .loop .inv .2),
+      at-loop .loop .inv .0 .knows,
     )
 
 pub choose-spec : {M : Type 1} → statement M

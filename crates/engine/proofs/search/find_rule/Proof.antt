@@ -4,24 +4,22 @@ use Rattle.engine.proofs.ChooseLaws.{rule-seeking, rule-barren, rule-lo
 use borrow.Author.Needs.{needs}
 use Rattle.engine.proofs.search.find_rule.Statement.{statement}
 use Rattle.engine.proofs.search.find_rule.Tie as tie
-use Rattle.engine.proofs.search.find.Reads as find-reads
-use Rattle.tables.proofs.wide.Reads as wide-reads
 
 find-requires : tie.Need-find-requires
 find-requires c κs =
-    let at-wide = c .before in
-    let at-pre = at-wide .before .before .before .before in (
-      rule-seeking _ _ _ _ (at-pre .pre .0) (at-pre .pre .1) (at-wide .wide .ensures .0),
-      rule-barren _ _ _ _ (at-pre
-          .pre .0) (at-pre .pre .1) (at-wide .wide .ensures .0) _ (at-pre .pre .2),
-      at-pre .pre .3,
+    let at-wide = c .before .before .before .before in
+    let start = at-wide .before .before .before .before in
+    let heads = at-wide .wide .ensures .0 in (
+      rule-seeking _ _ _ _ (start .pre .0) (start .pre .1) heads _ (start .pre .4),
+      rule-barren _ _ _ _ (start .pre .0) (start .pre .1) heads _ (start .pre .4) _ (start .pre .2),
+      start .pre .3,
     )
 
 returns : tie.Need-returns
 returns c =
-    let at-wide = c .before .before in
-    let at-pre = at-wide .before .before .before .before in
-    rule-located _ _ _ _ (at-pre .pre .0) (at-pre .pre .1) (at-wide .wide .ensures .0) _ _ _ (c .find .ensures)
+    let at-wide = c .before .before .before .before .before in
+    let start = at-wide .before .before .before .before in
+    rule-located _ _ _ _ (start .pre .0) (start .pre .1) (at-wide .wide .ensures .0) _ (start .pre .4) _ _ _ (c .find .ensures .0)
 
 pub find-rule-spec : {M : Type 1} → statement M
 find-rule-spec =
