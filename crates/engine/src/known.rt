@@ -24,7 +24,11 @@ pub const LOOSE: usize = 8192;
 pub fn known_at(known: &[u16], i: usize) -> usize
     ensures { λ r. ⌜ r ≡ getD (now (known .entry)) i loose ⌝ }
 {
-    if i < known.len() { wide(known[i]) } else { LOOSE }
+    if i < known.len() {
+        wide(known[i])
+    } else {
+        LOOSE
+    }
 }
 
 // Notes what is known of rule i; nothing behind the table's end.

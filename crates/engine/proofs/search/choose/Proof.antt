@@ -54,7 +54,7 @@ leading-requires c κs =
     let at-loop-test = at-find-rule .before .before .before .before .before .before .before .before .before in
     let at-loop = at-loop-test .before in
     let start = at-loop .before .before .before .before .before in
-    choosing-leads _ _ _ (start .args .m) _ (start .pre .0) (at-loop .loop .inv .choosing) (at-loop-test .loop-test .taken)
+    choosing-leads _ _ _ _ (start .pre .0) (at-loop .loop .inv .choosing) (at-loop-test .loop-test .taken)
     _ _ _ (at-find-rule .find-rule .ensures)
 
 note-requires : tie.Need-note-requires Inv-loop μ-loop
@@ -75,9 +75,12 @@ add-note-2 c =
     let at-loop-test = at-find-rule .before .before .before .before .before .before .before .before .before in
     let at-loop = at-loop-test .before in
     let start = at-loop .before .before .before .before .before in
-    omega (arith, noting-room _ _ _ _ _ _ _ _ _ (start .pre .0) (start .pre .1) (start .pre .2) (at-loop .loop .inv)
-    (at-loop-test .loop-test .taken) _ _ _
-    (at-find-rule .find-rule .ensures) (at-if3 .if3 .taken) _ (c .leading .ensures))
+    omega (
+      arith,
+      noting-room _ _ _ _ _ _ _ _ _ (start .pre .0) (start .pre .1) (start .pre .2) (at-loop .loop .inv)
+          (at-loop-test .loop-test .taken) _ _ _
+          (at-find-rule .find-rule .ensures) (at-if3 .if3 .taken) _ (c .leading .ensures),
+    )
 
 returns : tie.Need-returns Inv-loop μ-loop
 returns c =
@@ -133,7 +136,7 @@ returns-2 : tie.Need-returns-2 Inv-loop μ-loop
 returns-2 c =
     let at-loop = c .before in
     let start = at-loop .before .before .before .before .before in (
-      choosing-none _ _ _ (start .args .m) _ (start .pre .0) (at-loop .loop .inv .choosing) (c .loop-test .left),
+      choosing-none _ _ _ _ (start .pre .0) (at-loop .loop .inv .choosing) (c .loop-test .left),
       at-loop .loop .inv .knows,
     )
 
