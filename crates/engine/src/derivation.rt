@@ -124,20 +124,12 @@ pub fn normalise(
     while alive {
         at = make_room(cells, at, count);
         let a = CONSTRAINT_SIZE * at;
-        let stage = Stage {
+        let now = Stage {
             count,
             next: number,
             gone,
         };
-        let step = advance(
-            rules,
-            n,
-            &mut known,
-            &mut last,
-            bound,
-            &mut cells[a..],
-            stage,
-        );
+        let step = advance(rules, n, &mut known, &mut last, bound, &mut cells[a..], now);
         at += step.skip;
         gone = step.gone;
         if !step.fired {
