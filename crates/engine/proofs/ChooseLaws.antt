@@ -1,4 +1,7 @@
 -- The choice among rows of cells is the choice among rules.
+--   rule-…        the search for a rule's heads
+--   Choosing      the rules from i on give the choice among all of them
+--   Noting        the loop of `choose`: the same, and what is known is true
 -- Assumes nothing.
 use Prim.Native.Nat.{ℕ, zero, suc, _+_, _-_, _*_, _≤_, _<_}
 use native.Mathlib.Omega.{arith}
@@ -11,7 +14,7 @@ use mathlib.Core.Path.{_≡_, refl, sym, fun-ext, _∙_}
 use lib.Dec.{eqb}
 use lib.ListN.{length, getD, set, take, drop, replicate, length-set, length-append, length-drop, drop-of-length-le}
 use lib.ListN.{List·getD-append, List·getD-eq-default}
-use lib.Seq.{drop-cons, length-take-le, getD-at, take-all, getD-set-same, getD-set-other}
+use lib.Seq.{drop-cons, length-take-le, getD-at, getD-set-same, getD-set-other}
 use borrow.Author.Tests.{eqb-true, eqb-false}
 use Rattle.text.specs.Lists.{orElse, tabled}
 use Rattle.semantics.specs.Terms.{Constraint}
@@ -29,7 +32,7 @@ use Rattle.engine.proofs.NotedLaws.{noted-nothing, noted-nowhere, noted
 use Rattle.semantics.proofs.Options.{none-some}
 
 -- no cell of zeros is settled
-pub zeros-zero : (n x : ℕ) → _≡_ {A = ℕ} (getD (replicate n 0) x 0) 0
+zeros-zero : (n x : ℕ) → _≡_ {A = ℕ} (getD (replicate n 0) x 0) 0
 zeros-zero zero x = refl
 zeros-zero (suc n) zero = refl
 zeros-zero (suc n) (suc x) = zeros-zero n x
@@ -98,7 +101,7 @@ drop-tabled f n i h =
     drop-cons (tabled f n) i (f i) (omega (arith, length-tabled f n)) ∙ rw (getD-tabled f n i (f i) h)
 
 -- an entry of a table with one entry set, which may lie behind its end
-pub noted-at :
+noted-at :
     (known : List ℕ) (d i v : ℕ) (P : ℕ → Type 0) (j : ℕ) → P (getD known j d) → (i ≡ j → P v) → P d
     → P (getD (set known i v) j d)
 noted-at known d i v P j old new none-there =
@@ -111,7 +114,7 @@ noted-at known d i v P j old new none-there =
     (either (eqb i j))
 
 -- a table with one entry set is as long
-pub noted-size :
+noted-size :
     (start known known′ : List ℕ) (i v : ℕ) → known′ ≡ set known i v → length known ≡ length start → length known′ ≡ length start
 noted-size start known known′ i v e s = rw e (length-set known i v) ∙ s
 
@@ -157,11 +160,11 @@ pub record Choosing (rules : List ℕ) (n : ℕ) (cells : List ℕ) (i : ℕ) : 
       → chooseFrom i (drop i (rulesOf names rules n)) (cellConstraints cells) ≡ choose (rulesOf names rules n)
       (cellConstraints cells)
 
-pub choosing-start : (rules : List ℕ) (n : ℕ) (cells : List ℕ) → Choosing rules n cells 0
+choosing-start : (rules : List ℕ) (n : ℕ) (cells : List ℕ) → Choosing rules n cells 0
 unfolding choose
 choosing-start rules n cells = record { within = omega arith; same = λ names. refl }
 
-module _ (rules : List ℕ) (n : ℕ) (cells : List ℕ) (m i : ℕ) (given : Table rules n) (w : Choosing rules n cells i) where
+module _ (rules : List ℕ) (n : ℕ) (cells : List ℕ) (i : ℕ) (given : Table rules n) (w : Choosing rules n cells i) where
   -- no rule is left
   pub choosing-none :
       n ≤ i → (ps b : List ℕ) → length ps ≡ 4 → length b ≡ 26 → Chosen rules n cells false n ps b
@@ -178,7 +181,7 @@ module _ (rules : List ℕ) (n : ℕ) (cells : List ℕ) (m i : ℕ) (given : Ta
 
   module _ (l : i < n) where
     -- a rule that fits nowhere is passed over
-    pub choosing-passed :
+    choosing-passed :
         find (ruleOfRow [] (rowOf rules i) .heads) (cellConstraints cells) [] unassigned ≡ none → Choosing rules n cells (i + 1)
     unfolding rulesOf chooseFrom ruleOf ruleOfRow
     choosing-passed nothing =
@@ -207,17 +210,12 @@ module _ (rules : List ℕ) (n : ℕ) (cells : List ℕ) (m i : ℕ) (given : Ta
       tried names =
           rw (answered names) (rw (drop-tabled (ruleOf names rules) n i l) at (w .same names))
 
-      -- the rule does not fit
-      pub choosing-next : f ≡ false → Choosing rules n cells (i + 1)
-      unfolding choiceOf foundOf
-      choosing-next z = rw (add-one i) (record { within = l; same = λ names. rw z at (tried names) })
-
       -- what `leading` asks
       pub choosing-leads : Row (lentRow rules i) × (length ps ≡ 4)
       choosing-leads = (rw (row-cells i) (given .rows i l), t .positions-size)
 
       -- it fits nowhere before its first position
-      pub choosing-first :
+      choosing-first :
           f ≡ true → (first : ℕ) → first ≡ cond (eqb (getD (lentRow rules i) 3 0) 0) 0 (getD ps 0 0)
           → Barren (ruleOfRow [] (rowOf rules i) .heads) (cellConstraints cells) [] unassigned first
           × (find (ruleOfRow [] (rowOf rules i) .heads) (cellConstraints cells) [] unassigned ≡ none → ⊥)
@@ -230,7 +228,7 @@ module _ (rules : List ℕ) (n : ℕ) (cells : List ℕ) (m i : ℕ) (given : Ta
           )
 
       -- it does
-      pub choosing-found : f ≡ true → Chosen rules n cells true i ps b
+      choosing-found : f ≡ true → Chosen rules n cells true i ps b
       unfolding choiceOf foundOf
       choosing-found z =
           record {
@@ -248,8 +246,8 @@ pub record Noting (rules : List ℕ) (n : ℕ) (start last : List ℕ) (gone : �
   pub size : length known ≡ length start
 
 pub noting-start :
-    (rules : List ℕ) (n : ℕ) (start last : List ℕ) (gone : ℕ) (cells : List ℕ) → Knows rules n start last gone (cellConstraints cells)
-    → Noting rules n start last gone cells start 0
+    (rules : List ℕ) (n : ℕ) (start last : List ℕ) (gone : ℕ) (cells : List ℕ)
+    → Knows rules n start last gone (cellConstraints cells) → Noting rules n start last gone cells start 0
 noting-start rules n start last gone cells ks = record { choosing = choosing-start rules n cells; knows = ks; size = refl }
 
 module _ (rules : List ℕ) (n : ℕ) (start last : List ℕ) (gone : ℕ) (cells known : List ℕ) (m i : ℕ) (given : Table rules n)
@@ -298,7 +296,7 @@ module _ (rules : List ℕ) (n : ℕ) (start last : List ℕ) (gone : ℕ) (cell
     pub noting-passed : v ≡ gone + m → Noting rules n start last gone cells known (i + 1)
     noting-passed g =
         record {
-          choosing = choosing-passed rules n cells m i given (w .choosing) l
+          choosing = choosing-passed rules n cells i given (w .choosing) l
               (noted-passed heads (cellConstraints cells) last gone v here (w .knows .bounded) (omega (arith, count))
               (omega arith));
           knows = w .knows;
@@ -311,7 +309,7 @@ module _ (rules : List ℕ) (n : ℕ) (start last : List ℕ) (gone : ℕ) (cell
       → Noting rules n start last gone cells known′ (i + 1)
   noting-nowhere nothing known′ g =
       record {
-        choosing = choosing-passed rules n cells m i given (w .choosing) l nothing;
+        choosing = choosing-passed rules n cells i given (w .choosing) l nothing;
         knows = noting-noted (gone + m) known′ g (noted-nowhere heads (cellConstraints cells) last gone (gone + m)
             (omega (arith, count)) (omega arith) nothing);
         size = noted-size start known known′ i (gone + m) g (w .size);
@@ -338,8 +336,8 @@ module _ (rules : List ℕ) (n : ℕ) (start last : List ℕ) (gone : ℕ) (cell
         → known′ ≡ set known i (8192 + gone + first)
         → Chosen rules n cells true i ps b × Knows rules n known′ last gone (cellConstraints cells)
     noting-found z first h known′ g =
-        let k = choosing-first rules n cells m i given (w .choosing) l f ps b t z first h in (
-          choosing-found rules n cells m i given (w .choosing) l f ps b t z,
+        let k = choosing-first rules n cells i given (w .choosing) l f ps b t z first h in (
+          choosing-found rules n cells i given (w .choosing) l f ps b t z,
           noting-noted (8192 + gone + first) known′ g (noted-first heads (cellConstraints cells) last gone first
               (8192 + gone + first) refl (k .0) (k .1)),
         )
@@ -348,6 +346,6 @@ module _ (rules : List ℕ) (n : ℕ) (start last : List ℕ) (gone : ℕ) (cell
     pub noting-room :
         f ≡ true → (first : ℕ) → first ≡ cond (eqb (getD (lentRow rules i) 3 0) 0) 0 (getD ps 0 0) → 8192 + gone + first ≤ 65000
     noting-room z first h =
-        let k = choosing-first rules n cells m i given (w .choosing) l f ps b t z first h in
+        let k = choosing-first rules n cells i given (w .choosing) l f ps b t z first h in
         let known = noted-first heads (cellConstraints cells) last gone first (8192 + gone + first) refl (k .0) (k .1) in
         omega (arith, known .earlier, prefix-above (8192 + gone + first) (omega arith), count)

@@ -7,20 +7,20 @@
 use Prim.Native.Nat.{ℕ, zero, suc, _+_, _-_, _*_, _≤_, _<_}
 use native.Mathlib.Omega.{arith}
 use native.Mathlib.Numerals.{add-one}
-use mathlib.Core.Bool.{Bool, true, false, cond, _||_}
+use mathlib.Core.Bool.{Bool, true, false, _||_}
 use mathlib.Core.List.{List, [], _∷_, _++_, map, append-nil}
-use mathlib.Core.Logic.{_⊎_, ⊎-elim}
+use mathlib.Core.Logic.{⊎-elim}
 use mathlib.Core.Path.{_≡_, refl, sym, ap, _∙_}
 use lib.Dec.{eqb, ltb}
 use lib.ListN.{length, getD, set, take, drop, replicate, length-set, length-drop, length-map}
 use lib.ListN.{List·getD-eq-default, take-append-drop}
 use lib.Seq.{getD-take, getD-drop, length-take-le, getD-set-same, getD-set-other, take-add}
-use borrow.Author.Tests.{eq-eqb, ne-eqb, lt-ltb, le-ltb, ltb-true, ltb-false, eqb-true, eqb-false}
+use borrow.Author.Tests.{eq-eqb, ne-eqb, lt-ltb, le-ltb, eqb-true, eqb-false}
 use Rattle.semantics.specs.Terms.{Term, Constraint, mapTerms}
 use Rattle.semantics.specs.Matching.{unassigned}
 use Rattle.semantics.specs.Firing.{without, instance}
 use Rattle.tables.specs.Cells.{cellConstraints, cellEquations, rowConstraint}
-use Rattle.tables.specs.Rows.{ruleOfRow, rowOf}
+use Rattle.tables.specs.Rows.{ruleOfRow}
 use Rattle.tables.proofs.CellLaws.{constraints-length}
 use Rattle.tables.proofs.CellLaws.{either, le-or-lt, constraints-at, constraints-short}
 use Rattle.engine.specs.Cells.{assigned}
@@ -30,7 +30,7 @@ use Rattle.engine.specs.Runs.{storeOf}
 use Rattle.engine.specs.Known.{Barren, prefixOf, hasSymbol, concerns, isConcerned, Noted, Knows, Possible}
 use Rattle.engine.specs.Known.{Marked, Forgotten, Remembered, Keeps}
 use Rattle.engine.proofs.BarrenLaws.{absent-first, absent-behind, without-few}
-use Rattle.engine.proofs.NotedLaws.{prefix-below, noted-nothing, noted-fired, marked-bounded}
+use Rattle.engine.proofs.NotedLaws.{noted-nothing, noted-fired, marked-bounded}
 use Rattle.engine.proofs.GapLaws.{drop-constraints}
 use Rattle.engine.proofs.FrontLaws.{behind, behind-all}
 use Rattle.engine.proofs.FiredLaws.{fired-plain, fired-length}
@@ -300,15 +300,15 @@ module _ (row known last last′ : List ℕ) (whole b : ℕ)
 
   -- after equations nothing is known
   pub remembered-equated :
-      (known′ : List ℕ) → Forgotten known′ → 0 < getD row 5 0 → Remembered row whole known last known′ last′
-  remembered-equated known′ f h = record { marks = body-marked; equated = λ z. f; plain = λ z. absurd (omega arith) }
+      (known′ : List ℕ) (k : ℕ) → Forgotten known′ → k < getD row 5 0 → Remembered row whole known last known′ last′
+  remembered-equated known′ k f h = record { marks = body-marked; equated = λ z. f; plain = λ z. absurd (omega arith) }
 
   -- else what was known is
   pub remembered-plain : getD row 5 0 ≤ 0 → Remembered row whole known last known last′
   remembered-plain h = record { marks = body-marked; equated = λ z. absurd (omega arith); plain = λ z. refl }
 
 -- nothing is known at the start
-pub knows-start : (rules : List ℕ) (n k l : ℕ) (cs : List Constraint) → Knows rules n (replicate k 8192) (replicate l 0) 0 cs
+knows-start : (rules : List ℕ) (n k l : ℕ) (cs : List Constraint) → Knows rules n (replicate k 8192) (replicate l 0) 0 cs
 knows-start rules n k l cs =
     record { noted = λ i h. rw (same k i) (noted-nothing _ cs (replicate l 0) 0); bounded = λ s. none-came l s (0 + length cs) }
   where
@@ -389,10 +389,10 @@ module _ (row ps b : List ℕ) (next : ℕ) (bound cells : List ℕ) (m : ℕ) (
       let no-equations : ruleOfRow [] row .equations ≡ [] = let z : 2 * getD row 5 0 ≡ 0 = omega arith in rw z in
       let after = fired-plain row ps b next bound cells m bound′ cells′ true count done refl no-equations in
       let body′ = map (mapTerms (instance next (assigned b))) (ruleOfRow [] row .body) in
-      let came : Marked last (ruleOfRow [] row .body) (gone + length placed + length (without 0 placed (storeOf cells m) ++ body′))
-          last′ = rw (placed-size, ← after) marked-now in
+      let came : Marked last (ruleOfRow [] row .body)
+      (gone + length placed + length (without 0 placed (storeOf cells m) ++ body′)) last′ = rw (placed-size, ← after) marked-now in
       let new = noted-fired hs (storeOf cells m) placed (ruleOfRow [] row .body) body′ last last′ gone v known
-          (length-map (ruleOfRow [] row .body) _) (concerns-mapped hs _ (ruleOfRow [] row .body)) came in
+      (length-map (ruleOfRow [] row .body) _) (concerns-mapped hs _ (ruleOfRow [] row .body)) came in
       rw after (rw placed-size at new)
 
   -- what is known of the rules after the firing

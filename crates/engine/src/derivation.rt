@@ -57,7 +57,16 @@ pub fn advance(
     let e = CONSTRAINT_SIZE * m;
     let mut positions = [0; 4];
     let mut bindings = [0; 26];
-    let choice = choose(rules, n, known, last, &cells[..e], stage, &mut positions, &mut bindings);
+    let choice = choose(
+        rules,
+        n,
+        known,
+        last,
+        &cells[..e],
+        stage,
+        &mut positions,
+        &mut bindings,
+    );
     if !choice.found {
         return Forward {
             fired: false,
@@ -118,8 +127,12 @@ pub fn normalise(
     while alive {
         at = make_room(cells, at, count);
         let a = CONSTRAINT_SIZE * at;
-        let stage = Stage { count, next: number, gone };
-        let step = advance(rules, n, &mut known, &mut last, bound, &mut cells[a..], stage);
+        let now = Stage {
+            count,
+            next: number,
+            gone,
+        };
+        let step = advance(rules, n, &mut known, &mut last, bound, &mut cells[a..], now);
         at += step.skip;
         gone = step.gone;
         if !step.fired {

@@ -31,7 +31,11 @@ pub struct Stage {
 pub fn known_at(known: &[u16], i: usize) -> usize
     ensures { λ r. ⌜ r ≡ getD (now (known .entry)) i loose ⌝ }
 {
-    if i < known.len() { wide(known[i]) } else { LOOSE }
+    if i < known.len() {
+        wide(known[i])
+    } else {
+        LOOSE
+    }
 }
 
 // Notes what is known of rule i; nothing behind the table's end.

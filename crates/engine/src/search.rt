@@ -170,7 +170,16 @@ pub fn find_rule(
     let n = wide(row[HEADS_CELL]);
     let e = FIRST_HEAD + CONSTRAINT_SIZE * n;
     *bindings = [0; 26];
-    find(&row[FIRST_HEAD..e], n, n, cells, m, positions, bindings, from)
+    find(
+        &row[FIRST_HEAD..e],
+        n,
+        n,
+        cells,
+        m,
+        positions,
+        bindings,
+        from,
+    )
 }
 
 // In how many of the first constraints a rule fits nowhere, where it fits at these smallest positions.
@@ -185,7 +194,8 @@ pub fn leading(row: &[u16], positions: [usize; 4]) -> usize
     }
 }
 
-// A first look at a rule by its first head: it fits nowhere if no constraint has the head's symbol, or none of those behind.
+// A first look at a rule: it fits nowhere if no constraint has its first head's symbol. Where it fits nowhere among the first
+// constraints, a single head is sought behind them only.
 pub fn is_possible(row: &[u16], cells: &[u16], v: usize, gone: usize) -> bool
     requires { ⌜ Row (now row) × (constraintSize * (prefixOf v - gone) ≤ length (now cells))
         × Barren (ruleOfRow [] (now row) .heads) (cellConstraints (now cells)) [] unassigned (prefixOf v - gone) ⌝ }
@@ -205,7 +215,7 @@ pub fn is_possible(row: &[u16], cells: &[u16], v: usize, gone: usize) -> bool
     has_symbol(row[FIRST_HEAD], cells)
 }
 
-// A first look at a rule by what is known of it: where it fitted nowhere, a firing must have brought a symbol of its heads.
+// A first look at a rule by what is known of it: where it fitted nowhere, a firing since must have brought a symbol of its heads.
 pub fn may_fit(row: &[u16], last: &[u16], v: usize, cells: &[u16], m: usize, gone: usize) -> bool
     requires { ⌜ Row (now row) × (length (now cells) ≡ constraintSize * m) × (gone + m ≤ 6000)
         × Noted (ruleOfRow [] (now row) .heads) (cellConstraints (now cells)) (now last) gone v ⌝ }

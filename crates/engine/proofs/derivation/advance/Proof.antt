@@ -87,8 +87,9 @@ add-remember c =
     let at-if1 = found at-fire-front in
     let at-choose = at-if1 .before .before .before .before in
     let start = entry at-choose in
-    omega (arith, start .pre .2, step-few _ _ _ _ _ (start .pre .0) _ _ _ _ (at-choose .choose .ensures .0) (not-false _ (at-if1 .if1 .left))
-    _ _ _ _ _ (at-fire-front .fire-front .ensures .0) _ _ (start .pre .2) (at-wide .wide .ensures .0))
+    let few′ = step-few _ _ _ _ _ (start .pre .0) _ _ _ _ (at-choose .choose .ensures .0) (not-false _ (at-if1 .if1 .left))
+    _ _ _ _ _ (at-fire-front .fire-front .ensures .0) _ _ (start .pre .2) (at-wide .wide .ensures .0) in
+    omega (arith, start .pre .2, few′)
 
 add-removed : tie.Need-add-removed
 add-removed c =

@@ -11,7 +11,7 @@ returns c =
     let at-if1 = at-forget .before .before in
     let at-mark = at-if1 .before .before .before .before in
     let at-wide = at-mark .before .before .before in
-    remembered-equated _ _ _ _ _ _ (at-mark .mark .ensures) (at-wide .wide .ensures .0) _ (at-forget .forget .ensures)
+    remembered-equated _ _ _ _ _ _ (at-mark .mark .ensures) (at-wide .wide .ensures .0) _ _ (at-forget .forget .ensures)
     (at-if1 .if1 .taken)
 
 returns-2 : tie.Need-returns-2

@@ -61,8 +61,8 @@ leading-requires c κs =
     let at-loop-test = at-may-fit .before .before .before .before .before in
     let at-loop = at-loop-test .before in
     let start = at-loop .before .before .before .before .before in
-    choosing-leads _ _ _ (start .args .stage .count) _ (start .pre .0) (at-loop .loop .inv .0 .choosing)
-    (at-loop-test .loop-test .taken) _ _ _ (at-find-rule .find-rule .ensures)
+    choosing-leads _ _ _ _ (start .pre .0) (at-loop .loop .inv .0 .choosing) (at-loop-test .loop-test .taken)
+    _ _ _ (at-find-rule .find-rule .ensures)
 
 note-requires : tie.Need-note-requires Inv-loop μ-loop
 note-requires c κs =
@@ -84,9 +84,12 @@ add-note-2 c =
     let at-loop-test = at-may-fit .before .before .before .before .before in
     let at-loop = at-loop-test .before in
     let start = at-loop .before .before .before .before .before in
-    omega (arith, noting-room _ _ _ _ _ _ _ _ _ (start .pre .0) (start .pre .1) (start .pre .2) (at-loop .loop .inv .0)
-    (at-loop-test .loop-test .taken) _ _ _
-    (at-find-rule .find-rule .ensures) (at-if3 .if3 .taken) _ (c .leading .ensures))
+    omega (
+      arith,
+      noting-room _ _ _ _ _ _ _ _ _ (start .pre .0) (start .pre .1) (start .pre .2) (at-loop .loop .inv .0)
+          (at-loop-test .loop-test .taken) _ _ _
+          (at-find-rule .find-rule .ensures) (at-if3 .if3 .taken) _ (c .leading .ensures),
+    )
 
 returns : tie.Need-returns Inv-loop μ-loop
 returns c =
@@ -153,7 +156,7 @@ returns-2 : tie.Need-returns-2 Inv-loop μ-loop
 returns-2 c =
     let at-loop = c .before in
     let start = at-loop .before .before .before .before .before in (
-      choosing-none _ _ _ (start .args .stage .count) _ (start .pre .0) (at-loop .loop .inv .0 .choosing) (c .loop-test .left)
+      choosing-none _ _ _ _ (start .pre .0) (at-loop .loop .inv .0 .choosing) (c .loop-test .left)
           _ _ (at-loop .loop .inv .1) (at-loop .loop .inv .2),
       at-loop .loop .inv .0 .knows,
     )

@@ -1,7 +1,6 @@
 -- `is_possible` meets its contract.
 -- Assumes nothing.
 use borrow.Author.Needs.{needs}
-use native.Mathlib.Omega.{arith}
 use Rattle.engine.proofs.KnownLaws.{possible-still, absent-rule, absent-tail}
 use Rattle.engine.proofs.search.is_possible.Statement.{statement}
 use Rattle.engine.proofs.search.is_possible.Tie as tie

@@ -1,7 +1,6 @@
 -- `may_fit` meets its contract.
 -- Assumes nothing.
 use borrow.Author.Needs.{needs}
-use native.Mathlib.Omega.{arith}
 use Rattle.engine.proofs.KnownLaws.{possible-since, possible-asks}
 use Rattle.engine.proofs.search.may_fit.Statement.{statement}
 use Rattle.engine.proofs.search.may_fit.Tie as tie
