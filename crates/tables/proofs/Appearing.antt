@@ -1,21 +1,23 @@
 -- Every variable of a final state appears in the order of its numbers.
 --   varIn                     a constant, or a variable that stands in the order
---   in-terms, in-rows         every term of terms, and of constraints
+--   in-terms                  every term of terms
 --   every-grows               what stands in an order stands in a longer one
+--   index-in, index-on        and has the same place there
+--   numbered-by, numbered-all    so that a term keeps its number
 -- Assumes nothing.
-use mathlib.Core.Path.{_≡_, refl, _∙_}
+use mathlib.Core.Path.{_≡_, refl, ap, _∙_}
 use mathlib.Core.Bool.{Bool, true, false, cond, _||_, _&&_}
-use mathlib.Core.List.{List, [], _∷_, _++_}
+use mathlib.Core.List.{List, [], _∷_, _++_, map}
 use Prim.Native.Nat.{ℕ}
 use native.Mathlib.Omega.{arith}
 use lib.Dec.{eqb}
 use borrow.Author.Tests.{eq-eqb}
-use Rattle.text.specs.Lists.{has, every}
+use Rattle.text.specs.Lists.{has, every, indexFrom}
 use Rattle.semantics.specs.Terms.{Term, con, var, Constraint}
-use Rattle.semantics.specs.Overlaps.{appearingIn, appearing}
+use Rattle.semantics.specs.Overlaps.{appearingIn, appearing, numbered}
 use Rattle.text.proofs.Bools.{and-true}
 use Rattle.semantics.proofs.Bools.{or-right}
-use Rattle.tables.proofs.NumberLaws.{has-more}
+use Rattle.tables.proofs.NumberLaws.{has-more, index-kept}
 
 -- a constant, or a variable that stands in the order
 abbrev pub varIn : List ℕ → Term → Bool
@@ -79,14 +81,38 @@ in-terms (var x ∷ ts) seen =
     both (has x (appearingIn (more x seen) ts)) (every (varIn (appearingIn (more x seen) ts)) ts)
     (grows-in ts (more x seen) x (more-itself x seen)) (in-terms ts (more x seen))
 
--- and of constraints
-pub in-rows : (cs : List Constraint) (seen : List ℕ) → every (λ (c : Constraint). every (varIn (appearing seen cs)) (c .terms))
-    cs ≡ true
+-- a variable that has appeared keeps its place when more appear
+pub index-in :
+    (ts : List Term) (o : List ℕ) (x : ℕ) → has x o ≡ true → indexFrom (eqb x) 0 (appearingIn o ts) ≡ indexFrom (eqb x) 0 o
+unfolding appearingIn
+index-in [] o x h = refl
+index-in (con c ∷ ts) o x h = index-in ts o x h
+index-in (var y ∷ ts) o x h = index-in ts (more y o) x (more-keeps y x o h) ∙ one (has y o)
+  where
+    one : (b : Bool) → indexFrom (eqb x) 0 (cond b o (o ++ (y ∷ []))) ≡ indexFrom (eqb x) 0 o
+    one true = refl
+    one false = index-kept x y 0 o h
+
+pub index-on :
+    (cs : List Constraint) (o : List ℕ) (x : ℕ) → has x o ≡ true
+    → indexFrom (eqb x) 0 (appearing o cs) ≡ indexFrom (eqb x) 0 o
 unfolding appearing
-in-rows [] seen = refl
-in-rows (c ∷ cs) seen =
-    let order = appearing (appearingIn seen (c .terms)) cs in
-    both (every (varIn order) (c .terms)) (every (λ (d : Constraint). every (varIn order) (d .terms)) cs)
-    (every-grows (c .terms) (appearingIn seen (c .terms)) order (grows cs (appearingIn seen (c .terms)))
-    (in-terms (c .terms) seen))
-    (in-rows cs (appearingIn seen (c .terms)))
+index-on [] o x h = refl
+index-on (c ∷ cs) o x h =
+    index-on cs (appearingIn o (c .terms)) x (grows-in (c .terms) o x h) ∙ index-in (c .terms) o x h
+
+-- so does a term, and so do terms
+pub numbered-by :
+    (a b : List ℕ) (t : Term) → ((x : ℕ) → has x a ≡ true → indexFrom (eqb x) 0 b ≡ indexFrom (eqb x) 0 a)
+    → varIn a t ≡ true → numbered b t ≡ numbered a t
+unfolding numbered
+numbered-by a b (con c) f h = refl
+numbered-by a b (var x) f h = ap var (f x h)
+
+pub numbered-all :
+    (a b : List ℕ) (ts : List Term) → ((x : ℕ) → has x a ≡ true → indexFrom (eqb x) 0 b ≡ indexFrom (eqb x) 0 a)
+    → every (varIn a) ts ≡ true → map (numbered b) ts ≡ map (numbered a) ts
+numbered-all a b [] f h = refl
+numbered-all a b (t ∷ ts) f h =
+    let parts = and-true (varIn a t) (every (varIn a) ts) h in
+    rw (numbered-by a b t f (parts .0), numbered-all a b ts f (parts .1))

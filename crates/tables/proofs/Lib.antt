@@ -6,3 +6,4 @@ pub mod MapLaws
 pub mod NumberLaws
 pub mod Appearing
 pub mod Renumbering
+pub mod RowLaws

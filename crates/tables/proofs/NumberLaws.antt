@@ -3,28 +3,26 @@
 --   new-…                 the new cell of a variable, with one more variable seen
 --   numbered-…            one more term: a constant, a variable that has appeared, one that has not
 --   Counting, counting-…  a loop over cells, from the variables so far
---   CountingRows, rows-…  a loop over constraints
 --   cell-below, cell-unnumbered, cell-new          a cell under the table
---   renumbers             the table gives every variable its place
 -- Assumes nothing.
 use mathlib.Core.Path.{_≡_, refl, sym, ap, _∙_, subst}
 use mathlib.Core.Bool.{Bool, true, false, cond, _||_}
 use mathlib.Core.List.{List, [], _∷_, _++_, map}
-use Prim.Native.Nat.{ℕ, suc, _+_, _-_, _*_, _≤_, _<_}
+use Prim.Native.Nat.{ℕ, suc, _+_, _-_, _≤_, _<_}
 use native.Mathlib.Omega.{arith}
 use native.Mathlib.Numerals.{add-one}
 use borrow.Author.Tests.{eq-eqb, ne-eqb, eqb-true, eqb-false, lt-ltb, le-ltb, ltb-true}
 use lib.Dec.{eqb, ltb}
-use lib.ListN.{length, take, drop, getD, set, length-append, length-take, drop-of-length-le}
+use lib.ListN.{length, take, drop, getD, set, length-append, drop-of-length-le}
 use lib.ListN.{List·getD-eq-default}
-use lib.Seq.{drop-cons, drop-drop, getD-set-same, getD-set-other}
+use lib.Seq.{drop-cons, getD-set-same, getD-set-other}
 use Rattle.text.specs.Lists.{has, every, indexFrom}
-use Rattle.semantics.specs.Terms.{Term, con, var, Constraint, isBelow}
-use Rattle.semantics.specs.Overlaps.{appearingIn, appearing}
+use Rattle.semantics.specs.Terms.{Term, con, var, isBelow}
+use Rattle.semantics.specs.Overlaps.{appearingIn}
 use Rattle.text.proofs.Bools.{and-true}
-use Rattle.tables.specs.Cells.{cellTerm, cellTerms, rowConstraint, cellConstraints, isLow}
-use Rattle.tables.specs.Numbers.{usedCells, newCell, Numbering, Numbered, RowsNumbered, renumberedCell, isWithin}
-use Rattle.tables.proofs.CellLaws.{cell-low, cell-high, constraints-at, constraints-short}
+use Rattle.tables.specs.Cells.{cellTerm, cellTerms}
+use Rattle.tables.specs.Numbers.{usedCells, newCell, Numbering, Numbered, renumberedCell}
+use Rattle.tables.proofs.CellLaws.{cell-low, cell-high}
 
 module _ (l : List ℕ) (i : ℕ) where
   -- how many cells stand before the first 0, one cell on
@@ -173,7 +171,7 @@ numbered-new table seen x y h e inside new = rw (cell-high x h, ← e) record { 
         }
 
 -- terms one after the other
-appearing-step : (order : List ℕ) (t : Term) (ts : List Term) → appearingIn (appearingIn order (t ∷ [])) ts
+pub appearing-step : (order : List ℕ) (t : Term) (ts : List Term) → appearingIn (appearingIn order (t ∷ [])) ts
     ≡ appearingIn order (t ∷ ts)
 unfolding appearingIn
 appearing-step order (con c) ts = refl
@@ -185,7 +183,7 @@ pub record Reaching (whole table : List ℕ) (seen : ℕ) (left : List Term) : T
   pub numbering : Numbering order table seen
   pub reaches : appearingIn order left ≡ whole
 
-reach-more : {whole table after : List ℕ} {seen count : ℕ} {left : List Term} (t : Term) (rest : List Term)
+pub reach-more : {whole table after : List ℕ} {seen count : ℕ} {left : List Term} (t : Term) (rest : List Term)
     → left ≡ t ∷ rest → Numbered (t ∷ []) 1 table after seen count → Reaching whole table seen left
     → Reaching whole after count rest
 reach-more t rest e n r =
@@ -195,7 +193,7 @@ reach-more t rest e n r =
       reaches = appearing-step (r .order) t rest ∙ ap (appearingIn (r .order)) (sym e) ∙ r .reaches;
     }
 
-reach-end : {whole table : List ℕ} {seen : ℕ} {left : List Term} → left ≡ [] → Reaching whole table seen left
+pub reach-end : {whole table : List ℕ} {seen : ℕ} {left : List Term} → left ≡ [] → Reaching whole table seen left
     → Numbering whole table seen
 unfolding appearingIn
 reach-end {whole} {table} {seen} {left} e r =
@@ -257,110 +255,6 @@ module _ (start : List ℕ) (before : ℕ) (cells table : List ℕ) (seen i : �
       record {
         next = λ order n. reach-end (rw (drop-of-length-le cells {i = i} l)) (w .reach order n);
         few = omega (arith, w .few, w .within);
-      }
-
--- the same for constraints
-pub record ReachingRows (whole table : List ℕ) (seen : ℕ) (left : List Constraint) : Type 0 where
-  pub order : List ℕ
-  pub numbering : Numbering order table seen
-  pub reaches : appearing order left ≡ whole
-
-pub record CountingRows (start : List ℕ) (before : ℕ) (cells table : List ℕ) (seen i : ℕ) : Type 0 where
-  pub few : seen ≤ before + 4 * i
-  pub within : 5 * i ≤ length cells
-  pub size : length table ≡ length start
-  pub left : every (isWithin (length start)) (cellConstraints (drop (5 * i) cells)) ≡ true
-  pub reach :
-      (order : List ℕ) → Numbering order start before
-      → ReachingRows (appearing order (cellConstraints cells)) table seen (cellConstraints (drop (5 * i) cells))
-
-pub rows-start : (start : List ℕ) (before : ℕ) (cells : List ℕ)
-    → every (isWithin (length start)) (cellConstraints cells) ≡ true → CountingRows start before cells start before 0
-rows-start start before cells h =
-    record {
-      few = omega arith;
-      within = omega arith;
-      size = refl;
-      left = h;
-      reach = λ order n. record { order = order; numbering = n; reaches = refl };
-    }
-
--- the terms of the constraint at place i, as they are lent
-abbrev pub lentTerms : List ℕ → ℕ → List ℕ
-lentTerms cells i = take (((5 * i + 1) + 4) - (5 * i + 1)) (drop (5 * i + 1) cells)
-
-terms-cut : (cells : List ℕ) (i : ℕ) → lentTerms cells i ≡ drop 1 (take 5 (drop (5 * i) cells))
-terms-cut cells i =
-    let four : ((5 * i + 1) + 4) - (5 * i + 1) ≡ 4 = omega arith in
-    rw (four, ← drop-drop 1 (5 * i) cells) (behind (drop (5 * i) cells))
-  where
-    behind : (l : List ℕ) → take 4 (drop 1 l) ≡ drop 1 (take 5 l)
-    behind [] = refl
-    behind (x ∷ l) = refl
-
-module _ (start : List ℕ) (before : ℕ) (cells table : List ℕ) (seen i : ℕ)
-    (w : CountingRows start before cells table seen i) where
-  row : List ℕ
-  row = take 5 (drop (5 * i) cells)
-
-  abbrev rest : List Constraint
-  rest = cellConstraints (drop (5 * suc i) cells)
-
-  -- the terms as they are lent are those of the constraint
-  terms-are : (n : ℕ) → n ≡ usedCells (lentTerms cells i) → map cellTerm (take n (lentTerms cells i)) ≡ rowConstraint row .terms
-  unfolding rowConstraint row
-  terms-are n e = rw e (sym (used-terms (lentTerms cells i)) ∙ ap cellTerms (terms-cut cells i))
-
-  first-within : 5 * i + 5 ≤ length cells → (isWithin (length start) (rowConstraint row) ≡ true) × (every
-      (isWithin (length start)) rest ≡ true)
-  unfolding row
-  first-within l =
-      and-true (isWithin (length start) (rowConstraint row)) (every (isWithin (length start)) rest)
-      (rw (constraints-at cells i l) at (w .left))
-
-  pub rows-asked : (n : ℕ) → 5 * i + 5 ≤ length cells → n ≡ usedCells (lentTerms cells i)
-      → every (isBelow (length table)) (map cellTerm (take n (lentTerms cells i))) ≡ true
-  unfolding isWithin
-  rows-asked n l e =
-      rw (terms-are n e, w .size)
-      (and-true (isLow (rowConstraint row)) (every (isBelow (length start)) (rowConstraint row .terms)) (first-within l .0) .1)
-
-  pub lent-few : (n : ℕ) → length (take n (lentTerms cells i)) ≤ 4
-  lent-few n = omega (
-    arith,
-    length-take n (lentTerms cells i),
-    length-take (((5 * i + 1) + 4) - (5 * i + 1)) (drop
-        (5 * i + 1) cells),
-  )
-
-  pub rows-next : (n : ℕ) (after : List ℕ) (count : ℕ) → 5 * i + 5 ≤ length cells → n ≡ usedCells (lentTerms cells i)
-      → Numbered (map cellTerm (take n (lentTerms cells i))) (length (take n (lentTerms cells i))) table after seen count
-      → length after ≡ length table → CountingRows start before cells after count (i + 1)
-  unfolding row appearing
-  rows-next n after count l e m s =
-      rw (add-one i) (record {
-        few = omega (arith, m .few, w .few, lent-few n);
-        within = omega arith;
-        size = s ∙ w .size;
-        left = first-within l .1;
-        reach = λ order q.
-            let r = w .reach order q in
-            record {
-              order = appearingIn (r .order) (rowConstraint row .terms);
-              numbering = rw (terms-are n e) at (m .next (r .order) (r .numbering));
-              reaches = ap (appearing (r .order)) (sym (constraints-at cells i l)) ∙ r .reaches;
-            };
-      })
-
-  pub rows-end : length cells < 5 * i + 5 → RowsNumbered (cellConstraints cells) start table before seen
-  unfolding appearing
-  rows-end l =
-      record {
-        next = λ order n.
-            let r = w .reach order n in
-            let same : r .order ≡ appearing order (cellConstraints cells) =
-            ap (appearing (r .order)) (sym (constraints-short cells i l)) ∙ r .reaches in
-            subst (λ (o : List ℕ). Numbering o table seen) same (r .numbering);
       }
 
 module _ (table : List ℕ) (x : ℕ) where

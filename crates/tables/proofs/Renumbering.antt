@@ -1,10 +1,11 @@
 -- The table of new cells gives every variable of a state its place in the order of first appearance.
---   renumbers      the cells under the table are the state renumbered
+--   kept, placed   a cell under the table
+--   renumbers      the rewritten cells are the state renumbered
 --   rows-asks      what numbering the constraints asks, after the goal variables' cells
 --   zeros          a table of zeros, of which v entries are lent: no variable has appeared
 -- Assumes nothing.
 use mathlib.Core.Path.{_≡_, refl, sym, ap, _∙_}
-use mathlib.Core.Bool.{true, _&&_}
+use mathlib.Core.Bool.{true}
 use mathlib.Core.List.{List, [], _∷_, map}
 use mathlib.Core.Logic.{⊎-elim}
 use Prim.Native.Nat.{ℕ, zero, suc, _+_, _-_, _≤_}
@@ -13,20 +14,20 @@ use borrow.Author.Tests.{eqb-true, eqb-false}
 use lib.Dec.{eqb}
 use lib.ListN.{length, take, getD}
 use Rattle.text.specs.Lists.{has, every, indexFrom}
-use Rattle.semantics.specs.Terms.{var, Constraint, isBelow}
+use Rattle.semantics.specs.Terms.{var}
 use Rattle.semantics.specs.Overlaps.{appearingIn, appearing, numbered}
 use Rattle.text.proofs.Bools.{and-true}
-use Rattle.tables.specs.Cells.{cellTerm, cellConstraints, isLow}
+use Rattle.tables.specs.Cells.{cellTerm, cellConstraints}
 use Rattle.tables.specs.Numbers.{orderOf, newCell, Numbering, Numbered, RowsNumbered, renumberedCell, isWithin}
 use Rattle.tables.specs.Numbers.{Renumberable, Renumbered}
 use Rattle.tables.proofs.CellLaws.{cell-low, cell-high, le-or-lt, either}
-use Rattle.tables.proofs.MapLaws.{Acts, acts-constraints, acts-bound}
+use Rattle.tables.proofs.MapLaws.{Acts, acts-bound}
 use Rattle.tables.proofs.NumberLaws.{new-seen, cell-below, cell-unnumbered, cell-new}
-use Rattle.tables.proofs.Appearing.{varIn, grows, every-grows, in-terms, in-rows}
+use Rattle.tables.proofs.Appearing.{varIn, grows, every-grows, in-terms}
 
 module _ (order table : List ℕ) (count : ℕ) (n : Numbering order table count) where
   -- a used cell stays used
-  kept : (x : ℕ) → (x ≡ 0 → ⊥) → renumberedCell table x ≡ 0 → ⊥
+  pub kept : (x : ℕ) → (x ≡ 0 → ⊥) → renumberedCell table x ≡ 0 → ⊥
   kept x h z =
       let new = getD table (x - 256) 0 in
       ⊎-elim
@@ -35,7 +36,7 @@ module _ (order table : List ℕ) (count : ℕ) (n : Numbering order table count
       (λ low. h (cell-below table x low ∙ z)) (le-or-lt 256 x)
 
   -- a term that has appeared becomes its place
-  placed : (x : ℕ) → varIn order (cellTerm x) ≡ true → cellTerm (renumberedCell table x) ≡ numbered order (cellTerm x)
+  pub placed : (x : ℕ) → varIn order (cellTerm x) ≡ true → cellTerm (renumberedCell table x) ≡ numbered order (cellTerm x)
   unfolding numbered
   placed x h =
       ⊎-elim
@@ -51,26 +52,12 @@ module _ (order table : List ℕ) (count : ℕ) (n : Numbering order table count
   acts : Acts (varIn order) (renumberedCell table) (numbered order)
   acts = record { low = λ x h. sym (cell-below table x h); used = kept; term = placed }
 
--- constraints with low symbols, all of whose variables have appeared
-low-seen : (v : ℕ) (order : List ℕ) (cs : List Constraint) → every (isWithin v) cs ≡ true
-    → every (λ (c : Constraint). every (varIn order) (c .terms)) cs ≡ true
-    → every (λ (c : Constraint). isLow c && every (varIn order) (c .terms)) cs ≡ true
-unfolding isWithin
-low-seen v order [] h k = refl
-low-seen v order (c ∷ cs) h k =
-    let first = and-true (isLow c && every (isBelow v) (c .terms)) (every (isWithin v) cs) h in
-    let seen =
-    and-true (every (varIn order) (c .terms)) (every (λ (d : Constraint). every (varIn order) (d .terms)) cs) k in
-    rw (and-true (isLow c) (every (isBelow v) (c .terms)) (first .0) .0, seen .0) (low-seen v order cs (first .1) (seen .1))
-
--- the cells under the table are the state renumbered
-pub renumbers : (bound cells start one two bound′ cells′ : List ℕ) (v m seen count : ℕ)
-    → Numbered (map cellTerm bound) m start one 0 seen → RowsNumbered (cellConstraints cells) one two seen count
-    → bound′ ≡ map (renumberedCell two) bound → cells′ ≡ map (renumberedCell two) cells
-    → Numbering [] start 0 → Renumberable v bound cells
-    → Renumbered bound cells bound′ cells′ count
+-- the goal variables' cells under the table, and the constraints as they were rewritten, are the state renumbered
+pub renumbers : (bound cells start one two bound′ cells′ : List ℕ) (m seen count : ℕ)
+    → Numbered (map cellTerm bound) m start one 0 seen → RowsNumbered cells cells′ one two seen count
+    → bound′ ≡ map (renumberedCell two) bound → Numbering [] start 0 → Renumbered bound cells bound′ cells′ count
 unfolding orderOf
-renumbers bound cells start one two bound′ cells′ v m seen count first second b c none r =
+renumbers bound cells start one two bound′ cells′ m seen count first second b none =
     let first-order = appearingIn [] (map cellTerm bound) in
     let order = appearing first-order (cellConstraints cells) in
     let n : Numbering order two count = second .next first-order (first .next [] none) in
@@ -80,10 +67,7 @@ renumbers bound cells start one two bound′ cells′ v m seen count first secon
           ∙ acts-bound (varIn order) (renumberedCell two) (numbered order) (acts order two count n) bound
           (every-grows (map cellTerm bound) first-order order (grows (cellConstraints cells) first-order)
           (in-terms (map cellTerm bound) []));
-      same =
-          ap cellConstraints c
-          ∙ acts-constraints (varIn order) (renumberedCell two) (numbered order) (acts order two count n) cells
-          (low-seen v order (cellConstraints cells) (r .within) (in-rows (cellConstraints cells) first-order));
+      same = second .same first-order (first .next [] none);
       counted = n .counted;
     }
 

@@ -2,6 +2,7 @@
 --   orderOf             the variables of cells, in order of first appearance
 --   Numbering           a table of the variables' new cells that is being filled
 --   Numbered            what numbering more terms promises
+--   RowNumbered, RowsNumbered    the same for constraints, which are rewritten
 --   Renumberable, Renumbered     what renumbering a state's cells asks and promises
 -- Entry x of the table is the new cell of variable x, and 0 where it has not appeared. Assumes nothing.
 use Prim.Native.Nat.{ℕ, suc, _+_, _-_, _≤_}
@@ -14,7 +15,7 @@ use Rattle.text.specs.Lists.{has, every, indexFrom}
 use Rattle.semantics.specs.Terms.{Term, Constraint, mapTerms, isBelow}
 use Rattle.semantics.specs.Overlaps.{appearingIn, appearing, numbered}
 use Rattle.tables.specs.Layout.{firstVariable}
-use Rattle.tables.specs.Cells.{cellTerm, cellConstraints, isLow}
+use Rattle.tables.specs.Cells.{cellTerm, cellTerms, cellConstraints, isLow}
 
 -- how many cells stand before the first 0
 unfoldable pub usedCells : List ℕ → ℕ
@@ -39,9 +40,20 @@ pub record Numbered (terms : List Term) (most : ℕ) (before after : List ℕ) (
   pub next : (order : List ℕ) → Numbering order before seen → Numbering (appearingIn order terms) after count
   pub few : count ≤ seen + most
 
--- the same for constraints
-pub record RowsNumbered (constraints : List Constraint) (before after : List ℕ) (seen count : ℕ) : Type 0 where
-  pub next : (order : List ℕ) → Numbering order before seen → Numbering (appearing order constraints) after count
+-- the same for the terms of a row, which become their new cells
+pub record RowNumbered (row row′ before after : List ℕ) (seen count : ℕ) : Type 0 where
+  pub next : (order : List ℕ) → Numbering order before seen → Numbering (appearingIn order (cellTerms row)) after count
+  pub few : count ≤ seen + length row
+  pub same :
+      (order : List ℕ) → Numbering order before seen
+      → cellTerms row′ ≡ map (numbered (appearingIn order (cellTerms row))) (cellTerms row)
+
+-- and for constraints
+pub record RowsNumbered (cells cells′ before after : List ℕ) (seen count : ℕ) : Type 0 where
+  pub next : (order : List ℕ) → Numbering order before seen → Numbering (appearing order (cellConstraints cells)) after count
+  pub same :
+      (order : List ℕ) → Numbering order before seen
+      → cellConstraints cells′ ≡ map (mapTerms (numbered (appearing order (cellConstraints cells)))) (cellConstraints cells)
 
 -- a cell under a table: a variable's new cell, where it has one
 unfoldable pub renumberedCell : List ℕ → ℕ → ℕ

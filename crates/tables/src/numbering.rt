@@ -10,9 +10,9 @@ ghost use lib.ListN.{length};
 ghost use Rattle.text.specs.Lists.{every};
 ghost use Rattle.semantics.specs.Terms.{isBelow};
 ghost use Rattle.tables.specs.Layout.{firstVariable};
-ghost use Rattle.tables.specs.Cells.{cellTerm, cellConstraints};
-ghost use Rattle.tables.specs.Numbers.{usedCells, Numbering, Numbered, RowsNumbered, renumberedCell, isWithin};
-ghost use Rattle.tables.specs.Numbers.{Renumberable, Renumbered};
+ghost use Rattle.tables.specs.Cells.{cellTerm, cellTerms, cellConstraints};
+ghost use Rattle.tables.specs.Numbers.{usedCells, Numbering, Numbered, RowNumbered, RowsNumbered, renumberedCell};
+ghost use Rattle.tables.specs.Numbers.{isWithin, Renumberable, Renumbered};
 
 // How many cells stand before the first 0.
 pub fn used(cells: &[u16]) -> usize
@@ -60,25 +60,6 @@ fn number_terms(table: &mut [u16], before: usize, cells: &[u16]) -> usize
     seen
 }
 
-// The terms of constraints, five cells each.
-fn number_rows(table: &mut [u16], before: usize, cells: &[u16]) -> usize
-    requires { ⌜ (every (isWithin (length (now table))) (cellConstraints (now cells)) ≡ true)
-        × (before + length (now cells) ≤ 65000) ⌝ }
-    ensures { λ r. ⌜ RowsNumbered (cellConstraints (now (cells .entry))) (now (table .entry)) (now (table .exit)) before r ⌝ }
-{
-    let mut seen = before;
-    let mut i = 0;
-    while CONSTRAINT_SIZE * i + CONSTRAINT_SIZE <= cells.len() {
-        let a = CONSTRAINT_SIZE * i + 1;
-        let e = a + 4;
-        let row = &cells[a..e];
-        let n = used(row);
-        seen = number_terms(table, seen, &row[..n]);
-        i += 1;
-    }
-    seen
-}
-
 // A cell under the table.
 fn renumbered(table: &[u16], x: u16) -> u16
     ensures { λ r. ⌜ r ≡ renumberedCell (now (table .entry)) x ⌝ }
@@ -105,6 +86,42 @@ fn renumber_all(table: &[u16], cells: &mut [u16])
     }
 }
 
+// The terms of a constraint, up to the first 0: each becomes its new cell.
+fn number_row(table: &mut [u16], before: usize, row: &mut [u16]) -> usize
+    requires { ⌜ (every (isBelow (length (now table))) (cellTerms (now row)) ≡ true) × (before + length (now row) ≤ 65000) ⌝ }
+    ensures { λ r. ⌜ RowNumbered (now (row .entry)) (now (row .exit)) (now (table .entry)) (now (table .exit)) before r ⌝ }
+{
+    let mut seen = before;
+    let mut i = 0;
+    while i < row.len() {
+        let x = row[i];
+        if x == 0 {
+            return seen;
+        }
+        seen = number_term(table, seen, x);
+        row[i] = renumbered(table, x);
+        i += 1;
+    }
+    seen
+}
+
+// The terms of constraints, five cells each.
+fn number_rows(table: &mut [u16], before: usize, cells: &mut [u16]) -> usize
+    requires { ⌜ (every (isWithin (length (now table))) (cellConstraints (now cells)) ≡ true)
+        × (before + length (now cells) ≤ 65000) ⌝ }
+    ensures { λ r. ⌜ RowsNumbered (now (cells .entry)) (now (cells .exit)) (now (table .entry)) (now (table .exit)) before r ⌝ }
+{
+    let mut seen = before;
+    let mut i = 0;
+    while CONSTRAINT_SIZE * i + CONSTRAINT_SIZE <= cells.len() {
+        let a = CONSTRAINT_SIZE * i + 1;
+        let e = a + 4;
+        seen = number_row(table, seen, &mut cells[a..e]);
+        i += 1;
+    }
+    seen
+}
+
 // A state's variables, numbered anew: those of the goal variables' cells first, then those of the constraints. Answers how many.
 pub fn number(table: &mut [u16], bound: &mut [u16], cells: &mut [u16]) -> usize
     requires { ⌜ Numbering [] (now table) 0 × Renumberable (length (now table)) (now bound) (now cells) ⌝ }
@@ -113,7 +130,6 @@ pub fn number(table: &mut [u16], bound: &mut [u16], cells: &mut [u16]) -> usize
     let some = number_terms(table, 0, bound);
     let seen = number_rows(table, some, cells);
     renumber_all(table, bound);
-    renumber_all(table, cells);
     seen
 }
 

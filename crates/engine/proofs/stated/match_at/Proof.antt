@@ -2,6 +2,8 @@
 -- Assumes nothing.
 use Prim.Native.Nat.{_-_}
 use native.Mathlib.Omega.{arith}
+use mathlib.Core.Path.{sym}
+use lib.Seq.{length-take-le}
 use borrow.Author.Needs.{needs}
 use borrow.Author.Tests.{not-true, not-false}
 use Rattle.engine.specs.Stated.{matchRow}
@@ -25,22 +27,25 @@ loop-holds c =
 returns : tie.Need-returns Inv-loop μ-loop
 returns c = search matching-away
 
-fit-at-requires : tie.Need-fit-at-requires Inv-loop μ-loop
-fit-at-requires c κs = (search matching-rows, omega arith, search needs)
+slice-aggregate-fit-free : tie.Need-slice-aggregate-fit-free Inv-loop μ-loop
+slice-aggregate-fit-free c = sym (length-take-le _ _ (omega arith))
+
+fit-free-requires : tie.Need-fit-free-requires Inv-loop μ-loop
+fit-free-requires c κs = search matching-rows
 
 returns-2 : tie.Need-returns-2 Inv-loop μ-loop
 returns-2 c =
     let placed = c .before .before in
-    let tested = placed .before .before .before .before in
+    let tested = placed .before .before .before .before .before in
     matching-misfit _ _ _ _ _ _ _ _ (tested .before .before .loop .inv) (tested .before .loop-test .taken) (tested .if1 .left) _ _
-    (placed .fit-at .ensures) (not-true _ (c .if2 .taken))
+    (placed .fit-free .ensures) (not-true _ (c .if2 .taken))
 
 loop-again : tie.Need-loop-again Inv-loop μ-loop
 loop-again c =
     let placed = c .before .before in
-    let tested = placed .before .before .before .before in
+    let tested = placed .before .before .before .before .before in
     matching-fits _ _ _ _ _ _ _ _ (tested .before .before .loop .inv) (tested .before .loop-test .taken) (tested .if1 .left) _ _
-    (placed .fit-at .ensures) (not-false _ (c .if2 .left))
+    (placed .fit-free .ensures) (not-false _ (c .if2 .left))
 
 returns-3 : tie.Need-returns-3 Inv-loop μ-loop
 returns-3 c = search matching-end
@@ -63,8 +68,12 @@ match-at-spec =
     -- a, b, c, d and the cells of the head and of the constraint
     (λ c. omega arith) (λ c. omega arith) (λ c. omega arith) (λ c. omega arith)
     (λ c. omega arith) (λ c. omega arith) (λ c. omega arith) (λ c. omega arith)
-    (λ c. omega arith) (λ c. omega arith) (λ c. omega arith) (λ c. omega arith) (λ c. omega arith)
-    fit-at-requires
+    (λ c. omega arith) (λ c. omega arith) (λ c. omega arith) (λ c. omega arith)
+    -- the positions that are taken
+    (λ c. omega arith)
+    slice-aggregate-fit-free
+    (λ c. omega arith)
+    fit-free-requires
     returns-2
     -- h
     (λ c. omega arith) (λ c. omega arith)

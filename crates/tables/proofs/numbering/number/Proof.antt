@@ -20,5 +20,5 @@ number-spec =
     (tie.spec
     (λ c κs. search needs)
     number-rows-requires
-    (λ c κs. search needs) (λ c κs. search needs) (λ c. search needs) (λ c. search needs) (λ c. search needs)
+    (λ c κs. search needs) (λ c. search needs) (λ c. search needs) (λ c. search needs)
     returns)
