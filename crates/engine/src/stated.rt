@@ -65,7 +65,13 @@ pub fn match_at(row: &[u16], positions: [usize; 4], cells: &[u16], m: usize) -> 
         let b = a + CONSTRAINT_SIZE;
         let c = CONSTRAINT_SIZE * p;
         let d = c + CONSTRAINT_SIZE;
-        if !fit_free(&heads[a..b], &cells[c..d], &positions[..h], p, &mut bindings) {
+        if !fit_free(
+            &heads[a..b],
+            &cells[c..d],
+            &positions[..h],
+            p,
+            &mut bindings,
+        ) {
             return Fit {
                 fits: false,
                 bindings,
