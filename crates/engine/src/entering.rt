@@ -1,4 +1,5 @@
 // A goal enters: its constraints, or those at other positions, stand in front, and each of its variables is itself.
+use crate::matching::is_among;
 use tables::layout::CONSTRAINT_SIZE;
 use tables::layout::FIRST_VARIABLE;
 ghost use mathlib.Core.List.{map};
@@ -6,7 +7,7 @@ ghost use mathlib.Core.Path.{_≡_};
 ghost use Prim.Native.Nat.{_+_, _*_, _≤_};
 ghost use lib.ListN.{length, take, drop};
 ghost use lib.Seq.{paste};
-ghost use Rattle.text.specs.Lists.{has, tabled};
+ghost use Rattle.text.specs.Lists.{tabled};
 ghost use Rattle.semantics.specs.Terms.{var};
 ghost use Rattle.tables.specs.Layout.{constraintSize};
 ghost use Rattle.tables.specs.Cells.{cellTerm};
@@ -34,20 +35,6 @@ pub fn copy_goal(goal: &[u16], cells: &mut [u16])
         cells[i] = goal[i];
         i += 1;
     }
-}
-
-// Whether a position is among those given.
-pub fn is_among(positions: &[usize], p: usize) -> bool
-    ensures { λ r. ⌜ r ≡ has p (now (positions .entry)) ⌝ }
-{
-    let mut i = 0;
-    while i < positions.len() {
-        if p == positions[i] {
-            return true;
-        }
-        i += 1;
-    }
-    false
 }
 
 // Copies the goal's constraint at a position over the one at another in the cells.

@@ -1,9 +1,12 @@
 // Matching a head of a rule against a constraint, under lent bindings of the rule's variables.
 use tables::layout::CONSTRAINT_SIZE;
 use tables::layout::FIRST_VARIABLE;
+ghost use mathlib.Core.Bool.{cond};
+ghost use mathlib.Core.Option.{none};
 ghost use mathlib.Core.Path.{_≡_};
 ghost use Prim.Native.Nat.{_≤_, _<_, _+_, _*_};
 ghost use lib.ListN.{length};
+ghost use Rattle.text.specs.Lists.{has};
 ghost use Rattle.semantics.specs.Matching.{matchTerm, matchTerms, matchConstraint};
 ghost use Rattle.tables.specs.Layout.{constraintSize};
 ghost use Rattle.tables.specs.Cells.{cellTerm, rowConstraint};
@@ -69,6 +72,40 @@ pub fn match_constraint(head: &[u16], constraint: &[u16], bindings: &mut [u16]) 
         return match_terms(head, constraint, bindings);
     }
     false
+}
+
+// Whether a position is among those given.
+pub fn is_among(positions: &[usize], p: usize) -> bool
+    ensures { λ r. ⌜ r ≡ has p (now (positions .entry)) ⌝ }
+{
+    let mut i = 0;
+    while i < positions.len() {
+        if p == positions[i] {
+            return true;
+        }
+        i += 1;
+    }
+    false
+}
+
+// A head against the constraint at a position, which fits only where the position is not taken.
+pub fn fit_free(
+    head: &[u16],
+    constraint: &[u16],
+    taken: &[usize],
+    p: usize,
+    bindings: &mut [u16],
+) -> bool
+    requires { ⌜ Rows (now head) (now constraint) (now bindings) ⌝ }
+    ensures { λ r. ⌜ Matched r (now (bindings .exit))
+        (cond (has p (now (taken .entry))) none
+        (matchConstraint (rowConstraint (now (head .entry))) (rowConstraint (now (constraint .entry)))
+        (assigned (now (bindings .entry))))) ⌝ }
+{
+    if is_among(taken, p) {
+        return false;
+    }
+    match_constraint(head, constraint, bindings)
 }
 
 // What a head's first or second term must be: a constant, or what its variable is bound to; 0 where that is open, or no term.

@@ -6,8 +6,8 @@ use crate::known::is_concerned;
 use crate::known::known_at;
 use crate::known::note;
 use crate::known::prefix;
+use crate::matching::fit_free;
 use crate::matching::is_wanted;
-use crate::matching::match_constraint;
 use crate::matching::wanted;
 use tables::layout::CONSTRAINT_SIZE;
 use tables::layout::FIRST_HEAD;
@@ -16,18 +16,17 @@ use tables::layout::ROW_SIZE;
 use tables::wide;
 ghost use mathlib.Core.Bool.{cond};
 ghost use mathlib.Core.List.{[]};
-ghost use mathlib.Core.Option.{none};
 ghost use mathlib.Core.Path.{_≡_};
 ghost use Prim.Native.Nat.{_≤_, _+_, _*_, _-_};
 ghost use lib.Dec.{eqb, ltb};
 ghost use lib.ListN.{length, take, drop, getD};
 ghost use Rattle.text.specs.Lists.{has};
-ghost use Rattle.semantics.specs.Matching.{matchConstraint, unassigned};
+ghost use Rattle.semantics.specs.Matching.{unassigned};
 ghost use Rattle.semantics.specs.Strategy.{find};
 ghost use Rattle.tables.specs.Layout.{constraintSize, headsCell};
-ghost use Rattle.tables.specs.Cells.{cellConstraints, rowConstraint};
+ghost use Rattle.tables.specs.Cells.{cellConstraints};
 ghost use Rattle.tables.specs.Rows.{ruleOfRow};
-ghost use Rattle.engine.specs.Cells.{assigned, Rows, Matched, FirstWanted};
+ghost use Rattle.engine.specs.Cells.{assigned, FirstWanted};
 ghost use Rattle.engine.specs.Positions.{Seeking, Located, Row, Table, Chosen};
 ghost use Rattle.engine.specs.Known.{Barren, prefixOf, Noted, Knows, Possible};
 
@@ -44,27 +43,6 @@ pub fn is_chosen(chosen: [usize; 4], h: usize, p: usize) -> bool
         i += 1;
     }
     false
-}
-
-// A head against the constraint at a position, which fits only where the position is free.
-pub fn fit_at(
-    head: &[u16],
-    constraint: &[u16],
-    h: usize,
-    p: usize,
-    chosen: [usize; 4],
-    bindings: &mut [u16],
-) -> bool
-    requires { ⌜ Rows (now head) (now constraint) (now bindings) × (h ≤ 4) × (length chosen ≡ 4) ⌝ }
-    ensures { λ r. ⌜ Matched r (now (bindings .exit))
-        (cond (has p (take h chosen)) none
-        (matchConstraint (rowConstraint (now (head .entry))) (rowConstraint (now (constraint .entry)))
-        (assigned (now (bindings .entry))))) ⌝ }
-{
-    if is_chosen(chosen, h, p) {
-        return false;
-    }
-    match_constraint(head, constraint, bindings)
 }
 
 // Where the search for a head starts: for the last one, behind the constraints among which nothing fits.
@@ -104,7 +82,7 @@ pub fn find(
     left: usize,
     cells: &[u16],
     m: usize,
-    chosen: &mut [usize; 4],
+    chosen: &mut [usize],
     bindings: &mut [u16; 26],
     from: usize,
 ) -> bool
@@ -135,7 +113,7 @@ pub fn find(
             let b = CONSTRAINT_SIZE * q;
             let d = b + CONSTRAINT_SIZE;
             let mut settled = *bindings;
-            if fit_at(head, &cells[b..d], h, q, *chosen, &mut settled) {
+            if fit_free(head, &cells[b..d], &chosen[..h], q, &mut settled) {
                 chosen[h] = q;
                 if left == 1 {
                     *bindings = settled;
@@ -158,7 +136,7 @@ pub fn find_rule(
     cells: &[u16],
     m: usize,
     from: usize,
-    positions: &mut [usize; 4],
+    positions: &mut [usize],
     bindings: &mut [u16; 26],
 ) -> bool
     requires { ⌜ Row (now row) × (length (now cells) ≡ constraintSize * m)
@@ -183,9 +161,9 @@ pub fn find_rule(
 }
 
 // In how many of the first constraints a rule fits nowhere, where it fits at these smallest positions.
-pub fn leading(row: &[u16], positions: [usize; 4]) -> usize
-    requires { ⌜ Row (now row) × (length positions ≡ 4) ⌝ }
-    ensures { λ r. ⌜ r ≡ cond (eqb (getD (now (row .entry)) headsCell 0) 0) 0 (getD positions 0 0) ⌝ }
+pub fn leading(row: &[u16], positions: &[usize]) -> usize
+    requires { ⌜ Row (now row) × (length (now positions) ≡ 4) ⌝ }
+    ensures { λ r. ⌜ r ≡ cond (eqb (getD (now (row .entry)) headsCell 0) 0) 0 (getD (now (positions .entry)) 0 0) ⌝ }
 {
     if row[HEADS_CELL] == 0 {
         0
@@ -242,7 +220,7 @@ pub fn choose(
     last: &[u16],
     cells: &[u16],
     stage: Stage,
-    positions: &mut [usize; 4],
+    positions: &mut [usize],
     bindings: &mut [u16; 26],
 ) -> Choice
     requires { ⌜ Table (now rules) n × (length (now cells) ≡ constraintSize * stage .count) × (stage .gone + stage .count ≤ 6000)
@@ -266,7 +244,7 @@ pub fn choose(
             let e = a + ROW_SIZE;
             if may_fit(&rules[a..e], last, v, cells, m, gone) {
                 if find_rule(&rules[a..e], cells, m, prefix(v, gone), positions, bindings) {
-                    note(known, q, LOOSE + gone + leading(&rules[a..e], *positions));
+                    note(known, q, LOOSE + gone + leading(&rules[a..e], positions));
                     return Choice {
                         found: true,
                         number: q,

@@ -2,46 +2,20 @@
 use crate::derivation::Step;
 use crate::entering::copy_free;
 use crate::entering::copy_goal;
-use crate::entering::is_among;
 use crate::firing::complete;
 use crate::matching::Fit;
-use crate::matching::match_constraint;
+use crate::matching::fit_free;
 use tables::layout::CONSTRAINT_SIZE;
 use tables::layout::FIRST_HEAD;
 use tables::layout::HEADS_CELL;
 use tables::wide;
-ghost use mathlib.Core.Bool.{cond};
-ghost use mathlib.Core.Option.{none};
 ghost use mathlib.Core.Path.{_≡_};
 ghost use Prim.Native.Nat.{_*_};
 ghost use lib.ListN.{length};
-ghost use Rattle.text.specs.Lists.{has};
-ghost use Rattle.semantics.specs.Matching.{matchConstraint};
 ghost use Rattle.tables.specs.Layout.{constraintSize};
-ghost use Rattle.tables.specs.Cells.{rowConstraint};
-ghost use Rattle.engine.specs.Cells.{assigned, Rows, Matched};
+ghost use Rattle.engine.specs.Cells.{Matched};
 ghost use Rattle.engine.specs.Positions.{Row};
 ghost use Rattle.engine.specs.Stated.{matchRow, Stated, FiredFrom};
-
-// A head against the constraint at a position, which fits only where the position is not taken.
-pub fn fit_free(
-    head: &[u16],
-    constraint: &[u16],
-    taken: &[usize],
-    p: usize,
-    bindings: &mut [u16],
-) -> bool
-    requires { ⌜ Rows (now head) (now constraint) (now bindings) ⌝ }
-    ensures { λ r. ⌜ Matched r (now (bindings .exit))
-        (cond (has p (now (taken .entry))) none
-        (matchConstraint (rowConstraint (now (head .entry))) (rowConstraint (now (constraint .entry)))
-        (assigned (now (bindings .entry))))) ⌝ }
-{
-    if is_among(taken, p) {
-        return false;
-    }
-    match_constraint(head, constraint, bindings)
-}
 
 // The heads of a rule against the constraints at its positions, in written order; no position may serve two heads.
 pub fn match_at(row: &[u16], positions: [usize; 4], cells: &[u16], m: usize) -> Fit

@@ -30,7 +30,7 @@ choose-requires c κs =
 
 returns : tie.Need-returns
 returns c =
-    let at-choose = c .before .before .before .before in
+    let at-choose = c .before .before .before .before .before in
     let start = entry at-choose in (
       step-rests _ _ _ _ _ (start .pre .0) _ _ _ _ (at-choose .choose .ensures .0) _ (not-true _ (c .if1 .taken)),
       step-keeps-none _ _ _ _ _ (start .pre .0) _ _ _ _ (at-choose .choose .ensures .0) _ _ _ _ _ _,
@@ -40,7 +40,7 @@ returns c =
 
 part-row-end : tie.Need-part-row-end
 part-row-end c =
-    let at-choose = c .before .before .before .before in
+    let at-choose = c .before .before .before .before .before in
     step-row _ _ _ _ _ (entry at-choose .pre .0) _ _ _ _ (at-choose .choose .ensures .0) (not-false _ (c .if1 .left))
 
 mul-a : tie.Need-mul-a
@@ -54,13 +54,13 @@ mul-row c = omega (arith, part-row-end c)
 
 slice-aggregate-fire-front : tie.Need-slice-aggregate-fire-front
 slice-aggregate-fire-front c =
-    let at-choose = c .before .before .before .before .before .before in
+    let at-choose = c .before .before .before .before .before .before .before in
     sym (at-choose .choose .ensures .0 .bindings-size)
 
 fire-front-requires : tie.Need-fire-front-requires
 fire-front-requires c κs =
     let at-if1 = c .before .before .before .before in
-    let at-choose = at-if1 .before .before .before .before in
+    let at-choose = at-if1 .before .before .before .before .before in
     step-fires _ _ _ _ _ (entry at-choose .pre .0) _ _ _ _ (at-choose .choose .ensures .0) (not-false _ (at-if1 .if1 .left))
 
 -- from the count of heads, where the rule has fired; from there, where a rule was found
@@ -75,7 +75,7 @@ remember-requires c κs =
     let at-wide = c .before .before in
     let at-fire-front = fired at-wide in
     let at-if1 = found at-fire-front in
-    let at-choose = at-if1 .before .before .before .before in
+    let at-choose = at-if1 .before .before .before .before .before in
     let start = entry at-choose in
     step-remembers _ _ _ _ _ (start .pre .0) _ _ _ _ (at-choose .choose .ensures .0) (not-false _ (at-if1 .if1 .left))
     _ _ _ _ _ (at-fire-front .fire-front .ensures .0) _ _ (start .pre .2) (at-wide .wide .ensures .0)
@@ -85,7 +85,7 @@ add-remember c =
     let at-wide = c .before .before in
     let at-fire-front = fired at-wide in
     let at-if1 = found at-fire-front in
-    let at-choose = at-if1 .before .before .before .before in
+    let at-choose = at-if1 .before .before .before .before .before in
     let start = entry at-choose in
     let few′ = step-few _ _ _ _ _ (start .pre .0) _ _ _ _ (at-choose .choose .ensures .0) (not-false _ (at-if1 .if1 .left))
     _ _ _ _ _ (at-fire-front .fire-front .ensures .0) _ _ (start .pre .2) (at-wide .wide .ensures .0) in
@@ -93,7 +93,7 @@ add-remember c =
 
 add-removed : tie.Need-add-removed
 add-removed c =
-    let at-choose = found (fired c) .before .before .before .before in
+    let at-choose = found (fired c) .before .before .before .before .before in
     omega (arith, c .wide .ensures .1, entry at-choose .pre .2)
 
 returns-2 : tie.Need-returns-2
@@ -102,7 +102,7 @@ returns-2 c =
     let at-wide = at-remember .before .before .before in
     let at-fire-front = fired at-wide in
     let at-if1 = found at-fire-front in
-    let at-choose = at-if1 .before .before .before .before in
+    let at-choose = at-if1 .before .before .before .before .before in
     let start = entry at-choose in
     let fits′ = not-false _ (at-if1 .if1 .left) in
     let fired′ = at-fire-front .fire-front .ensures in
@@ -122,6 +122,7 @@ advance-spec =
     (tie.spec
     (λ c. search needs) (λ c. search needs)
     slice-aggregate-choose
+    (λ c. search needs)
     choose-requires
     (λ c. search needs) (λ c. search needs) (λ c. search needs)
     returns

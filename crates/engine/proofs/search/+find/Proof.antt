@@ -3,7 +3,9 @@
 -- Assumes nothing.
 use Prim.Native.Nat.{ℕ, _<_, _-_}
 use native.Mathlib.Omega.{arith}
-use mathlib.Core.Path.{refl, sym}
+use mathlib.Core.Path.{refl, sym, _∙_}
+use lib.ListN.{length, length-set}
+use lib.Seq.{length-take-le}
 use borrow.Author.Needs.{needs}
 use borrow.Fn.Kinds.{In}
 use borrow.Fn.PlainCycle.{Measures, is, falls, and}
@@ -16,7 +18,7 @@ use Rattle.engine.proofs.search.find.Kinds as find-kinds
 use Rattle.engine.proofs.search.+find.Lts-find as lts
 use Rattle.engine.proofs.matching.wanted.Reads as wanted
 use Rattle.engine.proofs.search.seek.Reads as seek
-use Rattle.engine.proofs.search.fit_at.Reads as fit-at
+use Rattle.engine.proofs.matching.fit_free.Reads as fit-free
 use Rattle.engine.proofs.search.start.Reads as start
 use Rattle.engine.proofs.search.still.Reads as still
 use Rattle.engine.proofs.search.+find.{statement}
@@ -47,8 +49,8 @@ calls t = (
   start.Learnt,
   seek.Asked,
   seek.Learnt,
-  fit-at.Asked,
-  fit-at.Learnt,
+  fit-free.Asked,
+  fit-free.Learnt,
   still.Asked,
   still.Learnt,
   below t,
@@ -58,7 +60,7 @@ calls t = (
 module _ (t : ℕ) where
   returns : lts.Need-returns (calls t) (Pre t) find.Post Inv μ
   returns c =
-      let start = c .before .before .before in
+      let start = c .before .before .before .before in
       (seek-done _ _ _ _ _ _ _ (start .pre .1 .0) (c .if1 .taken), refl)
 
   wanted-requires : lts.Need-wanted-requires (calls t) (Pre t) find.Post Inv μ
@@ -76,12 +78,12 @@ module _ (t : ℕ) where
   placed c = asked c .before .before .before .before .before
 
   abbrev entry : lts.At-loop (calls t) (Pre t) find.Post Inv μ → lts.Start (calls t) (Pre t) find.Post Inv μ
-  entry c = placed c .before .before .before
+  entry c = placed c .before .before .before .before
 
   loop-holds : lts.Need-loop-holds (calls t) (Pre t) find.Post Inv μ
   loop-holds c =
       let placed = c .before .before .before .before .before .before .before .before .before in
-      let start = placed .before .before .before in
+      let start = placed .before .before .before .before in
       hunting-start _ _ _ _ _ _ _ _ (start .pre .1 .0)
       (seek-start _ _ _ _ _ _ _ (start .pre .1 .0) (placed .if1 .left) _ (start .pre .1 .1) (start .pre .1 .2) _
       (c .start .ensures))
@@ -99,28 +101,40 @@ module _ (t : ℕ) where
   seek-requires : lts.Need-seek-requires (calls t) (Pre t) find.Post Inv μ
   seek-requires c κs = (omega arith, entry (c .before) .pre .1 .0 .cells-size)
 
-  slice-aggregate : lts.Need-slice-aggregate-fit-at (calls t) (Pre t) find.Post Inv μ
+  -- the positions chosen before have their places
+  chosen-there :
+      (turn : lts.At-loop (calls t) (Pre t) find.Post Inv μ) → entry turn .args .n - entry turn .args .left < length
+      (turn .loop .chosen)
+  chosen-there turn =
+      let s = turn .loop .inv .seeking in
+      omega (arith, s .few, s .there, s .chosen-size, placed turn .if1 .left)
+
+  slice-reshare-prefix : lts.Need-slice-reshare-prefix-fit-free (calls t) (Pre t) find.Post Inv μ
+  slice-reshare-prefix c = omega (arith, chosen-there (c .before .before .before .before .before))
+
+  slice-aggregate : lts.Need-slice-aggregate-fit-free (calls t) (Pre t) find.Post Inv μ
   slice-aggregate c =
+      sym (length-take-le _ _ (omega (arith, chosen-there (c .before .before .before .before .before .before))))
+
+  slice-aggregate-2 : lts.Need-slice-aggregate-fit-free-2 (calls t) (Pre t) find.Post Inv μ
+  slice-aggregate-2 c =
       let turn = c .before .before .before .before .before .before .before in
       sym (turn .loop .inv .seeking .bindings-size)
 
-  fit-at-requires : lts.Need-fit-at-requires (calls t) (Pre t) find.Post Inv μ
-  fit-at-requires c κs =
+  fit-free-requires : lts.Need-fit-free-requires (calls t) (Pre t) find.Post Inv μ
+  fit-free-requires c κs =
       let found = c .before .before .before .before in
-      let turn = found .before .before .before in (
-        seek-rows _ _ _ _ _ _ _ (turn .loop .inv .seeking) (placed turn .if1 .left) _ (hunted (found .before) .sought)
-            (found .if2 .taken),
-        omega (arith, turn .loop .inv .seeking .few),
-        turn .loop .inv .seeking .chosen-size,
-      )
+      let turn = found .before .before .before in
+      seek-rows _ _ _ _ _ _ _ (turn .loop .inv .seeking) (placed turn .if1 .left) _ (hunted (found .before) .sought)
+      (found .if2 .taken)
 
-  element-write : lts.Need-element-write-chosen (calls t) (Pre t) find.Post Inv μ
-  element-write c =
-      let turn = c .before .before .before .before .before .before .before .before .before .before in
-      omega (arith, turn .loop .inv .seeking .few, turn .loop .inv .seeking .there, placed turn .if1 .left)
+  slice-write : lts.Need-slice-write-chosen (calls t) (Pre t) find.Post Inv μ
+  slice-write c =
+      let found = c .before .before .before .before .before .before .before in
+      chosen-there (found .before .before .before)
 
   mul-chosen : lts.Need-mul-chosen (calls t) (Pre t) find.Post Inv μ
-  mul-chosen c = omega (arith, element-write c)
+  mul-chosen c = omega (arith, slice-write c, c .before .before .before .before .before .before .before .before .before .before .loop .inv .seeking .chosen-size)
 
   -- from a head that fits, where it was found
   abbrev fitted : lts.Then3 (calls t) (Pre t) find.Post Inv μ → lts.Then2 (calls t) (Pre t) find.Post Inv μ
@@ -134,7 +148,7 @@ module _ (t : ℕ) where
       let left′ = placed turn .if1 .left in (
         hunting-located _ _ _ _ _ _ _ _ _ _ inv _ _ _
             (seek-fits _ _ _ _ _ _ _ (inv .seeking) left′ _ (inv .sought) (found .if2 .taken) _ _
-            (c .before .before .before .fit-at .ensures) (c .before .if3 .taken) (c .if4 .taken)) _ refl,
+            (c .before .before .before .fit-free .ensures) (c .before .if3 .taken) (c .if4 .taken)) _ refl,
         hunting-kept _ _ _ _ _ _ _ _ _ _ inv left′ _ _ refl,
       )
 
@@ -148,8 +162,8 @@ module _ (t : ℕ) where
       let called = fits′ .before .before in (
         omega (arith, entry turn .pre .0, left′),
         (
-          seek-next _ _ _ _ _ _ _ (inv .seeking) left′ _ _ (called .fit-at .ensures .size),
-          seek-since _ _ _ _ _ _ _ (inv .seeking) left′ _ (inv .sought) (found .if2 .taken) _ _ (called .fit-at .ensures)
+          seek-next _ _ _ _ _ _ _ (inv .seeking) left′ _ _ (called .fit-free .ensures .size),
+          seek-since _ _ _ _ _ _ _ (inv .seeking) left′ _ (inv .sought) (found .if2 .taken) _ _ (called .fit-free .ensures)
               (fits′ .if3 .taken) _ (hunting-barren _ _ _ _ _ _ _ _ _ _ inv _ _ _ (entry turn .pre .1 .1)) _
               (c .before .before .still .ensures),
           since-few _ _ _ _ (entry turn .pre .1 .2) (c .before .before .still .ensures),
@@ -158,7 +172,7 @@ module _ (t : ℕ) where
 
   returns-3 : lts.Need-returns-3 (calls t) (Pre t) find.Post Inv μ
   returns-3 c =
-      let later = c .before in
+      let later = c .before .before .before in
       let fits′ = later .before .before .before .before .before in
       let found = fitted fits′ in
       let turn = found .before .before .before in
@@ -166,14 +180,14 @@ module _ (t : ℕ) where
       let left′ = placed turn .if1 .left in (
         hunting-located _ _ _ _ _ _ _ _ _ _ inv _ _ _
             (seek-found _ _ _ _ _ _ _ (inv .seeking) left′ _ (inv .sought) (found .if2 .taken) _ _
-            (fits′ .before .before .fit-at .ensures) (fits′ .if3 .taken) _ _ _ (later .find .ensures .0) (c .if5 .taken))
+            (fits′ .before .before .fit-free .ensures) (fits′ .if3 .taken) _ _ _ (later .find .ensures .0) (c .if5 .taken))
             _ (c .if5 .taken),
         hunting-kept _ _ _ _ _ _ _ _ _ _ inv left′ _ _ (later .find .ensures .1),
       )
 
   loop-again : lts.Need-loop-again (calls t) (Pre t) find.Post Inv μ
   loop-again c =
-      let later = c .before in
+      let later = c .before .before .before in
       let fits′ = later .before .before .before .before .before in
       let found = fitted fits′ in
       let turn = found .before .before .before in
@@ -181,7 +195,7 @@ module _ (t : ℕ) where
       let left′ = placed turn .if1 .left in
       hunting-again _ _ _ _ _ _ _ _ _ _ inv left′ _ _ (later .find .ensures .1) (later .find .ensures .0 .positions-size) _
       (seek-dead _ _ _ _ _ _ _ (inv .seeking) left′ _ (inv .sought) (found .if2 .taken) _ _
-      (fits′ .before .before .fit-at .ensures) (fits′ .if3 .taken) _ _ _ (later .find .ensures .0) (c .if5 .left))
+      (fits′ .before .before .fit-free .ensures) (fits′ .if3 .taken) _ _ _ (later .find .ensures .0) (c .if5 .left))
 
   loop-again-2 : lts.Need-loop-again-2 (calls t) (Pre t) find.Post Inv μ
   loop-again-2 c =
@@ -191,7 +205,7 @@ module _ (t : ℕ) where
       let inv = hunted (found .before) in
       hunting-at _ _ _ _ _ _ _ _ _ _ inv _
       (seek-misfit _ _ _ _ _ _ _ (inv .seeking) (placed turn .if1 .left) _ (inv .sought) (found .if2 .taken) _ _
-      (called .fit-at .ensures) (c .if3 .left))
+      (called .fit-free .ensures) (c .if3 .left))
 
   loop-again-3 : lts.Need-loop-again-3 (calls t) (Pre t) find.Post Inv μ
   loop-again-3 c = hunted (c .before)
@@ -205,6 +219,22 @@ module _ (t : ℕ) where
             _ refl,
         inv .kept,
       )
+
+  -- four positions come back
+  same-length : lts.Need-same-length (calls t) (Pre t) find.Post Inv μ
+  same-length c =
+      let found = fitted (c .before) in
+      let turn = found .before .before .before in
+      length-set (turn .loop .chosen) (entry turn .args .n - entry turn .args .left) (found .before .seek .result) ∙ turn .loop .inv .seeking .chosen-size ∙ sym (entry turn .pre .1 .0 .chosen-size)
+
+  same-length-2 : lts.Need-same-length-2 (calls t) (Pre t) find.Post Inv μ
+  same-length-2 c =
+      let later = c .before .before .before in
+      let turn = fitted (later .before .before .before .before .before) .before .before .before in
+      later .find .ensures .0 .positions-size ∙ sym (entry turn .pre .1 .0 .chosen-size)
+
+  same-length-3 : lts.Need-same-length-3 (calls t) (Pre t) find.Post Inv μ
+  same-length-3 c = c .before .loop .inv .seeking .chosen-size ∙ sym (entry (c .before) .pre .1 .0 .chosen-size)
 
 -- the needs in the code's order: sums, products and bounds are arithmetic
 pub +find-spec : {M : Type 1} → statement M
@@ -220,12 +250,12 @@ pub +find-spec : {M : Type 1} → statement M
     -- p, b, d and the constraint's cells
     (λ c. omega arith) (λ c. omega arith) (λ c. omega arith) (λ c. omega arith)
     (λ c. omega arith) (λ c. omega arith) (λ c. omega arith)
-    (slice-aggregate t) (fit-at-requires t)
-    (mul-chosen t) (element-write t) (returns-2 t)
+    (slice-reshare-prefix t) (slice-aggregate t) (slice-aggregate-2 t) (fit-free-requires t)
+    (mul-chosen t) (slice-write t) (same-length t) (returns-2 t)
     -- since and left - 1
     (λ c κs. tt) (λ c. omega arith) (find-requires t)
-    (returns-3 t)
+    (same-length-2 t) (returns-3 t)
     (λ c. omega arith) (loop-again t)
     (λ c. omega arith) (loop-again-2 t)
     (λ c. omega arith) (loop-again-3 t)
-    (returns-4 t)
+    (same-length-3 t) (returns-4 t)

@@ -4,8 +4,8 @@ use Prim.Native.Nat.{_-_}
 use native.Mathlib.Omega.{arith}
 use lib.ListN.{length}
 use Rattle.engine.proofs.EnterLaws.{Among, among-start, among-found, among-next, among-end}
-use Rattle.engine.proofs.entering.is_among.Statement.{statement}
-use Rattle.engine.proofs.entering.is_among.Tie as tie
+use Rattle.engine.proofs.matching.is_among.Statement.{statement}
+use Rattle.engine.proofs.matching.is_among.Tie as tie
 
 abbrev Inv-loop : tie.InvT-loop
 Inv-loop positions p i₀ i = Among positions p i

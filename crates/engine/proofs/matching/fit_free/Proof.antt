@@ -2,8 +2,8 @@
 -- Assumes nothing.
 use borrow.Author.Needs.{needs}
 use Rattle.engine.proofs.SearchLaws.{fit-chosen, fit-free}
-use Rattle.engine.proofs.stated.fit_free.Statement.{statement}
-use Rattle.engine.proofs.stated.fit_free.Tie as tie
+use Rattle.engine.proofs.matching.fit_free.Statement.{statement}
+use Rattle.engine.proofs.matching.fit_free.Tie as tie
 
 returns : tie.Need-returns
 returns c =
