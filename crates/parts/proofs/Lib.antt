@@ -1,0 +1,2 @@
+-- Laws of parts. Assumes nothing.
+pub mod CancelLaws
