@@ -123,7 +123,8 @@ module _ (f : List Term) (cs : List Constraint) (g : List Term) (ds : List Const
   within-constraints s =
       multiset-mono (λ c d h. record {
         symbols = h .2 .symbols;
-        terms = pointwise-mono (term-mono (λ x y r. (inr (c, h .0, r .0), inr (d, h .1, r .1), r .2))) (terms-within (h .2 .terms));
+        terms = pointwise-mono (term-mono (λ x y r. (inr (c, h .0, r .0), inr (d, h .1, r .1), r .2)))
+            (terms-within (h .2 .terms));
       }) (multiset-members s)
 
 -- a renaming the other way round
@@ -218,7 +219,8 @@ module _ (f g : List Term) (cs rs ds ss : List Constraint) (h : Apart f cs rs) (
     Within f rs g ss (Chain ρ (Within f cs g ds σ)),
     (
       (λ x y z r s.
-          chain-one ρ (Within f cs g ds σ) (one-ρ .0) (λ x y z r s. one-σ .1 y z x (r .2) (s .2)) (Seen g ss) home refl (r .1) (s .1)
+          chain-one ρ (Within f cs g ds σ) (one-ρ .0) (λ x y z r s. one-σ .1 y z x (r .2) (s .2)) (Seen g ss) home refl (r .1)
+          (s .1)
           (r .2) (s .2)),
       λ x y z r s.
           chain-one (Back ρ) (Back (Within f cs g ds σ)) (λ x y z r s. one-ρ .1 y z x r s)
@@ -227,7 +229,8 @@ module _ (f g : List Term) (cs rs ds ss : List Constraint) (h : Apart f cs rs) (
     ),
     within-bound f rs g ss (Chain ρ (Within f cs g ds σ)) (pointwise-mono (term-mono (λ x y r. stop r)) bound-ρ),
     within-constraints f rs g ss (Chain ρ (Within f cs g ds σ))
-        (multiset-drop (ConstraintVariant (Chain ρ (Within f cs g ds σ))) (ConstraintVariant (Within f cs g ds σ)) chain-constraints
+        (multiset-drop (ConstraintVariant (Chain ρ (Within f cs g ds σ))) (ConstraintVariant (Within f cs g ds σ))
+        chain-constraints
         rs ss (within-constraints f cs g ds σ same-σ) (multiset-mono (constraint-mono (λ x y r. stop r)) same-ρ)),
   )
     where

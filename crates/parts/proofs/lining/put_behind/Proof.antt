@@ -28,8 +28,8 @@ loop-again c =
       omega (arith, at-test .loop-test .taken),
       swap .kept .0 ∙ at-loop .inv .1,
       reordered-swap _ _ _ _ _ _ (pre′ .0) (at-loop .inv .1) (at-loop .inv .2)
-          (omega (arith, at-test .loop-test .taken, pre′ .0, pre′ .1)) (omega (arith, at-test .loop-test .taken, pre′ .0, pre′ .1))
-          (swap .kept .0) (swap .ensures),
+          (omega (arith, at-test .loop-test .taken, pre′ .0, pre′ .1))
+          (omega (arith, at-test .loop-test .taken, pre′ .0, pre′ .1)) (swap .kept .0) (swap .ensures),
     )
 
 pub put-behind-spec : {M : Type 1} → statement M
