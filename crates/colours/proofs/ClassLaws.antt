@@ -1,5 +1,6 @@
 -- Classes of constraints: states with different classes are not equal, and classes may stand for symbols.
 --   same-iff                 comparing two states answers the same as comparing two others
+--   multiset-members         each pair of two equal multisets, with both sides known to be of them
 --   class-one                keys in the same class are the same
 --   classes-apart            sums of keys that differ
 --   classes-same             classes in the place of symbols
@@ -80,7 +81,7 @@ unfolding classOf
 class-one ks k j m e = index-one 0 ks k j m e
 
 -- each pair, with both sides known to be of the lists
-multiset-members :
+pub multiset-members :
     {A B : Type 0} {R : A → B → Type 0} {l : List A} {m : List B} → SameMultiset R l m
     → SameMultiset (λ a b. Member a l × Member b m × R a b) l m
 multiset-members done = done

@@ -3,4 +3,5 @@ pub mod PlaceLaws
 pub mod SearchLaws
 pub mod SettleLaws
 pub mod NarrowLaws
+pub mod PartingLaws
 pub mod DecideLaws

@@ -1,6 +1,6 @@
 -- Classes made finer step by step: one law for each way that the code goes.
 --   colourable-…      what colouring asks, with more room and after a step
---   order-same        another order of the constraints
+--   order-same, order-right   another order of the constraints of one state
 --   weigh-…           one step
 --   narrowing-…       one step after the other
 -- Assumes nothing.
@@ -12,7 +12,7 @@ use mathlib.Core.Path.{_≡_, refl, sym, _∙_}
 use lib.ListN.{length}
 use Rattle.semantics.specs.Variants.{sameState}
 use Rattle.semantics.proofs.Options.{true-false}
-use Rattle.semantics.proofs.Multisets.{multiset-left, multiset-back}
+use Rattle.semantics.proofs.Multisets.{multiset-left, multiset-right, multiset-back}
 use Rattle.colours.specs.Bounds.{TermsBelow}
 use Rattle.colours.specs.Ends.{endOf}
 use Rattle.colours.specs.Classes.{Colourable, Classified}
@@ -48,6 +48,15 @@ order-same f a a′ g b r =
     same-iff (endOf f a) (endOf g b) (endOf f a′) (endOf g b)
     (λ v. (v .0, v .1, v .2, multiset-left (r .same) (v .3)))
     (λ v. (v .0, v .1, v .2, multiset-left (multiset-back (r .same)) (v .3)))
+
+-- and of the second
+order-right :
+    (f a g b b′ : List ℕ) → Reordered b b′
+    → sameState (endOf f a) (endOf g b′) ≡ sameState (endOf f a) (endOf g b)
+order-right f a g b b′ r =
+    same-iff (endOf f a) (endOf g b) (endOf f a) (endOf g b′)
+    (λ v. (v .0, v .1, v .2, multiset-right (v .3) (multiset-back (r .same))))
+    (λ v. (v .0, v .1, v .2, multiset-right (v .3) (r .same)))
 
 module _ (f a g b : List ℕ) (r : Bool) (a′ b′ : List ℕ) (k : Classified r f a g b a′ b′) where
   -- the classes differ
@@ -130,6 +139,17 @@ module _ (f a₀ g b₀ a b : List ℕ) (size n : ℕ) (w : Narrowing f a₀ g b
         same = order-same f a a′ g b o ∙ w .same;
         left-size = l ∙ w .left-size;
         right-size = w .right-size;
+      }
+
+  -- the second state in another order
+  pub narrowing-order-right : (b′ : List ℕ) → length b′ ≡ length b → Reordered b b′ → Narrowing f a₀ g b₀ a b′ size n
+  narrowing-order-right b′ l o =
+      record {
+        left = w .left;
+        right = colourable-after b g b′ size n (w .right) l (o .below);
+        same = order-right f a g b b′ o ∙ w .same;
+        left-size = w .left-size;
+        right-size = l ∙ w .right-size;
       }
 
   -- all constraints are placed

@@ -1,6 +1,7 @@
 -- Placing constraints without going back: one law for each way that the code goes.
 --   tries-at              one partner that will do is enough
 --   paired-settled, settle-…   one constraint, at one position and at the first that will do
+--   terms-later           the terms of later constraints
 --   all-…                 all constraints
 -- Assumes nothing.
 use Prim.Native.Nat.{ℕ, zero, suc, _+_, _-_, _*_, _≤_, _<_}
@@ -105,6 +106,15 @@ module _ (a b : List ℕ) (used₀ : List Bool) (f₀ g₀ : List ℕ) (used : L
           back-same = k .kept e .2 ∙ w .back-same;
         })
 
+-- the terms of the constraints from number i on have their places
+pub terms-later : (m : ℕ) (a : List ℕ) (d i : ℕ) → d ≡ 5 * i → TermsBelow m a → TermsBelow m (drop d a)
+terms-later m a d i e t =
+    record {
+      below = λ k c l.
+          let q : d + (5 * k + (1 + c)) ≡ 5 * (i + k) + (1 + c) = omega arith in
+          rw (getD-drop d a (5 * k + (1 + c)) 0, q) (t .below (i + k) c l);
+    }
+
 -- the constraints before i are placed: those from i on answer for all
 pub record SettlingAll (a : List ℕ) (n : ℕ) (b : List ℕ) (used₀ : List Bool) (f₀ g₀ : List ℕ) (used : List Bool) (f g : List ℕ)
     (i : ℕ) : Type 0 where
@@ -160,14 +170,6 @@ module _ (a : List ℕ) (n : ℕ) (b : List ℕ) (used₀ : List Bool) (f₀ g�
             },
             omega (arith, length-drop (5 * i) a),
           )
-        where
-          terms-later : (m : ℕ) (a : List ℕ) (d i : ℕ) → d ≡ 5 * i → TermsBelow m a → TermsBelow m (drop d a)
-          terms-later m a d i e t =
-              record {
-                below = λ k c l.
-                    let q : d + (5 * k + (1 + c)) ≡ 5 * (i + k) + (1 + c) = omega arith in
-                    rw (getD-drop d a (5 * k + (1 + c)) 0, q) (t .below (i + k) c l);
-              }
 
       pub all-next :
           (r : Bool) (used′ : List Bool) (f′ g′ : List ℕ) → Settled r left b used f g used′ f′ g′ → r ≡ true

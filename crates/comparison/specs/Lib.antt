@@ -3,3 +3,4 @@ pub mod Placements
 pub mod Comparing
 pub mod Settlements
 pub mod Narrowings
+pub mod Partings

@@ -1,0 +1,2 @@
+-- What a part of a state is. Assumes nothing.
+pub mod Parts
