@@ -1,5 +1,5 @@
 // The comparison step by step: what is decided without a search comes first.
-use crate::parting::part;
+use crate::parting::part_fixed;
 use crate::placing::place;
 use crate::settling::settles;
 use colours::classes::Depth;
@@ -86,5 +86,5 @@ pub fn decide(
     if settles(a, bound_a, b, bound_b, n) {
         return true;
     }
-    part(a, bound_a, b, bound_b, n, size)
+    part_fixed(a, bound_a, b, bound_b, n, size)
 }

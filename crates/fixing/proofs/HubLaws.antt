@@ -3,7 +3,8 @@
 --   tops-…          those of two states
 --   fix-…           they are added to what is paired
 --   forced-done, zeros-…    of two states, and with tables of zeros
---   longer-…        the longer lists can be compared and coloured with
+--   Copying, copying-…      cells at the front of a list
+--   copied-…, lengthened    from what the goal variables became
 -- Assumes nothing.
 use Prim.Native.Nat.{ℕ, zero, suc, _+_, _≤_, _<_}
 use native.Mathlib.Omega.{arith}
@@ -11,10 +12,10 @@ use native.Mathlib.Numerals.{add-one}
 use mathlib.Core.Bool.{Bool, true, false}
 use mathlib.Core.List.{List, [], _∷_, _++_}
 use mathlib.Core.Logic.{_⊎_, inl, inr}
-use mathlib.Core.Path.{_≡_, refl, sym, _∙_}
+use mathlib.Core.Path.{_≡_, refl, sym, ap, _∙_}
 use lib.Dec.{eqb, ltb}
 use lib.ListN.{length, getD, set, take, replicate, length-set, List·getD-eq-default}
-use lib.Seq.{getD-set-same, getD-set-other, take-suc-set, length-take-le}
+use lib.Seq.{getD-set-same, getD-set-other, take-suc, take-suc-set, take-all, length-take-le}
 use borrow.Author.Tests.{eqb-true, eqb-false, ltb-true}
 use Rattle.semantics.specs.Variants.{sameState}
 use Rattle.semantics.proofs.Options.{true-false}
@@ -26,7 +27,7 @@ use Rattle.colours.specs.Ends.{endOf}
 use Rattle.colours.specs.Classes.{Colourable}
 use Rattle.colours.proofs.ClassLaws.{zeros-length}
 use Rattle.fixing.specs.Weights.{freeWeight, Free}
-use Rattle.fixing.specs.Hubs.{Topped, Paired, Fixable, Fixed, Forced}
+use Rattle.fixing.specs.Hubs.{Topped, Paired, Fixable, Fixed, Forced, Lengthened}
 use Rattle.fixing.proofs.ForcedLaws.{forced}
 
 -- the heaviest of the variables before i
@@ -279,17 +280,53 @@ pub zeros-forced :
     → Forced k k′ size size a b f g f′ g′
 zeros-forced k k′ size a b f g f′ g′ h p = rw (zeros-length size 2844 h) at p
 
--- the longer lists are as long as each other, and both states can be coloured with them
-module _ (k k′ m n : ℕ) (a b f g f′ g′ : List ℕ) (p : Forced k k′ m n a b f g f′ g′) where
-  pub longer-lengths :
-      length g ≡ length f → length f′ ≡ length f → length g′ ≡ length g → length (take k′ f′) ≡ length (take k′ g′)
-  longer-lengths e u v =
-      length-take-le k′ f′ (omega (arith, p .within)) ∙ sym (length-take-le k′ g′ (omega (arith, p .within)))
+-- the first i cells are copied
+pub record Copying (cells start out : List ℕ) (i : ℕ) : Type 0 where
+  pub within : i ≤ length cells
+  pub room : length cells ≤ length start
+  pub size : length out ≡ length start
+  pub same : take i out ≡ take i cells
 
-  pub longer-left : (bound : List ℕ) (c : ℕ) → Colourable a bound m c → Colourable a (take k′ f′) m c
-  longer-left bound c h =
-      record { count = h .count; room = h .room; terms = h .terms; bound-below = p .left-below }
+pub copying-start : (cells start : List ℕ) → length cells ≤ length start → Copying cells start start 0
+copying-start cells start l = record { within = omega arith; room = l; size = refl; same = refl }
 
-  pub longer-right : (bound : List ℕ) (c : ℕ) → Colourable b bound n c → Colourable b (take k′ g′) n c
-  longer-right bound c h =
-      record { count = h .count; room = h .room; terms = h .terms; bound-below = p .right-below }
+module _ (cells start out : List ℕ) (i : ℕ) (w : Copying cells start out i) where
+  pub copying-next : i < length cells → Copying cells start (set out i (getD cells i 0)) (i + 1)
+  copying-next l =
+      rw (add-one i) (record {
+        within = l;
+        room = w .room;
+        size = length-set out i (getD cells i 0) ∙ w .size;
+        same = rw (take-suc-set out i (getD cells i 0) (omega (arith, w .room, w .size)), take-suc cells i 0 l, w .same);
+      })
+
+  pub copying-end : length cells ≤ i → take (length cells) out ≡ cells
+  copying-end l =
+      let e : i ≡ length cells = omega (arith, w .within) in
+      ap (λ k. take k out) (sym e) ∙ w .same ∙ take-all i cells l
+
+-- from what the goal variables became, copied to the front of two lists
+module _ (size n : ℕ) (a f b g f₁ g₁ : List ℕ) (left : take (length f) f₁ ≡ f) (right : take (length g) g₁ ≡ g)
+    (bounds : length g ≡ length f) where
+  right′ : take (length f) g₁ ≡ g
+  right′ = rw (← bounds) right
+
+  -- both states can be coloured with the first cells of the lists
+  pub copied-left : Colourable a f size n → Colourable a (take (length f) f₁) size n
+  copied-left h = rw left h
+
+  pub copied-right : Colourable b g size n → Colourable b (take (length f) g₁) size n
+  copied-right h = rw right′ h
+
+  -- and with the longer ones
+  pub lengthened :
+      (k : ℕ) (f′ g′ : List ℕ) → Forced (length f) k size size a b f₁ g₁ f′ g′ → length g₁ ≡ length f₁ → length f′ ≡ length f₁
+      → length g′ ≡ length g₁ → Colourable a f size n → Colourable b g size n → Lengthened k size n a f b g f′ g′
+  lengthened k f′ g′ p e u v ca cb =
+      record {
+        within = omega (arith, p .within);
+        lengths = length-take-le k f′ (omega (arith, p .within)) ∙ sym (length-take-le k g′ (omega (arith, p .within)));
+        left = record { count = ca .count; room = ca .room; terms = ca .terms; bound-below = p .left-below };
+        right = record { count = cb .count; room = cb .room; terms = cb .terms; bound-below = p .right-below };
+        same = rw (left, right′) at (p .same);
+      }

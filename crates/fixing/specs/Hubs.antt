@@ -4,6 +4,7 @@
 --   Paired         two variables that are single, of one weight
 --   Fixable        what finding such variables asks
 --   Fixed, Forced  what it promises, of tables of weights and of two states
+--   Lengthened     the same from what the goal variables became
 -- Assumes nothing.
 use Prim.Native.Nat.{ℕ, _≤_, _<_}
 use mathlib.Core.Bool.{Bool, true}
@@ -12,6 +13,7 @@ use mathlib.Core.Path.{_≡_}
 use lib.ListN.{length, getD, take}
 use Rattle.semantics.specs.Variants.{sameState}
 use Rattle.colours.specs.Bounds.{Below}
+use Rattle.colours.specs.Classes.{Colourable}
 use Rattle.colours.specs.Ends.{endOf}
 use Rattle.fixing.specs.Weights.{Free}
 
@@ -57,3 +59,12 @@ pub record Forced (k k′ m n : ℕ) (a b f g f′ g′ : List ℕ) : Type 0 whe
   pub same : sameState (endOf (take k′ f′) a) (endOf (take k′ g′) b) ≡ sameState (endOf (take k f) a) (endOf (take k g) b)
   pub left-below : Below m (take k′ f′)
   pub right-below : Below n (take k′ g′)
+
+-- the first k cells of two lists instead of what the goal variables became: both states, of n constraints with terms below a
+-- size, can be coloured with them, and are equal with them where they are with those
+pub record Lengthened (k size n : ℕ) (a f b g f′ g′ : List ℕ) : Type 0 where
+  pub within : k ≤ length f′
+  pub lengths : length (take k f′) ≡ length (take k g′)
+  pub left : Colourable a (take k f′) size n
+  pub right : Colourable b (take k g′) size n
+  pub same : sameState (endOf (take k f′) a) (endOf (take k g′) b) ≡ sameState (endOf f a) (endOf g b)

@@ -7,7 +7,7 @@ ghost use Prim.Native.Nat.{_≤_};
 ghost use lib.ListN.{length, take};
 ghost use Rattle.colours.specs.Classes.{Colourable};
 ghost use Rattle.colours.specs.Colours.{Empty};
-ghost use Rattle.fixing.specs.Hubs.{Topped, Paired, Fixable, Fixed, Forced};
+ghost use Rattle.fixing.specs.Hubs.{Topped, Paired, Fixable, Fixed, Forced, Lengthened};
 
 // Room for the weights of all cells: constants, 28 goal variables, and as many more as 512 constraints have cells.
 const ROOM: usize = 2844;
@@ -137,4 +137,40 @@ pub fn fix_hubs(
     let mut left = [0u16; ROOM];
     let mut right = [0u16; ROOM];
     fix_by(a, b, n, f, g, k, &mut left[..size], &mut right[..size])
+}
+
+// Copies cells to the front of a list.
+pub fn copy_front(cells: &[u16], out: &mut [u16])
+    requires { ⌜ length (now cells) ≤ length (now out) ⌝ }
+    ensures { λ _. ⌜ take (length (now (cells .entry))) (now (out .exit)) ≡ now (cells .entry) ⌝ }
+{
+    let mut i = 0;
+    while i < cells.len() {
+        out[i] = cells[i];
+        i += 1;
+    }
+}
+
+// What the goal variables became in two states, and the variables that every renaming must pair beside them, in two lists as far
+// as these have room; answers how many are used.
+pub fn fix_bound(
+    a: &[u16],
+    bound_a: &[u16],
+    b: &[u16],
+    bound_b: &[u16],
+    n: usize,
+    size: usize,
+    f: &mut [u16],
+    g: &mut [u16],
+) -> usize
+    requires { ⌜ Colourable (now a) (now «bound_a») size n × Colourable (now b) (now «bound_b») size n
+        × (length (now «bound_b») ≡ length (now «bound_a»)) × (length (now «bound_a») ≤ length (now f))
+        × (length (now g) ≡ length (now f)) ⌝ }
+    ensures { λ r. ⌜ Lengthened r size n (now (a .entry)) (now («bound_a» .entry)) (now (b .entry)) (now («bound_b» .entry))
+        (now (f .exit)) (now (g .exit)) ⌝ }
+{
+    let k = bound_a.len();
+    copy_front(bound_a, f);
+    copy_front(bound_b, g);
+    fix_hubs(a, b, n, size, f, g, k)
 }

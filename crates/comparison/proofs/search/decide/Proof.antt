@@ -9,7 +9,7 @@ use Rattle.comparison.proofs.search.decide.Tie as tie
 use Rattle.comparison.proofs.search.decide.Reads as reads
 use Rattle.comparison.proofs.search.decide.Lts as lts
 use Rattle.colours.proofs.classes.classify.Reads as classify-reads
-use Rattle.comparison.proofs.parting.part.Reads as part-reads
+use Rattle.comparison.proofs.parting.part_fixed.Reads as part-reads
 use Rattle.comparison.proofs.search.arrange.Reads as arrange-reads
 use Rattle.comparison.proofs.settling.settles.Reads as settles-reads
 
@@ -77,8 +77,8 @@ returns-2 c =
     let at-order = c .before .before .before .before .before .before in
     narrowing-found _ _ _ _ _ _ _ _ (ordered at-order) _ (c .before .settles .ensures) (c .if2 .taken)
 
-part-requires : tie.Need-part-requires
-part-requires c κs =
+part-fixed-requires : tie.Need-part-fixed-requires
+part-fixed-requires c κs =
     let at-order = c .before .before .before .before .before .before .before .before in
     let pre′ = start (known at-order) .pre in
     (ordered at-order .left, ordered at-order .right, pre′ .2, pre′ .3)
@@ -93,7 +93,7 @@ returns-3 : tie.Need-returns-3
 returns-3 c =
     let at-part = c .before .before .before .before in
     let at-order = at-part .before .before .before .before .before .before .before .before .before in
-    narrowing-answer _ _ _ _ _ _ _ _ (ordered at-order) _ (at-part .part .ensures)
+    narrowing-answer _ _ _ _ _ _ _ _ (ordered at-order) _ (at-part .part-fixed .ensures)
 
 pub decide-spec : {M : Type 1} → statement M
 decide-spec =
@@ -108,7 +108,7 @@ decide-spec =
     same-length-3
     same-length-4
     returns-2
-    part-requires
+    part-fixed-requires
     same-length-5
     same-length-6
     returns-3)
