@@ -60,8 +60,8 @@ pub fn arrange(cells: &mut [u16], n: usize)
     arrange_by(cells, n, &mut seen, &mut counts);
 }
 
-// Whether two states are equal: classes by signatures, constraints placed without going back, and finer classes where that is not
-// enough.
+// Whether two states are equal: classes by signatures, constraints placed without going back, and, where that is not enough,
+// equal parts left out and finer classes.
 pub fn decide(
     a: &mut [u16],
     bound_a: &[u16],

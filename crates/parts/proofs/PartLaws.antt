@@ -229,8 +229,9 @@ constraints-parts (suc k) m (x ∷ y ∷ z ∷ u ∷ v ∷ l) e h =
 
 -- a variable among the cells of goal variables
 bound-member :
-    (x : ℕ) (bound : List ℕ) (i : ℕ) → i < length bound → getD bound i 0 ≡ 256 + x → Member (var x) (map cellTerm bound)
-bound-member x bound i h e =
+    (x y : ℕ) (bound : List ℕ) (i : ℕ) → i < length bound → getD bound i 0 ≡ y → y ≡ 256 + x
+    → Member (var x) (map cellTerm bound)
+bound-member x y bound i h e z =
     let q : getD bound i 0 - 256 ≡ x = omega arith in
     subst (λ t. Member t (map cellTerm bound)) (cell-high (getD bound i 0) (omega arith) ∙ ap var q)
     (member-map cellTerm (index-member bound i h))
@@ -247,7 +248,7 @@ module _ (r : Bool) (t : r ≡ true) (cells : List ℕ) (k : ℕ) (bound : List 
             let left : getD cells i 0 ≡ 256 + x = sym (getD-take (5 * k) cells i 0 low) ∙ ei in
             let right : getD cells (5 * k + j) 0 ≡ 256 + x = sym (getD-drop (5 * k) cells j 0) ∙ ej in
             let (n, hn, en) = w .shared t i (5 * k + j) low (omega arith) (omega (arith, left)) (right ∙ sym left) in
-            bound-member x bound n hn (en ∙ left);
+            bound-member x (getD cells i 0) bound n hn en left;
       }
 
 -- equal first parts can be left out

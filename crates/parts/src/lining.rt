@@ -1,7 +1,7 @@
 // The constraints of two states put in an order in which the first ones of each are equal, part by part. This is a guess that
 // need not come off: what it finds is tested afterwards.
-// One lent table has three entries for each cell: its partner in the second state, its partner in the first, and the constraint
-// that made it a partner of the first state, from 1; 0 is none.
+// One lent table has two entries for each cell: the partner of one of the first state, and under which number one of the second
+// became a partner; 0 is none.
 use colours::order::swap_rows;
 use tables::wide;
 ghost use mathlib.Core.Path.{_≡_};
@@ -13,13 +13,17 @@ ghost use Rattle.colours.specs.Order.{Reordered};
 // From this cell on, cells are variables.
 const VARIABLES: u16 = 256;
 
-// Where the three entries begin, with room for all cells in each: constants, 28 goal variables, and as many more as 512
-// constraints have cells.
-const BACK: usize = 2844;
+// Where the second entries begin, and the room for both: constants, 28 goal variables, and as many more as 512 constraints have
+// cells.
+const BIRTH: usize = 2844;
 
-const BIRTH: usize = 5688;
+const ROOM: usize = 5688;
 
-const ROOM: usize = 8532;
+// The number of goal variables. Constraints have numbers from 2 on.
+const GOAL: u16 = 1;
+
+// A cell that is no variable: the partner of variables whose part is put off.
+const OFF: u16 = 1;
 
 // The entry of a cell; 0 for one without a place.
 fn at(links: &[u16], from: usize, x: u16) -> u16
@@ -39,10 +43,10 @@ fn put(links: &mut [u16], from: usize, x: u16, value: u16)
     }
 }
 
-// Two cells become partners.
-fn join(x: u16, y: u16, links: &mut [u16]) {
+// Two cells become partners, under a number.
+fn join(x: u16, y: u16, own: u16, links: &mut [u16]) {
     put(links, 0, x, y);
-    put(links, BACK, y, x);
+    put(links, BIRTH, y, own);
 }
 
 // What the goal variables became are partners.
@@ -51,14 +55,18 @@ fn join_bound(bound_a: &[u16], bound_b: &[u16], links: &mut [u16])
 {
     let mut i = 0;
     while i < bound_a.len() {
-        join(bound_a[i], bound_b[i], links);
+        let x = bound_a[i];
+        let y = bound_b[i];
         i += 1;
+        if x >= VARIABLES {
+            join(x, y, GOAL, links);
+        }
     }
 }
 
-// The number of a constraint in the table.
+// The number of a constraint.
 fn number(i: usize) -> u16 {
-    if i < 65535 { i as u16 + 1 } else { 0 }
+    if i < 65534 { i as u16 + 2 } else { 0 }
 }
 
 // Whether two terms are partners or can become partners; they do then, under a number.
@@ -73,11 +81,10 @@ fn link_terms(x: u16, y: u16, own: u16, links: &mut [u16]) -> bool {
     if partner != 0 {
         return partner == y;
     }
-    if at(links, BACK, y) != 0 {
+    if at(links, BIRTH, y) != 0 {
         return false;
     }
-    join(x, y, links);
-    put(links, BIRTH, x, own);
+    join(x, y, own, links);
     true
 }
 
@@ -102,13 +109,12 @@ fn link_rows(a: &[u16], i: usize, b: &[u16], j: usize, links: &mut [u16]) -> boo
     true
 }
 
-// The partner of a variable is taken from it, if it was made under a number.
+// The partner of a variable is taken from it, if it became one under a number.
 fn unlink_term(x: u16, own: u16, links: &mut [u16]) {
-    if at(links, BIRTH, x) == own {
-        let y = at(links, 0, x);
-        put(links, BACK, y, 0);
+    let partner = at(links, 0, x);
+    if at(links, BIRTH, partner) == own {
         put(links, 0, x, 0);
-        put(links, BIRTH, x, 0);
+        put(links, BIRTH, partner, 0);
     }
 }
 
@@ -160,9 +166,11 @@ fn belongs(a: &[u16], i: usize, s: usize, links: &[u16]) -> bool
         return true;
     }
     let p = 5 * i;
+    let first = number(s);
     let mut c = 1;
     while c < 5 {
-        if wide(at(links, BIRTH, a[p + c])) > s {
+        let partner = at(links, 0, a[p + c]);
+        if at(links, BIRTH, partner) >= first {
             return true;
         }
         c += 1;
@@ -231,13 +239,13 @@ fn line_part(a: &[u16], s: usize, b: &mut [u16], n: usize, links: &mut [u16]) ->
     s
 }
 
-// A variable that has no partner is kept under a number.
+// A variable that has no partner is put off, under a number.
 fn claim_term(x: u16, own: u16, links: &mut [u16]) {
     if x < VARIABLES {
         return;
     }
     if at(links, 0, x) == 0 {
-        put(links, BIRTH, x, own);
+        join(x, OFF, own, links);
     }
 }
 

@@ -6,10 +6,10 @@ use Rattle.parts.proofs.lining.belongs.Statement.{statement}
 use Rattle.parts.proofs.lining.belongs.Tie as tie
 
 abbrev Inv-loop : tie.InvT-loop
-Inv-loop a i s links p c₀ c = c ≤ 5
+Inv-loop a i s links p first c₀ c = c ≤ 5
 
 abbrev μ-loop : tie.MeasureT-loop
-μ-loop a i s links p c₀ c = 5 - c
+μ-loop a i s links p first c₀ c = 5 - c
 
 pub belongs-spec : {M : Type 1} → statement M
 belongs-spec =
@@ -19,6 +19,7 @@ belongs-spec =
     μ-loop
     (λ c. search needs)
     (λ c. search needs)
+    (λ c κs. search needs)
     (λ c. search needs)
     (λ c. search needs)
     (λ c. search needs)
