@@ -17,7 +17,7 @@ use lib.Seq.{take-suc, take-suc-set, take-all, drop-cons, getD-drop, length-take
 use lib.Seq.{paste, paste-zero, paste-suc, take-paste, length-paste}
 use borrow.Author.Tests.{eq-eqb, ne-eqb}
 use Rattle.text.specs.Lists.{has, tabled}
-use Rattle.semantics.specs.Terms.{Term, Constraint, var}
+use Rattle.semantics.specs.Terms.{Constraint, var}
 use Rattle.semantics.specs.Firing.{without}
 use Rattle.tables.specs.Cells.{cellTerm, cellConstraints, rowConstraint}
 use Rattle.tables.proofs.CellLaws.{cell-high, constraints-at}

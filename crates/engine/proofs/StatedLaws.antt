@@ -44,10 +44,11 @@ pub record Matching (heads : List ℕ) (n : ℕ) (cells : List ℕ) (m : ℕ) (p
       (assigned bindings) ≡ answer
 
 pub matching-start :
-    (row positions cells : List ℕ) (m n : ℕ) → Row row → length positions ≡ 4 → length cells ≡ 5 * m → n ≡ getD row 3 0
-    → Matching (take (6 + 5 * n - 6) (drop 6 row)) n cells m positions (replicate 26 0) 0 (matchRow row positions cells)
+    (row positions cells bindings : List ℕ) (m n : ℕ) → Row row → length positions ≡ 4 → length cells ≡ 5 * m
+    → length bindings ≡ 26 → n ≡ getD row 3 0
+    → Matching (take (6 + 5 * n - 6) (drop 6 row)) n cells m positions bindings 0 (matchRow row positions cells bindings)
 unfolding matchRow ruleOfRow
-matching-start row positions cells m n r p k e =
+matching-start row positions cells bindings m n r p k b e =
     let here : 6 + 5 * n - 6 ≡ 5 * getD row 3 0 = omega arith in
     record {
       heads-size = length-take-le (6 + 5 * n - 6) (drop 6 row)
@@ -56,9 +57,9 @@ matching-start row positions cells m n r p k e =
       cells-size = k;
       positions-size = p;
       within = omega arith;
-      size = refl;
+      size = b;
       letters = rw here (r .heads);
-      same = rw (here, e, zeros-unassigned);
+      same = rw (here, e);
     }
 
 module _ (heads : List ℕ) (n : ℕ) (cells : List ℕ) (m : ℕ) (positions bindings : List ℕ) (h : ℕ) (answer : Option Assignment)
@@ -160,10 +161,15 @@ module _ (heads : List ℕ) (n : ℕ) (cells : List ℕ) (m : ℕ) (positions bi
               same = rw (take-suc positions h 0 (omega (arith, w .positions-size, w .few))) (rw (← t .same, z) at tried);
             })
 
+-- bindings of no variable
+abbrev unsettled : List ℕ
+unsettled = replicate 26 0
+
 module _ (row positions : List ℕ) (next : ℕ) (goal : List ℕ) (m : ℕ) (cells : List ℕ)
     (s : Stated row positions next goal m cells) where
-  pub stated-asks : Row row × (length positions ≡ 4) × (length goal ≡ 5 * m)
-  stated-asks = (s .given, s .positions-size, s .size)
+  -- what the match asks
+  pub stated-asks : Row row × (length positions ≡ 4) × (length goal ≡ 5 * m) × (length unsettled ≡ 26)
+  stated-asks = (s .given, s .positions-size, s .size, refl)
 
   -- the goal finds room
   pub stated-room : length goal ≤ length cells
@@ -184,11 +190,11 @@ module _ (row positions : List ℕ) (next : ℕ) (goal : List ℕ) (m : ℕ) (ce
   all : take (5 * m) goal ≡ goal
   all = take-all (5 * m) goal (omega (arith, s .size))
 
-  module _ (f : Bool) (b : List ℕ) (given : Matched f b (matchRow row positions goal)) where
+  module _ (f : Bool) (b : List ℕ) (given : Matched f b (matchRow row positions goal unsettled)) where
     matched : (name : List ℕ)
         → matchAt (ruleOfRow name row .heads) (statedAt row positions) (cellConstraints goal) [] unassigned ≡ fitOf f b
     unfolding matchRow ruleOfRow
-    matched name = sym (given .same)
+    matched name = rw (← zeros-unassigned) (sym (given .same))
 
     -- the rule does not fit there, and the goal has entered
     pub stated-rests :

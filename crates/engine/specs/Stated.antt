@@ -11,11 +11,12 @@ use mathlib.Core.Path.{_≡_}
 use lib.ListN.{length, take, getD}
 use Rattle.text.specs.Lists.{every}
 use Rattle.semantics.specs.Terms.{State, live}
-use Rattle.semantics.specs.Matching.{Assignment, unassigned, matchAt}
+use Rattle.semantics.specs.Matching.{Assignment, matchAt}
 use Rattle.semantics.specs.Firing.{fireAt}
 use Rattle.tables.specs.Layout.{constraintSize, headsCell}
 use Rattle.tables.specs.Cells.{cellTerm, cellConstraints, isLow, stateOf}
 use Rattle.tables.specs.Rows.{ruleOfRow}
+use Rattle.engine.specs.Cells.{assigned}
 use Rattle.engine.specs.Positions.{Row}
 use Rattle.engine.specs.Runs.{weightBy, storeOf}
 
@@ -23,10 +24,10 @@ use Rattle.engine.specs.Runs.{weightBy, storeOf}
 abbrev pub statedAt : List ℕ → List ℕ → List ℕ
 statedAt row positions = take (getD row headsCell 0) positions
 
--- the heads of a rule against the constraints at its positions
-unfoldable pub matchRow : List ℕ → List ℕ → List ℕ → Option Assignment
-matchRow row positions cells =
-    matchAt (ruleOfRow [] row .heads) (statedAt row positions) (cellConstraints cells) [] unassigned
+-- the heads of a rule against the constraints at its positions, under bindings
+unfoldable pub matchRow : List ℕ → List ℕ → List ℕ → List ℕ → Option Assignment
+matchRow row positions cells bindings =
+    matchAt (ruleOfRow [] row .heads) (statedAt row positions) (cellConstraints cells) [] (assigned bindings)
 
 -- a rule of some name fired at its positions in the live state of a goal's constraints
 unfoldable pub fireRow : List ℕ → List ℕ → List ℕ → ℕ → List ℕ → List ℕ → Option State

@@ -12,12 +12,6 @@ ghost use Rattle.tables.specs.Layout.{constraintSize};
 ghost use Rattle.tables.specs.Cells.{cellTerm, rowConstraint};
 ghost use Rattle.engine.specs.Cells.{afterLetters, assigned, wantedAt, agree, isWanted, Matched, Rows};
 
-// Whether a match fits, and the bindings under which it does. The array stands first, so that copies of it are aligned.
-pub struct Fit {
-    pub bindings: [u16; 26],
-    pub fits: bool,
-}
-
 // One term of a head against one term of a constraint: a constant fits itself only, and a variable what it is bound to.
 pub fn match_term(head: u16, term: u16, bindings: &mut [u16]) -> bool
     requires { ⌜ (head < afterLetters) × (0 < term) × (length (now bindings) ≡ 26) ⌝ }

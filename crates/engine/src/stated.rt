@@ -3,7 +3,6 @@ use crate::derivation::Step;
 use crate::entering::copy_free;
 use crate::entering::copy_goal;
 use crate::firing::complete;
-use crate::matching::Fit;
 use crate::matching::fit_free;
 use tables::layout::CONSTRAINT_SIZE;
 use tables::layout::FIRST_HEAD;
@@ -18,45 +17,37 @@ ghost use Rattle.engine.specs.Positions.{Row};
 ghost use Rattle.engine.specs.Stated.{matchRow, Stated, FiredFrom};
 
 // The heads of a rule against the constraints at its positions, in written order; no position may serve two heads.
-pub fn match_at(row: &[u16], positions: [usize; 4], cells: &[u16], m: usize) -> Fit
-    requires { ⌜ Row (now row) × (length positions ≡ 4) × (length (now cells) ≡ constraintSize * m) ⌝ }
-    ensures { λ r. ⌜ Matched (r .fits) (r .bindings) (matchRow (now (row .entry)) positions (now (cells .entry))) ⌝ }
+pub fn match_at(
+    row: &[u16],
+    positions: [usize; 4],
+    cells: &[u16],
+    m: usize,
+    bindings: &mut [u16],
+) -> bool
+    requires { ⌜ Row (now row) × (length positions ≡ 4) × (length (now cells) ≡ constraintSize * m)
+        × (length (now bindings) ≡ 26) ⌝ }
+    ensures { λ r. ⌜ Matched r (now (bindings .exit))
+        (matchRow (now (row .entry)) positions (now (cells .entry)) (now (bindings .entry))) ⌝ }
 {
     let n = wide(row[HEADS_CELL]);
     let e = FIRST_HEAD + CONSTRAINT_SIZE * n;
     let heads = &row[FIRST_HEAD..e];
-    let mut bindings = [0u16; 26];
     let mut h = 0;
     while h < n {
         let p = positions[h];
         if m <= p {
-            return Fit {
-                fits: false,
-                bindings,
-            };
+            return false;
         }
         let a = CONSTRAINT_SIZE * h;
         let b = a + CONSTRAINT_SIZE;
         let c = CONSTRAINT_SIZE * p;
         let d = c + CONSTRAINT_SIZE;
-        if !fit_free(
-            &heads[a..b],
-            &cells[c..d],
-            &positions[..h],
-            p,
-            &mut bindings,
-        ) {
-            return Fit {
-                fits: false,
-                bindings,
-            };
+        if !fit_free(&heads[a..b], &cells[c..d], &positions[..h], p, bindings) {
+            return false;
         }
         h += 1;
     }
-    Fit {
-        fits: true,
-        bindings,
-    }
+    true
 }
 
 // The state after firing a rule at stated positions of a goal of m constraints, if it fits there; otherwise the goal enters.
@@ -74,8 +65,8 @@ pub fn fire_from(
     ensures { λ r. ⌜ FiredFrom (now (row .entry)) positions next (now (bound .entry)) (now (goal .entry)) m
         (now (bound .exit)) (now (cells .exit)) (r .fired) (r .alive) (r .count) ⌝ }
 {
-    let fit = match_at(row, positions, goal, m);
-    if !fit.fits {
+    let mut bindings = [0u16; 26];
+    if !match_at(row, positions, goal, m, &mut bindings) {
         copy_goal(goal, cells);
         return Step {
             fired: false,
@@ -83,7 +74,6 @@ pub fn fire_from(
             count: m,
         };
     }
-    let bindings = fit.bindings;
     let n = wide(row[HEADS_CELL]);
     let kept = copy_free(goal, m, &positions[..n], cells);
     let after = complete(row, &bindings, next, bound, cells, kept);

@@ -8,7 +8,7 @@ use Rattle.engine.proofs.stated.fire_from.Statement.{statement}
 use Rattle.engine.proofs.stated.fire_from.Tie as tie
 
 match-at-requires : tie.Need-match-at-requires
-match-at-requires c κs = stated-asks _ _ _ _ _ _ (c .before .before .before .before .pre)
+match-at-requires c κs = stated-asks _ _ _ _ _ _ (c .before .before .before .before .before .pre)
 
 copy-goal-requires : tie.Need-copy-goal-requires
 copy-goal-requires c κs = search stated-room
@@ -24,17 +24,17 @@ slice-aggregate-copy-free c = search stated-lent
 
 copy-free-requires : tie.Need-copy-free-requires
 copy-free-requires c κs =
-    let fitted = c .before .before .before .before .before in
-    let start = fitted .before .before .before .before .before .before .before in
+    let fitted = c .before .before .before .before in
+    let start = fitted .before .before .before .before .before .before .before .before in
     stated-frees _ _ _ _ _ _ (start .pre)
 
 complete-requires : tie.Need-complete-requires
 complete-requires c κs =
     let copied = c .before .before .before .before .before in
     let read = copied .before .before .before in
-    let fitted = read .before .before .before in
+    let fitted = read .before .before in
     let matched = fitted .before .before in
-    let start = matched .before .before .before .before .before in
+    let start = matched .before .before .before .before .before .before in
     stated-completes _ _ _ _ _ _ (start .pre) _ _ (matched .match-at .ensures) (not-false _ (fitted .if1 .left)) _
     (read .wide .ensures .0) _ _ (copied .copy-free .kept .1 .1 .1 .0) (copied .copy-free .ensures)
 
@@ -43,9 +43,9 @@ returns-2 c =
     let fired = c .before .before .before .before in
     let copied = fired .before .before .before .before .before .before in
     let read = copied .before .before .before in
-    let fitted = read .before .before .before in
+    let fitted = read .before .before in
     let matched = fitted .before .before in
-    let start = matched .before .before .before .before .before in
+    let start = matched .before .before .before .before .before .before in
     stated-moves _ _ _ _ _ _ (start .pre) _ _ (matched .match-at .ensures) (not-false _ (fitted .if1 .left)) _
     (read .wide .ensures .0) _ _ (copied .copy-free .kept .1 .1 .1 .0) (copied .copy-free .ensures) _ _ _ _ _
     (fired .complete .ensures)
@@ -54,6 +54,7 @@ pub fire-from-spec : {M : Type 1} → statement M
 fire-from-spec =
     tie.close
     (tie.spec
+    (λ c. search needs)
     match-at-requires
     copy-goal-requires
     (λ c. search needs)

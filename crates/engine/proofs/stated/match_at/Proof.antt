@@ -13,16 +13,16 @@ use Rattle.engine.proofs.stated.match_at.Statement.{statement}
 use Rattle.engine.proofs.stated.match_at.Tie as tie
 
 abbrev Inv-loop : tie.InvT-loop
-Inv-loop row cells m positions n e heads bindings₀ h₀ bindings h =
-    Matching heads n cells m positions bindings h (matchRow row positions cells)
+Inv-loop row cells m bindings₀ positions n e heads h₀ bindings h =
+    Matching heads n cells m positions bindings h (matchRow row positions cells bindings₀)
 
 abbrev μ-loop : tie.MeasureT-loop
-μ-loop row cells m positions n e heads bindings₀ h₀ bindings h = n - h
+μ-loop row cells m bindings₀ positions n e heads h₀ bindings h = n - h
 
 loop-holds : tie.Need-loop-holds Inv-loop μ-loop
 loop-holds c =
-    let start = c .before .before .before .before .before in
-    matching-start _ _ _ _ _ (start .pre .0) (start .pre .1) (start .pre .2) (c .before .wide .ensures .0)
+    let start = c .before .before .before .before .before .before in
+    matching-start _ _ _ _ _ _ (start .pre .0) (start .pre .1) (start .pre .2) (start .pre .3) (c .before .wide .ensures .0)
 
 returns : tie.Need-returns Inv-loop μ-loop
 returns c = search matching-away
@@ -35,14 +35,14 @@ fit-free-requires c κs = search matching-rows
 
 returns-2 : tie.Need-returns-2 Inv-loop μ-loop
 returns-2 c =
-    let placed = c .before .before in
+    let placed = c .before .before .before in
     let tested = placed .before .before .before .before .before in
     matching-misfit _ _ _ _ _ _ _ _ (tested .before .before .loop .inv) (tested .before .loop-test .taken) (tested .if1 .left) _ _
     (placed .fit-free .ensures) (not-true _ (c .if2 .taken))
 
 loop-again : tie.Need-loop-again Inv-loop μ-loop
 loop-again c =
-    let placed = c .before .before in
+    let placed = c .before .before .before in
     let tested = placed .before .before .before .before .before in
     matching-fits _ _ _ _ _ _ _ _ (tested .before .before .loop .inv) (tested .before .loop-test .taken) (tested .if1 .left) _ _
     (placed .fit-free .ensures) (not-false _ (c .if2 .left))
@@ -64,6 +64,7 @@ match-at-spec =
     loop-holds
     -- p
     (λ c. omega arith) (λ c. omega arith)
+    (λ c. omega arith)
     returns
     -- a, b, c, d and the cells of the head and of the constraint
     (λ c. omega arith) (λ c. omega arith) (λ c. omega arith) (λ c. omega arith)
@@ -72,10 +73,11 @@ match-at-spec =
     -- the positions that are taken
     (λ c. omega arith)
     slice-aggregate-fit-free
-    (λ c. omega arith)
     fit-free-requires
+    (λ c. omega arith)
     returns-2
     -- h
     (λ c. omega arith) (λ c. omega arith)
     loop-again
+    (λ c. omega arith)
     returns-3)
