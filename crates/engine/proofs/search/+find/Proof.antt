@@ -134,7 +134,10 @@ module _ (t : ℕ) where
       chosen-there (found .before .before .before)
 
   mul-chosen : lts.Need-mul-chosen (calls t) (Pre t) find.Post Inv μ
-  mul-chosen c = omega (arith, slice-write c, c .before .before .before .before .before .before .before .before .before .before .loop .inv .seeking .chosen-size)
+  mul-chosen c =
+      let found = c .before .before .before .before .before .before .before in
+      let turn = found .before .before .before in
+      omega (arith, slice-write c, turn .loop .inv .seeking .chosen-size)
 
   -- from a head that fits, where it was found
   abbrev fitted : lts.Then3 (calls t) (Pre t) find.Post Inv μ → lts.Then2 (calls t) (Pre t) find.Post Inv μ
@@ -225,7 +228,8 @@ module _ (t : ℕ) where
   same-length c =
       let found = fitted (c .before) in
       let turn = found .before .before .before in
-      length-set (turn .loop .chosen) (entry turn .args .n - entry turn .args .left) (found .before .seek .result) ∙ turn .loop .inv .seeking .chosen-size ∙ sym (entry turn .pre .1 .0 .chosen-size)
+      length-set (turn .loop .chosen) (entry turn .args .n - entry turn .args .left) (found .before .seek .result)
+      ∙ turn .loop .inv .seeking .chosen-size ∙ sym (entry turn .pre .1 .0 .chosen-size)
 
   same-length-2 : lts.Need-same-length-2 (calls t) (Pre t) find.Post Inv μ
   same-length-2 c =

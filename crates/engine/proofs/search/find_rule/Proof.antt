@@ -19,7 +19,8 @@ returns : tie.Need-returns
 returns c =
     let at-wide = c .before .before .before .before .before .before .before in
     let start = at-wide .before .before .before .before .before in
-    rule-located _ _ _ _ (start .pre .0) (start .pre .1) (at-wide .wide .ensures .0) _ (start .pre .4) _ _ _ (c .before .before .find .ensures .0)
+    rule-located _ _ _ _ (start .pre .0) (start .pre .1) (at-wide .wide .ensures .0) _ (start .pre .4) _ _ _
+    (c .before .before .find .ensures .0)
 
 pub find-rule-spec : {M : Type 1} → statement M
 find-rule-spec =
