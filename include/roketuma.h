@@ -20,8 +20,8 @@ extern "C" {
 #endif
 
 /* Checks the program for confluence: whether each goal over its symbols, of any length, has one outcome, in whatever order
-   constraints enter and rules fire. The listing is that of a pass, with the number of overlaps, or an unjoined overlap: a goal
-   with two finished derivations whose ends are not equal.
+   constraints enter and rules fire. The listing is that of a pass, with the number of overlaps, or of the earliest
+   unjoined overlap: its goal with two finished derivations whose ends are not equal.
 
    Returns the length of a pass's listing; 2^31 more than the length of an unjoined overlap's; or a refusal, from 2^32 on:
    2^32 * number + 2^16 * text + line. */

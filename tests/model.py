@@ -217,9 +217,10 @@ def side(rules, rule, used, facts, variables):
 
 
 def check(kinds, rules, names):
-    """What `sheetcheck` prints, and the overlap shown, or None."""
+    """What `sheetcheck` prints, and the overlap shown, or None. The earliest that does not join is shown: W1's order is that of
+    (i, j, partners), numbers and lists compared from the left, whatever the order in which overlaps are found."""
     count = 0
-    for i, j, partners, facts, variables in overlaps(rules):
+    for i, j, partners, facts, variables in sorted(overlaps(rules), key=lambda overlap: overlap[:3]):
         m, n = len(rules[i][0]), len(rules[j][0])
         one = side(rules, rules[i], tuple(range(m)), facts, variables)
         two = side(rules, rules[j], second_places(m, n, partners), facts, variables)

@@ -12,7 +12,8 @@ use mathlib.Core.Path.{_≡_, refl, sym, ap, _∙_}
 use lib.Dec.{ltb}
 use lib.ListN.{length, take}
 use borrow.Author.Tests.{ltb-true, lt-ltb}
-use Rattle.semantics.specs.Overlaps.{overlaps}
+use Rattle.semantics.specs.Strategy.{Final}
+use Rattle.semantics.specs.Overlaps.{Overlap, overlaps}
 use Rattle.semantics.specs.Verdict.{Verdict, verdict, confluent, unjoined}
 use Rattle.semantics.specs.Claims.{Demand3}
 use Rattle.semantics.proofs.Demand3.{verdict-exact}
@@ -26,7 +27,7 @@ use Rattle.replies.specs.Claims.{verdictReply}
 use Rattle.replies.proofs.Demand3.{check-listed, verdict-one}
 use Rattle.replies.proofs.LineNumbers.{program-number}
 use Rattle.answers.specs.Answers.{textMeant}
-use Rattle.answers.specs.Outcomes.{OneOutcome}
+use Rattle.answers.specs.Outcomes.{OneOutcome, Counterexample}
 use Rattle.answers.specs.Promises.{checkMeant, CheckReplied, Told, CheckedAs, ofProgram, Demand3Of}
 use Rattle.answers.specs.declared.TextName.{TextName}
 use Rattle.answers.specs.declared.TextName.the-variants.{S, G}
@@ -132,6 +133,16 @@ module _ (s before after : List ℕ) (r : CheckReply) (c : CheckReplied (checkRe
     one-outcome : (n : ℕ) → r ≡ Confluent n → OneOutcome (p .program)
     one-outcome n h = outcome-claim (p .program) .1 (demand .exact .0 (told .pass p e n h))
 
+    -- where the listing fits, the earliest unjoined overlap is left
+    earliest :
+        (o : Overlap) (one two : Final) → length (checkListing p) ≤ length before → Counterexample (p .program) o one two
+        → (n : ℕ) × (r ≡ Unjoined n) × (listing (take n after) ≡ verdictReply p (unjoined o one two))
+    unfolding checkMeant
+    earliest o one two fits x =
+        let v = demand .shown o one two .1 (counterexample-claim (p .program) o one two .0 x) in
+        let (n, h) = ⊎-elim (λ (n, h). verdict-one (told .pass p e n h .1) v) (λ y. y) (decided fits) in
+        (n, h, listed-verdict p e n (meant-by (Unjoined n) h) (unjoined o one two) v)
+
     -- demand 3 of the answer to a text that reads
     checked-as : CheckedAs p before after r
     unfolding checkMeant
@@ -154,9 +165,11 @@ module _ (s before after : List ℕ) (r : CheckReply) (c : CheckReplied (checkRe
                 one,
                 two,
                 listed-verdict p e n (meant-by (Unjoined n) h) (unjoined o one two) v,
-                counterexample-claim (p .program) o one two .1 (demand .shown o one two v),
+                counterexample-claim (p .program) o one two .1 (demand .shown o one two .0 v),
                 no-outcome n h,
               );
+          earliest = earliest;
+          ordered = demand .ordered;
           enough = λ h.
               outcome-claim (p .program) .1 (demand .enough (appearance-claim (p .program) .0 h));
           bounded = demand .bounded;

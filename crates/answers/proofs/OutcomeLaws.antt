@@ -3,7 +3,7 @@
 --   outcome-claim                    each goal has one outcome
 --   appearance-claim                 so does each goal by first appearance
 --   joins-claim                      an overlap joins
---   counterexample-claim             an overlap that does not join
+--   counterexample-claim             the earliest overlap that does not join
 -- Assumes nothing.
 use Prim.Native.Nat.{ℕ}
 use mathlib.Core.Bool.{true}
@@ -81,21 +81,19 @@ pub counterexample-claim : (p : Program) (o : Overlap) (one two : Final)
     → Counterexample p o one two ↔ claims.Counterexample p o one two
 counterexample-claim p o one two = (
   λ c. record {
-    number = c .number;
-    listed = c .listed;
-    earlier = λ k u l e. joins-claim p u .0 (c .earlier k u l e);
-    goal = c .goal;
-    appearance = c .appearance;
+    overlap = c .overlap;
     ends = c .ends;
     differ = λ e. c .differ (variant-equal (one .state) (two .state) e);
-  },
-  λ c. record {
-    number = c .number;
-    listed = c .listed;
-    earlier = λ k u l e. joins-claim p u .1 (c .earlier k u l e);
+    earlier = λ u i e. joins-claim p u .0 (c .earlier u i e);
     goal = c .goal;
     appearance = c .appearance;
+  },
+  λ c. record {
+    overlap = c .overlap;
     ends = c .ends;
     differ = λ e. c .differ (equal-variant (one .state) (two .state) e);
+    earlier = λ u i e. joins-claim p u .1 (c .earlier u i e);
+    goal = c .goal;
+    appearance = c .appearance;
   },
 )

@@ -1,20 +1,20 @@
 -- The claims of demand 3 as a contract can have them (in Type 0): the renaming between two equal states is a test of variables.
 --   EqualStates                                             equal states
 --   HasOneOutcome, OneOutcome, OneOutcomeByAppearance       each goal has one outcome
---   Joins, Counterexample                                   an overlap that joins, and one that does not, with both ends
+--   Joins                                                   an overlap that joins
+--   Counterexample                                          the earliest that does not, with both ends
 -- Each has the words of the claim of its name in specs/Claims.antt of crate semantics, with `EqualStates` for `Variant`.
 -- proofs/OutcomeLaws.antt proves of each that it says the same as that of semantics. Assumes nothing.
-use Prim.Native.Nat.{ℕ, _<_}
+use Prim.Native.Nat.{ℕ}
 use mathlib.Core.Bool.{Bool, true}
 use mathlib.Core.List.{List}
-use mathlib.Core.Option.{some}
 use mathlib.Core.Path.{_≡_}
-use lib.ListN.{getElem?}
 use Rattle.semantics.specs.Terms.{Program, Goal, State, failed, live, isGoalOf}
 use Rattle.semantics.specs.Derivations.{Event, derive, Finished}
 use Rattle.semantics.specs.Strategy.{Final}
 use Rattle.semantics.specs.Variants.{OneToOne, TermVariant, Pointwise, ConstraintVariant, SameMultiset}
-use Rattle.semantics.specs.Overlaps.{Overlap, overlaps}
+use Rattle.semantics.specs.Overlaps.{Overlap}
+use Rattle.semantics.specs.Order.{IsOverlapOf, Earlier}
 use Rattle.semantics.specs.Claims.{ByAppearance, Ends}
 
 -- the pairs of variables that pass a test
@@ -52,13 +52,13 @@ pub record Joins (p : Program) (o : Overlap) : Type 0 where
   pub ends : Ends p o one two
   pub equal : EqualStates (one .state) (two .state)
 
--- an unjoined overlap, shown with two ends: it is one of the program's, by its number in the enumeration, and every overlap
--- before it joins; its goal is over the program's symbols; the ends are its own, and they are not equal
+-- the earliest unjoined overlap, with its two ends: it is one of the program's; the ends are its own, and they are not equal;
+-- every overlap of the program that is earlier joins. Its goal is over the program's symbols, and counts its variables by first
+-- appearance
 pub record Counterexample (p : Program) (o : Overlap) (one two : Final) : Type 0 where
-  pub number : ℕ
-  pub listed : getElem? (overlaps p) number ≡ some o
-  pub earlier : (k : ℕ) (u : Overlap) → k < number → getElem? (overlaps p) k ≡ some u → Joins p u
-  pub goal : isGoalOf p (o .goal) ≡ true
-  pub appearance : ByAppearance (o .goal)
+  pub overlap : IsOverlapOf p o
   pub ends : Ends p o one two
   pub differ : EqualStates (one .state) (two .state) → ⊥
+  pub earlier : (u : Overlap) → IsOverlapOf p u → Earlier u o → Joins p u
+  pub goal : isGoalOf p (o .goal) ≡ true
+  pub appearance : ByAppearance (o .goal)

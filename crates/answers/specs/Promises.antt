@@ -15,6 +15,7 @@ use lib.ListN.{length, take}
 use Rattle.text.specs.Fields.{isNumber, valueOf}
 use Rattle.semantics.specs.Strategy.{Final}
 use Rattle.semantics.specs.Overlaps.{Overlap, overlaps}
+use Rattle.semantics.specs.Order.{IsOverlapOf, Earlier, StrictTotalOrder}
 use Rattle.semantics.specs.Verdict.{verdict, confluent, unjoined}
 use Rattle.semantics.specs.Claims.{Bounded}
 use Rattle.syntax.specs.Answers.{refused, accepted}
@@ -58,10 +59,11 @@ pub record Told (s : List ℕ) (r : CheckReply) : Type 0 where
 
 -- demand 3 of the answer to a text that reads as p. Where the listing fits, the program is passed or failed, and it is passed
 -- exactly when each goal over its symbols, of any length, has one outcome over all lists of events. A pass leaves the line with
--- the number of its overlaps. A fail leaves an overlap of the program, its goal and two ends of finished derivations of this
--- goal, which are not equal; so not each goal has one outcome. For one outcome of all goals it is enough that those as document
--- 01 has them have one. No derivation fires more often than its goal's weight. A number is shown in digits without a leading
--- zero, whose value it is
+-- the number of its overlaps. A fail leaves the earliest overlap of the program that does not join, its goal and two ends of
+-- finished derivations of this goal, which are not equal; so not each goal has one outcome. Where the listing fits, it is left
+-- wherever there is one, and there is at most one, since the order of overlaps is strict and total. For one outcome of all goals
+-- it is enough that those as document 01 has them have one. No derivation fires more often than its goal's weight. A number is
+-- shown in digits without a leading zero, whose value it is
 pub record CheckedAs (p : Reading) (before after : List ℕ) (r : CheckReply) : Type 0 where
   pub decided : length (checkListing p) ≤ length before → ((n : ℕ) × (r ≡ Confluent n)) ⊎ ((n : ℕ) × (r ≡ Unjoined n))
   pub exact : length (checkListing p) ≤ length before → ((n : ℕ) × (r ≡ Confluent n)) ↔ OneOutcome (p .program)
@@ -72,6 +74,10 @@ pub record CheckedAs (p : Reading) (before after : List ℕ) (r : CheckReply) : 
       (n : ℕ) → r ≡ Unjoined n
       → (o : Overlap) × (one : Final) × (two : Final) × (listing (take n after) ≡ verdictReply p (unjoined o one two))
       × Counterexample (p .program) o one two × (OneOutcome (p .program) → ⊥)
+  pub earliest :
+      (o : Overlap) (one two : Final) → length (checkListing p) ≤ length before → Counterexample (p .program) o one two
+      → (n : ℕ) × (r ≡ Unjoined n) × (listing (take n after) ≡ verdictReply p (unjoined o one two))
+  pub ordered : StrictTotalOrder (IsOverlapOf (p .program)) Earlier
   pub enough : OneOutcomeByAppearance (p .program) → OneOutcome (p .program)
   pub bounded : Bounded (p .program)
   pub decimals : (n : ℕ) → (isNumber (decimal n) ≡ true) × (valueOf (decimal n) ≡ n)

@@ -11,7 +11,7 @@ use Rattle.text.proofs.Opened.{opened as textOpened}
 use Rattle.semantics.specs.Strategy.{Final}
 use Rattle.semantics.specs.Overlaps.{Overlap}
 use Rattle.semantics.specs.Verdict.{Verdict, verdict, confluent, unjoined}
-use Rattle.semantics.specs.Claims.{Demand3}
+use Rattle.semantics.specs.Claims.{Counterexample, Demand3}
 use Rattle.semantics.proofs.Configurations.{Or, inl, inr}
 use Rattle.semantics.proofs.Options.{decide, true-T}
 use Rattle.semantics.proofs.Demand3.{verdict-exact}
@@ -65,6 +65,11 @@ checked-of-verdict :
 unfolding checkListing verdictReply
 checked-of-verdict s room r e d = go (verdict (r .program)) refl
   where
+    shown :
+        (o : Overlap) (one two : Final) → Counterexample (r .program) o one two
+        → checkReply s room ≡ verdictReply r (unjoined o one two)
+    shown o one two c = e ∙ ap (verdictReply r) (d .shown o one two .1 c)
+
     go : (v : Verdict) → verdict (r .program) ≡ v → Checked s room r
     go (confluent n) k =
         let reply : checkReply s room ≡ verdictReply r (confluent n) = e ∙ ap (verdictReply r) k in
@@ -72,13 +77,15 @@ checked-of-verdict s room r e d = go (verdict (r .program)) refl
           decided = passes n reply;
           exact = (λ _. d .exact .0 (n, k), λ _. (n, reply));
           counted = λ _. subst (λ m. checkReply s room ≡ verdictReply r (confluent m)) (d .counted n k) reply;
+          shown = shown;
         }
     go (unjoined o one two) k =
         let reply : checkReply s room ≡ verdictReply r (unjoined o one two) = e ∙ ap (verdictReply r) k in
         record {
-          decided = fails o one two reply (d .shown o one two k);
+          decided = fails o one two reply (d .shown o one two .0 k);
           exact = (λ p. absurd (fail-no-pass r o one two (p .0) (sym reply ∙ p .1)), λ h. verdict-one (d .exact .1 h .1) k);
           counted = λ h. verdict-one (d .exact .1 h .1) k;
+          shown = shown;
         }
 
 -- demand 3: for every text that can be read
@@ -88,6 +95,7 @@ check-exact s r e =
     record {
       checked = λ room l. checked-of-verdict s room r (check-listed s room r e l) d;
       enough = d .enough;
+      ordered = d .ordered;
       bounded = d .bounded;
       decimals = decimal-exact;
     }

@@ -1,7 +1,9 @@
--- Two instances of demand 3, which show that it is not empty.
+-- Instances of demand 3, which show that it is not empty.
 --   leq-confluent        LEQ is confluent: any two finished derivations of any goal over it agree
 --   twoWays-not          the sheet of document 01's section 'Printed answers' is not, and its goal is shown
+--   noRefl-earliest      LEQ without refl is not, and its earliest unjoined overlap is not its first
 -- Assumes nothing.
+use Prim.Native.String.{String}
 use mathlib.Core.List.{[], _∷_}
 use mathlib.Core.Path.{_≡_, refl}
 use Rattle.text.specs.Bytes.{ascii}
@@ -64,4 +66,32 @@ pub twoWays-not :
     (o : Overlap) × (one : Final) × (two : Final) × Counterexample (twoWaysReading .program) o one two × (o .goal ≡ goalA)
 twoWays-not =
     let (o, one, two, v, g) = twoWays-verdict in
-    (o, one, two, verdict-exact (twoWaysReading .program) (read-wellFormed (ascii twoWays) twoWays-reads) .shown o one two v, g)
+    let shown = verdict-exact (twoWaysReading .program) (read-wellFormed (ascii twoWays) twoWays-reads) .shown o one two in
+    (o, one, two, shown .0 v, g)
+
+-- LEQ without refl
+noRefl : String
+noRefl = "K,leq,2,1\nR,anti\nH,leq,X,Y\nH,leq,Y,X\nE,X,Y\nR,idem\nH,leq,X,Y\nH,leq,X,Y\nB,leq,X,Y\n"
+
+pub noReflReading : Reading
+noReflReading = readingOf (readProgram (ascii noRefl))
+
+noRefl-reads : readProgram (ascii noRefl) ≡ accepted noReflReading
+unfolding noRefl noReflReading textOpened semanticsOpened syntaxOpened libraryOpened
+noRefl-reads = refl
+
+-- what the verdict on it shows: anti and idem, joined in head 2 of anti and head 1 of idem
+noRefl-verdict :
+    (o : Overlap) × (one : Final) × (two : Final) × (verdict (noReflReading .program) ≡ unjoined o one two)
+    × (o .first .number ≡ 0) × (o .second .number ≡ 1) × (o .partners ≡ 0 ∷ 1 ∷ [])
+unfolding noRefl noReflReading textOpened semanticsOpened syntaxOpened libraryOpened
+noRefl-verdict = (_, _, _, refl, refl, refl, refl)
+
+-- this is its earliest unjoined overlap, so every overlap of anti with itself joins
+pub noRefl-earliest :
+    (o : Overlap) × (one : Final) × (two : Final) × Counterexample (noReflReading .program) o one two
+    × (o .first .number ≡ 0) × (o .second .number ≡ 1) × (o .partners ≡ 0 ∷ 1 ∷ [])
+noRefl-earliest =
+    let (o, one, two, v, i, j, ds) = noRefl-verdict in
+    let shown = verdict-exact (noReflReading .program) (read-wellFormed (ascii noRefl) noRefl-reads) .shown o one two in
+    (o, one, two, shown .0 v, i, j, ds)

@@ -18,6 +18,7 @@ use Rattle.semantics.specs.Terms.{isGoalOf}
 use Rattle.semantics.specs.Strategy.{Final}
 use Rattle.semantics.specs.Runs.{RunsTo}
 use Rattle.semantics.specs.Overlaps.{Overlap, overlaps}
+use Rattle.semantics.specs.Order.{IsOverlapOf, Earlier, StrictTotalOrder}
 use Rattle.semantics.specs.Verdict.{Verdict, confluent, unjoined}
 use Rattle.semantics.specs.Claims.{OneOutcome, ByAppearance, OneOutcomeByAppearance, Bounded, Counterexample}
 use Rattle.semantics.specs.Correspondence.{Demand2}
@@ -42,18 +43,22 @@ pub data Decided (s : List ℕ) (room : ℕ) (r : Reading) : Type 1 where
 
 -- the check of a text that reads as r, in a room that the listing fits: the program is passed or failed, and failed only with a
 -- counterexample shown; it is passed exactly when each goal over its symbols, of any length, has one outcome over all lists of
--- events; and a pass says the number of its overlaps
+-- events; a pass says the number of its overlaps; and what is shown is the counterexample, where there is one
 pub record Checked (s : List ℕ) (room : ℕ) (r : Reading) : Type 1 where
   pub decided : Decided s room r
   pub exact : ((n : ℕ) × (checkReply s room ≡ verdictReply r (confluent n))) ↔ OneOutcome (r .program)
   pub counted : OneOutcome (r .program) → checkReply s room ≡ verdictReply r (confluent (length (overlaps (r .program))))
+  pub shown :
+      (o : Overlap) (one two : Final) → Counterexample (r .program) o one two
+      → checkReply s room ≡ verdictReply r (unjoined o one two)
 
 -- demand 3 for a text that reads as r: its check, wherever the listing fits; for one outcome of all goals it is enough that
--- those whose variables count by first appearance have one; no derivation fires more often than its goal's weight; and a
--- number is shown in digits without a leading zero, whose value it is
+-- those whose variables count by first appearance have one; the order of overlaps is strict and total; no derivation fires more
+-- often than its goal's weight; and a number is shown in digits without a leading zero, whose value it is
 pub record Demand3On (s : List ℕ) (r : Reading) : Type 1 where
   pub checked : (room : ℕ) → length (checkListing r) ≤ room → Checked s room r
   pub enough : OneOutcomeByAppearance (r .program) → OneOutcome (r .program)
+  pub ordered : StrictTotalOrder (IsOverlapOf (r .program)) Earlier
   pub bounded : Bounded (r .program)
   pub decimals : (n : ℕ) → (isNumber (decimal n) ≡ true) × (valueOf (decimal n) ≡ n)
 

@@ -3,11 +3,11 @@
 --   critical-overlap                 a critical pair has an overlap
 --   overlaps-are-critical-pairs      the claim, of every well-formed program
 -- Assumes nothing.
-use Prim.Native.Nat.{ℕ, zero, suc, _+_, _≤_}
+use Prim.Native.Nat.{ℕ, _+_, _≤_}
 use mathlib.Core.Bool.{true}
 use mathlib.Core.List.{List, _++_, map}
 use mathlib.Core.Option.{some}
-use mathlib.Core.Path.{_≡_, refl, sym, ap, subst, subst₂, _∙_}
+use mathlib.Core.Path.{_≡_, sym, ap, subst, subst₂, _∙_}
 use native.Mathlib.Omega.{arith}
 use lib.ListN.{length, getElem?, length-map}
 use Rattle.semantics.specs.Terms.{Rule, Program, mapTerms, isWellFormed}
@@ -17,25 +17,17 @@ use Rattle.semantics.specs.CriticalPairs.{Joint, lefts, rights, Joining,
 use Rattle.semantics.specs.CriticalPairs.{pairOf, Critical, critical}
 use Rattle.semantics.specs.Published.{EquatedAll}
 use Rattle.semantics.specs.Correspondence.{JoiningsArePairings, OverlapsAreCriticalPairs}
-use Rattle.semantics.proofs.Configurations.{Member, first, All}
+use Rattle.semantics.proofs.Configurations.{first, All}
 use Rattle.semantics.proofs.Options.{none-some}
-use Rattle.semantics.proofs.Indices.{some-equal}
-use Rattle.semantics.proofs.Listings.{at-member, member-at, NoRepeat, nothing}
-use Rattle.semantics.proofs.Listings as L
-use Rattle.semantics.proofs.Enumeration.{IsPairing, member-pairings, pairings-member, norepeat-pairings, OverlapParts}
-use Rattle.semantics.proofs.Enumeration.{overlap-parts, Listed, member-overlaps, overlaps-member, norepeat-overlaps}
+use Rattle.semantics.proofs.Precedence.{before-irreflexive}
+use Rattle.semantics.proofs.Listings.{at-member, member-at, ascending-once}
+use Rattle.semantics.proofs.Enumeration.{IsPairing, member-pairings, pairings-member, pairings-ascend, OverlapParts}
+use Rattle.semantics.proofs.Enumeration.{overlap-parts, Listed, member-overlaps, overlaps-member, overlaps-ascend}
+use Rattle.semantics.proofs.OverlapOrder.{same-rule, same-overlap, earlier-irreflexive}
 use Rattle.semantics.proofs.Valuations.{satisfiable-solved}
 use Rattle.semantics.proofs.Joinings.{joints-partners, partners-joints, joining-pairing, pairing-joining}
 use Rattle.semantics.proofs.ChosenHeads.{equated-join, shifted-heads}
 use Rattle.semantics.proofs.OverlapSides.{overlap-critical, overlap-sides}
-
--- what is listed once stands at one place
-norepeat-at : {A : Type 0} {a : A} {l : List A} (m n : ℕ) → NoRepeat l → getElem? l m ≡ some a → getElem? l n ≡ some a → m ≡ n
-norepeat-at m n nothing p q = none-some refl p
-norepeat-at zero zero (L.apart f h) p q = refl
-norepeat-at zero (suc n) (L.apart {l} f h) p q = absurd (f (subst (λ x. Member x l) (some-equal (sym p)) (at-member l n q)))
-norepeat-at (suc m) zero (L.apart {l} f h) p q = absurd (f (subst (λ x. Member x l) (some-equal (sym q)) (at-member l m p)))
-norepeat-at (suc m) (suc n) (L.apart f h) p q = ap suc (norepeat-at m n h p q)
 
 -- from a joining to its partners and back, and the other way round
 back-joints : (m n : ℕ) (js : List Joint) → Joining m n js → jointsOf (partnersOf m js) ≡ js
@@ -53,7 +45,7 @@ joinings-are-pairings m n = record {
   joining = λ i ds e. pairing-joining m n ds (listed i ds e);
   back = back-joints m n;
   forth = λ i ds e. back-partners m n ds (listed i ds e);
-  once = λ i k ds e f. norepeat-at i k (norepeat-pairings m n) e f;
+  once = λ i k ds e f. ascending-once (λ a b. before-irreflexive b) (pairings-ascend m n) i k e f;
 }
   where
     listed : (i : ℕ) (ds : List ℕ) → getElem? (pairings m n) i ≡ some ds → IsPairing m n ds
@@ -87,27 +79,17 @@ critical-joining :
     {r q : Rule} {js : List Joint} {c : CriticalPair} → Critical r q js c → Joining (length (r .heads)) (length (q .heads)) js
 critical-joining (critical joining equated sat) = joining
 
--- overlaps of the same rules and joints are the same
-same-overlap :
+-- overlaps of the same rules and joints have the same partners
+same-partners :
     (p : Program) (o u : Overlap) → Listed p o → Listed p u → o .first .number ≡ u .first .number
-    → o .second .number ≡ u .second .number → jointsOf (o .partners) ≡ jointsOf (u .partners) → o ≡ u
-same-overlap p o u l k a b c =
-    let one : o .first ≡ u .first = λ i. record {
-      number = a i;
-      rule = some-equal (sym (l .firstRule) ∙ ap (getElem? (p .rules)) a ∙ k .firstRule) i;
-    } in
-    let two : o .second ≡ u .second = λ i. record {
-      number = b i;
-      rule = some-equal (sym (l .secondRule) ∙ ap (getElem? (p .rules)) b ∙ k .secondRule) i;
-    } in
-    let m = length (u .first .rule .heads) in
-    let n = length (u .second .rule .heads) in
-    let partners : o .partners ≡ u .partners =
+    → jointsOf (o .partners) ≡ jointsOf (u .partners) → o .partners ≡ u .partners
+same-partners p o u l k a c =
+    let one = same-rule p (o .first) (u .first) (l .firstRule) (k .firstRule) a in
     sym (back-partners (length (o .first .rule .heads)) (length (o .second .rule .heads)) (o .partners)
     (pairings-member (length (o .first .rule .heads)) (length (o .second .rule .heads)) (o .partners) (l .paired)))
     ∙ (λ i. partnersOf (length (one i .rule .heads)) (c i))
-    ∙ back-partners m n (u .partners) (pairings-member m n (u .partners) (k .paired)) in
-    some-equal (sym (l .made) ∙ (λ i. overlapOf (one i) (two i) (partners i)) ∙ k .made)
+    ∙ back-partners (length (u .first .rule .heads)) (length (u .second .rule .heads)) (u .partners)
+    (pairings-member (length (u .first .rule .heads)) (length (u .second .rule .heads)) (u .partners) (k .paired))
 
 -- the overlaps of a well-formed program are the critical pairs of its rules
 pub overlaps-are-critical-pairs : (p : Program) → isWellFormed p ≡ true → OverlapsAreCriticalPairs p
@@ -127,8 +109,10 @@ overlaps-are-critical-pairs p w = record {
       let (o, h) = critical-overlap i j k in
       none-some e (subst (λ x. overlapOf i j x ≡ some o) back h);
   once = λ m n o u e f a b c.
-      norepeat-at m n (norepeat-overlaps p) e
-      (f ∙ ap some (sym (same-overlap p o u (listed m o e) (listed n u f) a b c)));
+      let l = listed m o e in
+      let k = listed n u f in
+      ascending-once earlier-irreflexive (overlaps-ascend p) m n e
+      (f ∙ ap some (sym (same-overlap p o u l k a b (same-partners p o u l k a c))));
 }
   where
     listed : (n : ℕ) (o : Overlap) → getElem? (overlaps p) n ≡ some o → Listed p o

@@ -1,12 +1,13 @@
--- The overlaps of a program (document 000) are all of them: every pairing is listed, once, and so is every overlap of two rules.
+-- The overlaps of a program (document 000) are all of them: every pairing is listed, and so is every overlap of two rules, in order
+-- (document 02: W1).
 --   IsPairing, member-pairings, pairings-member     the pairings of m heads with n heads
---   norepeat-pairings                               each is listed once
+--   pairings-ascend                                 smaller partners first, compared from the left
 --   overlap-parts                                   what an overlap was made from
 --   member-overlaps                                 each overlap of rules i ≤ j is listed
 --   Listed, overlaps-member                         and nothing else
---   norepeat-overlaps                               each once
+--   overlaps-ascend                                 the earlier first
 -- Assumes nothing.
-use Prim.Native.Nat.{ℕ, zero, suc, _+_, _≤_}
+use Prim.Native.Nat.{ℕ, zero, suc, _+_, _≤_, _<_}
 use native.Mathlib.Omega.{arith}
 use mathlib.Core.Bool.{true, cond}
 use mathlib.Core.List.{List, [], _∷_, _++_, map}
@@ -16,8 +17,10 @@ use lib.ListN.{length, getElem?}
 use Rattle.text.specs.Lists.{bind, gather, upTo}
 use Rattle.semantics.specs.Terms.{Term, Equation, Rule, Program, mapTerms}
 use Rattle.semantics.specs.Solving.{solve}
+use Rattle.semantics.specs.Runs.{Before, atFirst, atLater}
 use Rattle.semantics.specs.Overlaps.{partnerLists, isPairing, pairings, Numbered, Overlap, apart, joinEquations}
 use Rattle.semantics.specs.Overlaps.{unjoinedHeads, goalOf, overlapOf, numberedFrom, overlapsOf, overlapsAmong, overlaps}
+use Rattle.semantics.specs.Order.{Earlier, byFirst, bySecond, byPartners}
 use Rattle.semantics.proofs.Configurations.{Or, inl, inr, Member, first, All, also}
 use Rattle.semantics.proofs.Configurations as C
 use Rattle.semantics.proofs.Options.{none-some, bind-some, cond-some}
@@ -25,9 +28,8 @@ use Rattle.semantics.proofs.Multisets.{member-cons, member-nil, member-
 use Rattle.semantics.proofs.Multisets.{member-map, member-unmap}
 use Rattle.semantics.proofs.Indices.{some-equal}
 use Rattle.semantics.proofs.Listings.{member-gather, gather-member, member-answers, answers-member, member-upTo}
-use Rattle.semantics.proofs.Listings.{upTo-member, at-member, member-at, NoRepeat, nothing, norepeat-map}
-use Rattle.semantics.proofs.Listings.{norepeat-gather, norepeat-answers, norepeat-upTo, norepeat-append}
-use Rattle.semantics.proofs.Listings as L
+use Rattle.semantics.proofs.Listings.{upTo-member, at-member, member-at, Ascending, nothing, below, ascending-append}
+use Rattle.semantics.proofs.Listings.{ascending-map, ascending-gather, ascending-answers, ascending-upTo}
 
 -- a pairing of m heads with n heads
 pub record IsPairing (m n : ℕ) (ds : List ℕ) : Type 0 where
@@ -61,24 +63,18 @@ lists-member n (suc m) ds i =
     let b : d ≤ n = omega arith in
     rw e (ap suc l, also b h)
 
--- each of them once
-norepeat-lists : (n m : ℕ) → NoRepeat (partnerLists m n)
+-- the smaller first
+lists-ascend : (n m : ℕ) → Ascending Before (partnerLists m n)
 unfolding partnerLists
-norepeat-lists n zero = L.apart (λ i. member-nil i) nothing
-norepeat-lists n (suc m) =
-    norepeat-gather (λ x. map (x ∷_) (partnerLists m n)) (λ d.
-    norepeat-map (d ∷_) (λ a b e. tail-equal e) (norepeat-lists n m)) (λ a b ds i j.
+lists-ascend n zero = below (λ b i. absurd (member-nil i)) nothing
+lists-ascend n (suc m) =
+    ascending-gather (λ x. map (x ∷_) (partnerLists m n)) (λ d.
+    ascending-map (d ∷_) (λ a b h. atLater h) (lists-ascend n m)) (λ a b ds es l i j.
     let (k, ik, ek) = member-unmap (a ∷_) (partnerLists m n) i in
-    let (l, il, el) = member-unmap (b ∷_) (partnerLists m n) j in
-    head-equal (sym ek ∙ el)) (norepeat-upTo (suc n))
-  where
-    tail-equal : {a b : ℕ} {k l : List ℕ} → _≡_ {A = List ℕ} (a ∷ k) (b ∷ l) → k ≡ l
-    tail-equal e = cc
+    let (h, ih, eh) = member-unmap (b ∷_) (partnerLists m n) j in
+    subst₂ Before (sym ek) (sym eh) (atFirst l)) (ascending-upTo (suc n))
 
-    head-equal : {a b : ℕ} {k l : List ℕ} → _≡_ {A = List ℕ} (a ∷ k) (b ∷ l) → a ≡ b
-    head-equal e = cc
-
--- every pairing is listed, nothing else is, and each is listed once
+-- every pairing is listed, nothing else is, and the smaller come first
 pub member-pairings : {m n : ℕ} {ds : List ℕ} → IsPairing m n ds → Member ds (pairings m n)
 unfolding pairings
 member-pairings {m} {n} {ds} p =
@@ -92,11 +88,12 @@ pairings-member m n ds i =
     let (l, h) = lists-member n m es j in
     subst (IsPairing m n) (some-equal b) (record { long = l; within = h; pairs = a })
 
-pub norepeat-pairings : (m n : ℕ) → NoRepeat (pairings m n)
+pub pairings-ascend : (m n : ℕ) → Ascending Before (pairings m n)
 unfolding pairings
-norepeat-pairings m n =
-    norepeat-answers (λ ds. cond (isPairing ds) (some ds) none) (λ a b ds e f.
-    some-equal (cond-some (isPairing a) e .1 ∙ sym (cond-some (isPairing b) f .1))) (norepeat-lists n m)
+pairings-ascend m n =
+    ascending-answers (λ ds. cond (isPairing ds) (some ds) none) (λ a b ds es l e f.
+    subst₂ Before (some-equal (cond-some (isPairing a) e .1)) (some-equal (cond-some (isPairing b) f .1)) l)
+    (lists-ascend n m)
 
 -- what an overlap was made from: its rules and partners, and the solved equations of its joined heads
 pub record OverlapParts (i j : Numbered) (ds : List ℕ) (o : Overlap) : Type 0 where
@@ -240,20 +237,20 @@ overlaps-member p {o} m =
       made = subst (λ l. overlapOf (o .first) (o .second) l ≡ some o) three (subst₂ (λ x y. overlapOf x y ds ≡ some o) one two e);
     }
 
--- the rules' numbers go up, so no numbered rule stands twice
-numbered-above : (n : ℕ) (rs : List Rule) {a : Numbered} → Member a (numberedFrom n rs) → n ≤ a .number
-numbered-above n rs m =
-    let (k, e) = member-at m in
-    let (h, r) = at-numbered n k rs e in
-    omega arith
+-- the rules' numbers go up
+abbrev Below : Numbered → Numbered → Type 0
+Below i j = i .number < j .number
 
-norepeat-numbered : (n : ℕ) (rs : List Rule) → NoRepeat (numberedFrom n rs)
+numbered-ascend : (n : ℕ) (rs : List Rule) → Ascending Below (numberedFrom n rs)
 unfolding numberedFrom
-norepeat-numbered n [] = nothing
-norepeat-numbered n (r ∷ rs) = L.apart again (norepeat-numbered (suc n) rs)
+numbered-ascend n [] = nothing
+numbered-ascend n (r ∷ rs) = below above (numbered-ascend (suc n) rs)
   where
-    again : Member (record { number = n; rule = r }) (numberedFrom (suc n) rs) → ⊥
-    again m = let h : suc n ≤ n = numbered-above (suc n) rs m in omega arith
+    above : (a : Numbered) → Member a (numberedFrom (suc n) rs) → n < a .number
+    above a m =
+        let (k, e) = member-at m in
+        let (h, f) = at-numbered (suc n) k rs e in
+        omega arith
 
 -- an overlap of two rules is of these rules
 of-rules :
@@ -264,26 +261,38 @@ of-rules i j m =
     let made = overlap-parts i j ds e .made in
     (ap (λ x. x .first) made, ap (λ x. x .second) made)
 
--- the overlaps of two rules are listed once
-norepeat-of : (i j : Numbered) → NoRepeat (overlapsOf i j)
+-- of two rules, the overlap with the smaller partners first
+of-ascend : (i j : Numbered) → Ascending Earlier (overlapsOf i j)
 unfolding overlapsOf
-norepeat-of i j =
-    norepeat-answers (overlapOf i j) (λ a b o e f.
-    sym (ap (λ x. x .partners) (overlap-parts i j a e .made)) ∙ ap (λ x. x .partners) (overlap-parts i j b f .made))
-    (norepeat-pairings (length (i .rule .heads)) (length (j .rule .heads)))
+of-ascend i j =
+    ascending-answers (overlapOf i j) (λ a b o u l e f.
+    let one = overlap-parts i j a e .made in
+    let two = overlap-parts i j b f .made in
+    subst₂ Earlier (sym one) (sym two) (byPartners refl refl l))
+    (pairings-ascend (length (i .rule .heads)) (length (j .rule .heads)))
 
-norepeat-among : {l : List Numbered} → NoRepeat l → NoRepeat (overlapsAmong l)
+-- of one rule with others, those with the smaller of these first; then those of the others
+among-ascend : {l : List Numbered} → Ascending Below l → Ascending Earlier (overlapsAmong l)
 unfolding overlapsAmong
-norepeat-among nothing = nothing
-norepeat-among (L.apart {a = x} {l} f p) =
-    norepeat-append
-    (norepeat-gather (overlapsOf x) (norepeat-of x) (λ a b o m n. sym (of-rules x a m .1) ∙ of-rules x b n .1) (L.apart f p))
-    (norepeat-among p) (λ o m n.
+among-ascend nothing = nothing
+among-ascend (below {a = x} {l} f p) =
+    ascending-append
+    (ascending-gather (overlapsOf x) (of-ascend x) (λ a b o u h m n. secondly a b o u h (of-rules x a m) (of-rules x b n))
+    (below f p))
+    (among-ascend p) (λ o u m n.
     let (y, i, h) = gather-member (overlapsOf x) (x ∷ l) m in
     let (j, k, a, b, q, r, le, g) = among-member l n in
-    f (subst (λ z. Member z l) (sym (of-rules a b g .0) ∙ of-rules x y h .0) (at-member l j q)))
+    firstly a o u (f a (at-member l j q)) (of-rules x y h .0) (of-rules a b g .0))
+  where
+    firstly : (a : Numbered) (o u : Overlap) → Below x a → o .first ≡ x → u .first ≡ a → Earlier o u
+    firstly a o u h c d = byFirst (subst₂ Below (sym c) (sym d) h)
 
--- each overlap of a program is listed once
-pub norepeat-overlaps : (p : Program) → NoRepeat (overlaps p)
+    secondly :
+        (a b : Numbered) (o u : Overlap) → Below a b → (o .first ≡ x) × (o .second ≡ a) → (u .first ≡ x) × (u .second ≡ b)
+        → Earlier o u
+    secondly a b o u h (c, d) (e, f) = bySecond (ap (λ (v : Numbered). v .number) (c ∙ sym e)) (subst₂ Below (sym d) (sym f) h)
+
+-- the overlaps of a program, the earlier first
+pub overlaps-ascend : (p : Program) → Ascending Earlier (overlaps p)
 unfolding overlaps
-norepeat-overlaps p = norepeat-among (norepeat-numbered 0 (p .rules))
+overlaps-ascend p = among-ascend (numbered-ascend 0 (p .rules))

@@ -28,6 +28,7 @@ pub mod Bools
 -- The strategy, and the comparison of states
 pub mod Search
 pub mod Choosing
+pub mod Precedence
 pub mod Removal
 pub mod Pairs
 pub mod Comparison
@@ -47,6 +48,7 @@ pub mod OverlapPositions
 pub mod Partners
 pub mod Listings
 pub mod Enumeration
+pub mod OverlapOrder
 pub mod Verdicts
 pub mod Appearing
 pub mod JoinLaws

@@ -1,13 +1,14 @@
--- Lists that are made from others: what stands in them, and that nothing stands twice.
+-- Lists that are made from others: what stands in them, and in which order.
 --   member-gather, gather-member        the lists that the elements give, one behind the other
 --   member-answers, answers-member      the answers of the elements that have one
 --   member-upTo, upTo-member            the numbers below n
 --   member-at, at-member                an element stands at a place
---   NoRepeat, norepeat-…                no element stands twice
+--   Ascending, ascending-…              each element is below those behind it, by a relation
 --   all-every                           a test that each element passes
 -- Assumes nothing.
 use Prim.Native.Nat.{ℕ, zero, suc, _<_}
 use native.Mathlib.Omega.{arith}
+use native.Mathlib.Decide.{decLt}
 use mathlib.Core.Bool.{Bool, true}
 use mathlib.Core.List.{List, [], _∷_, _++_, map}
 use mathlib.Core.Option.{Option, none, some}
@@ -109,62 +110,97 @@ pub member-at : {A : Type 0} {a : A} {l : List A} → Member a l → (i : ℕ) �
 member-at first = (0, refl)
 member-at (later j) = let h = member-at j in (suc (h .0), h .1)
 
--- no element stands twice
-pub data NoRepeat {A : Type 0} : List A → Type 0 where
-  nothing : NoRepeat []
-  apart : {a : A} {l : List A} → (Member a l → ⊥) → NoRepeat l → NoRepeat (a ∷ l)
+-- each element is related to all behind it
+pub data Ascending {A : Type 0} (R : A → A → Type 0) : List A → Type 0 where
+  nothing : Ascending R []
+  below : {a : A} {l : List A} → ((b : A) → Member b l → R a b) → Ascending R l → Ascending R (a ∷ l)
 
--- of two lists that share no element
-pub norepeat-append :
-    {A : Type 0} {l m : List A} → NoRepeat l → NoRepeat m → ((a : A) → Member a l → Member a m → ⊥) → NoRepeat (l ++ m)
-norepeat-append nothing q h = q
-norepeat-append {A} {m} (apart {a = x} {l} f p) q h =
-    apart (λ i. go (member-append l i)) (norepeat-append p q (λ a i. h a (later i)))
+-- one list behind another, of which each element is related to each of its own
+pub ascending-append :
+    {A : Type 0} {R : A → A → Type 0} {l m : List A} → Ascending R l → Ascending R m
+    → ((a b : A) → Member a l → Member b m → R a b) → Ascending R (l ++ m)
+ascending-append nothing q h = q
+ascending-append {A} {R} {m} (below {a = x} {l} f p) q h =
+    below (λ b i. go b (member-append l i)) (ascending-append p q (λ a b i. h a b (later i)))
   where
-    go : Or (Member x l) (Member x m) → ⊥
-    go (inl i) = f i
-    go (inr i) = h x first i
+    go : (b : A) → Or (Member b l) (Member b m) → R x b
+    go b (inl i) = f b i
+    go b (inr i) = h x b first i
 
--- of an image under a function that tells elements apart
-pub norepeat-map :
-    {A B : Type 0} (f : A → B) {l : List A} → ((a b : A) → f a ≡ f b → a ≡ b) → NoRepeat l → NoRepeat (map f l)
-norepeat-map f h nothing = nothing
-norepeat-map f h (apart {a = x} {l} g p) =
-    apart (λ i. let (y, j, e) = member-unmap f l i in g (subst (λ z. Member z l) (sym (h x y e)) j)) (norepeat-map f h p)
+-- an image under a function that keeps the order
+pub ascending-map :
+    {A B : Type 0} {R : A → A → Type 0} {S : B → B → Type 0} (f : A → B) {l : List A} → ((a b : A) → R a b → S (f a) (f b))
+    → Ascending R l → Ascending S (map f l)
+ascending-map f h nothing = nothing
+ascending-map {S} f h (below {a = x} {l} g p) =
+    below (λ b i. let (y, j, e) = member-unmap f l i in subst (S (f x)) (sym e) (h x y (g y j))) (ascending-map f h p)
 
--- of lists of which no two share an element
-pub norepeat-gather :
-    {A B : Type 0} (f : A → List B) {l : List A} → ((a : A) → NoRepeat (f a))
-    → ((a a′ : A) (b : B) → Member b (f a) → Member b (f a′) → a ≡ a′) → NoRepeat l → NoRepeat (gather f l)
-norepeat-gather f h k nothing = nothing
-norepeat-gather f h k (apart {a = x} {l} g p) =
-    norepeat-append (h x) (norepeat-gather f h k p) (λ b i j.
+-- lists that keep the order of what gives them
+pub ascending-gather :
+    {A B : Type 0} {R : A → A → Type 0} {S : B → B → Type 0} (f : A → List B) {l : List A} → ((a : A) → Ascending S (f a))
+    → ((a a′ : A) (b b′ : B) → R a a′ → Member b (f a) → Member b′ (f a′) → S b b′) → Ascending R l → Ascending S (gather f l)
+ascending-gather f h k nothing = nothing
+ascending-gather f h k (below {a = x} {l} g p) =
+    ascending-append (h x) (ascending-gather f h k p) (λ b b′ i j.
     let (y, m, n) = gather-member f l j in
-    g (subst (λ z. Member z l) (sym (k x y b i n)) m))
+    k x y b b′ (g y m) i n)
 
--- of answers, where different elements answer differently
-pub norepeat-answers :
-    {A B : Type 0} (f : A → Option B) {l : List A} → ((a a′ : A) (b : B) → f a ≡ some b → f a′ ≡ some b → a ≡ a′)
-    → NoRepeat l → NoRepeat (answers f l)
-norepeat-answers f k nothing = nothing
-norepeat-answers {A} {B} f k (apart {a = x} {l} g p) = go (f x) refl (norepeat-answers f k p)
+-- answers that keep the order of what has them
+pub ascending-answers :
+    {A B : Type 0} {R : A → A → Type 0} {S : B → B → Type 0} (f : A → Option B) {l : List A}
+    → ((a a′ : A) (b b′ : B) → R a a′ → f a ≡ some b → f a′ ≡ some b′ → S b b′) → Ascending R l → Ascending S (answers f l)
+ascending-answers f k nothing = nothing
+ascending-answers {A} {B} {S} f k (below {a = x} {l} g p) = go (f x) refl (ascending-answers f k p)
   where
-    go : (o : Option B) → f x ≡ o → NoRepeat (answers f l) → NoRepeat (onward o (answers f l) (λ z. z ∷ answers f l))
+    go : (o : Option B) → f x ≡ o → Ascending S (answers f l) → Ascending S (onward o (answers f l) (λ z. z ∷ answers f l))
     go none e q = q
-    go (some z) e q =
-        apart (λ i. let (y, m, e′) = answers-member f l i in g (subst (λ w. Member w l) (sym (k x y z e e′)) m)) q
+    go (some z) e q = below (λ b i. let (y, m, d) = answers-member f l i in k x y z b (g y m) e d) q
 
--- of the numbers below n
-pub norepeat-upTo : (n : ℕ) → NoRepeat (upTo n)
-norepeat-upTo zero = nothing
-norepeat-upTo (suc n) =
-    norepeat-append (norepeat-upTo n) (apart (λ i. member-nil i) nothing) (λ a i j.
+-- the numbers below n
+pub ascending-upTo : (n : ℕ) → Ascending _<_ (upTo n)
+ascending-upTo zero = nothing
+ascending-upTo (suc n) =
+    ascending-append (ascending-upTo n) (below (λ b i. absurd (member-nil i)) nothing) (λ a b i j.
     let h = upTo-member a n i in
-    last a h (member-cons j))
+    last a b h (member-cons j))
   where
-    last : (a : ℕ) → a < n → Or (a ≡ n) (Member a []) → ⊥
-    last a h (inl e) = omega arith
-    last a h (inr k) = member-nil k
+    last : (a b : ℕ) → a < n → Or (b ≡ n) (Member b []) → a < b
+    last a b h (inl e) = omega arith
+    last a b h (inr k) = absurd (member-nil k)
+
+-- of two places the element at the smaller is related to that at the larger
+pub ascending-at :
+    {A : Type 0} {R : A → A → Type 0} {l : List A} → Ascending R l → (i k : ℕ) {a b : A} → i < k → getElem? l i ≡ some a
+    → getElem? l k ≡ some b → R a b
+ascending-at nothing i k h p q = none-some refl p
+ascending-at (below {l} f p) zero zero h e q = absurd (omega arith)
+ascending-at {R} (below {l} f p) zero (suc k) {b} h e q = subst (λ x. R x b) (some-equal e) (f b (at-member l k q))
+ascending-at (below f p) (suc i) zero h e q = absurd (omega arith)
+ascending-at (below f p) (suc i) (suc k) h e q = ascending-at p i k (omega arith) e q
+
+-- where none is related to itself, each stands at one place
+pub ascending-once :
+    {A : Type 0} {R : A → A → Type 0} {l : List A} → ((a : A) → R a a → ⊥) → Ascending R l → (i k : ℕ) {a : A}
+    → getElem? l i ≡ some a → getElem? l k ≡ some a → i ≡ k
+ascending-once {R} {l} h p i k {a} e q = go (decLt i k) (decLt k i)
+  where
+    go : Dec (i < k) → Dec (k < i) → i ≡ k
+    go (yes x) y = absurd (h a (ascending-at p i k x e q))
+    go (no x) (yes y) = absurd (h a (ascending-at p k i y q e))
+    go (no x) (no y) = omega arith
+
+-- and one that is related to another stands before it
+pub ascending-before :
+    {A : Type 0} {R : A → A → Type 0} {l : List A} → ((a : A) → R a a → ⊥) → ((a b c : A) → R a b → R b c → R a c)
+    → Ascending R l → (i k : ℕ) {a b : A} → getElem? l i ≡ some a → getElem? l k ≡ some b → R a b → i < k
+ascending-before {R} {l} h t p i k {a} {b} e q r = go (decLt i k) (decLt k i)
+  where
+    go : Dec (i < k) → Dec (k < i) → i < k
+    go (yes x) y = x
+    go (no x) (yes y) = absurd (h a (t a b a r (ascending-at p k i y q e)))
+    go (no x) (no y) =
+        let z : i ≡ k = omega arith in
+        absurd (h a (subst (R a) (some-equal (sym q ∙ ap (getElem? l) (sym z) ∙ e)) r))
 
 -- what each element passes all pass
 pub all-every : {A : Type 0} (test : A → Bool) {l : List A} → All (λ a. test a ≡ true) l → every test l ≡ true

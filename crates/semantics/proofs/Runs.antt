@@ -4,7 +4,7 @@
 --   run-rests               no rule fits at a run's end
 --   run-follows             a derivation that follows a run's events comes to the run's end
 --   run-runs, side-runs     the run of a goal, and a side of an overlap, as finished derivations
---   run-only                no state has two runs
+--   run-only, ends-only     no state has two runs, and no derivation that ends with one has two ends
 -- Assumes nothing.
 use Prim.Native.Nat.{ℕ, zero, suc, _+_, _<_, _≤_}
 use native.Mathlib.Nat.{add-zero, add-suc, suc-add}
@@ -23,12 +23,13 @@ use Rattle.semantics.specs.Firing.{fired, fireAt}
 use Rattle.semantics.specs.Derivations.{Event, fire, Progress, follow, followAll, firing, start, derive}
 use Rattle.semantics.specs.Derivations.{byRest, NoRuleFits}
 use Rattle.semantics.specs.Strategy.{choose, advance, Final, normalise, goalState, run}
-use Rattle.semantics.specs.Runs.{Before, atFirst, atLater, ChosenFiring, Run, rests, fires, arrivals, RunsTo}
+use Rattle.semantics.specs.Runs.{Before, ChosenFiring, Run, rests, fires, arrivals, RunsTo}
 use Rattle.semantics.specs.Overlaps.{sideEnd}
 use Rattle.semantics.proofs.Configurations.{Or, inl, inr}
 use Rattle.semantics.proofs.Options.{decide, true-false, none-some, bind-some, eqb-equal, equal-eqb}
 use Rattle.semantics.proofs.Bools.{none-unless}
 use Rattle.semantics.proofs.Choosing.{choose-sound, choose-smallest, choose-lowest, advance-rests}
+use Rattle.semantics.proofs.Precedence.{before-irreflexive, before-transitive}
 use Rattle.semantics.proofs.Weights.{stateWeight, fireAt-lighter}
 use Rattle.semantics.proofs.Entering.{followAll-append, arrivedAt, enters-all, arrivedAt-state, arrivedAt-entered}
 use Rattle.semantics.proofs.Normal.{firing-fires}
@@ -165,13 +166,6 @@ sameList (p ∷ ps) (q ∷ qs) = go (decide (eqb p q)) (sameList ps qs)
     go (inl e) (inr h) = inr (λ k. h (cc k))
     go (inr e) h = inr (λ k. true-false (equal-eqb {m = p} {n = q} (cc k)) e)
 
--- of two lists at most one comes before the other
-before-asym : {ps qs : List ℕ} → Before ps qs → Before qs ps → ⊥
-before-asym (atFirst l) (atFirst k) = omega arith
-before-asym (atFirst l) (atLater b) = omega arith
-before-asym (atLater a) (atFirst k) = omega arith
-before-asym (atLater a) (atLater b) = before-asym a b
-
 -- the order of choice has one first
 chosen-only :
     {p : Program} {n m : ℕ} {ps qs : List ℕ} {s t u : State} → ChosenFiring p n ps s t → ChosenFiring p m qs s u
@@ -189,7 +183,8 @@ chosen-only {p} {n} {m} {ps} {qs} {s} {t} {u} c d = let (e, f) = same in (e, f, 
     positions : c .rule ≡ d .rule → Or (ps ≡ qs) (ps ≡ qs → ⊥) → ps ≡ qs
     positions e (inl f) = f
     positions e (inr f) =
-        absurd (before-asym (c .smallest qs u (rw e (d .fires)) (λ g. f (sym g))) (d .smallest ps t (rw (← e) (c .fires)) f))
+        before-irreflexive
+        (before-transitive (c .smallest qs u (rw e (d .fires)) (λ g. f (sym g))) (d .smallest ps t (rw (← e) (c .fires)) f))
 
     same : (n ≡ m) × (ps ≡ qs)
     same = let e = number (decLt n m) (decLt m n) in (e, positions (rule e) (sameList ps qs))
@@ -203,3 +198,11 @@ run-only p s t u es fs (fires {t = v} {es = gs} n ps c r) (fires {t = w} {es = h
     let (e, f, g) = chosen-only c d in
     let h = run-only p v t u gs hs r (subst (λ x. Run p x hs u) (sym g) q) in
     (cc (e, f, h .0), h .1)
+
+-- a finished derivation that ends with a run has one end
+pub ends-only : {p : Program} {g : Goal} {es : List Event} {e f : Final} → RunsTo p g es e → RunsTo p g es f → e ≡ f
+ends-only {p} {g} {es} {e} {f} a b =
+    let (fs, state) = run-only p (derive p g (arrivals g ++ es) .state) (e .state) (f .state) (a .events) (b .events)
+    (a .runs) (b .runs) in
+    let firings : e .firings ≡ f .firings = a .counted ∙ ap (λ l. length es + length l) fs ∙ sym (b .counted) in
+    λ i. record { state = state i; firings = firings i }

@@ -3,16 +3,15 @@
 --   ByAppearance          a goal as document 01 has it, its variables counted by first appearance
 --   Bounded               no derivation fires more often than its goal's weight
 --   Ends                  the two ends of an overlap
---   Counterexample        an overlap that is shown with its two ends: the first that does not join
+--   Counterexample        the earliest overlap that does not join, with its two ends
 --   Demand3               all of demand 3, as one claim
 -- Assumes nothing.
-use Prim.Native.Nat.{ℕ, _<_, _≤_}
+use Prim.Native.Nat.{ℕ, _≤_}
 use mathlib.Core.Bool.{true}
 use mathlib.Core.List.{List, [], _∷_}
-use mathlib.Core.Option.{some}
 use mathlib.Core.Logic.{_↔_}
 use mathlib.Core.Path.{_≡_}
-use lib.ListN.{length, getElem?}
+use lib.ListN.{length}
 use Rattle.text.specs.Lists.{upTo}
 use Rattle.semantics.specs.Terms.{Program, Goal, weight, isGoalOf}
 use Rattle.semantics.specs.Derivations.{Event, fire, derive, Finished}
@@ -20,6 +19,7 @@ use Rattle.semantics.specs.Strategy.{Final}
 use Rattle.semantics.specs.Runs.{RunsTo}
 use Rattle.semantics.specs.Variants.{Variant}
 use Rattle.semantics.specs.Overlaps.{Overlap, secondPositions, appearing, overlaps}
+use Rattle.semantics.specs.Order.{IsOverlapOf, Earlier, StrictTotalOrder}
 use Rattle.semantics.specs.Verdict.{verdict, confluent, unjoined}
 
 -- a goal has one outcome: any two finished derivations of it, whatever enters when and whatever fires where, end in equal states
@@ -61,23 +61,25 @@ pub record Joins (p : Program) (o : Overlap) : Type 1 where
   pub ends : Ends p o one two
   pub equal : Variant (one .state) (two .state)
 
--- an unjoined overlap, shown with two ends: it is one of the program's, by its number in the enumeration, and every overlap before
--- it joins; its goal is over the program's symbols; the ends are its own, and they are not equal
+-- the earliest unjoined overlap, with its two ends: it is one of the program's; the ends are its own, and they are not equal;
+-- every overlap of the program that is earlier joins. Its goal is over the program's symbols, and counts its variables by first
+-- appearance
 pub record Counterexample (p : Program) (o : Overlap) (one two : Final) : Type 1 where
-  pub number : ℕ
-  pub listed : getElem? (overlaps p) number ≡ some o
-  pub earlier : (k : ℕ) (u : Overlap) → k < number → getElem? (overlaps p) k ≡ some u → Joins p u
-  pub goal : isGoalOf p (o .goal) ≡ true
-  pub appearance : ByAppearance (o .goal)
+  pub overlap : IsOverlapOf p o
   pub ends : Ends p o one two
   pub differ : Variant (one .state) (two .state) → ⊥
+  pub earlier : (u : Overlap) → IsOverlapOf p u → Earlier u o → Joins p u
+  pub goal : isGoalOf p (o .goal) ≡ true
+  pub appearance : ByAppearance (o .goal)
 
 -- demand 3 of a program: its verdict is confluent exactly when each goal has one outcome, and then the number is that of its
--- overlaps; for one outcome of all goals it is enough that those whose variables count by first appearance have one; a verdict that
--- shows an overlap shows a counterexample; and every derivation is bounded
+-- overlaps; for one outcome of all goals it is enough that those whose variables count by first appearance have one; the verdict
+-- shows an overlap with two ends exactly when they are the earliest unjoined overlap and its ends, in an order that is strict and
+-- total on the program's overlaps, so that there is at most one; and every derivation is bounded
 pub record Demand3 (p : Program) : Type 1 where
   pub exact : ((n : ℕ) × (verdict p ≡ confluent n)) ↔ OneOutcome p
   pub enough : OneOutcomeByAppearance p → OneOutcome p
   pub counted : (n : ℕ) → verdict p ≡ confluent n → n ≡ length (overlaps p)
-  pub shown : (o : Overlap) (one two : Final) → verdict p ≡ unjoined o one two → Counterexample p o one two
+  pub shown : (o : Overlap) (one two : Final) → (verdict p ≡ unjoined o one two) ↔ Counterexample p o one two
+  pub ordered : StrictTotalOrder (IsOverlapOf p) Earlier
   pub bounded : Bounded p

@@ -8,6 +8,7 @@ pub mod Strategy
 pub mod Runs
 pub mod Variants
 pub mod Overlaps
+pub mod Order
 pub mod Verdict
 pub mod Claims
 pub mod Published

@@ -1,5 +1,5 @@
 -- What a run is (document 01: the run), said without the search that finds it.
---   Before             the order of lists of positions: compared one by one, from the first head
+--   Before             the order of lists of positions, and of partners: compared one by one, from the left
 --   ChosenFiring       the firing that comes first in the order of choice
 --   Run                such firings, until no rule fits
 --   RunsTo             a finished derivation of a goal that ends with a run
@@ -16,7 +16,7 @@ use Rattle.semantics.specs.Firing.{fireAt}
 use Rattle.semantics.specs.Derivations.{Event, enter, fire, derive, NoRuleFits, Finished}
 use Rattle.semantics.specs.Strategy.{Final, run}
 
--- one list of positions comes before another: it has the smaller position where they first differ
+-- one list of numbers comes before another: it has the smaller number where they first differ from the left
 pub data Before : List ℕ → List ℕ → Type 0 where
   atFirst : {p q : ℕ} {ps qs : List ℕ} → p < q → Before (p ∷ ps) (q ∷ qs)
   atLater : {p : ℕ} {ps qs : List ℕ} → Before ps qs → Before (p ∷ ps) (p ∷ qs)
