@@ -18,8 +18,9 @@ use Rattle.text.proofs.Bools.{and-true}
 use Rattle.tables.specs.Cells.{cellConstraints, isLow}
 use Rattle.tables.specs.Rows.{ruleOfRow}
 use Rattle.tables.proofs.MapLaws.{acts-constraints}
-use Rattle.engine.specs.Cells.{assigned, instanceCell}
-use Rattle.engine.specs.Positions.{isLettered}
+use Rattle.search.specs.Cells.{assigned}
+use Rattle.engine.specs.Cells.{instanceCell}
+use Rattle.search.specs.Positions.{isLettered}
 use Rattle.engine.proofs.FireLaws.{instance-acts, constraints-append}
 use Rattle.critical.specs.Cells.{RuleRow, headsOf}
 use Rattle.critical.proofs.TermLaws.{replaced-none}

@@ -21,7 +21,7 @@ use Rattle.tables.specs.Cells.{cellConstraints, isLow}
 use Rattle.tables.specs.Rows.{ruleOfRow}
 use Rattle.tables.specs.Numbers.{isWithin}
 use Rattle.tables.proofs.CellLaws.{constraints-length}
-use Rattle.engine.specs.Positions.{isLettered}
+use Rattle.search.specs.Positions.{isLettered}
 use Rattle.engine.proofs.RuleLaws.{every-append}
 use Rattle.critical.specs.Joins.{joinNext, paired}
 use Rattle.critical.specs.Cells.{joinedOf, Partner, RuleRow, RulePair, headsOf}

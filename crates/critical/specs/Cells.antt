@@ -17,7 +17,7 @@ use Rattle.semantics.specs.Overlaps.{unjoinedHeads, apart}
 use Rattle.tables.specs.Layout.{constraintSize, headsCell}
 use Rattle.tables.specs.Cells.{cellTerms, cellConstraints, isLow}
 use Rattle.tables.specs.Rows.{ruleOfRow}
-use Rattle.engine.specs.Positions.{Row}
+use Rattle.search.specs.Positions.{Row}
 
 -- what joining answers: whether the heads unify, and if so all heads then
 unfoldable pub joinedOf : Bool → List ℕ → Option (List Constraint)

@@ -1,7 +1,7 @@
 // The goal of an overlap: the heads of the first rule and the unjoined heads of the second, their variables counted by first
 // appearance; and where the second rule fires in it.
 use engine::firing::move_row;
-use engine::search::is_chosen;
+use search::search::is_chosen;
 use tables::layout::CONSTRAINT_SIZE;
 use tables::numbering::number;
 ghost use mathlib.Core.Path.{_≡_};

@@ -1,7 +1,7 @@
 // Heads joined in place: all heads of two rules stand in cells under the unifier so far, and joining two of them unifies their
 // terms throughout.
-use engine::search::is_chosen;
 use engine::solving::unify;
+use search::search::is_chosen;
 use tables::layout::CONSTRAINT_SIZE;
 ghost use mathlib.Core.Path.{_≡_};
 ghost use Prim.Native.Nat.{_+_, _*_, _≤_, _<_};

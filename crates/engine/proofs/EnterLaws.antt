@@ -1,21 +1,18 @@
 -- A goal enters, cell by cell.
 --   Starting, starting-…     each goal variable is itself
 --   Copying, copying-…       the goal's cells in front
---   Among, among-…           a position among those given
 --   CopyingRow, row-…        one of its constraints in the cells
 --   Freeing, freeing-…       its constraints at none of the positions in front
 -- Assumes nothing.
 use Prim.Native.Nat.{ℕ, suc, _+_, _-_, _*_, _≤_, _<_}
 use native.Mathlib.Omega.{arith}
 use native.Mathlib.Numerals.{add-one}
-use mathlib.Core.Bool.{Bool, true, false, _||_}
+use mathlib.Core.Bool.{Bool, true, false}
 use mathlib.Core.List.{List, [], _∷_, _++_, map, map-append, append-assoc, append-nil}
 use mathlib.Core.Path.{_≡_, refl, ap, sym, _∙_}
-use lib.Dec.{eqb}
 use lib.ListN.{length, getD, set, take, drop, length-set, length-drop, drop-of-length-le}
-use lib.Seq.{take-suc, take-suc-set, take-all, drop-cons, getD-drop, length-take-le}
+use lib.Seq.{take-suc, take-suc-set, take-all, getD-drop, length-take-le}
 use lib.Seq.{paste, paste-zero, paste-suc, take-paste, length-paste}
-use borrow.Author.Tests.{eq-eqb, ne-eqb}
 use Rattle.text.specs.Lists.{has, tabled}
 use Rattle.semantics.specs.Terms.{Constraint, var}
 use Rattle.semantics.specs.Firing.{without}
@@ -79,27 +76,6 @@ module _ (goal start cells : List ℕ) (i : ℕ) (w : Copying goal start cells i
   copying-end l =
       let e : i ≡ length goal = omega (arith, w .within) in
       ap (λ k. take k cells) (sym e) ∙ w .same ∙ take-all i goal l
-
--- the positions from i on hold p where all of them do
-pub record Among (positions : List ℕ) (p i : ℕ) : Type 0 where
-  pub within : i ≤ length positions
-  pub same : has p (drop i positions) ≡ has p positions
-
-pub among-start : (positions : List ℕ) (p : ℕ) → Among positions p 0
-among-start positions p = record { within = omega arith; same = refl }
-
-module _ (positions : List ℕ) (p i : ℕ) (w : Among positions p i) where
-  here : i < length positions → has p positions ≡ (eqb p (getD positions i 0) || has p (drop (suc i) positions))
-  here l = sym (w .same) ∙ rw (drop-cons positions i 0 l)
-
-  pub among-found : i < length positions → p ≡ getD positions i 0 → true ≡ has p positions
-  among-found l e = rw (here l, eq-eqb p (getD positions i 0) e)
-
-  pub among-next : i < length positions → (p ≡ getD positions i 0 → ⊥) → Among positions p (i + 1)
-  among-next l e = rw (add-one i) (record { within = l; same = rw (here l, ne-eqb p (getD positions i 0) e) })
-
-  pub among-end : length positions ≤ i → false ≡ has p positions
-  among-end l = rw (← w .same, drop-of-length-le positions {i = i} l)
 
 -- j cells of the goal's constraint at a position are copied
 pub record CopyingRow (goal : List ℕ) (from to : ℕ) (start cells : List ℕ) (j : ℕ) : Type 0 where

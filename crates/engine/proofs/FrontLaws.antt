@@ -1,5 +1,5 @@
 -- A state that begins behind the rows of constraints that were removed at the front.
---   behind, returned       cells that are lent from a place on, and all of them after that
+--   returned               all cells, after those from a place on were lent
 --   without-front          removing the first constraints
 --   Leading                the loop of `is_front`
 --   front-completes        a firing that removes the first constraints
@@ -14,7 +14,7 @@ use mathlib.Core.List.{List, [], _∷_, _++_, append-nil}
 use mathlib.Core.Logic.{⊎-elim}
 use mathlib.Core.Path.{_≡_, refl, ap, sym, _∙_}
 use lib.ListN.{length, getD, set, take, drop, length-append, length-drop, drop-of-length-le}
-use lib.Seq.{paste, take-paste, take-suc, take-all, drop-at, length-take-le}
+use lib.Seq.{paste, take-paste, take-suc, drop-at, length-take-le}
 use Rattle.text.specs.Lists.{has, upTo}
 use Rattle.semantics.specs.Terms.{Constraint}
 use Rattle.semantics.specs.Firing.{without}
@@ -23,18 +23,13 @@ use Rattle.tables.specs.Cells.{cellConstraints}
 use Rattle.tables.proofs.CellLaws.{le-or-lt, constraints-length}
 use Rattle.engine.specs.States.{Equated, Fires, Fired, Skips, Placed}
 use Rattle.engine.proofs.FireLaws.{Moving, moving-next, moving-end}
-use Rattle.engine.proofs.GapLaws.{drop-constraints, drop-part}
+use Rattle.search.proofs.PartLaws.{drop-constraints, behind, behind-all}
+use Rattle.engine.proofs.GapLaws.{drop-part}
 use Rattle.engine.proofs.RuleLaws.{fires-equated, kept-equated, kept-fired}
 
--- the cells from a place on, as they are lent, and all cells when those have come back
-abbrev pub behind : ℕ → List ℕ → List ℕ
-behind s cells = take (length cells - s) (drop s cells)
-
+-- all cells when those from a place on have come back
 abbrev pub returned : ℕ → List ℕ → List ℕ → List ℕ
 returned s cells g = take s cells ++ (g ++ drop (length cells - s) (drop s cells))
-
-pub behind-all : (s : ℕ) (cells : List ℕ) → behind s cells ≡ drop s cells
-behind-all s cells = take-all (length cells - s) (drop s cells) (omega (arith, length-drop s cells))
 
 module _ (s : ℕ) (cells g : List ℕ) (l : s ≤ length cells) where
   returned-all : returned s cells g ≡ take s cells ++ g

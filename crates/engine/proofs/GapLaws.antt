@@ -1,6 +1,5 @@
 -- Removing constraints from cells, the highest position first, is removing them from the list.
---   take-constraints, drop-constraints    the first constraints of cells, and the others
---   Closing, Topping, Removing                                the loops of `close_gap`, `highest` and `remove`
+--   Closing, Topping, Removing     the loops of `close_gap`, `highest` and `remove`
 -- Assumes nothing.
 use Prim.Native.Nat.{ℕ, zero, suc, _+_, _-_, _*_, _≤_, _<_}
 use native.Mathlib.Nat.{add-zero}
@@ -8,7 +7,7 @@ use native.Mathlib.Omega.{arith}
 use native.Mathlib.Numerals.{add-one}
 use mathlib.Core.Bool.{true, false}
 use mathlib.Core.List.{List, [], _∷_, _++_, append-assoc, append-nil}
-use mathlib.Core.Path.{_≡_, refl, ap, sym, _∙_}
+use mathlib.Core.Path.{_≡_, refl, sym, _∙_}
 use lib.Dec.{eqb}
 use lib.ListN.{length, getD, set, take, drop, length-drop, drop-of-length-le}
 use lib.Seq.{paste, take-paste, take-suc, drop-cons, take-take, take-add, take-all, take-append-le, drop-at}
@@ -22,33 +21,8 @@ use Rattle.tables.specs.Cells.{cellConstraints}
 use Rattle.tables.proofs.CellLaws.{constraints-length}
 use Rattle.engine.specs.Cells.{closedGap}
 use Rattle.engine.specs.States.{Highest, Removed}
+use Rattle.search.proofs.PartLaws.{take-constraints, drop-constraints}
 use Rattle.engine.proofs.FireLaws.{Moving, moving-start, moving-next, moving-end, constraints-append}
-
--- five cells more
-five-more : (k : ℕ) → 5 * suc k ≡ suc (suc (suc (suc (suc (5 * k)))))
-five-more k = omega arith
-
--- the first constraints of cells
-pub take-constraints : (k : ℕ) (l : List ℕ) → cellConstraints (take (5 * k) l) ≡ take k (cellConstraints l)
-unfolding cellConstraints
-take-constraints zero l = refl
-take-constraints (suc k) [] = rw five-more
-take-constraints (suc k) (a ∷ []) = rw five-more
-take-constraints (suc k) (a ∷ b ∷ []) = rw five-more
-take-constraints (suc k) (a ∷ b ∷ c ∷ []) = rw five-more
-take-constraints (suc k) (a ∷ b ∷ c ∷ d ∷ []) = rw five-more
-take-constraints (suc k) (a ∷ b ∷ c ∷ d ∷ e ∷ l) = rw (five-more, take-constraints k l)
-
--- the others
-pub drop-constraints : (k : ℕ) (l : List ℕ) → cellConstraints (drop (5 * k) l) ≡ drop k (cellConstraints l)
-unfolding cellConstraints
-drop-constraints zero l = refl
-drop-constraints (suc k) [] = rw five-more
-drop-constraints (suc k) (a ∷ []) = rw five-more
-drop-constraints (suc k) (a ∷ b ∷ []) = rw five-more
-drop-constraints (suc k) (a ∷ b ∷ c ∷ []) = rw five-more
-drop-constraints (suc k) (a ∷ b ∷ c ∷ d ∷ []) = rw five-more
-drop-constraints (suc k) (a ∷ b ∷ c ∷ d ∷ e ∷ l) = rw (five-more, drop-constraints k l)
 
 -- the cells behind position p of k constraints are moved as far as place i
 pub record Closing (k p : ℕ) (start cells : List ℕ) (i : ℕ) : Type 0 where

@@ -1,19 +1,13 @@
 -- Laws of the engine's cells. Assumes nothing.
 pub mod Opened
-pub mod MatchLaws
-pub mod WantedLaws
-pub mod BarrenLaws
-pub mod NotedLaws
 pub mod FireLaws
 pub mod GapLaws
-pub mod SearchLaws
-pub mod ChooseLaws
 pub mod SolveLaws
 pub mod RuleLaws
 pub mod FrontLaws
 pub mod WeightLaws
 pub mod FiredLaws
-pub mod KnownLaws
+pub mod KeepsLaws
 pub mod StepLaws
 pub mod StatedLaws
 pub mod RunLaws

@@ -16,8 +16,9 @@ use Rattle.semantics.specs.Firing.{without, instance, fired}
 use Rattle.semantics.proofs.Removal.{without-none}
 use Rattle.tables.specs.Cells.{cellTerm, cellConstraints, cellEquations, isLow}
 use Rattle.tables.specs.Rows.{ruleOfRow}
-use Rattle.engine.specs.Cells.{assigned, instanceCell}
-use Rattle.engine.specs.Positions.{isLettered, isSide, Row}
+use Rattle.search.specs.Cells.{assigned}
+use Rattle.engine.specs.Cells.{instanceCell}
+use Rattle.search.specs.Positions.{isLettered, isSide, Row}
 use Rattle.engine.specs.States.{Solvable, Solved, Removed, Appended, Equated, SolvedRule, Fires, Fired}
 use Rattle.text.proofs.Bools.{and-true}
 use Rattle.tables.proofs.CellLaws.{le-or-lt, cell-low}

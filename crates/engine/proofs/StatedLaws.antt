@@ -17,14 +17,14 @@ use Rattle.semantics.specs.Matching.{Assignment, unassigned, matchConstraint, m
 use Rattle.semantics.specs.Firing.{without, fireAt}
 use Rattle.tables.specs.Cells.{cellConstraints, rowConstraint}
 use Rattle.tables.specs.Rows.{ruleOfRow}
-use Rattle.engine.specs.Cells.{assigned, fitOf, Rows, Matched}
-use Rattle.engine.specs.Positions.{isLettered, Row}
+use Rattle.search.specs.Cells.{assigned, fitOf, Rows, Matched}
+use Rattle.search.specs.Positions.{isLettered, Row}
 use Rattle.engine.specs.States.{Removed, Equated, Fired}
 use Rattle.engine.specs.Runs.{storeOf}
 use Rattle.engine.specs.Stated.{statedAt, matchRow, fireRow, Stated, FiredFrom}
 use Rattle.tables.proofs.CellLaws.{every-first, every-rest, constraints-at, element-row, element-none}
-use Rattle.engine.proofs.SearchLaws.{cond-none, cond-bind, lent, five, lent-size}
-use Rattle.engine.proofs.ChooseLaws.{zeros-unassigned}
+use Rattle.search.proofs.SearchLaws.{cond-none, cond-bind, lent, five, lent-size}
+use Rattle.search.proofs.ChooseLaws.{zeros-unassigned}
 use Rattle.engine.proofs.RuleLaws.{kept-equated, kept-fired}
 use Rattle.engine.proofs.FiredLaws.{fired-lighter, fired-low}
 use Rattle.engine.proofs.StepLaws.{no-way, no-way-back}

@@ -14,14 +14,15 @@ use Rattle.semantics.proofs.Search.{find-sound}
 use Rattle.tables.specs.Layout.{firstRule}
 use Rattle.tables.specs.Cells.{cellConstraints}
 use Rattle.tables.specs.Rows.{nameOf, ruleOfRow, rowOf, ruleOf}
-use Rattle.engine.specs.Cells.{assigned}
-use Rattle.engine.specs.Positions.{foundOf, Row, Table, choiceOf, Chosen}
+use Rattle.search.specs.Cells.{assigned}
+use Rattle.search.specs.Positions.{foundOf, Row, Table, choiceOf, Chosen}
 use Rattle.engine.specs.States.{Fires, Fired, Skips}
 use Rattle.engine.specs.Runs.{storeOf, Live, Stepped}
-use Rattle.engine.specs.Known.{Knows, Remembered, Keeps}
-use Rattle.engine.proofs.ChooseLaws.{lentRow, row-cells}
+use Rattle.search.specs.Known.{Knows, Remembered}
+use Rattle.engine.specs.Runs.{Keeps}
+use Rattle.search.proofs.ChooseLaws.{lentRow, row-cells}
 use Rattle.engine.proofs.FiredLaws.{fired-lighter, fired-low}
-use Rattle.engine.proofs.KnownLaws.{knows-fired}
+use Rattle.engine.proofs.KeepsLaws.{knows-fired}
 use Rattle.engine.proofs.WeightLaws.{match-few}
 use Rattle.tables.proofs.CellLaws.{constraints-length}
 

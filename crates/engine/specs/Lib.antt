@@ -1,7 +1,5 @@
 -- How the engine's arrays decode. Assumes nothing.
 pub mod Cells
-pub mod Positions
 pub mod States
 pub mod Runs
-pub mod Known
 pub mod Stated

@@ -4,6 +4,7 @@
 --   Runnable             constraints from which the strategy comes to an end
 --   Startable, Ended     the derivation to its end
 --   Continued            the same, from a number of firings
+--   Keeps                a firing keeps what is known of rules that fit nowhere
 -- Assumes nothing.
 use Prim.Native.Nat.{ℕ, _+_, _*_, _≤_, _<_}
 use mathlib.Core.Bool.{Bool, true, false, cond}
@@ -17,7 +18,8 @@ use Rattle.semantics.specs.Strategy.{advance, normalise}
 use Rattle.tables.specs.Layout.{constraintSize}
 use Rattle.tables.specs.Cells.{cellTerm, cellConstraints, isLow, stateOf}
 use Rattle.tables.specs.Rows.{ruleOfRow, rulesOf, rowOf}
-use Rattle.engine.specs.Positions.{Table}
+use Rattle.search.specs.Known.{Knows}
+use Rattle.search.specs.Positions.{Table}
 
 -- the weight of constraints, where w weighs the symbols by their numbers
 unfoldable pub weightBy : (ℕ → ℕ) → List Constraint → ℕ
@@ -94,3 +96,8 @@ pub record Continued (rules : List ℕ) (n : ℕ) (bound cells : List ℕ) (m ne
       ≡ normalise fuel (rulesOf names rules n) (live next (map cellTerm bound) (storeOf cells m)) before
   pub bounded : (w : ℕ → ℕ) → Lowers w rules n → firings ≤ before + weightBy w (storeOf cells m)
   pub few : alive ≡ true → count ≤ 512
+
+-- where a rule has fired and the state lives, the tables are those of the new state
+pub record Keeps (rules : List ℕ) (n : ℕ) (known′ last′ : List ℕ) (gone′ : ℕ) (cells′ : List ℕ) (fired alive : Bool) (count : ℕ)
+    : Type 0 where
+  pub knows : fired ≡ true → alive ≡ true → Knows rules n known′ last′ gone′ (storeOf cells′ count)

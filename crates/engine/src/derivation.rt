@@ -2,9 +2,9 @@
 use crate::firing::fire_front;
 use crate::firing::make_room;
 use crate::firing::move_down;
-use crate::known::Stage;
-use crate::known::remember;
-use crate::search::choose;
+use search::known::Stage;
+use search::known::remember;
+use search::search::choose;
 use tables::layout::CONSTRAINT_SIZE;
 use tables::layout::HEADS_CELL;
 use tables::layout::ROW_SIZE;
@@ -14,7 +14,8 @@ ghost use lib.ListN.{drop};
 ghost use Rattle.tables.specs.Layout.{constraintSize};
 ghost use Rattle.engine.specs.States.{Skips};
 ghost use Rattle.engine.specs.Runs.{Live, Stepped, Startable, Ended, Continued, storeOf};
-ghost use Rattle.engine.specs.Known.{Knows, Keeps};
+ghost use Rattle.search.specs.Known.{Knows};
+ghost use Rattle.engine.specs.Runs.{Keeps};
 
 // Whether a rule fired, whether the state lives on, and how many constraints it has then.
 pub struct Step {

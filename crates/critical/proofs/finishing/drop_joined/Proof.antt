@@ -9,7 +9,7 @@ use Rattle.critical.proofs.DropLaws.{Dropping, dropping-start, dropping
 use Rattle.critical.proofs.finishing.drop_joined.Statement.{statement}
 use Rattle.critical.proofs.finishing.drop_joined.Tie as tie
 use Rattle.engine.proofs.firing.move_row.Reads as move-row-reads
-use Rattle.engine.proofs.search.is_chosen.Reads as is-chosen-reads
+use Rattle.search.proofs.search.is_chosen.Reads as is-chosen-reads
 
 abbrev Inv-loop : tie.InvT-loop
 Inv-loop cells₀ m n partners g₀ k₀ cells g k = Dropping m n (take m partners) cells₀ cells g k × (m ≤ 4) × (n ≤ 4)

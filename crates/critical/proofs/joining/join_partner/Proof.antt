@@ -5,7 +5,7 @@ use borrow.Author.Needs.{needs}
 use Rattle.critical.proofs.joining.join_partner.Statement.{statement}
 use Rattle.critical.proofs.joining.join_partner.Tie as tie
 use Rattle.critical.proofs.joining.join_heads.Reads as join-heads-reads
-use Rattle.engine.proofs.search.is_chosen.Reads as is-chosen-reads
+use Rattle.search.proofs.search.is_chosen.Reads as is-chosen-reads
 
 returns : tie.Need-returns
 returns c = search partner-none

@@ -1,0 +1,4 @@
+-- How the arrays of the search decode. Assumes nothing.
+pub mod Cells
+pub mod Positions
+pub mod Known
