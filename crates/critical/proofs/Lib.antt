@@ -1,20 +1,7 @@
--- Laws of joined heads and of the overlaps that are left. Assumes nothing.
-pub mod JoinLaws
-pub mod RestLaws
-pub mod TermLaws
-pub mod HeadLaws
-pub mod PairedLaws
-pub mod DropLaws
-pub mod PositionLaws
-pub mod LayLaws
-pub mod WithinLaws
-pub mod GoalLaws
+-- Laws of the walk over all overlaps, and of the verdict. Assumes nothing.
+pub mod JudgeLaws
 pub mod WalkLaws
-pub mod NodeLaws
-pub mod OverlapLaws
-pub mod ShareLaws
 pub mod StandLaws
 pub mod StepLaws
 pub mod TableLaws
 pub mod VerdictLaws
-pub mod JudgeLaws

@@ -3,6 +3,7 @@
 --   pair-…               two rules: all pairings of their heads
 --   Row, row-…           a rule with itself and those behind it
 --   Table, table-…       all rules
+--   pair-unshared        two rules without a common head symbol
 -- Assumes nothing.
 use Prim.Native.Nat.{ℕ, zero, suc, _+_, _-_, _*_, _≤_, _<_}
 use native.Mathlib.Omega.{arith}
@@ -21,15 +22,18 @@ use Rattle.semantics.specs.Verdict.{judge}
 use Rattle.semantics.proofs.Options.{true-false}
 use Rattle.tables.specs.Cells.{cellConstraints}
 use Rattle.tables.specs.Rows.{ruleOfRow, ruleOf, rulesOf, rowOf}
-use Rattle.critical.specs.Cells.{RuleRow, RulePair, headsOf}
-use Rattle.critical.specs.Overlapped.{Partners}
-use Rattle.critical.specs.Rests.{rest, Judged}
+use Rattle.overlapping.specs.Cells.{RuleRow, RulePair, headsOf}
+use Rattle.overlapping.specs.Overlapped.{Partners}
+use Rattle.overlapping.specs.Rests.{rest, Judged}
 use Rattle.critical.specs.Walks.{Holds, ruleAt, Checkable, PairAt, firstHeads, secondHeads, leaves, Walkable, Walked}
 use Rattle.critical.specs.Walks.{allRules, PairWalked, RowWalked, AllWalked}
-use Rattle.critical.proofs.RestLaws.{rest-all}
+use Rattle.overlapping.specs.Shares.{headSymbols, isShared}
+use Rattle.overlapping.proofs.ShareLaws.{unshared-overlaps}
+use Rattle.overlapping.proofs.RestLaws.{rest-all}
 use Rattle.critical.proofs.JudgeLaws.{second-next, second-end, first-next, first-end, numbered-length, numbered-rule}
-use Rattle.critical.proofs.LayLaws.{zeros}
-use Rattle.critical.proofs.NodeLaws.{node-start}
+use Rattle.critical.proofs.JudgeLaws.{judged-none}
+use Rattle.overlapping.proofs.LayLaws.{zeros}
+use Rattle.overlapping.proofs.NodeLaws.{node-start}
 use Rattle.critical.proofs.StandLaws.{pair-few, first-heads}
 
 -- at most 625 pairings of four heads
@@ -300,3 +304,24 @@ module _ (rules : List ℕ) (n s i : ℕ) (w : Table rules n s i) where
               };
           met = λ f. g .met e;
         })
+
+-- nothing is to be judged
+pub pair-unshared :
+    (rules : List ℕ) (n i j : ℕ) → Checkable rules n → i < n → j < n → (r : Bool)
+    → r ≡ isShared (headSymbols (lent rules i)) (headSymbols (lent rules j)) → r ≡ false → (count : ℕ)
+    → PairWalked rules n i j count false count (replicate 4 0)
+unfolding headSymbols ruleAt ruleOf ruleOfRow
+pair-unshared rules n i j k hi hj r e t count =
+    let apart-rows : isShared (headSymbols (rowOf rules i)) (headSymbols (rowOf rules j)) ≡ false =
+    sym (rw (lent-row rules i, lent-row rules j) at e) ∙ t in
+    record {
+      judged = λ p h.
+          let one = ruleAt (h .names) rules i in
+          let two = ruleAt (h .names) rules j in
+          let shown = overlapOf one two (take (getD (rowOf rules i) 3 0) (replicate 4 0)) in
+          subst (λ l. Judged p count l false count shown) (sym (unshared-overlaps one two apart-rows))
+          (judged-none p count shown);
+      few = omega arith;
+      partners-size = refl;
+      below = record { each = λ h l. omega (arith, zeros 4 h) };
+    }

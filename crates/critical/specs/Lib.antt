@@ -1,8 +1,3 @@
--- Joined heads, and the overlaps that are left. Assumes nothing.
-pub mod Joins
-pub mod Cells
-pub mod Overlapped
-pub mod Rests
+-- The walk over all overlaps, and the verdict. Assumes nothing.
 pub mod Walks
-pub mod Shares
 pub mod Verdicts

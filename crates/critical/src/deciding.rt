@@ -1,11 +1,11 @@
 // The verdict on a program: how many overlaps it has where all join, or the first that does not, with both ends.
-use crate::finishing::second_positions;
-use crate::overlapping::overlap_by;
 use crate::walking::Reply;
 use crate::walking::walk_all;
 use engine::derivation::Final;
 use judging::Ends;
 use judging::Peak;
+use overlapping::finishing::second_positions;
+use overlapping::overlapping::overlap_by;
 use sides::side;
 use tables::layout::CONSTRAINT_SIZE;
 use tables::layout::HEADS_CELL;

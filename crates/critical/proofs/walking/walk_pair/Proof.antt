@@ -1,11 +1,11 @@
 -- `walk_pair` meets its contract: where no head symbol is common, there is nothing to judge.
 -- Assumes nothing.
-use Rattle.critical.proofs.ShareLaws.{pair-unshared}
+use Rattle.critical.proofs.TableLaws.{pair-unshared}
 use Rattle.critical.proofs.TableLaws.{lent-rule}
 use borrow.Author.Needs.{needs}
 use Rattle.critical.proofs.walking.walk_pair.Statement.{statement}
 use Rattle.critical.proofs.walking.walk_pair.Tie as tie
-use Rattle.critical.proofs.sharing.share_symbol.Reads as share-symbol-reads
+use Rattle.overlapping.proofs.sharing.share_symbol.Reads as share-symbol-reads
 use Rattle.critical.proofs.walking.walk_pairings.Reads as walk-pairings-reads
 
 mul-a : tie.Need-mul-a
