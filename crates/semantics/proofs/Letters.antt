@@ -6,8 +6,8 @@ use mathlib.Core.List.{List, [], _∷_}
 use mathlib.Core.Path.{_≡_, refl}
 use lib.Dec.{ltb}
 use Rattle.text.specs.Lists.{every}
-use Rattle.semantics.specs.Terms.{Constraint, Equation, Rule, Symbol, Program, weight, isDeclared, isBelow, alphabet}
-use Rattle.semantics.specs.Terms.{isOfRule, isRuleOf, isWellFormed}
+use Rattle.semantics.specs.Terms.{Constraint, Equation, Rule, Symbol, Program, removedHeads, weight, isDeclared, isBelow}
+use Rattle.semantics.specs.Terms.{alphabet, isOfRule, isRuleOf, isWellFormed}
 use Rattle.semantics.proofs.Configurations.{All, none, also}
 use Rattle.semantics.proofs.Multisets.{all-mono}
 use Rattle.semantics.proofs.Options.{true-false, isBelow-below}
@@ -38,7 +38,7 @@ rule-lettered symbols r p =
     let heads = every (isOfRule symbols) (r .heads) in
     let body = every (isOfRule symbols) (r .body) in
     let sides = every lettersOnly (r .equations) in
-    let (abc, d) = both (heads && body && sides) (ltb (weight symbols (r .body)) (weight symbols (r .heads))) p in
+    let (abc, d) = both (heads && body && sides) (ltb (weight symbols (r .body)) (weight symbols (removedHeads r))) p in
     let (ab, c) = both (heads && body) sides abc in
     let (a, b) = both heads body ab in
     record {

@@ -1,7 +1,7 @@
 -- Every firing of a well-formed program lowers the weight of the state.
 --   weight-append, weight-inserted      the weight of lists of constraints
 --   matchAt-weight                      the constraints at matched positions weigh what the heads do
---   rule-lowers                         a well-formed program's rule has heads that weigh more than its body
+--   rule-lowers                         what a well-formed program's rule removes weighs more than its body
 --   stateWeight                         the weight of a state; a failed state has none
 --   fireAt-lighter                      a firing lowers it
 -- Assumes nothing.
@@ -13,10 +13,10 @@ use mathlib.Core.List.{List, [], _∷_, _++_, map, append-assoc, append-nil}
 use mathlib.Core.Option.{Option, none, some}
 use mathlib.Core.Path.{_≡_, refl, ap}
 use lib.Dec.{eqb, ltb, ltb→lt}
-use lib.ListN.{getElem?}
+use lib.ListN.{getElem?, take-append-drop}
 use Rattle.text.specs.Lists.{every}
 use Rattle.semantics.specs.Terms.{Term, Constraint, Symbol, Rule, Program, State, failed, live, mapTerms, mapSides}
-use Rattle.semantics.specs.Terms.{symbolAt, weight, isOfRule, isBelow, alphabet, isRuleOf, isWellFormed}
+use Rattle.semantics.specs.Terms.{keptHeads, removedHeads, symbolAt, weight, isOfRule, isBelow, alphabet, isRuleOf, isWellFormed}
 use Rattle.semantics.specs.Matching.{Assignment, unassigned, matchConstraint, matchAt}
 use Rattle.semantics.specs.Solving.{solve}
 use Rattle.semantics.specs.Firing.{without, instance, settle, fired, fireAt}
@@ -93,17 +93,22 @@ every-at test [] n a e s = none-some refl s
 every-at test (b ∷ l) zero a e s = let q : b ≡ a = cc in rw (← q) (and-true (test b) (every test l) e .0)
 every-at test (b ∷ l) (suc n) a e s = every-at test l n a (and-true (test b) (every test l) e .1) s
 
--- a rule of a well-formed program has heads that weigh more than its body
+-- a rule's heads are those that are kept and those that are removed
+pub heads-parts : (r : Rule) → keptHeads r ++ removedHeads r ≡ r .heads
+unfolding keptHeads removedHeads
+heads-parts r = take-append-drop (r .kept) (r .heads)
+
+-- what a rule of a well-formed program removes weighs more than its body
 pub rule-lowers :
     (p : Program) (n : ℕ) (r : Rule) → isWellFormed p ≡ true → getElem? (p .rules) n ≡ some r
-    → weight (p .symbols) (r .body) < weight (p .symbols) (r .heads)
+    → weight (p .symbols) (r .body) < weight (p .symbols) (removedHeads r)
 unfolding isWellFormed isRuleOf
 rule-lowers p n r w s =
     let e = every-at (isRuleOf (p .symbols)) (p .rules) n r w s in
     let over = every (isOfRule (p .symbols)) (r .heads) && every (isOfRule (p .symbols)) (r .body)
     && every (λ q. isBelow alphabet (q .left) && isBelow alphabet (q .right)) (r .equations) in
-    let heavy = ltb (weight (p .symbols) (r .body)) (weight (p .symbols) (r .heads)) in
-    ltb→lt (weight (p .symbols) (r .body)) (weight (p .symbols) (r .heads)) (true-T {b = heavy} (and-true over heavy e .1))
+    let heavy = ltb (weight (p .symbols) (r .body)) (weight (p .symbols) (removedHeads r)) in
+    ltb→lt (weight (p .symbols) (r .body)) (weight (p .symbols) (removedHeads r)) (true-T {b = heavy} (and-true over heavy e .1))
 
 -- the weight of a state; a failed one has none
 unfoldable pub stateWeight : List Symbol → State → ℕ
@@ -121,7 +126,7 @@ settle-weight symbols (some σ) next bound cs = rw weight-map (omega arith)
 -- firing a rule whose heads match, and weigh more than its body
 fired-lighter :
     (symbols : List Symbol) (r : Rule) (ps : List ℕ) (θ : Assignment) (next : ℕ) (bound : List Term) (cs : List Constraint)
-    → weight symbols (r .body) < weight symbols (r .heads) → matchAt (r .heads) ps cs [] unassigned ≡ some θ
+    → weight symbols (r .body) < weight symbols (removedHeads r) → matchAt (r .heads) ps cs [] unassigned ≡ some θ
     → stateWeight symbols (fired r ps θ next bound cs) < weight symbols cs
 unfolding fired
 fired-lighter symbols r ps θ next bound cs l m =
@@ -134,6 +139,7 @@ fired-lighter symbols r ps θ next bound cs l m =
       settle-weight symbols o (next + alphabet) bound (without 0 ps cs ++ body),
       weight-append symbols (without 0 ps cs) body,
       weight-map symbols (instance next θ) (r .body),
+      rw heads-parts at (weight-append symbols (keptHeads r) (removedHeads r)),
     )
 
 -- a firing of a well-formed program's rule lowers the weight of the state
