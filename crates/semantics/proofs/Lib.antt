@@ -19,6 +19,7 @@ pub mod SolveLaws
 pub mod PositionLaws
 pub mod MatchLaws
 pub mod MatchedTerms
+pub mod KeptHeads
 pub mod FireLaws
 pub mod Letters
 pub mod VariantLaws

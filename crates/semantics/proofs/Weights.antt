@@ -20,10 +20,13 @@ use Rattle.semantics.specs.Terms.{keptHeads, removedHeads, symbolAt, wei
 use Rattle.semantics.specs.Matching.{Assignment, unassigned, matchConstraint, matchAt}
 use Rattle.semantics.specs.Solving.{solve}
 use Rattle.semantics.specs.Firing.{without, instance, settle, fired, fireAt}
-use Rattle.semantics.specs.Variants.{Inserted, here, there}
+use Rattle.semantics.specs.Variants.{Inserted, here, there, SameMultiset, done, put}
+use Rattle.semantics.specs.Rewriting.{wholeBody, Reordered, bothFailed, reordered}
 use Rattle.semantics.proofs.Options.{true-T, eqb-equal, none-some, bind-some, cond-some}
 use Rattle.text.proofs.Bools.{and-true}
 use Rattle.semantics.proofs.Removal.{without-none, without-one}
+use Rattle.semantics.proofs.MatchLaws.{matchAt-sound}
+use Rattle.semantics.proofs.KeptHeads.{fired-reordered}
 use Rattle.semantics.proofs.Search.{matchAt-cons}
 
 -- the weight of a list by its first constraint, and of none
@@ -52,6 +55,13 @@ pub weight-inserted :
 unfolding weight
 weight-inserted symbols here = refl
 weight-inserted symbols (there i) = omega (arith, weight-inserted symbols i)
+
+-- equal multisets weigh the same
+weight-multiset :
+    (symbols : List Symbol) {cs ds : List Constraint} → SameMultiset _≡_ cs ds → weight symbols cs ≡ weight symbols ds
+weight-multiset symbols done = refl
+weight-multiset symbols (put {a = c} {b = d} {l = cs} {m = ds} e i m) =
+    rw (e, weight-cons symbols d cs, weight-inserted symbols i, weight-multiset symbols m) refl
 
 -- replacing terms keeps the weight
 pub weight-map :
@@ -123,14 +133,20 @@ unfolding settle stateWeight
 settle-weight symbols none next bound cs = omega arith
 settle-weight symbols (some σ) next bound cs = rw weight-map (omega arith)
 
--- firing a rule whose heads match, and weigh more than its body
+-- reordered states weigh the same
+weight-reordered : (symbols : List Symbol) {s t : State} → Reordered s t → stateWeight symbols s ≡ stateWeight symbols t
+unfolding stateWeight
+weight-reordered symbols bothFailed = refl
+weight-reordered symbols (reordered m) = weight-multiset symbols m
+
+-- firing a rule whose heads match, and which removes more weight than its body has
 fired-lighter :
     (symbols : List Symbol) (r : Rule) (ps : List ℕ) (θ : Assignment) (next : ℕ) (bound : List Term) (cs : List Constraint)
     → weight symbols (r .body) < weight symbols (removedHeads r) → matchAt (r .heads) ps cs [] unassigned ≡ some θ
     → stateWeight symbols (fired r ps θ next bound cs) < weight symbols cs
 unfolding fired
 fired-lighter symbols r ps θ next bound cs l m =
-    let body = map (mapTerms (instance next θ)) (r .body) in
+    let body = map (mapTerms (instance next θ)) (wholeBody r) in
     let o = solve (map (mapSides (instance next θ)) (r .equations)) (λ t. t) in
     omega (
       arith,
@@ -138,7 +154,9 @@ fired-lighter symbols r ps θ next bound cs l m =
       rw without-none at (matchAt-weight symbols (r .heads) ps cs [] unassigned θ m),
       settle-weight symbols o (next + alphabet) bound (without 0 ps cs ++ body),
       weight-append symbols (without 0 ps cs) body,
-      weight-map symbols (instance next θ) (r .body),
+      weight-map symbols (instance next θ) (wholeBody r),
+      weight-append symbols (keptHeads r) (r .body),
+      weight-reordered symbols (fired-reordered r ps θ next bound cs (matchAt-sound (r .heads) ps cs [] unassigned m)),
       rw heads-parts at (weight-append symbols (keptHeads r) (removedHeads r)),
     )
 
