@@ -66,6 +66,7 @@ pub mod Forks
 pub mod Peak
 pub mod Exactness
 pub mod Demand3
+pub mod Rewritten
 -- Document 000: stores, entailment and Simplify
 pub mod Renamings
 pub mod Valuations

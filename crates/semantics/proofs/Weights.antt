@@ -2,6 +2,7 @@
 --   weight-append, weight-inserted      the weight of lists of constraints
 --   matchAt-weight                      the constraints at matched positions weigh what the heads do
 --   rule-lowers                         what a well-formed program's rule removes weighs more than its body
+--   weight-lower                        with its kept heads on both sides too
 --   stateWeight                         the weight of a state; a failed state has none
 --   fireAt-lighter                      a firing lowers it
 -- Assumes nothing.
@@ -120,6 +121,17 @@ rule-lowers p n r w s =
     let heavy = ltb (weight (p .symbols) (r .body)) (weight (p .symbols) (removedHeads r)) in
     ltb→lt (weight (p .symbols) (r .body)) (weight (p .symbols) (removedHeads r)) (true-T {b = heavy} (and-true over heavy e .1))
 
+-- with its kept heads on both sides it has heads that weigh more than its body
+pub weight-lower :
+    (symbols : List Symbol) (r : Rule) → weight symbols (r .body) < weight symbols (removedHeads r)
+    → weight symbols (wholeBody r) < weight symbols (r .heads)
+weight-lower symbols r l =
+    omega (
+      arith,
+      weight-append symbols (keptHeads r) (r .body),
+      rw heads-parts at (weight-append symbols (keptHeads r) (removedHeads r)),
+    )
+
 -- the weight of a state; a failed one has none
 unfoldable pub stateWeight : List Symbol → State → ℕ
 stateWeight symbols failed = 0
@@ -150,14 +162,12 @@ fired-lighter symbols r ps θ next bound cs l m =
     let o = solve (map (mapSides (instance next θ)) (r .equations)) (λ t. t) in
     omega (
       arith,
-      l,
       rw without-none at (matchAt-weight symbols (r .heads) ps cs [] unassigned θ m),
       settle-weight symbols o (next + alphabet) bound (without 0 ps cs ++ body),
       weight-append symbols (without 0 ps cs) body,
       weight-map symbols (instance next θ) (wholeBody r),
-      weight-append symbols (keptHeads r) (r .body),
+      weight-lower symbols r l,
       weight-reordered symbols (fired-reordered r ps θ next bound cs (matchAt-sound (r .heads) ps cs [] unassigned m)),
-      rw heads-parts at (weight-append symbols (keptHeads r) (removedHeads r)),
     )
 
 -- a firing of a well-formed program's rule lowers the weight of the state
