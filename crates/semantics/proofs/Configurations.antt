@@ -14,6 +14,7 @@ use mathlib.Core.Path.{_≡_}
 use Rattle.semantics.specs.Terms.{Term, Constraint, Equation, Rule, State}
 use Rattle.semantics.specs.Terms as T
 use Rattle.semantics.specs.Variants.{Pointwise, SameMultiset}
+use Rattle.semantics.specs.Rewriting.{wholeBody}
 
 -- either
 pub data Or {ℓ κ} (A : Type ℓ) (B : Type κ) : Type (ℓ ⊔ κ) where
@@ -128,7 +129,7 @@ abbrev pub headsOf : Rule → List (Atom ℕ)
 headsOf r = map liftAtom (r .heads)
 
 abbrev pub bodyOf : Rule → List (Atom ℕ)
-bodyOf r = map liftAtom (r .body)
+bodyOf r = map liftAtom (wholeBody r)
 
 abbrev pub eqsOf : Rule → List (Eqn ℕ)
 eqsOf r = map liftEqn (r .equations)

@@ -14,9 +14,10 @@ use Rattle.semantics.specs.Terms.{Rule, Program, mapTerms, isWellFormed}
 use Rattle.semantics.specs.Overlaps.{pairings, apart, joinEquations, unjoinedHeads, goalOf, Numbered, Overlap, overlapOf}
 use Rattle.semantics.specs.Overlaps.{overlaps}
 use Rattle.semantics.specs.CriticalPairs.{Joint, lefts, rights, Joining, jointsOf, partnersOf, picked, CriticalPair}
-use Rattle.semantics.specs.CriticalPairs.{pairOf, Critical, critical}
+use Rattle.semantics.specs.CriticalPairs.{shiftedHeads, pairOf, Critical, critical}
 use Rattle.semantics.specs.Published.{EquatedAll}
 use Rattle.semantics.specs.Correspondence.{JoiningsArePairings, OverlapsAreCriticalPairs}
+use Rattle.semantics.specs.Rewriting.{rewritten}
 use Rattle.semantics.proofs.Configurations.{first, All}
 use Rattle.semantics.proofs.Options.{none-some}
 use Rattle.semantics.proofs.Precedence.{before-irreflexive}
@@ -53,9 +54,9 @@ joinings-are-pairings m n = record {
 
 -- a critical pair has an overlap, by the partners of its joining
 pub critical-overlap :
-    (i j : Numbered) {js : List Joint} {c : CriticalPair} → Critical (i .rule) (j .rule) js c
+    (i j : Numbered) {js : List Joint} {c : CriticalPair} → Critical (rewritten (i .rule)) (rewritten (j .rule)) js c
     → (o : Overlap) × (overlapOf i j (partnersOf (length (i .rule .heads)) js) ≡ some o)
-unfolding overlapOf jointsOf partnersOf
+unfolding overlapOf jointsOf partnersOf shiftedHeads
 critical-overlap i j {js} (critical {es} joining equated sat) =
     let m = length (i .rule .heads) in
     let n = length (j .rule .heads) in
@@ -98,7 +99,7 @@ overlaps-are-critical-pairs p w = record {
   ordered = λ n o e. let l = listed n o e in (l .firstRule, l .secondRule, l .ordered);
   critical = λ n o e.
       let l = listed n o e in (
-        pairOf (o .first .rule) (o .second .rule) (jointsOf (o .partners)) (parts-of o l .equations),
+        pairOf (rewritten (o .first .rule)) (rewritten (o .second .rule)) (jointsOf (o .partners)) (parts-of o l .equations),
         overlap-critical (paired-of o l) (parts-of o l),
         overlap-sides p w o l,
       );
@@ -128,7 +129,7 @@ overlaps-are-critical-pairs p w = record {
 
     enumerated :
         (i j : ℕ) (r q : Rule) (js : List Joint) (c : CriticalPair) → getElem? (p .rules) i ≡ some r
-        → getElem? (p .rules) j ≡ some q → i ≤ j → Critical r q js c
+        → getElem? (p .rules) j ≡ some q → i ≤ j → Critical (rewritten r) (rewritten q) js c
         → (n : ℕ) × (o : Overlap) × (getElem? (overlaps p) n ≡ some o) × (o .first .number ≡ i) × (o .second .number ≡ j)
         × (jointsOf (o .partners) ≡ js)
     enumerated i j r q js c f g h k =

@@ -9,7 +9,7 @@ use mathlib.Core.Bool.{Bool, true, false, cond}
 use mathlib.Core.List.{List, [], _∷_, _++_, map}
 use mathlib.Core.Option.{Option, none, some}
 use mathlib.Core.Path.{_≡_, refl, sym, subst, _∙_}
-use lib.ListN.{length, getElem?, length-map}
+use lib.ListN.{length, drop, getElem?, length-map}
 use Rattle.text.specs.Lists.{onward, has}
 use Rattle.semantics.specs.Terms.{Term, Constraint, Rule, Program, Goal, State, failed, live, mapTerms, mapSides}
 use Rattle.semantics.specs.Terms.{isGoalOf, alphabet, isWellFormed}
@@ -59,7 +59,7 @@ fire-width k r ps (live n b cs) h p =
     let (θ, m, e) = bind-some (matchAt (r .heads) ps cs [] unassigned) (λ θ. some (fired r ps θ n b cs)) p in
     subst (widthOf k) (some-equal e)
     (settle-width k (solve (map (mapSides (instance n θ)) (r .equations)) (λ t. t)) (n + alphabet) b
-    (without 0 ps cs ++ map (mapTerms (instance n θ)) (r .body)) h)
+    (without 0 (drop (r .kept) ps) cs ++ map (mapTerms (instance n θ)) (r .body)) h)
 
 -- a constraint over the goal's variables that enters is over the state's
 taken-sound : {k : ℕ} (c : Constraint) (s : State) → All (TermBelow k) (c .terms) → Sound k s → Sound k (taken c s)

@@ -1,8 +1,8 @@
 -- What firing does (document 01): the state after a firing represents the configuration after it.
---   Lettered             the variables of a rule's body and equations are letters
+--   Lettered             the variables of a rule's kept heads, body and equations are letters
 --   Firing               a rule that fits at positions of a state
 --   fire-fits            there the rule fits what is matched
---   fire-represents      the state after the firing represents the configuration after it
+--   rewritten-represents the state after firing the rule rewritten represents the configuration after it
 -- Assumes nothing.
 use Prim.Native.Nat.{ℕ, _+_, _-_, _<_}
 use mathlib.Core.Bool.{true, false, cond}
@@ -18,6 +18,7 @@ use Rattle.semantics.specs.Matching.{Assignment, unassigned}
 use Rattle.semantics.specs.Solving.{solve}
 use Rattle.semantics.specs.Firing.{without, instance, settle, fired}
 use Rattle.semantics.specs.Variants.{Pointwise}
+use Rattle.semantics.specs.Rewriting.{wholeBody, rewritten}
 use Rattle.semantics.proofs.Configurations.{Or, inl, inr, Member, Tm, con, var, Eqn, sub, subAtom, subEqn, old, new}
 use Rattle.semantics.proofs.Configurations.{equal, flat, Eqv, given, same, flip, chain, Config, Inconsistent, AtomRel, Iso}
 use Rattle.semantics.proofs.Configurations.{lift, liftAtom, liftEqn, headsOf, bodyOf, eqsOf, Fits, fireC, confOf}
@@ -29,13 +30,14 @@ use Rattle.semantics.proofs.Closure.{eqv-path, eqv-sub, eqv-front, eqv-
 use Rattle.semantics.proofs.Isos.{iso-sym, iso-of-maps}
 use Rattle.semantics.proofs.Options.{decide, none-some, true-T, T-true}
 use Rattle.semantics.proofs.SolveLaws.{solve-solution, solve-clash, solve-keeps}
-use Rattle.semantics.proofs.MatchLaws.{TermFits, Paired, AtMatch}
+use Rattle.semantics.proofs.MatchLaws.{Paired, AtMatch}
+use Rattle.semantics.proofs.KeptHeads.{instance-fits}
 use Rattle.semantics.proofs.MatchedTerms.{ConstraintBelow, matched-all, without-all, pointwise-all, pointwise-image}
 use Rattle.semantics.proofs.MatchedTerms.{below-mono, paired-all, zipped-map, paired-zipped, zipped-equal}
 
--- the variables of a rule's body and equations are letters
+-- the variables of a rule's kept heads, body and equations are letters
 pub record Lettered (r : Rule) : Type 0 where
-  pub body : All (ConstraintBelow alphabet) (r .body)
+  pub body : All (ConstraintBelow alphabet) (wholeBody r)
   pub equations : All (λ e. TermBelow alphabet (e .left) × TermBelow alphabet (e .right)) (r .equations)
 
 -- a variable of the state after a firing, as one of the configuration: below n an old one, else a new one
@@ -55,12 +57,6 @@ apart-new n y = go (decide (ltb (n + y) n))
 apart-below : (n : ℕ) (t : Term) → TermBelow n t → sub (apart n) (lift t) ≡ sub old (lift t)
 apart-below n (T.con c) h = refl
 apart-below n (T.var x) h = apart-old n x h
-
--- a term of a rule that fits is what it is assigned
-instance-fits : (n : ℕ) (θ : Assignment) (s t : Term) → TermFits θ s t → instance n θ s ≡ t
-unfolding instance
-instance-fits n θ (T.con c) t f = f
-instance-fits n θ (T.var x) t f = rw f
 
 -- a firing: a rule that fits at positions of a state
 pub record Firing (r : Rule) (n : ℕ) (b : List Term) (cs : List Constraint) (ps : List ℕ) (θ : Assignment) : Type 0 where
@@ -215,24 +211,24 @@ module _ (r : Rule) (n : ℕ) (b : List Term) (cs : List Constraint) (ps : List 
 
     new-store :
         Pointwise (AtomRel Becomes) (map (subAtom new) (bodyOf r))
-        (map liftAtom (map (mapTerms σ) (map (mapTerms (instance n θ)) (r .body))))
+        (map liftAtom (map (mapTerms σ) (map (mapTerms (instance n θ)) (wholeBody r))))
     unfolding mapTerms
     new-store =
         pointwise-map (subAtom new) liftAtom (pointwise-map liftAtom (mapTerms σ)
         (pointwise-image (mapTerms (instance n θ)) (λ c. record {
           symbols = refl;
           args = pointwise-map (sub new) lift (pointwise-map lift σ (pointwise-image (instance n θ) new-becomes (c .terms)));
-        }) (r .body)))
+        }) (wholeBody r)))
 
     -- the constraints after the firing
     abbrev remaining : List Constraint
-    remaining = without 0 ps cs ++ map (mapTerms (instance n θ)) (r .body)
+    remaining = without 0 ps cs ++ map (mapTerms (instance n θ)) (wholeBody r)
 
     store-becomes : Pointwise (AtomRel Becomes) (after .store) (map liftAtom (map (mapTerms σ) remaining))
     store-becomes =
         rw (
-          map-append (mapTerms σ) (without 0 ps cs) (map (mapTerms (instance n θ)) (r .body)),
-          map-append liftAtom (map (mapTerms σ) (without 0 ps cs)) (map (mapTerms σ) (map (mapTerms (instance n θ)) (r .body))),
+          map-append (mapTerms σ) (without 0 ps cs) (map (mapTerms (instance n θ)) (wholeBody r)),
+          map-append liftAtom (map (mapTerms σ) (without 0 ps cs)) (map (mapTerms σ) (map (mapTerms (instance n θ)) (wholeBody r))),
         )
         (pointwise-append old-store new-store)
 
@@ -280,14 +276,14 @@ module _ (r : Rule) (n : ℕ) (b : List Term) (cs : List Constraint) (ps : List 
         newTerm : (t : Term) → TermBelow alphabet t → TermBelow (n + alphabet) (σ (instance n θ t))
         newTerm t h = solution-below letters (instance n θ t) (instance-below t h)
 
-  -- the state after a firing represents the configuration after it
-  pub fire-represents : Lettered r → Rep (fired r ps θ n b cs) after
+  -- the state after firing the rule rewritten represents the configuration after it
+  pub rewritten-represents : Lettered r → Rep (fired (rewritten r) ps θ n b cs) after
   unfolding fired settle
-  fire-represents letters = go (solve solvedFor (λ t. t)) refl
+  rewritten-represents letters = go (solve solvedFor (λ t. t)) refl
     where
       go :
           (o : Option (Term → Term)) → solve solvedFor (λ t. t) ≡ o
-          → Rep (settle o (n + alphabet) b (without 0 ps cs ++ map (mapTerms (instance n θ)) (r .body))) after
+          → Rep (settle o (n + alphabet) b (without 0 ps cs ++ map (mapTerms (instance n θ)) (wholeBody r))) after
       go none p = hasFailed (fire-fails p)
       go (some σ) p = isLive (fire-scoped σ p letters) (fire-iso-after σ p)
 

@@ -19,8 +19,8 @@ use Rattle.semantics.proofs.Isos.{iso-sym, iso-trans}
 use Rattle.semantics.proofs.Options.{bind-some}
 use Rattle.semantics.proofs.PositionLaws.{Stands, stands-same, without-taken}
 use Rattle.semantics.proofs.MatchLaws.{AtMatch, matchAt-sound}
-use Rattle.semantics.proofs.FireLaws.{Lettered, Firing, fire-represents, fire-fits}
-use Rattle.semantics.proofs.Represent.{rep-iso, rep-same, rep-scoped, rep-variant, rep-reach, rep-steps}
+use Rattle.semantics.proofs.FireLaws.{Lettered, Firing, fire-fits}
+use Rattle.semantics.proofs.Represent.{fire-represents, rep-iso, rep-same, rep-scoped, rep-variant, rep-reach, rep-steps}
 use Rattle.semantics.proofs.Partners.{multiset-cancel}
 use Rattle.semantics.proofs.Newman.{Joined}
 use Rattle.semantics.proofs.Firings.{Fires, reach-star, star-reach}

@@ -21,6 +21,7 @@ use Rattle.semantics.specs.Published.{Published, Satisfiable, EquatedAll
 use Rattle.semantics.specs.Published.{solves, Introduce, introduces, Simplify, simplifies, Cleared, solvedForm, Represents}
 use Rattle.semantics.specs.Published.{Goes, solving, introducing, simplifying}
 use Rattle.semantics.specs.Correspondence.{StandAt, stand, FiringIsSimplify}
+use Rattle.semantics.specs.Rewriting.{rewritten, rewrittenAll}
 use Rattle.semantics.proofs.Configurations.{AtomRel, Iso, Fits, liftAtom, liftEqn, headsOf, fireC, confOf, Scoped}
 use Rattle.semantics.proofs.Multisets.{pointwise-sym, pointwise-trans, pointwise-mono, pointwise-map, multiset-map}
 use Rattle.semantics.proofs.Multisets.{multiset-mono, multiset-sym, multiset-length, multiset-pick, multiset-unmap-left}
@@ -31,6 +32,7 @@ use Rattle.semantics.proofs.Stepping.{fits-core, fire-iso}
 use Rattle.semantics.proofs.PositionLaws.{Stands}
 use Rattle.semantics.proofs.RuleLetters.{AllLetters, program-letters}
 use Rattle.semantics.proofs.Represent.{ScopedState, rep-iso, fireAt-matched, matched-fires}
+use Rattle.semantics.proofs.Indices.{getElem-unmap}
 use Rattle.semantics.proofs.Renamings.{beyond}
 use Rattle.semantics.proofs.SolveLaws.{solve-solution}
 use Rattle.semantics.proofs.Valuations.{satisfiable-solved, solved-satisfiable}
@@ -58,7 +60,7 @@ simplify-iso :
     (r : Rule) (a c : Published) (ρ : ℕ → ℕ) (M L : List Constraint) (es : List Equation) → AllLetters r → FreshFor a ρ
     → SameMultiset _≡_ (a .userStore) (M ++ L) → EquatedAll (map (mapTerms (renamed ρ)) (r .heads)) M es
     → Cleared (a .goals) (record {
-      goals = a .goals ++ bodyItems ρ r;
+      goals = a .goals ++ bodyItems ρ (rewritten r);
       userStore = L;
       builtInStore = es ++ a .builtInStore;
       variables = a .variables;
@@ -70,16 +72,16 @@ simplify-iso r a c ρ M L es letters f split equated e =
     Iso (fireC r (confP a) (map liftAtom M) (map liftAtom L)) (confWith (map T.var vs) (c .builtInStore) (c .userStore)))
     (sym (h .variables))
     (simplified-iso r a c ρ M L es f (letters .others) (letters .heads) split equated
-    (subst (λ l. SameMultiset _≡_ (c .builtInStore) (l ++ (es ++ a .builtInStore))) (body-builtIns ρ r)
-    (rest-builtIns (a .goals) (bodyItems ρ r) (es ++ a .builtInStore) (h .solved)))
-    (subst (λ l. SameMultiset _≡_ (c .userStore) (l ++ L)) (body-users ρ r)
-    (rest-users (a .goals) (bodyItems ρ r) L (h .taken))))
+    (subst (λ l. SameMultiset _≡_ (c .builtInStore) (l ++ (es ++ a .builtInStore))) (body-builtIns ρ (rewritten r))
+    (rest-builtIns (a .goals) (bodyItems ρ (rewritten r)) (es ++ a .builtInStore) (h .solved)))
+    (subst (λ l. SameMultiset _≡_ (c .userStore) (l ++ L)) (body-users ρ (rewritten r))
+    (rest-users (a .goals) (bodyItems ρ (rewritten r)) L (h .taken))))
 
 -- where a rule fits constraints of the store, a Simplify step on them is possible, and its body can be cleared
 simplify-exists :
     {r : Rule} (a : Published) (M L : List Constraint) → AllLetters r → Satisfiable (a .builtInStore)
     → SameMultiset _≡_ (a .userStore) (M ++ L) → Fits (map liftEqn (a .builtInStore)) (headsOf r) (map liftAtom M)
-    → (b : Published) × (c : Published) × Simplify r M a b × Cleared (a .goals) b c
+    → (b : Published) × (c : Published) × Simplify (rewritten r) M a b × Cleared (a .goals) b c
     × Iso (fireC r (confP a) (map liftAtom M) (map liftAtom L)) (confP c)
 simplify-exists {r} a M L letters sat split fit =
     let ρ : ℕ → ℕ = λ x. beyond (termsOf a) + x in
@@ -88,9 +90,9 @@ simplify-exists {r} a M L letters sat split fit =
       symbols = k .symbols;
       terms = pointwise-mono (λ s t e. tt) (k .terms);
     }) (fits-back (r .heads) M (fit .fits)))) in
-    let (c, e) = cleared-exists (a .goals) (bodyItems ρ r) L (es ++ a .builtInStore) (a .variables) in (
+    let (c, e) = cleared-exists (a .goals) (bodyItems ρ (rewritten r)) L (es ++ a .builtInStore) (a .variables) in (
       record {
-        goals = a .goals ++ bodyItems ρ r;
+        goals = a .goals ++ bodyItems ρ (rewritten r);
         userStore = L;
         builtInStore = es ++ a .builtInStore;
         variables = a .variables;
@@ -142,7 +144,7 @@ module _
   -- a firing is a Simplify step on the partners of the constraints at its positions
   live-published :
       (r : Rule) (ps : List ℕ) {t : State} → AllLetters r → fireAt r ps (live n b cs) ≡ some t
-      → (M : List Constraint) × (d : Published) × (c : Published) × StandAt a M ps (live n b cs) × Simplify r M a d
+      → (M : List Constraint) × (d : Published) × (c : Published) × StandAt a M ps (live n b cs) × Simplify (rewritten r) M a d
       × Cleared (a .goals) d c × Represents c t
   live-published r ps {t} letters h =
       let (P, stands, split, fits, rep) = fireAt-matched r ps n b cs (letters .others) scoped h in
@@ -160,7 +162,7 @@ module _
 
   -- a Simplify step is a firing at the positions of the partners of the constraints that it matches
   live-fires :
-      {r : Rule} {M : List Constraint} {d c : Published} → AllLetters r → Simplify r M a d → Cleared (a .goals) d c
+      {r : Rule} {M : List Constraint} {d c : Published} → AllLetters r → Simplify (rewritten r) M a d → Cleared (a .goals) d c
       → (ps : List ℕ) × (t : State) × StandAt a M ps (live n b cs) × (fireAt r ps (live n b cs) ≡ some t) × Represents c t
   live-fires {r} {M} {c} letters (simplifies {rest} {es} κ sat f split equated implied) e =
       let (P, Q, parts, p, q) = multiset-pick M rest pairs split in
@@ -178,7 +180,7 @@ module _
 module _ (p : Program) (w : isWellFormed p ≡ true) (a : Published) where
   fires-in :
       (s : State) → ScopedState s → Represents a s → (n : ℕ) (r : Rule) (cs : List Constraint) (b c : Published)
-      → getElem? (p .rules) n ≡ some r → Simplify r cs a b → Cleared (a .goals) b c
+      → getElem? (p .rules) n ≡ some r → Simplify (rewritten r) cs a b → Cleared (a .goals) b c
       → (ps : List ℕ) × (t : State) × StandAt a cs ps s × (fireAt r ps s ≡ some t) × Represents c t
   unfolding solvedForm settle
   fires-in failed scoped v n r cs b c i k e = satisfiable-live a (simplify-satisfiable k) v
@@ -194,7 +196,7 @@ module _ (p : Program) (w : isWellFormed p ≡ true) (a : Published) where
   published-in :
       (s : State) → ScopedState s → Represents a s → (n : ℕ) (r : Rule) (ps : List ℕ) (t : State) → getElem? (p .rules) n ≡ some r
       → fireAt r ps s ≡ some t
-      → (cs : List Constraint) × (b : Published) × (c : Published) × StandAt a cs ps s × Simplify r cs a b
+      → (cs : List Constraint) × (b : Published) × (c : Published) × StandAt a cs ps s × Simplify (rewritten r) cs a b
       × Cleared (a .goals) b c × Represents c t
   unfolding fireAt solvedForm settle
   published-in failed scoped v n r ps t i h = none-some refl h
@@ -203,7 +205,7 @@ module _ (p : Program) (w : isWellFormed p ≡ true) (a : Published) where
       go :
           (o : Option (Term → Term)) → solve (a .builtInStore) (λ t. t) ≡ o
           → Variant (settle o 0 (map T.var (a .variables)) (a .userStore)) (live m l ds)
-          → (cs : List Constraint) × (b : Published) × (c : Published) × StandAt a cs ps (live m l ds) × Simplify r cs a b
+          → (cs : List Constraint) × (b : Published) × (c : Published) × StandAt a cs ps (live m l ds) × Simplify (rewritten r) cs a b
           × Cleared (a .goals) b c × Represents c t
       go none q v = absurd (v .lower)
       go (some σ) q (ρ, o, f, s) = live-published a ρ σ m l ds q o f s scoped r ps (program-letters p n w i) h
@@ -211,11 +213,11 @@ module _ (p : Program) (w : isWellFormed p ≡ true) (a : Published) where
   -- a Simplify step is none where no rule fits
   rests-in :
       (s : State) → ScopedState s → Represents a s → NoRuleFits p s → (n : ℕ) (r : Rule) {cs : List Constraint} {b : Published}
-      → getElem? (p .rules) n ≡ some r → Simplify r cs a b → ⊥
+      → getElem? (p .rules) n ≡ some r → Simplify (rewritten r) cs a b → ⊥
   rests-in s scoped v rest n r {cs} i (simplifies {rest = L} {es} ρ sat f split equated implied) =
-      let (c, e) = cleared-exists (a .goals) (bodyItems ρ r) L (es ++ a .builtInStore) (a .variables) in
+      let (c, e) = cleared-exists (a .goals) (bodyItems ρ (rewritten r)) L (es ++ a .builtInStore) (a .variables) in
       let (ps, t, at, h, q) = fires-in s scoped v n r cs (record {
-        goals = a .goals ++ bodyItems ρ r;
+        goals = a .goals ++ bodyItems ρ (rewritten r);
         userStore = L;
         builtInStore = es ++ a .builtInStore;
         variables = a .variables;
@@ -224,10 +226,13 @@ module _ (p : Program) (w : isWellFormed p ≡ true) (a : Published) where
 
   -- no step is possible where no rule fits and the goal store is empty
   final-in :
-      (s : State) → ScopedState s → Represents a s → NoRuleFits p s → a .goals ≡ [] → (b : Published) → Goes p a b → ⊥
+      (s : State) → ScopedState s → Represents a s → NoRuleFits p s → a .goals ≡ [] → (b : Published)
+      → Goes (rewrittenAll p) a b → ⊥
   final-in s scoped v rest goals b (solving k) = empty-solve k goals
   final-in s scoped v rest goals b (introducing k) = empty-introduce k goals
-  final-in s scoped v rest goals b (simplifying n r i k) = rests-in s scoped v rest n r i k
+  final-in s scoped v rest goals b (simplifying {matched} n r i k) =
+      let (q, e, same) = getElem-unmap rewritten (p .rules) n i in
+      rests-in s scoped v rest n q e (subst (λ x. Simplify x matched a b) (sym same) k)
 
 -- firing is Simplify, in every state that represents the stores of a published one
 pub firing-is-simplify :

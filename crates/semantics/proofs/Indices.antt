@@ -89,6 +89,14 @@ getElem-map f [] i p = none-some refl p
 getElem-map f (x ∷ l) zero p = ap some (ap f (some-equal p))
 getElem-map f (x ∷ l) (suc i) p = getElem-map f l i p
 
+-- an element of an image is the image of an element
+pub getElem-unmap :
+    {A B : Type 0} (f : A → B) (l : List A) (i : ℕ) {b : B} → getElem? (map f l) i ≡ some b
+    → (a : A) × (getElem? l i ≡ some a) × (f a ≡ b)
+getElem-unmap f [] i p = none-some refl p
+getElem-unmap f (a ∷ l) zero p = (a, refl, some-equal p)
+getElem-unmap f (a ∷ l) (suc i) p = getElem-unmap f l i p
+
 -- the partner of an element, at its index
 pub pointwise-get :
     {A B : Type 0} {R : A → B → Type 0} {l : List A} {m : List B} (i : ℕ) {a : A} → Pointwise R l m → getElem? l i ≡ some a

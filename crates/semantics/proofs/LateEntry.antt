@@ -10,7 +10,7 @@ use mathlib.Core.Bool.{Bool, true, false, cond, _&&_}
 use mathlib.Core.List.{List, [], _∷_, _++_, map, append-assoc, append-nil}
 use mathlib.Core.Option.{Option, none, some}
 use mathlib.Core.Path.{_≡_, refl, sym, _∙_}
-use lib.ListN.{length, getD, getElem?, length-map}
+use lib.ListN.{length, drop, getD, getElem?, length-map}
 use Rattle.text.specs.Lists.{onward, every, has, tabled}
 use Rattle.semantics.specs.Terms.{Term, con, var, Constraint, Rule, Program, Goal, State, failed, live}
 use Rattle.semantics.specs.Terms.{mapTerms, mapSides, alphabet, isBelow, isDeclared, isGoalOf}
@@ -32,7 +32,8 @@ use Rattle.semantics.proofs.Removal.{without-none, without-every}
 use Rattle.semantics.proofs.Bound.{waiting-enters}
 use Rattle.semantics.proofs.Entering.{tabled-length, constraint-itself, every-upTo}
 use Rattle.semantics.proofs.Normal.{Reach, arrived, fires}
-use Rattle.semantics.proofs.Reordering.{Reordered, bothFailed, reordered, reordered-refl, reordered-trans}
+use Rattle.semantics.specs.Rewriting.{Reordered, bothFailed, reordered}
+use Rattle.semantics.proofs.Reordering.{reordered-refl, reordered-trans}
 use Rattle.semantics.proofs.Reordering.{withMore, Follows, fire-moves, reordered-rests}
 
 -- constraints of a goal as they would enter
@@ -69,7 +70,7 @@ sized-fired n r ps (live next bound cs) t e z =
     go (θ, m, q) =
         let p : fired r ps θ next bound cs ≡ t = cc in
         rw p at (sized-settled n (solve (map (mapSides (instance next θ)) (r .equations)) (λ t. t)) (next + alphabet) bound
-        (without 0 ps cs ++ map (mapTerms (instance next θ)) (r .body)) z)
+        (without 0 (drop (r .kept) ps) cs ++ map (mapTerms (instance next θ)) (r .body)) z)
 
 -- and an entry
 sized-taken : (n : ℕ) (c : Constraint) (s : State) → Sized n s → Sized n (taken c s)

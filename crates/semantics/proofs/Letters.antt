@@ -6,10 +6,10 @@ use mathlib.Core.List.{List, [], _∷_}
 use mathlib.Core.Path.{_≡_, refl}
 use lib.Dec.{ltb}
 use Rattle.text.specs.Lists.{every}
-use Rattle.semantics.specs.Terms.{Constraint, Equation, Rule, Symbol, Program, weight, isDeclared, isBelow, alphabet}
-use Rattle.semantics.specs.Terms.{isOfRule, isRuleOf, isWellFormed}
+use Rattle.semantics.specs.Terms.{Constraint, Equation, Rule, Symbol, Program, keptHeads, removedHeads, weight, isDeclared, isBelow}
+use Rattle.semantics.specs.Terms.{alphabet, isOfRule, isRuleOf, isWellFormed}
 use Rattle.semantics.proofs.Configurations.{All, none, also}
-use Rattle.semantics.proofs.Multisets.{all-mono}
+use Rattle.semantics.proofs.Multisets.{all-mono, all-append, all-take}
 use Rattle.semantics.proofs.Options.{true-false, isBelow-below}
 use Rattle.semantics.proofs.MatchedTerms.{ConstraintBelow}
 use Rattle.semantics.proofs.FireLaws.{Lettered}
@@ -33,16 +33,17 @@ ofRule-below symbols c p =
 
 -- a rule over the symbols has letters for its variables
 pub rule-lettered : (symbols : List Symbol) (r : Rule) → isRuleOf symbols r ≡ true → Lettered r
-unfolding isRuleOf
+unfolding isRuleOf keptHeads
 rule-lettered symbols r p =
     let heads = every (isOfRule symbols) (r .heads) in
     let body = every (isOfRule symbols) (r .body) in
     let sides = every lettersOnly (r .equations) in
-    let (abc, d) = both (heads && body && sides) (ltb (weight symbols (r .body)) (weight symbols (r .heads))) p in
+    let (abc, d) = both (heads && body && sides) (ltb (weight symbols (r .body)) (weight symbols (removedHeads r))) p in
     let (ab, c) = both (heads && body) sides abc in
     let (a, b) = both heads body ab in
     record {
-      body = all-mono (ofRule-below symbols) (every-all (isOfRule symbols) (r .body) b);
+      body = all-append (all-take (r .kept) (all-mono (ofRule-below symbols) (every-all (isOfRule symbols) (r .heads) a)))
+          (all-mono (ofRule-below symbols) (every-all (isOfRule symbols) (r .body) b));
       equations = all-mono (λ e q.
           let (l, m) = both (isBelow alphabet (e .left)) (isBelow alphabet (e .right)) q in
           (isBelow-below alphabet (e .left) l, isBelow-below alphabet (e .right) m)) (every-all lettersOnly (r .equations) c);

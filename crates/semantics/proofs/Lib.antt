@@ -19,6 +19,7 @@ pub mod SolveLaws
 pub mod PositionLaws
 pub mod MatchLaws
 pub mod MatchedTerms
+pub mod KeptHeads
 pub mod FireLaws
 pub mod Letters
 pub mod VariantLaws
@@ -65,6 +66,7 @@ pub mod Forks
 pub mod Peak
 pub mod Exactness
 pub mod Demand3
+pub mod Rewritten
 -- Document 000: stores, entailment and Simplify
 pub mod Renamings
 pub mod Valuations

@@ -6,10 +6,10 @@
 --   multiset-cancel         what both have in front can be left out
 --   member-…, all-…         the elements of a list
 -- Assumes nothing.
-use Prim.Native.Nat.{suc}
+use Prim.Native.Nat.{ℕ, zero, suc}
 use mathlib.Core.List.{List, [], _∷_, _++_, map, append-nil, append-assoc, map-append}
 use mathlib.Core.Path.{_≡_, refl, sym, ap, _∙_, subst}
-use lib.ListN.{length}
+use lib.ListN.{length, take, drop}
 use Rattle.semantics.specs.Variants.{Pointwise, empty, each, Inserted, here, there, SameMultiset, done, put}
 use Rattle.semantics.proofs.Configurations.{Or, inl, inr, Member, first, later, All, none, also}
 
@@ -78,6 +78,13 @@ pub pointwise-parts :
     → Pointwise S a c → Pointwise R (a ++ b) (c ++ d) → Pointwise R a c × Pointwise R b d
 pointwise-parts b d empty q = (empty, q)
 pointwise-parts b d (each s p) (each r q) = let h = pointwise-parts b d p q in (each r (h .0), h .1)
+
+-- the later elements of related lists
+pub pointwise-drop :
+    {A B : Type 0} {R : A → B → Type 0} {l : List A} {m : List B} (k : ℕ) → Pointwise R l m → Pointwise R (drop k l) (drop k m)
+pointwise-drop zero p = p
+pointwise-drop (suc k) empty = empty
+pointwise-drop (suc k) (each r p) = pointwise-drop k p
 
 -- related lists are as long
 pub pointwise-length : {A B : Type 0} {R : A → B → Type 0} {l : List A} {m : List B} → Pointwise R l m → length l ≡ length m
@@ -153,6 +160,21 @@ all-append (also p ps) qs = also p (all-append ps qs)
 pub all-map : {A B : Type 0} {P : B → Type 0} (f : A → B) {l : List A} → All (λ a. P (f a)) l → All P (map f l)
 all-map f none = none
 all-map f (also p ps) = also p (all-map f ps)
+
+-- of the first ones
+pub all-take : {A : Type 0} {P : A → Type 0} {l : List A} (k : ℕ) → All P l → All P (take k l)
+all-take zero h = none
+all-take (suc k) none = none
+all-take (suc k) (also p ps) = also p (all-take k ps)
+
+-- of an equal multiset
+pub all-multiset : {A : Type 0} {P : A → Type 0} {l m : List A} → SameMultiset _≡_ l m → All P l → All P m
+all-multiset done none = none
+all-multiset {A} {P} (put r i s) (also p ps) = inserted (subst P r p) (all-multiset s ps) i
+  where
+    inserted : {b : A} {m n : List A} → P b → All P m → Inserted b m n → All P n
+    inserted q qs here = also q qs
+    inserted q (also p qs) (there j) = also p (inserted q qs j)
 
 -- two elements put in one after the other can be put in the other way round
 pub inserted-swap :

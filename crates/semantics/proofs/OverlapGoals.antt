@@ -18,7 +18,7 @@ use lib.Dec.{ltb}
 use lib.ListN.{length, getD, getElem?, length-map}
 use Rattle.text.specs.Lists.{every, has, tabled, upTo}
 use Rattle.semantics.specs.Terms.{Term, con, var, Constraint, Symbol, Rule, Program, Goal, State, mapTerms}
-use Rattle.semantics.specs.Terms.{isDeclared, isBelow, isGoalOf, alphabet, isOfRule, isRuleOf, isWellFormed, weight}
+use Rattle.semantics.specs.Terms.{removedHeads, isDeclared, isBelow, isGoalOf, alphabet, isOfRule, isRuleOf, isWellFormed, weight}
 use Rattle.semantics.specs.Matching.{Assignment, unassigned, matchAt}
 use Rattle.semantics.specs.Firing.{fired, fireAt}
 use Rattle.semantics.specs.Strategy.{goalState, normalise}
@@ -254,7 +254,7 @@ wellFormed-heads p n {r} w e =
     let heads = every-all (isOfRule (p .symbols)) (r .heads) (first-of (every (isOfRule (p .symbols)) (r .heads))
     (every (isOfRule (p .symbols)) (r .body))
     (every (λ e. isBelow alphabet (e .left) && isBelow alphabet (e .right)) (r .equations))
-    (ltb (weight (p .symbols) (r .body)) (weight (p .symbols) (r .heads))) rule) in (
+    (ltb (weight (p .symbols) (r .body)) (weight (p .symbols) (removedHeads r))) rule) in (
       all-mono (λ c h. and-true (isDeclared (p .symbols) c) (every (isBelow alphabet) (c .terms)) h .0) heads,
       all-mono (λ c h.
           all-mono (λ t. isBelow-below alphabet t) (every-all (isBelow alphabet) (c .terms)

@@ -19,6 +19,7 @@ use Rattle.semantics.specs.Published.{EquatedAll, renamed, Cleared, Publ
 use Rattle.semantics.specs.CriticalPairs.{lefts, rights, jointsOf, picked, shifted, shiftedHeads, pairOf, Critical}
 use Rattle.semantics.specs.CriticalPairs.{critical, leftState, rightState, joined, goalTerms, withTerms}
 use Rattle.semantics.specs.Correspondence.{Sides}
+use Rattle.semantics.specs.Rewriting.{rewritten}
 use Rattle.semantics.proofs.Configurations.{Or, inl, inr, Member, first, TermBelow, All, Rep, liftAtom, fireC, confOf}
 use Rattle.semantics.proofs.Options.{true-false}
 use Rattle.semantics.proofs.Multisets.{member-map, member-unmap, member-append, member-append-left, member-append-right}
@@ -79,7 +80,9 @@ parts-equated {i} {j} {ds} paired parts =
 pub overlap-critical :
     {i j : Numbered} {ds : List ℕ} {o : Overlap} → IsPairing (length (i .rule .heads)) (length (j .rule .heads)) ds
     → (parts : OverlapParts i j ds o)
-    → Critical (i .rule) (j .rule) (jointsOf ds) (pairOf (i .rule) (j .rule) (jointsOf ds) (parts .equations))
+    → Critical (rewritten (i .rule)) (rewritten (j .rule)) (jointsOf ds)
+    (pairOf (rewritten (i .rule)) (rewritten (j .rule)) (jointsOf ds) (parts .equations))
+unfolding shiftedHeads
 overlap-critical {i} {j} {ds} paired parts =
     critical (pairing-joining (length (i .rule .heads)) (length (j .rule .heads)) ds paired) (parts-equated paired parts)
     (solved-satisfiable (parts .equations) (parts .solved))
@@ -275,9 +278,9 @@ module _ (p : Program) (w : isWellFormed p ≡ true) (o : Overlap) (listed : Lis
 
   -- the first rule's side
   first-represents :
-      (b : Published) → Cleared [] (leftState (pairOf one two (jointsOf ds) es)) b
+      (b : Published) → Cleared [] (leftState (pairOf (rewritten one) (rewritten two) (jointsOf ds) es)) b
       → Represents b (withTerms (goalTerms σ (joined one two (jointsOf ds)) variables) (first-end p listed .0))
-  unfolding leftState pairOf
+  unfolding leftState pairOf shiftedHeads
   first-represents b e =
       subst (λ ts. Represents b (withTerms ts (first-end p listed .0))) (sym goalTerms-are)
       (side-represents es σ (parts .solved) beforehand one (λ x. x) variables (o .goal .constraints)
@@ -303,7 +306,7 @@ module _ (p : Program) (w : isWellFormed p ≡ true) (o : Overlap) (listed : Lis
 
   -- the second rule's side
   second-represents :
-      (b : Published) → Cleared [] (rightState (pairOf one two (jointsOf ds) es)) b
+      (b : Published) → Cleared [] (rightState (pairOf (rewritten one) (rewritten two) (jointsOf ds) es)) b
       → Represents b (withTerms (goalTerms σ (joined one two (jointsOf ds)) variables) (second-end p listed .0))
   unfolding rightState pairOf shiftedHeads
   second-represents b e =
@@ -327,8 +330,8 @@ module _ (p : Program) (w : isWellFormed p ≡ true) (o : Overlap) (listed : Lis
       known t (inr x) = first-in x
 
   -- both sides
-  pub overlap-sides : Sides o (jointsOf ds) (pairOf one two (jointsOf ds) es)
-  unfolding pairOf
+  pub overlap-sides : Sides o (jointsOf ds) (pairOf (rewritten one) (rewritten two) (jointsOf ds) es)
+  unfolding pairOf shiftedHeads
   overlap-sides = record {
     unifier = σ;
     solved = parts .solved;

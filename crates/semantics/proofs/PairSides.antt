@@ -10,6 +10,7 @@ use mathlib.Core.Path.{_≡_, refl, sym, ap, ap₂, subst, subst₂, _∙_}
 use Rattle.semantics.specs.Terms.{Term, Constraint, Equation, Rule, mapTerms, mapSides, alphabet}
 use Rattle.semantics.specs.Variants.{Pointwise, each, SameMultiset}
 use Rattle.semantics.specs.Published.{Item, user, builtIn, Published, renamed, bodyItems, Cleared}
+use Rattle.semantics.specs.Rewriting.{wholeBody, rewritten}
 use Rattle.semantics.proofs.Configurations.{Or, inl, inr, Member, first, later, sub, old, new, Eqv, given, same, flip}
 use Rattle.semantics.proofs.Configurations.{chain, Eqn, Iso, eqsOf, flat, headsOf, lift, liftAtom, liftEqn, TermBelow}
 use Rattle.semantics.proofs.Configurations.{All}
@@ -125,7 +126,7 @@ module _ (r : Rule) (κ : ℕ → ℕ) (b : List Term) (es : List Equation) (L :
         (bs : List Equation) (us : List Constraint)
         → ((e : Equation) → Member e es → OfHeads own others (e .left) × OfHeads own others (e .right))
         → All (OfHeads own others) b → SameMultiset _≡_ bs (map (mapSides (renamed κ)) (r .equations) ++ es)
-        → SameMultiset _≡_ us (map (mapTerms (renamed κ)) (r .body) ++ L) → Iso (afterFiring r b es own L) (confWith b bs us)
+        → SameMultiset _≡_ us (map (mapTerms (renamed κ)) (wholeBody r) ++ L) → Iso (afterFiring r b es own L) (confWith b bs us)
     unfolding mapTerms mapSides
     side-iso bs us sides face solved taken =
         renamed-iso r κ b es own L bs us apart (letters .others)
@@ -153,17 +154,17 @@ module _ (r : Rule) (κ : ℕ → ℕ) (b : List Term) (es : List Equation) (L :
 -- emptying a state of a critical pair
 pub pair-cleared :
     (r : Rule) (κ : ℕ → ℕ) (L : List Constraint) {es : List Equation} {vs : List ℕ} {c : Published}
-    → Cleared [] (record { goals = bodyItems κ r ++ map user L; userStore = []; builtInStore = es; variables = vs }) c
+    → Cleared [] (record { goals = bodyItems κ (rewritten r) ++ map user L; userStore = []; builtInStore = es; variables = vs }) c
     → SameMultiset _≡_ (c .builtInStore) (map (mapSides (renamed κ)) (r .equations) ++ es)
-    × SameMultiset _≡_ (c .userStore) (map (mapTerms (renamed κ)) (r .body) ++ L) × (c .variables ≡ vs)
+    × SameMultiset _≡_ (c .userStore) (map (mapTerms (renamed κ)) (wholeBody r) ++ L) × (c .variables ≡ vs)
 pair-cleared r κ L {es} {c} e =
     let h = cleared-into e in
-    let bs : builtIns (bodyItems κ r ++ map user L) ≡ map (mapSides (renamed κ)) (r .equations) =
-    builtIns-append (bodyItems κ r) (map user L)
-    ∙ ap₂ _++_ (body-builtIns κ r) (builtIns-user L) ∙ append-nil (map (mapSides (renamed κ)) (r .equations)) in
-    let us : users (bodyItems κ r ++ map user L) ++ [] ≡ map (mapTerms (renamed κ)) (r .body) ++ L =
-    append-nil (users (bodyItems κ r ++ map user L)) ∙ users-append (bodyItems κ r) (map user L)
-    ∙ ap₂ _++_ (body-users κ r) (users-user L) in (
+    let bs : builtIns (bodyItems κ (rewritten r) ++ map user L) ≡ map (mapSides (renamed κ)) (r .equations) =
+    builtIns-append (bodyItems κ (rewritten r)) (map user L)
+    ∙ ap₂ _++_ (body-builtIns κ (rewritten r)) (builtIns-user L) ∙ append-nil (map (mapSides (renamed κ)) (r .equations)) in
+    let us : users (bodyItems κ (rewritten r) ++ map user L) ++ [] ≡ map (mapTerms (renamed κ)) (wholeBody r) ++ L =
+    append-nil (users (bodyItems κ (rewritten r) ++ map user L)) ∙ users-append (bodyItems κ (rewritten r)) (map user L)
+    ∙ ap₂ _++_ (body-users κ (rewritten r)) (users-user L) in (
       subst (λ l. SameMultiset _≡_ (c .builtInStore) (l ++ es)) bs (h .solved),
       subst (SameMultiset _≡_ (c .userStore)) us (h .taken),
       h .variables,

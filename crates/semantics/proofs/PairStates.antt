@@ -13,6 +13,7 @@ use Rattle.semantics.specs.Solving.{solve}
 use Rattle.semantics.specs.Derivations.{become}
 use Rattle.semantics.specs.Published.{user, Published, bodyItems, Cleared, Represents}
 use Rattle.semantics.specs.CriticalPairs.{withTerms}
+use Rattle.semantics.specs.Rewriting.{rewritten}
 use Rattle.semantics.proofs.Configurations.{inl, inr, Member, sub, old, lift, liftAtom, fireC, confOf, TermBelow, All}
 use Rattle.semantics.proofs.Configurations.{Rep}
 use Rattle.semantics.proofs.Multisets.{all-mono, all-map, all-of-members}
@@ -60,7 +61,7 @@ pub side-represents :
     → Rep s (fireC r (confOf (tabled T.var (length (goalOrder es σ p cs))) G)
     (map liftAtom (map (mapTerms (goalNumber es σ p cs)) (ownHeads r κ)))
     (map liftAtom (map (mapTerms (goalNumber es σ p cs)) L)))
-    → Cleared [] (record { goals = bodyItems κ r ++ map user L; userStore = []; builtInStore = es; variables = vs }) c
+    → Cleared [] (record { goals = bodyItems κ (rewritten r) ++ map user L; userStore = []; builtInStore = es; variables = vs }) c
     → Represents c (withTerms (map (goalNumber es σ p cs) (map T.var vs)) s)
 side-represents es σ p cs r κ vs G L others {s} {c} apart letters away rest sides face known rep e =
     let (solved, taken, variables) = pair-cleared r κ L e in

@@ -21,6 +21,7 @@ use Rattle.semantics.specs.Derivations.{start, derive, waiting}
 use Rattle.semantics.specs.Variants.{TermVariant, sameCon, Pointwise, empty, each, here, SameMultiset, put, Variant}
 use Rattle.semantics.specs.Published.{Item, user, Published, initial, introduces, Simplify, simplifies, introducing}
 use Rattle.semantics.specs.Published.{simplifying, Reaches, stays, goes, solvedForm, Represents}
+use Rattle.semantics.specs.Rewriting.{rewritten, rewrittenAll}
 use Rattle.semantics.proofs.Configurations.{TermBelow, All, also, confOf}
 use Rattle.semantics.proofs.Configurations as C
 use Rattle.semantics.proofs.Multisets.{inserted-map, inserted-right, multiset-refl, multiset-right}
@@ -108,7 +109,7 @@ entry-represents a k c s gs vs below v = go (solve (a .builtInStore) (λ t. t)) 
 -- a published state of a derivation's progress: reached from the initial state, with what has not entered in its goal store
 pub record Reached (p : Program) (g : Goal) (d : Progress) : Type 1 where
   pub at : Published
-  pub reaches : Reaches p (initial g) at
+  pub reaches : Reaches (rewrittenAll p) (initial g) at
   pub goals : SameMultiset _≡_ (at .goals) (map user (waiting g d))
   pub variables : at .variables ≡ upTo (g .variables)
   pub represents : Represents at (d .state)
@@ -172,7 +173,7 @@ module _
       let into = cleared-into l in
       record {
         at = c;
-        reaches = reaches-trans (h .reaches) (goes (simplifying n r i k) (cleared-reaches p l));
+        reaches = reaches-trans (h .reaches) (goes (simplifying n (rewritten r) (getElem-map rewritten (p .rules) n i) k) (cleared-reaches (rewrittenAll p) l));
         goals = multiset-right (into .goals) (h .goals);
         variables = into .variables ∙ simplify-variables k ∙ h .variables;
         represents = rep;

@@ -13,6 +13,7 @@ use Rattle.semantics.specs.Terms.{Term, Constraint, Equation, Rule, mapT
 use Rattle.semantics.specs.Terms as T
 use Rattle.semantics.specs.Published.{renamed}
 use Rattle.semantics.specs.Variants.{Pointwise, SameMultiset}
+use Rattle.semantics.specs.Rewriting.{wholeBody}
 use Rattle.semantics.proofs.Configurations.{Or, inl, inr, Member, Tm, con, var, Eqn, sub, subAtom, old, new, flat, Eqv}
 use Rattle.semantics.proofs.Configurations.{same, Config, AtomRel, Iso, lift, liftAtom, liftEqn, headsOf, eqsOf, fireC}
 use Rattle.semantics.proofs.Configurations.{TermBelow, All}
@@ -184,7 +185,7 @@ module _ (r : Rule) (ρ : ℕ → ℕ) (b : List Term) (bs : List Equation) (M L
       → ((e : Equation) → Member e bs → Eqv (map liftEqn bs′) (lift (e .left)) (lift (e .right)))
       → ((e : Equation) → Member e bs′ → Eqv equations (sub (back ρ) (lift (e .left))) (sub (back ρ) (lift (e .right))))
       → All Settled b → All (λ c. All Settled (c .terms)) L
-      → SameMultiset _≡_ us′ (map (mapTerms (renamed ρ)) (r .body) ++ L) → Iso (afterFiring r b bs M L) (confWith b bs′ us′)
+      → SameMultiset _≡_ us′ (map (mapTerms (renamed ρ)) (wholeBody r) ++ L) → Iso (afterFiring r b bs M L) (confWith b bs′ us′)
   renamed-iso bs′ us′ apart letters heads own kept backward hb hL split =
       iso-of-maps (afterFiring r b bs M L) (confWith b bs′ us′) (forth ρ) (back ρ) used (λ c. tt)
       (derives-linked (forth ρ) (flat (headsOf r)) (flat (map liftAtom M)) (eqsOf r) (map liftEqn bs)
@@ -193,7 +194,7 @@ module _ (r : Rule) (ρ : ℕ → ℕ) (b : List Term) (bs : List Equation) (M L
       (multiset-right (multiset-of-pointwise (pointwise-append (old-atoms bs′ hL) (new-atoms bs′ (letters .body)))) reordered)
     where
       body : List Constraint
-      body = map (mapTerms (renamed ρ)) (r .body)
+      body = map (mapTerms (renamed ρ)) (wholeBody r)
 
       reordered : SameMultiset _≡_ (map liftAtom L ++ map liftAtom body) (map liftAtom us′)
       reordered =

@@ -1,6 +1,5 @@
 -- States that differ only in the order of their constraints: they are variants, and what fires in one fires in the other, with
 -- the same result up to order.
---   Reordered                          two states with the same constraints in any order
 --   reordered-variant                  they are variants of each other
 --   matchAt-moves                      heads that match among constraints match them wherever they stand
 --   reordered-fires, reordered-rests   firing, and resting, in a reordered state
@@ -20,20 +19,16 @@ use Rattle.semantics.specs.Solving.{solve}
 use Rattle.semantics.specs.Firing.{without, instance, settle, fired, fireAt}
 use Rattle.semantics.specs.Derivations.{NoRuleFits}
 use Rattle.semantics.specs.Variants.{TermVariant, sameCon, partners, ConstraintVariant, Inserted, SameMultiset, Variant}
+use Rattle.semantics.specs.Rewriting.{wholeBody, rewritten, Reordered, bothFailed, reordered}
 use Rattle.semantics.proofs.Multisets.{pointwise-refl, inserted-left, multiset-take, multiset-refl, multiset-mono}
 use Rattle.semantics.proofs.Multisets.{multiset-map, multiset-append, multiset-swap, multiset-right, multiset-back}
 use Rattle.semantics.proofs.Options.{none-some, bind-some}
 use Rattle.semantics.proofs.Bools.{none-unless}
 use Rattle.semantics.proofs.SolveLaws.{solve-solution}
 use Rattle.semantics.proofs.Removal.{Among, without-none, without-one, without-found}
+use Rattle.semantics.proofs.MatchLaws.{matchAt-sound}
+use Rattle.semantics.proofs.KeptHeads.{fired-reordered}
 use Rattle.semantics.proofs.Search.{FirstFits, matchAt-cons, matchAt-join}
-
--- two states with the same constraints in any order, and all else alike
-pub data Reordered : State → State → Type 0 where
-  bothFailed : Reordered failed failed
-  reordered :
-      {next : ℕ} {bound : List Term} {cs ds : List Constraint} → SameMultiset _≡_ cs ds
-      → Reordered (live next bound cs) (live next bound ds)
 
 -- a state is a reordering of itself
 pub reordered-refl : (s : State) → Reordered s s
@@ -138,6 +133,14 @@ unfoldable pub withMore : (List Term → List Constraint) → State → State
 withMore more failed = failed
 withMore more (live next bound cs) = live next bound (cs ++ more bound)
 
+-- reordered states with more constraints
+withMore-reordered :
+    (more : List Term → List Constraint) {s t : State} → Reordered s t → Reordered (withMore more s) (withMore more t)
+unfolding withMore
+withMore-reordered more bothFailed = bothFailed
+withMore-reordered more (reordered {bound = bound} m) =
+    reordered (multiset-append m (multiset-refl (λ c. refl) (more bound)))
+
 -- more constraints that follow what the goal variables become
 abbrev pub Follows : (List Term → List Constraint) → List Term → Type 0
 Follows more bound =
@@ -185,18 +188,21 @@ fire-moves more r ps next bound cs ds t f e m =
         moves (matchAt-moves (r .heads) ps cs ds (more bound) [] [] unassigned θ a (rw (without-none 0 cs, without-none 0 ds) m))
       where
         body : List Constraint
-        body = map (mapTerms (instance next θ)) (r .body)
+        body = map (mapTerms (instance next θ)) (wholeBody r)
 
         moves :
             Moves (r .heads) ds [] unassigned θ (without 0 ps cs ++ more bound)
             → (qs : List ℕ) × (u : State) × (fireAt r qs (live next bound ds) ≡ some u) × Reordered (withMore more t) u
         moves (qs, c, n) =
             let q : fired r ps θ next bound cs ≡ t = cc in
-            let s =
+            let s : Reordered (withMore more (fired (rewritten r) ps θ next bound cs)) (fired (rewritten r) qs θ next bound ds) =
             settle-moves more bound f (map (mapSides (instance next θ)) (r .equations)) (next + alphabet)
             (without 0 ps cs ++ body) (without 0 qs ds ++ body)
             (body-behind (without 0 ps cs) (more bound) body (without 0 qs ds) n) in
-            (qs, fired r qs θ next bound ds, rw c, rw q at s)
+            let one = fired-reordered r ps θ next bound cs (matchAt-sound (r .heads) ps cs [] unassigned a) in
+            let two = fired-reordered r qs θ next bound ds (matchAt-sound (r .heads) qs ds [] unassigned c) in
+            let u = reordered-trans (withMore-reordered more one) (reordered-trans s (reordered-sym two)) in
+            (qs, fired r qs θ next bound ds, rw c, rw q at u)
 
 -- no more constraints change nothing
 withMore-none : (s : State) → withMore (λ bound. []) s ≡ s

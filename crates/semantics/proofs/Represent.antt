@@ -1,5 +1,6 @@
 -- States represent configurations: what one can do the other can, and equal ones stay equal.
 --   rep-iso, rep-same, rep-variant      equal configurations are represented by the same states, and only by equal ones
+--   fire-represents                     the state after a firing represents the configuration after it
 --   fireAt-matched, matched-fires       firing at positions, by the constraints there, and conversely
 --   fireAt-sound, fireAt-complete       firing at positions is firing a rule on matched atoms, and conversely
 --   rep-fires, rep-step                 a firing is a step of what the state represents, and conversely
@@ -13,15 +14,16 @@ use mathlib.Core.Path.{_≡_, refl, sym, ap, subst, subst₂, _∙_}
 use Rattle.text.specs.Lists.{bind}
 use Rattle.semantics.specs.Terms.{Term, Constraint, Rule, State, failed, live}
 use Rattle.semantics.specs.Terms as T
-use Rattle.semantics.specs.Matching.{unassigned, matchAt}
+use Rattle.semantics.specs.Matching.{Assignment, unassigned, matchAt}
 use Rattle.semantics.specs.Firing.{without, fired, fireAt}
 use Rattle.semantics.specs.Variants.{Pointwise, SameMultiset, Variant}
+use Rattle.semantics.specs.Rewriting.{rewritten, Reordered, bothFailed, reordered}
 use Rattle.semantics.proofs.Configurations.{Member, first, later, Tm, con, Atom, sub, Eqv, Config, Inconsistent}
 use Rattle.semantics.proofs.Configurations.{AtomRel, Iso, Same, iso, bothFail, lift, liftAtom, headsOf}
 use Rattle.semantics.proofs.Configurations.{Fits, fireC, Step, step, Steps, stay, go, confOf, All, none, also, Scoped, Rep}
 use Rattle.semantics.proofs.Configurations.{hasFailed, isLive}
 use Rattle.semantics.proofs.Multisets.{pointwise-mono, pointwise-unmap, multiset-mono, multiset-map}
-use Rattle.semantics.proofs.Multisets.{all-member}
+use Rattle.semantics.proofs.Multisets.{all-member, all-multiset}
 use Rattle.semantics.proofs.Closure.{eqv-nil}
 use Rattle.semantics.proofs.Isos.{iso-refl, iso-sym, iso-trans, inconsistent-iso, same-refl, same-sym, same-inconsistent}
 use Rattle.semantics.proofs.Stepping.{fire-rest, step-iso}
@@ -30,7 +32,9 @@ use Rattle.semantics.proofs.Options.{none-some, bind-some}
 use Rattle.semantics.proofs.Lifting.{down, downAtom, down-lift, liftAtom-downAtom, downAtom-liftAtom, map-inverse}
 use Rattle.semantics.proofs.PositionLaws.{Stands, stands-same, without-taken, without-positions}
 use Rattle.semantics.proofs.MatchLaws.{ConstraintRel, instantiate, matchAt-sound, matchAt-complete}
-use Rattle.semantics.proofs.FireLaws.{Lettered, Firing, fire-represents, fire-fits}
+use Rattle.semantics.proofs.KeptHeads.{fired-reordered}
+use Rattle.semantics.proofs.Reordering.{reordered-sym, reordered-variant}
+use Rattle.semantics.proofs.FireLaws.{Lettered, Firing, rewritten-represents, fire-fits}
 use Rattle.semantics.proofs.VariantLaws.{variant-iso, iso-variant}
 
 -- what equals a live state has not failed
@@ -76,6 +80,22 @@ rep-variant failed failed v h p = p
 rep-variant failed (live n c ds) v h p = absurd (v .lower)
 rep-variant (live m b cs) failed v h p = absurd (v .lower)
 rep-variant (live m b cs) (live n c ds) v h (isLive s I) = isLive h (iso-trans (iso-sym (variant-iso m n v)) I)
+
+-- a reordered state is scoped too
+pub reordered-scoped : {s t : State} → Reordered s t → ScopedState s → ScopedState t
+reordered-scoped bothFailed h = tt
+reordered-scoped (reordered m) h = record { bound = h .bound; constraints = all-multiset m (h .constraints) }
+
+-- the state after a firing represents the configuration after it
+pub fire-represents :
+    (r : Rule) (n : ℕ) (b : List Term) (cs : List Constraint) (ps : List ℕ) (θ : Assignment) (F : Firing r n b cs ps θ)
+    → Lettered r
+    → Rep (fired r ps θ n b cs) (fireC r (confOf b cs) (map liftAtom (F .fitting .matched)) (map liftAtom (without 0 ps cs)))
+fire-represents r n b cs ps θ F letters =
+    let rep = rewritten-represents r n b cs ps θ F letters in
+    let same = reordered-sym (fired-reordered r ps θ n b cs (F .fitting)) in
+    rep-variant (fired (rewritten r) ps θ n b cs) (fired r ps θ n b cs) (reordered-variant same)
+    (reordered-scoped same (rep-scoped rep)) rep
 
 -- the constraints of a state that are matched, and the rest, as atoms
 lift-split :

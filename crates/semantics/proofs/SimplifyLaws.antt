@@ -9,6 +9,7 @@ use Rattle.semantics.specs.Terms.{Term, Constraint, Equation, Rule, mapT
 use Rattle.semantics.specs.Terms as T
 use Rattle.semantics.specs.Variants.{SameMultiset}
 use Rattle.semantics.specs.Published.{user, builtIn, Published, EquatedAll, renamed, FreshFor, bodyItems}
+use Rattle.semantics.specs.Rewriting.{wholeBody}
 use Rattle.semantics.proofs.Configurations.{Or, inl, inr, Member, sub, Eqv, given, Eqn, Iso, eqsOf, flat, headsOf, lift}
 use Rattle.semantics.proofs.Configurations.{liftAtom, liftEqn, All}
 use Rattle.semantics.proofs.Multisets.{pointwise-mono, member-append, member-append-left, member-append-right}
@@ -61,7 +62,7 @@ module _
     (letters : Lettered r) (heads : All (ConstraintBelow alphabet) (r .heads)) (split : SameMultiset _≡_ (p .userStore) (M ++ L))
     (equated : EquatedAll (map (mapTerms (renamed ρ)) (r .heads)) M es)
     (solved : SameMultiset _≡_ (q .builtInStore) (map (mapSides (renamed ρ)) (r .equations) ++ (es ++ p .builtInStore)))
-    (taken : SameMultiset _≡_ (q .userStore) (map (mapTerms (renamed ρ)) (r .body) ++ L)) where
+    (taken : SameMultiset _≡_ (q .userStore) (map (mapTerms (renamed ρ)) (wholeBody r) ++ L)) where
   -- the equations after the firing
   abbrev equations : List (Eqn (Or ℕ ℕ))
   equations = afterFiring r (map T.var (p .variables)) (p .builtInStore) M L .eqs

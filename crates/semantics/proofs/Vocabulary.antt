@@ -11,7 +11,7 @@ use mathlib.Core.Bool.{true, _&&_}
 use mathlib.Core.List.{List, [], _++_, map}
 use mathlib.Core.Option.{Option, none, some}
 use mathlib.Core.Path.{_≡_, refl, sym, ap, subst}
-use lib.ListN.{length, length-map, length-append, getElem?}
+use lib.ListN.{length, drop, length-map, length-append, getElem?}
 use Rattle.text.specs.Lists.{onward, every, tabled}
 use Rattle.semantics.specs.Terms.{Term, con, var, Constraint, Equation, Symbol, Rule, Program, Goal, State, failed, live}
 use Rattle.semantics.specs.Terms.{weight, mapTerms, mapSides, alphabet}
@@ -106,17 +106,17 @@ module _ (symbols : List Symbol) (P : ℕ → Type 0) (r : Rule) (ps : List ℕ)
 
   -- the constraints before the equations are solved
   abbrev remaining : List Constraint
-  remaining = without 0 ps cs ++ map (mapTerms (instance next θ)) (r .body)
+  remaining = without 0 (drop (r .kept) ps) cs ++ map (mapTerms (instance next θ)) (r .body)
 
   remaining-over : All (ConstraintOver P) remaining
   unfolding mapTerms
   remaining-over =
-      all-append (without-all 0 ps constraints)
+      all-append (without-all 0 (drop (r .kept) ps) constraints)
       (all-map (mapTerms (instance next θ)) (all-mono (λ c h. all-map (instance next θ) (all-mono instance-over h)) (over .body)))
 
   remaining-declared : All (λ c. isDeclared symbols c ≡ true) cs → All (λ c. isDeclared symbols c ≡ true) remaining
   remaining-declared d =
-      all-append (without-all 0 ps d)
+      all-append (without-all 0 (drop (r .kept) ps) d)
       (all-map (mapTerms (instance next θ)) (all-mono (declared-map symbols (instance next θ)) body))
 
   -- a firing keeps the vocabulary

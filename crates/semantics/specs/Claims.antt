@@ -5,6 +5,7 @@
 --   Ends                  the two ends of an overlap
 --   Counterexample        the earliest overlap that does not join, with its two ends
 --   Demand3               all of demand 3, as one claim
+--   PassesAsRewritten     a program passes exactly when it does with its kept heads on both sides
 -- Assumes nothing.
 use Prim.Native.Nat.{ℕ, _≤_}
 use mathlib.Core.Bool.{true}
@@ -18,6 +19,7 @@ use Rattle.semantics.specs.Derivations.{Event, fire, derive, Finished}
 use Rattle.semantics.specs.Strategy.{Final}
 use Rattle.semantics.specs.Runs.{RunsTo}
 use Rattle.semantics.specs.Variants.{Variant}
+use Rattle.semantics.specs.Rewriting.{rewrittenAll}
 use Rattle.semantics.specs.Overlaps.{Overlap, secondPositions, appearing, overlaps}
 use Rattle.semantics.specs.Order.{IsOverlapOf, Earlier, StrictTotalOrder}
 use Rattle.semantics.specs.Verdict.{verdict, confluent, unjoined}
@@ -83,3 +85,7 @@ pub record Demand3 (p : Program) : Type 1 where
   pub shown : (o : Overlap) (one two : Final) → (verdict p ≡ unjoined o one two) ↔ Counterexample p o one two
   pub ordered : StrictTotalOrder (IsOverlapOf p) Earlier
   pub bounded : Bounded p
+
+-- a program is confluent exactly when it is with its kept heads on both sides, and then both have as many overlaps
+abbrev pub PassesAsRewritten : Program → Type 0
+PassesAsRewritten p = (n : ℕ) → (verdict p ≡ confluent n) ↔ (verdict (rewrittenAll p) ≡ confluent n)

@@ -1,8 +1,9 @@
 -- What is claimed beside the published system (document 000; document 01: demand 2): firing is Simplify, and the overlaps are the
--- critical pairs.
+-- critical pairs. The published rules keep nothing: a rule that keeps constraints stands there rewritten (document 02).
 --   SolvingIsExact               of equations and their solution
 --   JoiningsArePairings          of the numbers of heads of two rules
---   Groundwork                   both, whatever the program
+--   FiresAsRewritten             of a rule, positions and a state
+--   Groundwork                   all three, whatever the program
 --   StandAt, FiringIsSimplify    of a state and the published state that it represents
 --   Side, Sides                  of an overlap and a critical pair
 --   OverlapsAreCriticalPairs     of a program
@@ -23,6 +24,7 @@ use Rattle.semantics.specs.Derivations.{Event, derive, waiting, NoRuleFi
 use Rattle.semantics.specs.Strategy.{goalState}
 use Rattle.semantics.specs.Runs.{RunsByChoice}
 use Rattle.semantics.specs.Variants.{OneToOne, TermVariant, Pointwise, ConstraintVariant, SameMultiset}
+use Rattle.semantics.specs.Rewriting.{rewritten, rewrittenAll, Reordered}
 use Rattle.semantics.specs.Overlaps.{pairings, Numbered, Overlap, secondPositions, goalOf, overlapOf, overlaps}
 use Rattle.semantics.specs.Published.{user, Published, initial, value, Hold, Simplify, Goes, Reaches, Cleared, Represents}
 use Rattle.semantics.specs.CriticalPairs.{Joint, Joining, jointsOf, partnersOf, CriticalPair, Critical, leftState}
@@ -43,10 +45,18 @@ pub record JoiningsArePairings (m n : ℕ) : Type 0 where
   pub forth : (i : ℕ) (ds : List ℕ) → getElem? (pairings m n) i ≡ some ds → partnersOf m (jointsOf ds) ≡ ds
   pub once : (i k : ℕ) (ds : List ℕ) → getElem? (pairings m n) i ≡ some ds → getElem? (pairings m n) k ≡ some ds → i ≡ k
 
--- the part of demand 2 that is about no program: solving is exact, and the joinings are the pairings
+-- firing a rule, and firing it with its kept heads on both sides, at the same positions: where one fires so does the other, and
+-- the states are equal but for the order of their constraints
+pub record FiresAsRewritten (r : Rule) (ps : List ℕ) (s : State) : Type 0 where
+  pub forth : (t : State) → fireAt r ps s ≡ some t → (u : State) × (fireAt (rewritten r) ps s ≡ some u) × Reordered t u
+  pub back : (u : State) → fireAt (rewritten r) ps s ≡ some u → (t : State) × (fireAt r ps s ≡ some t) × Reordered t u
+
+-- the part of demand 2 that is about no program: solving is exact, the joinings are the pairings, and a rule fires as it does
+-- rewritten
 pub record Groundwork : Type 0 where
   pub solving : (es : List Equation) → SolvingIsExact es
   pub joinings : (m n : ℕ) → JoiningsArePairings m n
+  pub rewriting : (r : Rule) (ps : List ℕ) (s : State) → FiresAsRewritten r ps s
 
 -- constraints of a published state stand at positions of a state that represents it: one renaming makes equal what each variable
 -- became, the constraints as multisets, and each of these constraints, solved, and the one at its position
@@ -61,19 +71,20 @@ pub data StandAt (a : Published) (cs : List Constraint) (ps : List ℕ) : State 
 
 -- firing in a state is Simplify in the published state whose stores it represents
 pub record FiringIsSimplify (p : Program) (a : Published) (s : State) : Type 1 where
-  -- every firing is a Simplify step on the constraints at its positions, followed by the Introduce and Solve steps of the body
+  -- every firing is a Simplify step of the rule rewritten on the constraints at its positions, followed by the Introduce and Solve
+  -- steps of the body
   pub published :
       (n : ℕ) (r : Rule) (ps : List ℕ) (t : State) → getElem? (p .rules) n ≡ some r → fireAt r ps s ≡ some t
-      → (cs : List Constraint) × (b : Published) × (c : Published) × StandAt a cs ps s × Simplify r cs a b
+      → (cs : List Constraint) × (b : Published) × (c : Published) × StandAt a cs ps s × Simplify (rewritten r) cs a b
       × Cleared (a .goals) b c × Represents c t
-  -- every Simplify step, followed by the Introduce and Solve steps of the body in any order, is a firing at the positions of the
-  -- constraints that it matches
+  -- every Simplify step of a rule rewritten, followed by the Introduce and Solve steps of the body in any order, is a firing at the
+  -- positions of the constraints that it matches
   pub fires :
-      (n : ℕ) (r : Rule) (cs : List Constraint) (b c : Published) → getElem? (p .rules) n ≡ some r → Simplify r cs a b
+      (n : ℕ) (r : Rule) (cs : List Constraint) (b c : Published) → getElem? (p .rules) n ≡ some r → Simplify (rewritten r) cs a b
       → Cleared (a .goals) b c
       → (ps : List ℕ) × (t : State) × StandAt a cs ps s × (fireAt r ps s ≡ some t) × Represents c t
   -- where no rule fits and the goal store is empty, no step is possible
-  pub final : NoRuleFits p s → a .goals ≡ [] → (b : Published) → Goes p a b → ⊥
+  pub final : NoRuleFits p s → a .goals ≡ [] → (b : Published) → Goes (rewrittenAll p) a b → ⊥
 
 -- one side of an overlap is one state of a critical pair: the side's rule fires at its positions, and however the goal store of
 -- the pair's state is emptied, the state after the firing represents it, with what has become of the pair's variables
@@ -96,12 +107,13 @@ pub record Sides (o : Overlap) (js : List Joint) (c : CriticalPair) : Type 1 whe
       Side o (o .second .rule)
       (secondPositions 1 (length (o .first .rule .heads)) (length (o .second .rule .heads)) (o .partners)) terms (rightState c)
 
--- the overlaps of a program are the critical pairs of its rules i ≤ j, one to one, given by which heads are equated with which
+-- the overlaps of a program are the critical pairs of its rules i ≤ j, rewritten, one to one, given by which heads are equated
+-- with which
 pub record OverlapsAreCriticalPairs (p : Program) : Type 1 where
   -- every critical pair is enumerated
   pub enumerated :
       (i j : ℕ) (r q : Rule) (js : List Joint) (c : CriticalPair) → getElem? (p .rules) i ≡ some r
-      → getElem? (p .rules) j ≡ some q → i ≤ j → Critical r q js c
+      → getElem? (p .rules) j ≡ some q → i ≤ j → Critical (rewritten r) (rewritten q) js c
       → (n : ℕ) × (o : Overlap) × (getElem? (overlaps p) n ≡ some o) × (o .first .number ≡ i) × (o .second .number ≡ j)
       × (jointsOf (o .partners) ≡ js)
   -- what is enumerated is of rules i ≤ j and a critical pair, whose states are its sides
@@ -111,27 +123,27 @@ pub record OverlapsAreCriticalPairs (p : Program) : Type 1 where
       × (getElem? (p .rules) (o .second .number) ≡ some (o .second .rule)) × (o .first .number ≤ o .second .number)
   pub critical :
       (n : ℕ) (o : Overlap) → getElem? (overlaps p) n ≡ some o
-      → (c : CriticalPair) × Critical (o .first .rule) (o .second .rule) (jointsOf (o .partners)) c
+      → (c : CriticalPair) × Critical (rewritten (o .first .rule)) (rewritten (o .second .rule)) (jointsOf (o .partners)) c
       × Sides o (jointsOf (o .partners)) c
   -- a pairing that does not unify is no critical pair
   pub refused :
       (i j : Numbered) (n : ℕ) (ds : List ℕ) (c : CriticalPair)
       → getElem? (pairings (length (i .rule .heads)) (length (j .rule .heads))) n ≡ some ds → overlapOf i j ds ≡ none
-      → Critical (i .rule) (j .rule) (jointsOf ds) c → ⊥
+      → Critical (rewritten (i .rule)) (rewritten (j .rule)) (jointsOf ds) c → ⊥
   -- nothing is enumerated twice
   pub once :
       (m n : ℕ) (o u : Overlap) → getElem? (overlaps p) m ≡ some o → getElem? (overlaps p) n ≡ some u
       → o .first .number ≡ u .first .number → o .second .number ≡ u .second .number
       → jointsOf (o .partners) ≡ jointsOf (u .partners) → m ≡ n
 
--- demand 2 of a program: every state of a derivation of one of its goals represents a published state that is reached from the
--- goal's initial state, and whose goal store holds what has not entered; firing in it is Simplify there; the overlaps are the
+-- demand 2 of a program: every state of a derivation of one of its goals represents a published state that the rewritten program
+-- reaches from the goal's initial state, and whose goal store holds what has not entered; firing in it is Simplify there; the overlaps are the
 -- critical pairs; and the run is by the order of choice
 pub record Demand2 (p : Program) : Type 1 where
   pub groundwork : Groundwork
   pub represented :
       (g : Goal) (es : List Event) → isGoalOf p g ≡ true
-      → (a : Published) × Reaches p (initial g) a × SameMultiset _≡_ (a .goals) (map user (waiting g (derive p g es)))
+      → (a : Published) × Reaches (rewrittenAll p) (initial g) a × SameMultiset _≡_ (a .goals) (map user (waiting g (derive p g es)))
       × Represents a (derive p g es .state)
   pub firing :
       (g : Goal) (es : List Event) (a : Published) → isGoalOf p g ≡ true → Represents a (derive p g es .state)

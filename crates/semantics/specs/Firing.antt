@@ -7,6 +7,7 @@ use Prim.Native.Nat.{ℕ, suc, _+_}
 use mathlib.Core.Bool.{Bool, true, false, cond}
 use mathlib.Core.List.{List, [], _∷_, _++_, map}
 use mathlib.Core.Option.{Option, none, some}
+use lib.ListN.{drop}
 use Rattle.text.specs.Lists.{onward, bind, has}
 use Rattle.semantics.specs.Terms.{Term, con, var, Constraint, Equation, Rule, State, failed, live, mapTerms, mapSides}
 use Rattle.semantics.specs.Terms.{alphabet}
@@ -28,12 +29,12 @@ unfoldable pub settle : Option (Term → Term) → ℕ → List Term → List Co
 settle none next bound cs = failed
 settle (some σ) next bound cs = live next (map σ bound) (map (mapTerms σ) cs)
 
--- the state after firing a rule at positions: those constraints are removed, the rest keeps its order, the body is appended
--- in written order, and the equations are solved
+-- the state after firing a rule at positions: the constraints at those of the kept heads, which come first, stay where they are;
+-- those at the others are removed, the rest keeps its order, the body is appended in written order, and the equations are solved
 unfoldable pub fired : Rule → List ℕ → Assignment → ℕ → List Term → List Constraint → State
 fired r ps θ next bound cs =
     settle (solve (map (mapSides (instance next θ)) (r .equations)) (λ t. t)) (next + alphabet) bound
-    (without 0 ps cs ++ map (mapTerms (instance next θ)) (r .body))
+    (without 0 (drop (r .kept) ps) cs ++ map (mapTerms (instance next θ)) (r .body))
 
 -- firing at stated positions; none where the rule does not fit there, and in a failed state
 unfoldable pub fireAt : Rule → List ℕ → State → Option State

@@ -7,6 +7,7 @@ pub mod Derivations
 pub mod Strategy
 pub mod Runs
 pub mod Variants
+pub mod Rewriting
 pub mod Overlaps
 pub mod Order
 pub mod Verdict

@@ -2,6 +2,7 @@
 -- A term is flat, so no variable can occur inside what it is equated with.
 --   Term, Constraint, Equation, Symbol, Rule, Program, Goal, State
 --   sameTerm, mapTerms      equal terms; a function on terms, throughout a constraint
+--   keptHeads, removedHeads the heads of a rule whose constraints stay, and those whose are removed
 --   weight                  the weight of a list of constraints
 --   isGoalOf                document 01's goal over a sheet's kinds
 --   isWellFormed            the programs that the theory is about
@@ -10,7 +11,7 @@ use Prim.Native.Nat.{ℕ, suc}
 use mathlib.Core.Bool.{Bool, true, false, cond, _&&_}
 use mathlib.Core.List.{List, [], _∷_, map}
 use lib.Dec.{ltb, eqb}
-use lib.ListN.{length, getD}
+use lib.ListN.{length, getD, take, drop}
 use Rattle.text.specs.Lists.{every, total}
 
 -- a term: a constant or a variable, by its number. Different constants have different numbers; a program's own have those
@@ -36,9 +37,11 @@ pub record Symbol : Type 0 where
   pub arity : ℕ
   pub weight : ℕ
 
--- a rule: its heads are replaced by its body and its equations
+-- a rule: where constraints match its heads, those of the first heads, as many as are kept (document 02: J lines), stay; those of
+-- the others (H lines) are replaced by its body and its equations
 pub record Rule : Type 0 where
   pub name : List ℕ
+  pub kept : ℕ
   pub heads : List Constraint
   pub body : List Constraint
   pub equations : List Equation
@@ -74,6 +77,13 @@ mapTerms f c = record { symbol = c .symbol; terms = map f (c .terms) }
 unfoldable pub mapSides : (Term → Term) → Equation → Equation
 mapSides f e = record { left = f (e .left); right = f (e .right) }
 
+-- the heads whose constraints stay, and those whose constraints are removed
+unfoldable pub keptHeads : Rule → List Constraint
+keptHeads r = take (r .kept) (r .heads)
+
+unfoldable pub removedHeads : Rule → List Constraint
+removedHeads r = drop (r .kept) (r .heads)
+
 -- what a number that no symbol has stands for
 unfoldable pub noSymbol : Symbol
 noSymbol = record { name = []; arity = 0; weight = 0 }
@@ -108,12 +118,12 @@ alphabet = 26
 unfoldable pub isOfRule : List Symbol → Constraint → Bool
 isOfRule symbols c = isDeclared symbols c && every (isBelow alphabet) (c .terms)
 
--- whether a rule is over the symbols, and its heads weigh more than its body
+-- whether a rule is over the symbols, and what it removes weighs more than its body
 unfoldable pub isRuleOf : List Symbol → Rule → Bool
 isRuleOf symbols r =
     every (isOfRule symbols) (r .heads) && every (isOfRule symbols) (r .body)
     && every (λ e. isBelow alphabet (e .left) && isBelow alphabet (e .right)) (r .equations)
-    && ltb (weight symbols (r .body)) (weight symbols (r .heads))
+    && ltb (weight symbols (r .body)) (weight symbols (removedHeads r))
 
 -- whether all rules of a program are over its symbols and lower the weight, as those of every text that can be read are
 unfoldable pub isWellFormed : Program → Bool

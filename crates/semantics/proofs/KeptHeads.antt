@@ -1,0 +1,157 @@
+-- Firing a rule beside firing it rewritten, at the same positions: what is kept and what is put back are the same constraints.
+--   instance-fits            a term of a rule that fits is what it is assigned
+--   kept-left                what is left where only the later of distinct positions are removed
+--   fired-reordered          the states after both firings are equal but for the order of their constraints
+--   fires-as-rewritten       where one fires the other does
+-- Assumes nothing.
+use Prim.Native.Nat.{ℕ, zero, suc, _+_}
+use mathlib.Core.Bool.{Bool, true, false, _||_}
+use mathlib.Core.List.{List, [], _∷_, _++_, map, map-append, append-assoc}
+use mathlib.Core.Option.{Option, none, some}
+use mathlib.Core.Path.{_≡_, refl, sym, ap, ap₂, subst, _∙_}
+use lib.Dec.{eqb}
+use lib.ListN.{take, drop, take-append-drop}
+use Rattle.text.specs.Lists.{bind, has}
+use Rattle.semantics.specs.Terms.{Term, Constraint, Rule, State, failed, live, mapTerms, mapSides, alphabet, keptHeads}
+use Rattle.semantics.specs.Terms as T
+use Rattle.semantics.specs.Matching.{Assignment, unassigned, matchAt}
+use Rattle.semantics.specs.Solving.{solve}
+use Rattle.semantics.specs.Firing.{without, instance, settle, fired, fireAt}
+use Rattle.semantics.specs.Variants.{Pointwise, empty, each, SameMultiset}
+use Rattle.semantics.specs.Rewriting.{wholeBody, rewritten, Reordered, bothFailed, reordered}
+use Rattle.semantics.specs.Correspondence.{FiresAsRewritten}
+use Rattle.semantics.proofs.Multisets.{pointwise-drop, multiset-refl, multiset-mono, multiset-map, multiset-append}
+use Rattle.semantics.proofs.Multisets.{multiset-swap, multiset-right, multiset-back, multiset-cancel}
+use Rattle.semantics.proofs.Options.{none-some, bind-some}
+use Rattle.text.proofs.Bools.{never}
+use Rattle.semantics.proofs.Removal.{has-front}
+use Rattle.semantics.proofs.PositionLaws.{Stands, Fresh, without-taken}
+use Rattle.semantics.proofs.MatchLaws.{TermFits, ConstraintRel, AtMatch, matchAt-sound}
+
+-- a term of a rule that fits is what it is assigned
+pub instance-fits : (n : ℕ) (θ : Assignment) (s t : Term) → TermFits θ s t → instance n θ s ≡ t
+unfolding instance
+instance-fits n θ (T.con c) t f = f
+instance-fits n θ (T.var x) t f = rw f
+
+-- terms that fit, and constraints that fit, are the instances of those that they fit
+terms-instances : (n : ℕ) (θ : Assignment) {ss ts : List Term} → Pointwise (TermFits θ) ss ts → map (instance n θ) ss ≡ ts
+terms-instances n θ empty = refl
+terms-instances n θ (each {a = s} {b = t} f p) = ap₂ _∷_ (instance-fits n θ s t f) (terms-instances n θ p)
+
+matched-instances :
+    (n : ℕ) (θ : Assignment) {hs M : List Constraint} → Pointwise (ConstraintRel (TermFits θ)) hs M
+    → map (mapTerms (instance n θ)) hs ≡ M
+unfolding mapTerms
+matched-instances n θ empty = refl
+matched-instances n θ (each {a = h} {b = c} f p) =
+    ap₂ _∷_ (one (f .symbols) (terms-instances n θ (f .terms))) (matched-instances n θ p)
+  where
+    one : {k l : ℕ} {ss ts : List Term} → k ≡ l → ss ≡ ts
+        → _≡_ {A = Constraint} (record { symbol = k; terms = ss }) (record { symbol = l; terms = ts })
+    one a b = rw (a, b)
+
+-- positions are fresh where fewer are chosen
+fresh-fewer :
+    (few many ps : List ℕ) → ((n : ℕ) → has n many ≡ false → has n few ≡ false) → Fresh many ps → Fresh few ps
+fresh-fewer few many [] h f = tt
+fresh-fewer few many (p ∷ ps) h f =
+    (h p (f .0), fresh-fewer (few ++ (p ∷ [])) (many ++ (p ∷ [])) ps (λ n e. more n e) (f .1))
+  where
+    more : (n : ℕ) → has n (many ++ (p ∷ [])) ≡ false → has n (few ++ (p ∷ [])) ≡ false
+    more n e = rw (has-front n p few) (go (eqb n p) (rw (has-front n p many) at e))
+      where
+        go : (b : Bool) → (b || has n many) ≡ false → (b || has n few) ≡ false
+        go true e = e
+        go false e = h n e
+
+-- the later ones of fresh positions are fresh
+fresh-drop : (k : ℕ) (chosen ps : List ℕ) → Fresh chosen ps → Fresh chosen (drop k ps)
+fresh-drop zero chosen ps f = f
+fresh-drop (suc k) chosen [] f = tt
+fresh-drop (suc k) chosen (p ∷ ps) f =
+    fresh-drop k chosen ps (fresh-fewer chosen (chosen ++ (p ∷ [])) ps (λ n e. fewer n (rw (has-front n p chosen) at e)) (f .1))
+  where
+    fewer : (n : ℕ) → (eqb n p || has n chosen) ≡ false → has n chosen ≡ false
+    fewer n e = go (eqb n p) e
+      where
+        go : (b : Bool) → (b || has n chosen) ≡ false → has n chosen ≡ false
+        go true e = absurd (never e)
+        go false e = e
+
+-- what is left where only the later of distinct positions are removed: the constraints at the others, and what is left without
+-- them
+pub kept-left :
+    (k : ℕ) (cs : List Constraint) (ps : List ℕ) {M : List Constraint} → Fresh [] ps → Pointwise (Stands cs) ps M
+    → SameMultiset _≡_ (without 0 (drop k ps) cs) (without 0 ps cs ++ take k M)
+kept-left k cs ps {M} f h =
+    let W = without 0 ps cs in
+    let some = without-taken cs (drop k ps) (fresh-drop k [] ps f) (pointwise-drop k h) in
+    let all : SameMultiset _≡_ cs ((take k M ++ drop k M) ++ W) = rw (take-append-drop k M) (without-taken cs ps f h) in
+    let turned : SameMultiset _≡_ ((take k M ++ drop k M) ++ W) (drop k M ++ (take k M ++ W)) =
+    rw (append-assoc (drop k M) (take k M) W) at
+    (multiset-append (multiset-swap (take k M) (drop k M)) (multiset-refl (λ c. refl) W)) in
+    multiset-right (multiset-cancel (drop k M) (multiset-right (multiset-back some) (multiset-right all turned)))
+    (multiset-swap (take k M) W)
+
+-- settling lists that are equal but for their order
+pub settle-reordered :
+    (o : Option (Term → Term)) (next : ℕ) (bound : List Term) {cs ds : List Constraint} → SameMultiset _≡_ cs ds
+    → Reordered (settle o next bound cs) (settle o next bound ds)
+unfolding settle
+settle-reordered none next bound m = bothFailed
+settle-reordered (some σ) next bound m =
+    reordered (multiset-map (mapTerms σ) (mapTerms σ) (multiset-mono (λ c d q. ap (mapTerms σ) q) m))
+
+-- the instances of a part of a list
+map-take : {A B : Type 0} (f : A → B) (k : ℕ) (l : List A) → map f (take k l) ≡ take k (map f l)
+map-take f zero l = refl
+map-take f (suc k) [] = refl
+map-take f (suc k) (a ∷ l) = ap (f a ∷_) (map-take f k l)
+
+-- the states after firing a rule and after firing it rewritten, at the same positions
+pub fired-reordered :
+    (r : Rule) (ps : List ℕ) (θ : Assignment) (n : ℕ) (b : List Term) (cs : List Constraint)
+    → AtMatch (r .heads) ps cs [] unassigned θ → Reordered (fired r ps θ n b cs) (fired (rewritten r) ps θ n b cs)
+unfolding fired keptHeads
+fired-reordered r ps θ n b cs m =
+    let body = map (mapTerms (instance n θ)) (r .body) in
+    let W = without 0 ps cs in
+    let same : take (r .kept) (m .matched) ≡ map (mapTerms (instance n θ)) (take (r .kept) (r .heads)) =
+    ap (take (r .kept)) (sym (matched-instances n θ (m .heads .fits)))
+    ∙ sym (map-take (mapTerms (instance n θ)) (r .kept) (r .heads)) in
+    let parts : map (mapTerms (instance n θ)) (take (r .kept) (r .heads)) ++ body
+    ≡ map (mapTerms (instance n θ)) (take (r .kept) (r .heads) ++ r .body) =
+    sym (map-append (mapTerms (instance n θ)) (take (r .kept) (r .heads)) (r .body)) in
+    settle-reordered (solve (map (mapSides (instance n θ)) (r .equations)) (λ t. t)) (n + alphabet) b
+    (subst (SameMultiset _≡_ (without 0 (drop (r .kept) ps) cs ++ body))
+    (append-assoc W (take (r .kept) (m .matched)) body ∙ ap (W ++_) (ap (_++ body) same ∙ parts))
+    (multiset-append (kept-left (r .kept) cs ps (m .fresh) (m .stand)) (multiset-refl (λ c. refl) body)))
+
+-- where a rule fires so does it rewritten, at the same positions, and the other way round
+pub fires-as-rewritten : (r : Rule) (ps : List ℕ) (s : State) → FiresAsRewritten r ps s
+unfolding fireAt
+fires-as-rewritten r ps failed = record { forth = λ t e. none-some refl e; back = λ t e. none-some refl e }
+fires-as-rewritten r ps (live n b cs) = record { forth = forth; back = back }
+  where
+    forth :
+        (t : State) → fireAt r ps (live n b cs) ≡ some t
+        → (u : State) × (fireAt (rewritten r) ps (live n b cs) ≡ some u) × Reordered t u
+    forth t e =
+        let (θ, m, q) = bind-some (matchAt (r .heads) ps cs [] unassigned) (λ θ. some (fired r ps θ n b cs)) e in
+        let final : fired r ps θ n b cs ≡ t = cc in (
+          fired (rewritten r) ps θ n b cs,
+          ap (λ o. bind o (λ θ. some (fired (rewritten r) ps θ n b cs))) m,
+          subst (λ s. Reordered s (fired (rewritten r) ps θ n b cs)) final (fired-reordered r ps θ n b cs (matchAt-sound (r .heads) ps cs [] unassigned m)),
+        )
+
+    back :
+        (u : State) → fireAt (rewritten r) ps (live n b cs) ≡ some u
+        → (t : State) × (fireAt r ps (live n b cs) ≡ some t) × Reordered t u
+    back u e =
+        let (θ, m, q) = bind-some (matchAt (r .heads) ps cs [] unassigned) (λ θ. some (fired (rewritten r) ps θ n b cs)) e in
+        let final : fired (rewritten r) ps θ n b cs ≡ u = cc in (
+          fired r ps θ n b cs,
+          ap (λ o. bind o (λ θ. some (fired r ps θ n b cs))) m,
+          subst (Reordered (fired r ps θ n b cs)) final (fired-reordered r ps θ n b cs (matchAt-sound (r .heads) ps cs [] unassigned m)),
+        )
