@@ -30,6 +30,7 @@ fn is_goal(key: u64) -> bool
     match form_of(key) {
         LineForm::Symbol => false,
         LineForm::Rule => false,
+        LineForm::Kept => false,
         LineForm::Head => false,
         LineForm::Body => false,
         LineForm::Equation => false,

@@ -1,6 +1,6 @@
 -- What the readers of both texts find in a line: one decoding for each of their answers.
 --   formMeant, sectionMeant, sectionAnswer      the code's forms and sections
---   constraintHead, headAnswer              numbers 4 and 6 of an H, B or G line
+--   constraintHead, headAnswer              numbers 4 and 6 of a J, H, B or G line
 --   termCell, padded                        the cell of a term, and cells with zeros behind them
 --   Lent, Outside, Spelled, KeepsPlaces     the tables lent, and what a line does to names and places
 --   TermIn, TermsIn, ConstraintIn           what is promised of a term, of the terms of a line and of its constraint
@@ -20,8 +20,8 @@ use Rattle.text.specs.Splits.{Holds}
 use Rattle.text.specs.declared.fields.Fields.{Fields}
 use Rattle.semantics.specs.Terms as terms
 use Rattle.syntax.specs.Answers.{Answer, refused, accepted, refuseIf}
-use Rattle.syntax.specs.Forms.{Form, symbolForm, ruleForm, headForm, bodyForm, equationForm, goalForm, noForm}
-use Rattle.syntax.specs.Forms.{Section, inSymbols, inHeads, inBody, inEquations, fieldAt, constantsAfter, firstConstant}
+use Rattle.syntax.specs.Forms.{Form, symbolForm, ruleForm, keptForm, headForm, bodyForm, equationForm, goalForm, noForm}
+use Rattle.syntax.specs.Forms.{Section, inSymbols, inKept, inHeads, inBody, inEquations, fieldAt, constantsAfter, firstConstant}
 use Rattle.syntax.specs.Forms.{letterNumber, isConstraintFaulty, symbolNumber, isUndeclared}
 use Rattle.syntax.specs.Programs.{Found, constraintLine}
 use Rattle.tables.specs.Layout.{maxNames, firstRule, goalPlace}
@@ -29,7 +29,7 @@ use Rattle.tables.specs.Cells.{rowConstraint}
 use Rattle.tables.specs.Rows.{symbolsOf, constantsOf}
 use Rattle.tables.specs.Names.{placedAt, Placed}
 use Rattle.lines.specs.declared.LineForm.{LineForm}
-use Rattle.lines.specs.declared.LineForm.the-variants.{Symbol, Rule, Head, Body, Equation, Goal, Nothing}
+use Rattle.lines.specs.declared.LineForm.the-variants.{Symbol, Rule, Kept, Head, Body, Equation, Goal, Nothing}
 use Rattle.lines.specs.declared.HeadRead.{HeadRead}
 use Rattle.lines.specs.declared.HeadRead.the-variants.{Refused, Symbol as HeadSymbol}
 use Rattle.lines.specs.declared.TermRead.{TermRead}
@@ -40,6 +40,7 @@ use Rattle.lines.specs.declared.ConstraintRead.{ConstraintRead}
 unfoldable pub formMeant : LineForm → Form
 formMeant Symbol = symbolForm
 formMeant Rule = ruleForm
+formMeant Kept = keptForm
 formMeant Head = headForm
 formMeant Body = bodyForm
 formMeant Equation = equationForm
@@ -49,15 +50,16 @@ formMeant Nothing = noForm
 -- the section that a number stands for
 unfoldable pub sectionMeant : ℕ → Section
 sectionMeant zero = inSymbols
-sectionMeant (suc zero) = inHeads
-sectionMeant (suc (suc zero)) = inBody
-sectionMeant (suc (suc (suc n))) = inEquations
+sectionMeant (suc zero) = inKept
+sectionMeant (suc (suc zero)) = inHeads
+sectionMeant (suc (suc (suc zero))) = inBody
+sectionMeant (suc (suc (suc (suc n)))) = inEquations
 
--- the section that a line leads to: none from 4 on
+-- the section that a line leads to: none from 5 on
 unfoldable pub sectionAnswer : ℕ → Option Section
-sectionAnswer n = cond (ltb n 4) (some (sectionMeant n)) none
+sectionAnswer n = cond (ltb n 5) (some (sectionMeant n)) none
 
--- an H, B or G line at line n: number 4, then 6; else its symbol
+-- a J, H, B or G line at line n: number 4, then 6; else its symbol
 unfoldable pub constraintHead : List terms.Symbol → ℕ → List (List ℕ) → Answer ℕ
 constraintHead symbols n fs =
     refuseIf (isConstraintFaulty fs) 4 n
@@ -147,7 +149,7 @@ pub record TermsIn (f : Fields) (from base count : ℕ) (names places names′ p
 abbrev pub refusedRead : ℕ → ConstraintRead
 refusedRead x = record { refusal = x; count = 0; cells = 0 ∷ 0 ∷ 0 ∷ 0 ∷ 0 ∷ [] }
 
--- the code's answer to an H, B or G line at line n
+-- the code's answer to a J, H, B or G line at line n
 unfoldable pub constraintAnswer : List ℕ → ℕ → ConstraintRead → Answer Found
 constraintAnswer names n r =
     cond (eqb (r .refusal) 0)
@@ -161,7 +163,7 @@ pub record CellsMean (gs before : List (List ℕ)) (names′ : List ℕ) (r : Co
   pub after : constantsOf names′ (r .count) ≡ constantsAfter gs before
   pub cells : drop 1 (r .cells) ≡ padded 4 (map (termCell (constantsAfter gs before)) gs)
 
--- what is promised of an H, B or G line: the constraint whose variables are letters, and its cells
+-- what is promised of a J, H, B or G line: the constraint whose variables are letters, and its cells
 pub record ConstraintIn (f : Fields) (full : Bool) (base count : ℕ) (symbols names places names′ places′ : List ℕ)
     (r : ConstraintRead) : Type 0 where
   pub few : r .count ≤ 64

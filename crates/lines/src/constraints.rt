@@ -1,4 +1,4 @@
-// The constraint of an H, B or G line: numbers 4, 6 and 7.
+// The constraint of a J, H, B or G line: numbers 4, 6 and 7.
 use crate::ConstraintRead;
 use crate::HeadRead;
 use crate::heads::constraint_head;
@@ -21,7 +21,7 @@ fn refused(number: u8) -> ConstraintRead
     }
 }
 
-// An H, B or G line, where `full` says that there are as many constraints as there may be. Its symbol is one of the table lent,
+// A J, H, B or G line, where `full` says that there are as many constraints as there may be. Its symbol is one of the table lent,
 // and its places are `base` more than where its fields start.
 pub fn read_constraint(
     f: Fields,

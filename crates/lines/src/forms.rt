@@ -14,6 +14,7 @@ fn form_of_byte(b: u8) -> LineForm
     match b {
         b'K' => LineForm::Symbol,
         b'R' => LineForm::Rule,
+        b'J' => LineForm::Kept,
         b'H' => LineForm::Head,
         b'B' => LineForm::Body,
         b'E' => LineForm::Equation,
@@ -34,21 +35,27 @@ pub fn form_of(key: u64) -> LineForm
     LineForm::Nothing
 }
 
-// The section behind a line of a form, or 4 where it may not stand: 0 among K lines, 1 behind R or H, 2 behind B, 3 behind E.
+// The section behind a line of a form, or 5 where it may not stand: 0 among K lines, 1 behind R or J, 2 behind H, 3 behind B, 4
+// behind E.
 pub fn section_after(form: LineForm, section: u8) -> u8
     ensures { λ r. ⌜ sectionAnswer r ≡ sectionAfter (formMeant form) (sectionMeant section) ⌝ }
 {
     match form {
-        LineForm::Symbol => if section == 0 { 0 } else { 4 },
+        LineForm::Symbol => if section == 0 { 0 } else { 5 },
         LineForm::Rule => 1,
-        LineForm::Head => if section == 1 { 1 } else { 4 },
-        LineForm::Body => if section == 1 {
+        LineForm::Kept => if section == 1 { 1 } else { 5 },
+        LineForm::Head => if section == 1 {
             2
         } else {
-            if section == 2 { 2 } else { 4 }
+            if section == 2 { 2 } else { 5 }
         },
-        LineForm::Equation => if section == 0 { 4 } else { 3 },
-        LineForm::Goal => 4,
-        LineForm::Nothing => 4,
+        LineForm::Body => if section == 0 {
+            5
+        } else {
+            if section < 4 { 3 } else { 5 }
+        },
+        LineForm::Equation => if section == 0 { 5 } else { 4 },
+        LineForm::Goal => 5,
+        LineForm::Nothing => 5,
     }
 }

@@ -1,4 +1,4 @@
-// The form and the symbol of an H, B or G line: numbers 4 and 6.
+// The form and the symbol of a J, H, B or G line: numbers 4 and 6.
 use crate::HeadRead;
 use tables::layout::SYMBOL_SIZE;
 use tables::names::find_key;
@@ -33,7 +33,7 @@ pub fn are_terms(f: Fields, from: usize) -> bool
     true
 }
 
-// Number 4 of an H, B or G line: not two to six fields, a name, terms.
+// Number 4 of a J, H, B or G line: not two to six fields, a name, terms.
 fn is_faulty(f: Fields) -> bool
     ensures { λ r. ⌜ ((fs : List (List ℕ)) → Holds fs f → r ≡ isConstraintFaulty fs)
         × (r ≡ false → (2 ≤ f .count) × (f .count ≤ 6)) ⌝ }
@@ -52,7 +52,7 @@ fn is_faulty(f: Fields) -> bool
     if are_terms(f, 2) { false } else { true }
 }
 
-// Numbers 4 and 6 of an H, B or G line: its symbol among those of which the names' keys and the table are lent.
+// Numbers 4 and 6 of a J, H, B or G line: its symbol among those of which the names' keys and the table are lent.
 pub fn constraint_head(f: Fields, names: &[u64], symbols: &[u16]) -> HeadRead
     requires { ⌜ length (now symbols) ≤ 2 * length (now names) ⌝ }
     ensures { λ r. ⌜ ((fs : List (List ℕ)) (n k : ℕ) → Holds fs f → length (now (symbols .entry)) ≡ 2 * k

@@ -11,6 +11,7 @@ pub mod weights;
 pub enum LineForm {
     Symbol,
     Rule,
+    Kept,
     Head,
     Body,
     Equation,
@@ -18,7 +19,7 @@ pub enum LineForm {
     Nothing,
 }
 
-// The symbol's number of an H, B or G line, or the number that it meets.
+// The symbol's number of a J, H, B or G line, or the number that it meets.
 pub enum HeadRead {
     Refused(u8),
     Symbol(usize),
@@ -37,8 +38,8 @@ pub struct TermsRead {
     pub cells: [u16; 4],
 }
 
-// The cells of an H, B or G line's constraint, and how many constants there are after it; or the number that it meets, which is 0
-// for none.
+// The cells of a J, H, B or G line's constraint, and how many constants there are after it; or the number that it meets, which is
+// 0 for none.
 pub struct ConstraintRead {
     pub refusal: u8,
     pub count: usize,

@@ -18,17 +18,17 @@ use Rattle.text.specs.Lists.{onward, isKnown, indexOf}
 use Rattle.text.specs.Lines.{Line, lines, lineIsFaulty}
 use Rattle.text.specs.Fields.{fields, isName, isNumber, isNumberIn, valueOf}
 use Rattle.text.proofs.Bools.{and-true}
-use Rattle.semantics.specs.Terms.{Term, con, var, Constraint, Symbol, Rule, weight}
+use Rattle.semantics.specs.Terms.{Term, con, var, Constraint, Symbol, Rule, removedHeads, weight}
 use Rattle.semantics.proofs.Configurations.{All, also}
 use Rattle.semantics.proofs.Configurations as C
 use Rattle.semantics.proofs.Multisets.{all-mono, all-append, all-map}
 use Rattle.semantics.proofs.Vocabulary.{TermOver, ConstraintOver, RuleOver}
 use Rattle.syntax.specs.Answers.{Answer, refused, accepted}
-use Rattle.syntax.specs.Forms.{Form, symbolForm, ruleForm, headForm, bodyForm, equationForm, goalForm, noForm, formOf}
-use Rattle.syntax.specs.Forms.{Section, sectionAfter, fieldAt, constantsAfter, firstConstant, termOf, letterNumber}
-use Rattle.syntax.specs.Forms.{isSymbolFaulty, isRuleFaulty, isEquationFaulty, constraintOf}
-use Rattle.syntax.specs.Programs.{Draft, RuleRead, Reading, Found, blank, inSection, onLast, lastRule, withHead, withBody}
-use Rattle.syntax.specs.Programs.{withEquation, withRule, readSymbol, readRule}
+use Rattle.syntax.specs.Forms.{Form, symbolForm, ruleForm, keptForm, headForm, bodyForm, equationForm, goalForm, noForm}
+use Rattle.syntax.specs.Forms.{formOf, Section, sectionAfter, fieldAt, constantsAfter, firstConstant, termOf}
+use Rattle.syntax.specs.Forms.{letterNumber, isSymbolFaulty, isRuleFaulty, isEquationFaulty, constraintOf}
+use Rattle.syntax.specs.Programs.{Draft, RuleRead, Reading, Found, blank, inSection, onLast, lastRule, withKept, withHead}
+use Rattle.syntax.specs.Programs.{withBody, withEquation, withRule, readSymbol, readRule}
 use Rattle.syntax.specs.Programs.{constraintLine, readConstraint, readEquation}
 use Rattle.syntax.specs.Programs.{readForm, readFields, readLine, readLines, checkRules, readProgram, maxText}
 use Rattle.syntax.proofs.WellFormed.{Holds, holds-refuseIf, holds-andThen, holds-accepted, holds-constraintLine}
@@ -47,6 +47,7 @@ pub record SymbolSmall (s : Symbol) : Type 0 where
 
 -- a rule within the limits, over k constants
 pub record RuleSmall (k : ℕ) (r : Rule) : Type 0 where
+  pub kept-few : r .kept ≤ length (r .heads)
   pub heads-few : length (r .heads) ≤ 4
   pub body-few : length (r .body) ≤ 6
   pub equations-few : length (r .equations) ≤ 4
@@ -65,6 +66,7 @@ constraints-more h o = all-mono (λ c. all-mono (term-more h)) o
 rule-more : {k m : ℕ} → k ≤ m → (r : Rule) → RuleSmall k r → RuleSmall m r
 rule-more h r s =
     record {
+      kept-few = s .kept-few;
       heads-few = s .heads-few;
       body-few = s .body-few;
       equations-few = s .equations-few;
@@ -185,6 +187,7 @@ rule-small n fs d s =
       few-constants = s .few-constants;
       symbols = s .symbols;
       rules = all-append (s .rules) (also (record {
+        kept-few = omega arith;
         heads-few = omega arith;
         body-few = omega arith;
         equations-few = omega arith;
@@ -209,7 +212,7 @@ change-small f constants d s least most k =
       rules = all-onLast (RuleSmall (length constants)) f (d .rules) k (all-mono (λ r. rule-more least (r .rule)) (s .rules));
     }
 
--- what an H or B line finds, over the constants after it
+-- what a J, H or B line finds, over the constants after it
 record FoundSmall (before : List (List ℕ)) (room : Type 0) (found : Found) : Type 0 where
   least : length before ≤ length (found .constants)
   most : length (found .constants) ≤ 64
@@ -235,12 +238,27 @@ constraint-small count most add n fs d s k =
     λ found _ h. change-small _ (found .constants) d s (h .least) (h .most)
     (k (length (found .constants)) (found .constraint) (h .over) (h .fits))
 
+kept-small :
+    (k : ℕ) (c : Constraint) (r : Rule) → ConstraintOver (ConstantOf k) c → length (r .heads) < 4 → RuleSmall k r
+    → RuleSmall k (withKept c r)
+unfolding withKept
+kept-small k c r o few s =
+    record {
+      kept-few = simp length-append (omega (arith, s .kept-few));
+      heads-few = simp length-append (omega arith);
+      body-few = s .body-few;
+      equations-few = s .equations-few;
+      heads = all-append (s .heads) (also o C.none);
+      over = record { body = s .over .body; equations = s .over .equations };
+    }
+
 head-small :
     (k : ℕ) (c : Constraint) (r : Rule) → ConstraintOver (ConstantOf k) c → length (r .heads) < 4 → RuleSmall k r
     → RuleSmall k (withHead c r)
 unfolding withHead
 head-small k c r o few s =
     record {
+      kept-few = simp length-append (omega (arith, s .kept-few));
       heads-few = simp length-append (omega arith);
       body-few = s .body-few;
       equations-few = s .equations-few;
@@ -254,6 +272,7 @@ body-small :
 unfolding withBody
 body-small k c r o few s =
     record {
+      kept-few = s .kept-few;
       heads-few = s .heads-few;
       body-few = simp length-append (omega arith);
       equations-few = s .equations-few;
@@ -283,6 +302,7 @@ equation-small n fs d s =
     (fields-over letterNumber (drop 1 fs) (d .constants)) in
     change-small _ constants d s (constants-least (drop 1 fs) (d .constants)) (ltb-false 64 (length constants) known)
     λ small. record {
+      kept-few = small .kept-few;
       heads-few = small .heads-few;
       body-few = small .body-few;
       equations-few = simp length-append (omega (arith, leb-false 4 (length (last .equations)) counted));
@@ -294,6 +314,8 @@ form-small : (form : Form) (n : ℕ) (fs : List (List ℕ)) (d : Draft) → Smal
 unfolding readForm
 form-small symbolForm n fs d s = symbol-small n fs d s
 form-small ruleForm n fs d s = rule-small n fs d s
+form-small keptForm n fs d s =
+    constraint-small (length (lastRule (d .rules) .heads)) 4 withKept n fs d s (λ k c. kept-small k c (lastRule (d .rules)))
 form-small headForm n fs d s =
     constraint-small (length (lastRule (d .rules) .heads)) 4 withHead n fs d s (λ k c. head-small k c (lastRule (d .rules)))
 form-small bodyForm n fs d s =
@@ -339,8 +361,8 @@ holds-checked :
 unfolding checkRules
 holds-checked P symbols [] otherwise h = h
 holds-checked P symbols (r ∷ rs) otherwise h =
-    holds-refuseIf P (eqb (length (r .rule .heads)) 0) 8 (r .line) _
-    λ _. holds-refuseIf P (leb (weight symbols (r .rule .heads)) (weight symbols (r .rule .body))) 9 (r .line) _
+    holds-refuseIf P (eqb (length (removedHeads (r .rule))) 0) 8 (r .line) _
+    λ _. holds-refuseIf P (leb (weight symbols (removedHeads (r .rule))) (weight symbols (r .rule .body))) 9 (r .line) _
     λ _. holds-checked P symbols rs otherwise h
 
 -- a program as read is within the limits

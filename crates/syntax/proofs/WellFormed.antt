@@ -16,16 +16,17 @@ use Rattle.text.specs.Lines.{Line, lines, lineIsFaulty}
 use Rattle.text.specs.Fields.{fields, isName, isVariable, isTerm}
 use Rattle.text.proofs.Keys.{variable-range}
 use Rattle.text.proofs.Bools.{and-true}
-use Rattle.semantics.specs.Terms.{con, var, Constraint, Equation, Symbol, Rule, weight}
+use Rattle.semantics.specs.Terms.{con, var, Constraint, Equation, Symbol, Rule, removedHeads, weight}
 use Rattle.semantics.specs.Terms.{isDeclared, isBelow, alphabet, isOfRule, isRuleOf, isWellFormed, symbolAt}
 use Rattle.semantics.proofs.Options.{true-false, true-T, T-true, none-some}
 use Rattle.syntax.specs.Answers.{Answer, refused, accepted, refuseIf, andThen}
-use Rattle.syntax.specs.Forms.{Form, symbolForm, ruleForm, headForm, bodyForm, equationForm, goalForm, noForm, formOf}
-use Rattle.syntax.specs.Forms.{Section, inSymbols, inHeads, inBody, inEquations, sectionAfter, fieldAt, constantsAfter}
+use Rattle.syntax.specs.Forms.{Form, symbolForm, ruleForm, keptForm, headForm, bodyForm, equationForm, goalForm, noForm}
+use Rattle.syntax.specs.Forms.{formOf, Section, inSymbols, inKept, inHeads, inBody, inEquations, sectionAfter, fieldAt}
+use Rattle.syntax.specs.Forms.{constantsAfter}
 use Rattle.syntax.specs.Forms.{termOf, letterNumber, isSymbolFaulty, isRuleFaulty, isEquationFaulty, isConstraintFaulty}
 use Rattle.syntax.specs.Forms.{isUndeclared, symbolNumber, constraintOf}
-use Rattle.syntax.specs.Programs.{Draft, RuleRead, Reading, Found, blank, inSection, onLast, lastRule, withHead, withBody}
-use Rattle.syntax.specs.Programs.{withEquation, withRule, readSymbol, readRule}
+use Rattle.syntax.specs.Programs.{Draft, RuleRead, Reading, Found, blank, inSection, onLast, lastRule, withKept, withHead}
+use Rattle.syntax.specs.Programs.{withBody, withEquation, withRule, readSymbol, readRule}
 use Rattle.syntax.specs.Programs.{constraintLine, readConstraint, readEquation}
 use Rattle.syntax.specs.Programs.{readForm, readFields, readLine, readLines, checkRules, readProgram}
 use Rattle.syntax.specs.Programs.{maxSymbols, maxRules, maxEquations, maxConstants, maxText}
@@ -132,6 +133,13 @@ over-parts symbols r p =
     let b = and-true _ (every (isOfRule symbols) (r .body)) (a .0) in
     (b .0, b .1, a .1)
 
+over-kept : (symbols : List Symbol) (c : Constraint) → isOfRule symbols c ≡ true → (r : Rule)
+    → isOver symbols r ≡ true → isOver symbols (withKept c r) ≡ true
+unfolding withKept
+over-kept symbols c q r p =
+    let (h, b, e) = over-parts symbols r p in
+    and-both (and-both (every-append (isOfRule symbols) (r .heads) (c ∷ []) h (and-both q refl)) b) e
+
 over-head : (symbols : List Symbol) (c : Constraint) → isOfRule symbols c ≡ true → (r : Rule)
     → isOver symbols r ≡ true → isOver symbols (withHead c r) ≡ true
 unfolding withHead
@@ -183,6 +191,7 @@ blank-sound = record { before = λ _. refl; over = refl }
 symbol-section : (section after : Section) → sectionAfter symbolForm section ≡ some after → section ≡ inSymbols
 unfolding sectionAfter
 symbol-section inSymbols after e = refl
+symbol-section inKept after e = none-some refl e
 symbol-section inHeads after e = none-some refl e
 symbol-section inBody after e = none-some refl e
 symbol-section inEquations after e = none-some refl e
@@ -193,15 +202,23 @@ rule-section : (form : Form) (section after : Section) → sectionAfter form sec
 unfolding sectionAfter
 rule-section symbolForm section after e n k = n refl
 rule-section ruleForm section after e n k = let z : _≡_ {A = ℕ} 0 1 = cc in omega arith
+rule-section keptForm inSymbols after e n k = none-some refl e
+rule-section keptForm inKept after e n k = let z : _≡_ {A = ℕ} 0 1 = cc in omega arith
+rule-section keptForm inHeads after e n k = none-some refl e
+rule-section keptForm inBody after e n k = none-some refl e
+rule-section keptForm inEquations after e n k = none-some refl e
 rule-section headForm inSymbols after e n k = none-some refl e
+rule-section headForm inKept after e n k = let z : _≡_ {A = ℕ} 0 1 = cc in omega arith
 rule-section headForm inHeads after e n k = let z : _≡_ {A = ℕ} 0 1 = cc in omega arith
 rule-section headForm inBody after e n k = none-some refl e
 rule-section headForm inEquations after e n k = none-some refl e
 rule-section bodyForm inSymbols after e n k = none-some refl e
+rule-section bodyForm inKept after e n k = let z : _≡_ {A = ℕ} 0 1 = cc in omega arith
 rule-section bodyForm inHeads after e n k = let z : _≡_ {A = ℕ} 0 1 = cc in omega arith
 rule-section bodyForm inBody after e n k = let z : _≡_ {A = ℕ} 0 1 = cc in omega arith
 rule-section bodyForm inEquations after e n k = none-some refl e
 rule-section equationForm inSymbols after e n k = none-some refl e
+rule-section equationForm inKept after e n k = let z : _≡_ {A = ℕ} 0 1 = cc in omega arith
 rule-section equationForm inHeads after e n k = let z : _≡_ {A = ℕ} 0 1 = cc in omega arith
 rule-section equationForm inBody after e n k = let z : _≡_ {A = ℕ} 0 1 = cc in omega arith
 rule-section equationForm inEquations after e n k = let z : _≡_ {A = ℕ} 0 1 = cc in omega arith
@@ -227,7 +244,7 @@ rule-sound n fs d s o =
       over = every-append (λ (r : RuleRead). isOver (d .symbols) (r .rule)) (d .rules) _ (s .over) refl;
     }
 
--- what an H, B or G line finds
+-- what a J, H, B or G line finds
 pub holds-constraintLine :
     (P : Found → Type 0) (full : Bool) (symbols : List Symbol) (variable : List ℕ → ℕ) (constants : List (List ℕ)) (n : ℕ)
     (fs : List (List ℕ))
@@ -306,6 +323,9 @@ form-sound symbolForm n section fs d s e = symbol-sound n fs (inSection section 
 form-sound ruleForm n section fs d s e =
     let o = rule-section ruleForm (d .section) section e (λ k. let z : _≡_ {A = ℕ} 0 1 = cc in omega arith) in
     rule-sound n fs (inSection section d) (moved-sound section d s o) o
+form-sound keptForm n section fs d s e =
+    let o = rule-section keptForm (d .section) section e (λ k. let z : _≡_ {A = ℕ} 0 1 = cc in omega arith) in
+    constraint-sound _ _ withKept n fs (inSection section d) (moved-sound section d s o) o (over-kept (d .symbols))
 form-sound headForm n section fs d s e =
     let o = rule-section headForm (d .section) section e (λ k. let z : _≡_ {A = ℕ} 0 1 = cc in omega arith) in
     constraint-sound _ _ withHead n fs (inSection section d) (moved-sound section d s o) o (over-head (d .symbols))
@@ -347,11 +367,12 @@ unfolding checkRules isRuleOf
 holds-checkRules P symbols [] otherwise p k = k refl
 holds-checkRules P symbols (r ∷ rs) otherwise p k =
     let h = and-true (isOver symbols (r .rule)) (every (λ r. isOver symbols (r .rule)) rs) p in
-    holds-refuseIf P (eqb (length (r .rule .heads)) 0) 8 (r .line) _
-    λ _. holds-refuseIf P (leb (weight symbols (r .rule .heads)) (weight symbols (r .rule .body))) 9 (r .line) _
-    λ b. (let lower : weight symbols (r .rule .body) < weight symbols (r .rule .heads) =
-    nleb→lt (weight symbols (r .rule .heads)) (weight symbols (r .rule .body)) (true-T (ap not b)) in
-    let test = T-true (ltb (weight symbols (r .rule .body)) (weight symbols (r .rule .heads))) (le→leb _ _ lower) in
+    let removed = weight symbols (removedHeads (r .rule)) in
+    holds-refuseIf P (eqb (length (removedHeads (r .rule))) 0) 8 (r .line) _
+    λ _. holds-refuseIf P (leb removed (weight symbols (r .rule .body))) 9 (r .line) _
+    λ b. (let lower : weight symbols (r .rule .body) < removed =
+    nleb→lt removed (weight symbols (r .rule .body)) (true-T (ap not b)) in
+    let test = T-true (ltb (weight symbols (r .rule .body)) removed) (le→leb _ _ lower) in
     holds-checkRules P symbols rs otherwise (h .1) (λ q. k (and-both (and-both (h .0) test) q)))
 
 -- what reads as a program is well formed

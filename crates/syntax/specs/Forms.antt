@@ -15,16 +15,17 @@ use Rattle.text.specs.Lists.{every, indexOf, withName}
 use Rattle.text.specs.Fields.{isName, isTerm, isNumberIn}
 use Rattle.semantics.specs.Terms.{Term, con, var, Constraint, Symbol, symbolAt}
 
--- the forms of a line: K, R, H, B, E and G, and any other
+-- the forms of a line: K, R, J, H, B, E and G, and any other
 pub data Form : Type 0 where
-  symbolForm ruleForm headForm bodyForm equationForm goalForm noForm : Form
+  symbolForm ruleForm keptForm headForm bodyForm equationForm goalForm noForm : Form
 
 -- the form that a byte stands for, over all byte values
 unfoldable pub formOfByte : ℕ → Form
 formOfByte b =
     cond (eqb b 75) symbolForm
     (cond (eqb b 82) ruleForm
-    (cond (eqb b 72) headForm (cond (eqb b 66) bodyForm (cond (eqb b 69) equationForm (cond (eqb b 71) goalForm noForm)))))
+    (cond (eqb b 74) keptForm
+    (cond (eqb b 72) headForm (cond (eqb b 66) bodyForm (cond (eqb b 69) equationForm (cond (eqb b 71) goalForm noForm))))))
 
 -- the form of a line by its first field, which is one letter
 unfoldable pub formOf : List ℕ → Form
@@ -32,27 +33,37 @@ formOf [] = noForm
 formOf (b ∷ []) = formOfByte b
 formOf (b ∷ c ∷ s) = noForm
 
--- where a line stands in a program: among the K lines, or in a rule behind its R or H lines, its B lines or its E lines
+-- where a line stands in a program: among the K lines, or in a rule behind its R or J lines, its H lines, its B lines or its
+-- E lines
 pub data Section : Type 0 where
-  inSymbols inHeads inBody inEquations : Section
+  inSymbols inKept inHeads inBody inEquations : Section
 
--- the section after a line of a form, if it may stand in this section: all K lines come first; in each rule H lines come before
--- B lines, and B lines before E lines
+-- the section after a line of a form, if it may stand in this section: all K lines come first; in each rule J lines come before
+-- H lines, H lines before B lines, and B lines before E lines
 unfoldable pub sectionAfter : Form → Section → Option Section
 sectionAfter symbolForm inSymbols = some inSymbols
+sectionAfter symbolForm inKept = none
 sectionAfter symbolForm inHeads = none
 sectionAfter symbolForm inBody = none
 sectionAfter symbolForm inEquations = none
-sectionAfter ruleForm section = some inHeads
+sectionAfter ruleForm section = some inKept
+sectionAfter keptForm inSymbols = none
+sectionAfter keptForm inKept = some inKept
+sectionAfter keptForm inHeads = none
+sectionAfter keptForm inBody = none
+sectionAfter keptForm inEquations = none
 sectionAfter headForm inSymbols = none
+sectionAfter headForm inKept = some inHeads
 sectionAfter headForm inHeads = some inHeads
 sectionAfter headForm inBody = none
 sectionAfter headForm inEquations = none
 sectionAfter bodyForm inSymbols = none
+sectionAfter bodyForm inKept = some inBody
 sectionAfter bodyForm inHeads = some inBody
 sectionAfter bodyForm inBody = some inBody
 sectionAfter bodyForm inEquations = none
 sectionAfter equationForm inSymbols = none
+sectionAfter equationForm inKept = some inEquations
 sectionAfter equationForm inHeads = some inEquations
 sectionAfter equationForm inBody = some inEquations
 sectionAfter equationForm inEquations = some inEquations
@@ -94,7 +105,7 @@ isRuleFaulty fs = not (eqb (length fs) 2) || not (isName (fieldAt 1 fs))
 unfoldable pub isEquationFaulty : List (List ℕ) → Bool
 isEquationFaulty fs = not (eqb (length fs) 3) || not (every isTerm (drop 1 fs))
 
--- number 4 of an H, B or G line: not two to six fields, a name, terms
+-- number 4 of a J, H, B or G line: not two to six fields, a name, terms
 unfoldable pub isConstraintFaulty : List (List ℕ) → Bool
 isConstraintFaulty fs = not (between 2 6 (length fs)) || not (isName (fieldAt 1 fs)) || not (every isTerm (drop 2 fs))
 
@@ -102,13 +113,13 @@ isConstraintFaulty fs = not (between 2 6 (length fs)) || not (isName (fieldAt 1 
 unfoldable pub symbolNumber : List Symbol → List ℕ → ℕ
 symbolNumber symbols name = indexOf name (map (λ s. s .name) symbols)
 
--- whether the symbol of an H, B or G line was not declared, or the number of terms is not its own
+-- whether the symbol of a J, H, B or G line was not declared, or the number of terms is not its own
 unfoldable pub isUndeclared : List Symbol → List (List ℕ) → Bool
 isUndeclared symbols fs =
     let n = symbolNumber symbols (fieldAt 1 fs) in
     not (ltb n (length symbols)) || not (eqb (length (drop 2 fs)) (symbolAt symbols n .arity))
 
--- the constraint of an H, B or G line
+-- the constraint of a J, H, B or G line
 unfoldable pub constraintOf : List Symbol → (List ℕ → ℕ) → List (List ℕ) → List (List ℕ) → Constraint
 constraintOf symbols variable constants fs =
     record { symbol = symbolNumber symbols (fieldAt 1 fs); terms = map (termOf variable constants) (drop 2 fs) }

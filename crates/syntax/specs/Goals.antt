@@ -12,8 +12,8 @@ use Rattle.text.specs.Lines.{Line, lines, lineIsFaulty}
 use Rattle.text.specs.Fields.{fields, isName}
 use Rattle.semantics.specs.Terms.{Constraint, Symbol, Goal, weight}
 use Rattle.syntax.specs.Answers.{Answer, accepted, refuseIf, andThen}
-use Rattle.syntax.specs.Forms.{Form, symbolForm, ruleForm, headForm, bodyForm, equationForm, goalForm, noForm, formOf}
-use Rattle.syntax.specs.Forms.{fieldAt}
+use Rattle.syntax.specs.Forms.{Form, symbolForm, ruleForm, keptForm, headForm, bodyForm, equationForm, goalForm, noForm}
+use Rattle.syntax.specs.Forms.{formOf, fieldAt}
 use Rattle.syntax.specs.Programs.{maxText, constraintLine}
 
 -- the most constraints of a goal's text, and their greatest weight
@@ -53,6 +53,7 @@ readConstraintOfGoal symbols n fs d =
 unfoldable pub isGoalForm : Form → Bool
 isGoalForm symbolForm = false
 isGoalForm ruleForm = false
+isGoalForm keptForm = false
 isGoalForm headForm = false
 isGoalForm bodyForm = false
 isGoalForm equationForm = false

@@ -1,11 +1,11 @@
 -- Reading a program: what each line means, refusals 1 to 9 in document 01's order, and the limits on every count.
 --   Reading           a program as read, with its constants
 --   Draft, RuleRead   what the lines so far have given; a rule with its R line
---   constraintLine    an H, B or G line: numbers 4, 6 and 7
+--   constraintLine    a J, H, B or G line: numbers 4, 6 and 7
 --   readLine          one line: number 2, then 3 to 7
 --   readProgram       a program's text
 -- Assumes nothing.
-use Prim.Native.Nat.{ℕ, suc}
+use Prim.Native.Nat.{ℕ, suc, _+_}
 use mathlib.Core.Bool.{Bool, _||_}
 use mathlib.Core.List.{List, [], _∷_, _++_, map}
 use lib.Dec.{leb, ltb, eqb}
@@ -13,10 +13,10 @@ use lib.ListN.{length, drop}
 use Rattle.text.specs.Lists.{onward, isKnown}
 use Rattle.text.specs.Lines.{Line, lines, lineIsFaulty}
 use Rattle.text.specs.Fields.{fields, valueOf}
-use Rattle.semantics.specs.Terms.{Term, Constraint, Equation, Symbol, Rule, Program, weight}
+use Rattle.semantics.specs.Terms.{Term, Constraint, Equation, Symbol, Rule, Program, removedHeads, weight}
 use Rattle.syntax.specs.Answers.{Answer, refused, accepted, refuseIf, andThen}
-use Rattle.syntax.specs.Forms.{Form, symbolForm, ruleForm, headForm, bodyForm, equationForm, goalForm, noForm, formOf}
-use Rattle.syntax.specs.Forms.{Section, inSymbols, sectionAfter, fieldAt, constantsAfter, termOf, letterNumber}
+use Rattle.syntax.specs.Forms.{Form, symbolForm, ruleForm, keptForm, headForm, bodyForm, equationForm, goalForm, noForm}
+use Rattle.syntax.specs.Forms.{formOf, Section, inSymbols, sectionAfter, fieldAt, constantsAfter, termOf, letterNumber}
 use Rattle.syntax.specs.Forms.{isSymbolFaulty, isRuleFaulty, isEquationFaulty, isConstraintFaulty}
 use Rattle.syntax.specs.Forms.{isUndeclared, constraintOf}
 
@@ -53,7 +53,7 @@ pub record RuleRead : Type 0 where
   pub line : ℕ
 
 -- what the lines so far have given: the section of the last one, the symbols, the rules and the constants. The last rule is the
--- one that H, B and E lines add to
+-- one that J, H, B and E lines add to
 pub record Draft : Type 0 where
   pub section : Section
   pub symbols : List Symbol
@@ -74,21 +74,35 @@ onLast f [] = []
 onLast f (r ∷ []) = record { rule = f (r .rule); line = r .line } ∷ []
 onLast f (r ∷ q ∷ rs) = r ∷ onLast f (q ∷ rs)
 
--- the rule that H, B and E lines add to
+-- the rule that J, H, B and E lines add to
 unfoldable pub lastRule : List RuleRead → Rule
-lastRule [] = record { name = []; heads = []; body = []; equations = [] }
+lastRule [] = record { name = []; kept = 0; heads = []; body = []; equations = [] }
 lastRule (r ∷ []) = r .rule
 lastRule (r ∷ q ∷ rs) = lastRule (q ∷ rs)
 
--- a rule with one more head, one more constraint of the body, one more equation
+-- a rule with one more kept head (all heads before it are kept: J lines come before H lines), one more head that is removed, one
+-- more constraint of the body, one more equation
+unfoldable pub withKept : Constraint → Rule → Rule
+withKept c r =
+    record {
+      name = r .name;
+      kept = r .kept + 1;
+      heads = r .heads ++ (c ∷ []);
+      body = r .body;
+      equations = r .equations;
+    }
+
 unfoldable pub withHead : Constraint → Rule → Rule
-withHead c r = record { name = r .name; heads = r .heads ++ (c ∷ []); body = r .body; equations = r .equations }
+withHead c r =
+    record { name = r .name; kept = r .kept; heads = r .heads ++ (c ∷ []); body = r .body; equations = r .equations }
 
 unfoldable pub withBody : Constraint → Rule → Rule
-withBody c r = record { name = r .name; heads = r .heads; body = r .body ++ (c ∷ []); equations = r .equations }
+withBody c r =
+    record { name = r .name; kept = r .kept; heads = r .heads; body = r .body ++ (c ∷ []); equations = r .equations }
 
 unfoldable pub withEquation : Equation → Rule → Rule
-withEquation e r = record { name = r .name; heads = r .heads; body = r .body; equations = r .equations ++ (e ∷ []) }
+withEquation e r =
+    record { name = r .name; kept = r .kept; heads = r .heads; body = r .body; equations = r .equations ++ (e ∷ []) }
 
 -- a K line at line n
 unfoldable pub readSymbol : ℕ → List (List ℕ) → Draft → Answer Draft
@@ -116,7 +130,8 @@ readRule n fs d =
     (record {
       section = d .section;
       symbols = d .symbols;
-      rules = d .rules ++ (record { rule = record { name = name; heads = []; body = []; equations = [] }; line = n } ∷ []);
+      rules =
+          d .rules ++ (record { rule = record { name = name; kept = 0; heads = []; body = []; equations = [] }; line = n } ∷ []);
       constants = d .constants;
     }))))
 
@@ -125,7 +140,7 @@ pub record Found : Type 0 where
   pub constraint : Constraint
   pub constants : List (List ℕ)
 
--- an H, B or G line at line n, over the constants before it; `full` says that there are as many as there may be
+-- a J, H, B or G line at line n, over the constants before it; `full` says that there are as many as there may be
 unfoldable pub constraintLine : Bool → List Symbol → (List ℕ → ℕ) → List (List ℕ) → ℕ → List (List ℕ) → Answer Found
 constraintLine full symbols variable constants n fs =
     let after = constantsAfter (drop 2 fs) constants in
@@ -139,7 +154,7 @@ unfoldable pub withRule : (Rule → Rule) → List (List ℕ) → Draft → Draf
 withRule change constants d =
     record { section = d .section; symbols = d .symbols; rules = onLast change (d .rules); constants = constants }
 
--- an H or B line at line n, of which the last rule has `count` and may have `most`
+-- a J, H or B line at line n, of which the last rule has `count` and may have `most`
 unfoldable pub readConstraint : ℕ → ℕ → (Constraint → Rule → Rule) → ℕ → List (List ℕ) → Draft → Answer Draft
 readConstraint count most add n fs d =
     andThen (constraintLine (leb most count) (d .symbols) letterNumber (d .constants) n fs)
@@ -158,6 +173,7 @@ readEquation n fs d =
 unfoldable pub readForm : Form → ℕ → List (List ℕ) → Draft → Answer Draft
 readForm symbolForm n fs d = readSymbol n fs d
 readForm ruleForm n fs d = readRule n fs d
+readForm keptForm n fs d = readConstraint (length (lastRule (d .rules) .heads)) maxHeads withKept n fs d
 readForm headForm n fs d = readConstraint (length (lastRule (d .rules) .heads)) maxHeads withHead n fs d
 readForm bodyForm n fs d = readConstraint (length (lastRule (d .rules) .body)) maxBody withBody n fs d
 readForm equationForm n fs d = readEquation n fs d
@@ -184,8 +200,8 @@ unfoldable pub checkRules : {A : Type 0} → List Symbol → List RuleRead → A
 checkRules symbols [] otherwise = otherwise
 checkRules symbols (r ∷ rs) otherwise =
     let more = checkRules symbols rs otherwise in
-    refuseIf (eqb (length (r .rule .heads)) 0) 8 (r .line)
-    (refuseIf (leb (weight symbols (r .rule .heads)) (weight symbols (r .rule .body))) 9 (r .line) more)
+    refuseIf (eqb (length (removedHeads (r .rule))) 0) 8 (r .line)
+    (refuseIf (leb (weight symbols (removedHeads (r .rule))) (weight symbols (r .rule .body))) 9 (r .line) more)
 
 -- a program's text: number 1, its lines in order, then its rules in order
 unfoldable pub readProgram : List ℕ → Answer Reading

@@ -34,11 +34,14 @@ constraintSize = 5
 abbrev pub symbolSize : ℕ
 symbolSize = 2
 
--- the cells of a rule's row; its first two are free
+-- the cells of a rule's row; its first is free
 abbrev pub rowSize : ℕ
 rowSize = 64
 
--- where a row holds its R line, and how many heads, constraints of the body and equations the rule has
+-- where a row holds how many heads are kept, its R line, and how many heads, constraints of the body and equations the rule has
+abbrev pub keptCell : ℕ
+keptCell = 1
+
 abbrev pub lineCell : ℕ
 lineCell = 2
 

@@ -12,7 +12,7 @@ use Rattle.text.specs.Lists.{tabled}
 use Rattle.text.specs.Keys.{spell}
 use Rattle.semantics.specs.Terms.{Symbol, Rule}
 use Rattle.syntax.specs.Forms.{firstConstant}
-use Rattle.tables.specs.Layout.{firstRule, constraintSize, symbolSize, rowSize}
+use Rattle.tables.specs.Layout.{firstRule, constraintSize, symbolSize, rowSize, keptCell}
 use Rattle.tables.specs.Layout.{lineCell, headsCell, bodyCell, equationsCell, firstHead, firstBody, firstEquation}
 use Rattle.tables.specs.Cells.{cellConstraints, cellEquations}
 
@@ -37,11 +37,13 @@ symbolsOf names symbols n = tabled (symbolOf names symbols) n
 unfoldable pub constantsOf : List ℕ → ℕ → List (List ℕ)
 constantsOf names n = tabled (λ i. nameOf names (firstConstant + i)) n
 
--- a rule from its name and its row: how many heads, constraints of the body and equations it has, and their cells
+-- a rule from its name and its row: how many of its heads are kept; how many heads, constraints of the body and equations it has,
+-- and their cells
 unfoldable pub ruleOfRow : List ℕ → List ℕ → Rule
 ruleOfRow name row =
     record {
       name = name;
+      kept = getD row keptCell 0;
       heads = cellConstraints (take (constraintSize * getD row headsCell 0) (drop firstHead row));
       body = cellConstraints (take (constraintSize * getD row bodyCell 0) (drop firstBody row));
       equations = cellEquations (take (2 * getD row equationsCell 0) (drop firstEquation row));

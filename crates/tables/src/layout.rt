@@ -24,7 +24,9 @@ pub const SYMBOL_SIZE: usize = 2;
 
 pub const ROW_SIZE: usize = 64;
 
-// Where a row holds its R line, its three counts, and its heads, body and equations.
+// Where a row holds how many heads are kept, its R line, its three counts, and its heads, body and equations.
+pub const KEPT_CELL: usize = 1;
+
 pub const LINE_CELL: usize = 2;
 
 pub const HEADS_CELL: usize = 3;

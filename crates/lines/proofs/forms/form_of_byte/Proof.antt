@@ -1,11 +1,19 @@
 -- `lines::forms::form_of_byte` meets its contract, at each letter and at all other bytes. Assumes nothing.
-use mathlib.Core.Path.{sym}
+use mathlib.Core.Path.{_≡_, sym}
 use mathlib.Core.Logic.{⊎-elim}
-use Rattle.syntax.specs.Forms.{formOfByte}
+use Prim.Native.Nat.{ℕ}
+use Rattle.syntax.specs.Forms.{noForm, formOfByte}
 use Rattle.lines.specs.Read.{formMeant}
 use Rattle.lines.proofs.Letters.{form-none}
 use Rattle.lines.proofs.forms.form_of_byte.Statement.{statement}
 use Rattle.lines.proofs.forms.form_of_byte.Tie as tie
+
+-- a byte that is none of the letters, as the match tells it
+other : (b : ℕ)
+    → (((((((Unit {0} × (b ≡ 75 → ⊥)) × (b ≡ 82 → ⊥)) × (b ≡ 74 → ⊥)) × (b ≡ 72 → ⊥)) × (b ≡ 66 → ⊥)) × (b ≡ 69 → ⊥))
+    × (b ≡ 71 → ⊥))
+    → noForm ≡ formOfByte b
+other b (((((((_, k), r), j), h), o), e), g) = sym (form-none b k r j h o e g)
 
 returns : tie.Need-returns
 unfolding formOfByte formMeant
@@ -32,50 +40,32 @@ unfolding formOfByte formMeant
 returns-6 c = rw ((c .match) .keys6)
 
 returns-7 : tie.Need-returns-7
-unfolding formMeant
-returns-7 c =
-    let args′ = c .before .before .before .before .before .args in
-    let match′ = c .before .before .before .before .match in
-    sym (form-none (args′ .b) (match′ .rest .0 .0 .0 .0 .0 .0 .1) (match′ .rest .0 .0 .0 .0 .0 .1) (match′ .rest .0 .0 .0 .0 .1)
-    (match′ .rest .0 .0 .0 .1)
-    (match′ .rest .0 .0 .1) (match′ .rest .0 .1))
+unfolding formOfByte formMeant
+returns-7 c = rw ((c .match) .keys7)
 
 returns-8 : tie.Need-returns-8
 unfolding formMeant
-returns-8 c =
-    let match′ = c .before .match in
-    sym (form-none ((c .before .before .args) .b) (match′ .rest .0 .0 .0 .0 .0 .0 .1) (match′ .rest .0 .0 .0 .0 .0 .1)
-    (match′ .rest .0 .0 .0 .0 .1) (match′ .rest .0 .0 .0 .1)
-    (match′ .rest .0 .0 .1) (match′ .rest .0 .1))
+returns-8 c = other (c .before .before .before .before .before .args .b) (c .before .before .before .before .match .rest .0)
 
 returns-9 : tie.Need-returns-9
 unfolding formMeant
-returns-9 c =
-    let match′ = c .before .before .before .match in
-    sym (form-none ((c .before .before .before .before .args) .b) (match′ .rest .0 .0 .0 .0 .0 .0 .1)
-    (match′ .rest .0 .0 .0 .0 .0 .1) (match′ .rest .0 .0 .0 .0 .1) (match′ .rest .0 .0 .0 .1)
-    (match′ .rest .0 .0 .1) (match′ .rest .0 .1))
+returns-9 c = other (c .before .before .args .b) (c .before .match .rest .0)
 
 returns-10 : tie.Need-returns-10
 unfolding formMeant
-returns-10 c =
-    let args′ = c .before .before .before .before .before .args in
-    let match′ = c .before .before .before .before .match in
-    sym (form-none (args′ .b) (match′ .rest .0 .0 .0 .0 .0 .0 .1) (match′ .rest .0 .0 .0 .0 .0 .1) (match′ .rest .0 .0 .0 .0 .1)
-    (match′ .rest .0 .0 .0 .1)
-    (match′ .rest .0 .0 .1) (match′ .rest .0 .1))
+returns-10 c = other (c .before .before .before .before .args .b) (c .before .before .before .match .rest .0)
 
 returns-11 : tie.Need-returns-11
-unfolding formOfByte formMeant
-returns-11 c = ⊎-elim (λ e. rw e) (λ e. rw e) ((c .match) .keys7)
+unfolding formMeant
+returns-11 c = other (c .before .before .before .before .before .args .b) (c .before .before .before .before .match .rest .0)
 
 returns-12 : tie.Need-returns-12
+unfolding formOfByte formMeant
+returns-12 c = ⊎-elim (λ e. rw e) (⊎-elim (λ e. rw e) (λ e. rw e)) ((c .match) .keys8)
+
+returns-13 : tie.Need-returns-13
 unfolding formMeant
-returns-12 c =
-    let match′ = c .before .before .match in
-    sym (form-none ((c .before .before .before .args) .b) (match′ .rest .0 .0 .0 .0 .0 .0 .1) (match′ .rest .0 .0 .0 .0 .0 .1)
-    (match′ .rest .0 .0 .0 .0 .1) (match′ .rest .0 .0 .0 .1)
-    (match′ .rest .0 .0 .1) (match′ .rest .0 .1))
+returns-13 c = other (c .before .before .before .args .b) (c .before .before .match .rest .0)
 
 pub form-of-byte-spec : {M : Type 1} → statement M
 form-of-byte-spec =
@@ -92,4 +82,5 @@ form-of-byte-spec =
     returns-9
     returns-10
     returns-11
-    returns-12)
+    returns-12
+    returns-13)
