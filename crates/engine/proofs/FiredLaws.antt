@@ -12,7 +12,7 @@ use mathlib.Core.Option.{Option, none, some}
 use mathlib.Core.Path.{_≡_, refl, ap, _∙_}
 use lib.ListN.{length, getD, take, length-append, length-map}
 use Rattle.text.specs.Lists.{every}
-use Rattle.semantics.specs.Terms.{Term, Constraint, live, mapTerms, mapSides}
+use Rattle.semantics.specs.Terms.{Term, Constraint, live, mapTerms, mapSides, removedHeads}
 use Rattle.semantics.specs.Matching.{unassigned, matchAt}
 use Rattle.semantics.specs.Solving.{solve}
 use Rattle.semantics.specs.Firing.{without, instance, settle, fired}
@@ -22,11 +22,10 @@ use Rattle.search.specs.Cells.{assigned}
 use Rattle.search.specs.Positions.{Row}
 use Rattle.engine.specs.States.{Fired}
 use Rattle.engine.specs.Runs.{weightBy, storeOf}
-use Rattle.semantics.proofs.Removal.{without-none}
 use Rattle.tables.proofs.MapLaws.{low-kept}
-use Rattle.engine.proofs.RuleLaws.{every-append, low-without, low-body}
+use Rattle.engine.proofs.RuleLaws.{removedAt, every-append, low-without, low-body}
 use Rattle.engine.proofs.SolveLaws.{map-none}
-use Rattle.engine.proofs.WeightLaws.{weight-append, weight-map, match-lighter}
+use Rattle.engine.proofs.WeightLaws.{weight-append, weight-map, match-removed}
 
 -- the constraints of a state that lives after its equations
 record Settled (cells : List Constraint) (cs : List Constraint) : Type 0 where
@@ -51,11 +50,11 @@ module _ (row ps b : List ℕ) (next : ℕ) (bound cells : List ℕ) (m : ℕ) (
   -- the constraints before the equations
   before : List Constraint
   before =
-      without 0 (take (getD row 3 0) ps) (storeOf cells m) ++ map (mapTerms (instance next (assigned b)))
+      without 0 (removedAt row ps) (storeOf cells m) ++ map (mapTerms (instance next (assigned b)))
       (ruleOfRow [] row .body)
 
   after : alive ≡ true → Settled (storeOf cells′ count) before
-  unfolding fired stateOf before storeOf
+  unfolding fired stateOf before storeOf ruleOfRow
   after y =
       settled (solve (map (mapSides (instance next (assigned b))) (ruleOfRow [] row .equations)) (λ t. t))
       (next + 26) _ _ _ _ _
@@ -65,9 +64,9 @@ module _ (row ps b : List ℕ) (next : ℕ) (bound cells : List ℕ) (m : ℕ) (
   pub fired-plain :
       alive ≡ true → ruleOfRow [] row .equations ≡ []
       → storeOf cells′ count
-      ≡ without 0 (take (getD row 3 0) ps) (storeOf cells m) ++ map (mapTerms (instance next (assigned b)))
+      ≡ without 0 (removedAt row ps) (storeOf cells m) ++ map (mapTerms (instance next (assigned b)))
       (ruleOfRow [] row .body)
-  unfolding fired stateOf storeOf solve settle
+  unfolding fired stateOf storeOf solve settle ruleOfRow
   fired-plain y e =
       let same = rw (y, e) at (done .same []) in
       settled-plain (next + 26) _ _ _ _ _ same
@@ -75,24 +74,24 @@ module _ (row ps b : List ℕ) (next : ℕ) (bound cells : List ℕ) (m : ℕ) (
   -- equations remove no constraint
   pub fired-length :
       alive ≡ true
-      → length (storeOf cells′ count) ≡ length (without 0 (take (getD row 3 0) ps) (storeOf cells m)) + length
+      → length (storeOf cells′ count) ≡ length (without 0 (removedAt row ps) (storeOf cells m)) + length
       (ruleOfRow [] row .body)
   unfolding before
   fired-length y =
       ap length (after y .same) ∙ length-map before (mapTerms (after y .solution))
-      ∙ length-append (without 0 (take (getD row 3 0) ps) (storeOf cells m)) _
+      ∙ length-append (without 0 (removedAt row ps) (storeOf cells m)) _
       ∙ rw (length-map (ruleOfRow [] row .body) (mapTerms (instance next (assigned b))))
 
   module _ (w : ℕ → ℕ)
       (fits : matchAt (ruleOfRow [] row .heads) (take (getD row 3 0) ps) (storeOf cells m) [] unassigned ≡ some (assigned b))
-      (lowers : weightBy w (ruleOfRow [] row .body) < weightBy w (ruleOfRow [] row .heads)) where
-    -- the heads and what is left weigh as much as all
+      (lowers : weightBy w (ruleOfRow [] row .body) < weightBy w (removedHeads (ruleOfRow [] row))) where
+    -- the heads that are removed and what is left weigh as much as all
     weighs :
-        weightBy w (without 0 (take (getD row 3 0) ps) (storeOf cells m)) + weightBy w (ruleOfRow [] row .heads)
+        weightBy w (without 0 (removedAt row ps) (storeOf cells m)) + weightBy w (removedHeads (ruleOfRow [] row))
         ≡ weightBy w (storeOf cells m)
+    unfolding removedHeads ruleOfRow
     weighs =
-        match-lighter w (ruleOfRow [] row .heads) (take (getD row 3 0) ps) (storeOf cells m) [] unassigned (assigned b) fits
-        ∙ ap (weightBy w) (without-none 0 (storeOf cells m))
+        match-removed w (getD row 1 0) (ruleOfRow [] row .heads) (take (getD row 3 0) ps) (storeOf cells m) (assigned b) fits
 
     falls :
         (r : Bool) → (r ≡ true → Settled (storeOf cells′ count) before)
@@ -103,9 +102,9 @@ module _ (row ps b : List ℕ) (next : ℕ) (bound cells : List ℕ) (m : ℕ) (
         let k : weightBy w (storeOf cells′ count) ≡ weightBy w before =
         ap (weightBy w) (g refl .same) ∙ weight-map w (g refl .solution) before in
         let a : weightBy w before
-        ≡ weightBy w (without 0 (take (getD row 3 0) ps) (storeOf cells m))
+        ≡ weightBy w (without 0 (removedAt row ps) (storeOf cells m))
         + weightBy w (map (mapTerms (instance next (assigned b))) (ruleOfRow [] row .body)) =
-        weight-append w (without 0 (take (getD row 3 0) ps) (storeOf cells m)) _ in
+        weight-append w (without 0 (removedAt row ps) (storeOf cells m)) _ in
         omega (arith, weighs, lowers, k, a, weight-map w (instance next (assigned b)) (ruleOfRow [] row .body))
 
     pub fired-lighter : cond alive (weightBy w (storeOf cells′ count)) 0 < weightBy w (storeOf cells m)
@@ -116,7 +115,7 @@ module _ (row ps b : List ℕ) (next : ℕ) (bound cells : List ℕ) (m : ℕ) (
   unfolding before
   fired-low given low y =
       rw (after y .same) (low-kept (after y .solution) before
-      ∙ every-append isLow (without 0 (take (getD row 3 0) ps) (storeOf cells m))
+      ∙ every-append isLow (without 0 (removedAt row ps) (storeOf cells m))
       (map (mapTerms (instance next (assigned b))) (ruleOfRow [] row .body))
-      (low-without 0 (take (getD row 3 0) ps) (storeOf cells m) low)
+      (low-without 0 (removedAt row ps) (storeOf cells m) low)
       (low-kept (instance next (assigned b)) (ruleOfRow [] row .body) ∙ low-body (ruleOfRow [] row .body) (given .body)))

@@ -14,7 +14,7 @@ use mathlib.Core.List.{List, [], _∷_, _++_, append-nil}
 use mathlib.Core.Logic.{⊎-elim}
 use mathlib.Core.Path.{_≡_, refl, ap, sym, _∙_}
 use lib.ListN.{length, getD, set, take, drop, length-append, length-drop, drop-of-length-le}
-use lib.Seq.{paste, take-paste, take-suc, drop-at, length-take-le}
+use lib.Seq.{paste, take-paste, take-suc, take-all, drop-at, length-take-le}
 use Rattle.text.specs.Lists.{has, upTo}
 use Rattle.semantics.specs.Terms.{Constraint}
 use Rattle.semantics.specs.Firing.{without}
@@ -25,7 +25,7 @@ use Rattle.engine.specs.States.{Equated, Fires, Fired, Skips, Placed}
 use Rattle.engine.proofs.FireLaws.{Moving, moving-next, moving-end}
 use Rattle.search.proofs.PartLaws.{drop-constraints, behind, behind-all}
 use Rattle.engine.proofs.GapLaws.{drop-part}
-use Rattle.engine.proofs.RuleLaws.{fires-equated, kept-equated, kept-fired}
+use Rattle.engine.proofs.RuleLaws.{removedAt, removed-size, removed-lent, fires-equated, left-equated, left-fired}
 
 -- all cells when those from a place on have come back
 abbrev pub returned : ℕ → List ℕ → List ℕ → List ℕ
@@ -81,42 +81,59 @@ without-front : (n : ℕ) (cs : List Constraint) → n ≤ length cs → without
 without-front n cs l =
     without-next n 0 (upTo n) cs (λ q h. has-below q n (omega arith)) (λ q h. has-above q n (omega arith)) l
 
--- the first i of n positions are 0, 1 and on
-pub record Leading (positions : List ℕ) (n i : ℕ) : Type 0 where
-  pub within : i ≤ n
+-- the first i positions are 0, 1 and on
+pub record Leading (positions : List ℕ) (i : ℕ) : Type 0 where
+  pub within : i ≤ length positions
   pub same : take i positions ≡ upTo i
 
-pub leading-start : (positions : List ℕ) (n : ℕ) → Leading positions n 0
-leading-start positions n = record { within = omega arith; same = refl }
+pub leading-start : (positions : List ℕ) → Leading positions 0
+leading-start positions = record { within = omega arith; same = refl }
 
-module _ (positions : List ℕ) (n i : ℕ) (w : Leading positions n i) where
-  pub leading-next : n ≤ 4 → length positions ≡ 4 → i < n → getD positions i 0 ≡ i → Leading positions n (i + 1)
-  leading-next few size l e =
+module _ (positions : List ℕ) (i : ℕ) (w : Leading positions i) where
+  pub leading-next : i < length positions → getD positions i 0 ≡ i → Leading positions (i + 1)
+  leading-next l e =
       rw (add-one i) (record {
         within = l;
-        same = rw (take-suc positions i 0 (omega arith), w .same, e);
+        same = rw (take-suc positions i 0 l, w .same, e);
       })
 
-  pub leading-end : n ≤ i → true ≡ true → take n positions ≡ upTo n
-  leading-end l y = let e : i ≡ n = omega (arith, w .within) in rw e at (w .same)
+  pub leading-end : length positions ≤ i → true ≡ true → positions ≡ upTo (length positions)
+  leading-end l y =
+      let e : i ≡ length positions = omega (arith, w .within) in sym (take-all i positions l) ∙ w .same ∙ ap upTo e
 
 module _ (row positions bindings : List ℕ) (next : ℕ) (cells : List ℕ) (m : ℕ) (f : Fires row positions bindings next cells m)
-    (there : getD row 3 0 ≤ m) (w : ℕ) (z : w ≡ getD row 3 0) where
-  pub front-asks : (w ≤ 4) × (length positions ≡ 4)
-  front-asks = (omega (arith, f .given .heads-few), f .positions-size)
+    (there : getD row 3 0 ≤ m) (h k : ℕ) (heads : h ≡ getD row 3 0) (kept : k ≡ getD row 1 0) where
+  -- how many constraints are removed
+  abbrev w : ℕ
+  w = h - k
 
-  module _ (front : take w positions ≡ upTo w) where
-    -- the rows behind the first w
+  pub front-few : w ≤ m
+  front-few = omega arith
+
+  -- no more heads are kept than there are
+  pub front-kept : k ≤ h
+  front-kept = omega (arith, f .given .kept-few)
+
+  module _ (lent : behind k (take h positions) ≡ upTo (length (behind k (take h positions)))) where
+    -- they are the first
+    front : removedAt row positions ≡ upTo (h - k)
+    front =
+        let part = removed-lent row positions h k heads kept in
+        let size : length (behind k (take h positions)) ≡ h - k =
+        ap length part ∙ removed-size row positions (f .given) (f .positions-size) ∙ omega arith in
+        sym part ∙ lent ∙ ap upTo size
+
+    -- the rows behind them
     front-same :
         cellConstraints (take (5 * (m - w)) (drop (5 * w) cells))
-        ≡ without 0 (take (getD row 3 0) positions) (cellConstraints (take (5 * m) cells))
+        ≡ without 0 (removedAt row positions) (cellConstraints (take (5 * m) cells))
     front-same =
         let all : 5 * w + 5 * (m - w) ≡ 5 * m = omega arith in
         let part : drop (5 * w) (take (5 * m) cells) ≡ take (5 * (m - w)) (drop (5 * w) cells) =
         rw all at (drop-part (5 * w) (5 * (m - w)) cells (omega (arith, f .space))) in
         let size : length (cellConstraints (take (5 * m) cells)) ≡ m =
         constraints-length m (take (5 * m) cells) (length-take-le (5 * m) cells (omega (arith, f .space))) in
-        rw (← part, drop-constraints w (take (5 * m) cells), ← z, front)
+        rw (← part, drop-constraints w (take (5 * m) cells), front)
         (sym (without-front w (cellConstraints (take (5 * m) cells)) (omega arith)))
 
     -- what the rest of the firing asks
@@ -124,7 +141,7 @@ module _ (row positions bindings : List ℕ) (next : ℕ) (cells : List ℕ) (m 
         × (5 * (m - w) + 30 ≤ length (behind (5 * w) cells))
     front-completes =
         rw (behind-all (5 * w) cells) (
-          kept-equated row positions bindings next cells m (drop (5 * w) cells) (m - w) (omega arith) front-same
+          left-equated row positions bindings next cells m (drop (5 * w) cells) (m - w) (omega arith) front-same
               (fires-equated row positions bindings next cells m f),
           omega (arith, f .space, length-drop (5 * w) cells),
         )
@@ -134,7 +151,7 @@ module _ (row positions bindings : List ℕ) (next : ℕ) (cells : List ℕ) (m 
       pub front-done : Fired row positions bindings next bound cells m b (drop (5 * w) (returned (5 * w) cells c)) alive n
       front-done =
           rw (returned-part (5 * w) cells c (omega (arith, f .space)))
-          (kept-fired row positions bindings next cells m (drop (5 * w) cells) (m - w) (omega arith) front-same
+          (left-fired row positions bindings next cells m (drop (5 * w) cells) (m - w) (omega arith) front-same
           bound b c alive n (rw (behind-all (5 * w) cells) at done))
 
       pub front-skips : Skips m w n

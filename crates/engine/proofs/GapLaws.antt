@@ -54,12 +54,12 @@ module _ (k p : ℕ) (start : List ℕ) (l : p < k) (fits : 5 * k ≤ length sta
         (omega (arith, w .here))
 
 -- a highest position of the first i
-pub record Topping (positions : List ℕ) (n p top i : ℕ) : Type 0 where
-  pub within : i ≤ n
+pub record Topping (positions : List ℕ) (p top i : ℕ) : Type 0 where
+  pub within : i ≤ length positions
   pub same : Highest (take i positions) p top
 
-pub topping-start : (positions : List ℕ) (n p : ℕ) → Topping positions n p 0 0
-topping-start positions n p =
+pub topping-start : (positions : List ℕ) (p : ℕ) → Topping positions p 0 0
+topping-start positions p =
     record {
       within = omega arith;
       same = record {
@@ -70,14 +70,13 @@ topping-start positions n p =
       };
     }
 
-module _ (positions : List ℕ) (n p top i : ℕ) (few : n ≤ 4) (size : length positions ≡ 4) (w : Topping positions n p top i)
-    (l : i < n) where
+module _ (positions : List ℕ) (p top i : ℕ) (w : Topping positions p top i) (l : i < length positions) where
   one-more : take (suc i) positions ≡ take i positions ++ (getD positions i 0 ∷ [])
   one-more = take-suc positions i 0 (omega arith)
 
   -- it lies below p, and higher
   pub topping-higher : getD positions i 0 < p → top ≤ getD positions i 0
-      → Topping positions n p (getD positions i 0 + 1) (i + 1)
+      → Topping positions p (getD positions i 0 + 1) (i + 1)
   topping-higher h k =
       let same : getD positions i 0 + 1 - 1 ≡ getD positions i 0 = omega arith in
       rw (add-one i) (record {
@@ -91,7 +90,7 @@ module _ (positions : List ℕ) (n p top i : ℕ) (few : n ≤ 4) (size : length
       })
 
   -- it changes nothing
-  other : ((q : ℕ) → top ≤ q → q < p → q ≡ getD positions i 0 → ⊥) → Topping positions n p top (i + 1)
+  other : ((q : ℕ) → top ≤ q → q < p → q ≡ getD positions i 0 → ⊥) → Topping positions p top (i + 1)
   other f =
       rw (add-one i) (record {
         within = l;
@@ -103,14 +102,14 @@ module _ (positions : List ℕ) (n p top i : ℕ) (few : n ≤ 4) (size : length
         });
       })
 
-  pub topping-lower : getD positions i 0 < top → Topping positions n p top (i + 1)
+  pub topping-lower : getD positions i 0 < top → Topping positions p top (i + 1)
   topping-lower k = other (λ q a b e. omega arith)
 
-  pub topping-behind : p ≤ getD positions i 0 → Topping positions n p top (i + 1)
+  pub topping-behind : p ≤ getD positions i 0 → Topping positions p top (i + 1)
   topping-behind k = other (λ q a b e. omega arith)
 
-pub topping-end : (positions : List ℕ) (n p top i : ℕ) → Topping positions n p top i → n ≤ i → Highest (take n positions) p top
-topping-end positions n p top i w h = let e : i ≡ n = omega (arith, w .within) in rw e at (w .same)
+pub topping-end : (positions : List ℕ) (p top i : ℕ) → Topping positions p top i → length positions ≤ i → Highest positions p top
+topping-end positions p top i w h = rw (take-all i positions h) at (w .same)
 
 -- part of a part
 pub drop-part : (a n : ℕ) (l : List ℕ) → a + n ≤ length l → drop a (take (a + n) l) ≡ take n (drop a l)

@@ -31,6 +31,7 @@ use Rattle.semantics.specs.Terms.{
   noSymbol,
   symbolAt,
   weight,
+  removedHeads,
 }
 use Rattle.semantics.specs.Terms.{isDeclared, isBelow, isGoalOf, alphabet, isOfRule, isRuleOf, isWellFormed}
 use Rattle.semantics.specs.Strategy.{goalState, run}
@@ -53,14 +54,15 @@ isUsed (var x) = true
 unfoldable pub programOf : List ℕ → List ℕ → ℕ → List ℕ → ℕ → Program
 programOf names symbols s rules n = record { symbols = symbolsOf names symbols s; rules = rulesOf names rules n }
 
--- what the reading of a program promises: it is well formed, its heads and bodies are within a row's room, its weights are
--- positive, and its constants not 0
+-- what the reading of a program promises: it is well formed, its heads and bodies are within a row's room, it keeps no more
+-- heads than there are, its weights are positive, and its constants not 0
 pub record AsRead (names symbols : List ℕ) (s : ℕ) (rules : List ℕ) (n : ℕ) : Type 0 where
   pub well-formed : isWellFormed (programOf names symbols s rules n) ≡ true
   pub few-symbols : s ≤ 32
   pub heavy : (k : ℕ) → k < s → 1 ≤ getD symbols (2 * k + 1) 0
   pub size : 64 * n ≤ length rules
   pub heads-few : (i : ℕ) → i < n → getD (rowOf rules i) 3 0 ≤ 4
+  pub kept-few : (i : ℕ) → i < n → getD (rowOf rules i) 1 0 ≤ getD (rowOf rules i) 3 0
   pub body-few : (i : ℕ) → i < n → getD (rowOf rules i) 4 0 ≤ 6
   pub used :
       (i : ℕ) → i < n
@@ -78,6 +80,12 @@ every-weaker : {A : Type 0} (t u : A → Bool) (l : List A) → ((x : A) → t x
 every-weaker t u [] f h = refl
 every-weaker t u (x ∷ l) f h =
     rw (f x (and-true (t x) (every t l) h .0), every-weaker t u l f (and-true (t x) (every t l) h .1))
+
+-- the later elements
+every-drop : {A : Type 0} (t : A → Bool) (k : ℕ) (l : List A) → every t l ≡ true → every t (drop k l) ≡ true
+every-drop t zero l h = h
+every-drop t (suc k) [] h = refl
+every-drop t (suc k) (x ∷ l) h = every-drop t k l (and-true (t x) (every t l) h .1)
 
 -- two tests, one after the other
 every-both :
@@ -109,7 +117,7 @@ rule-stands names rules n i l =
 pub well-formed-lowers :
     (p : Program) (names rules : List ℕ) (n : ℕ) → p .rules ≡ rulesOf names rules n → isWellFormed p ≡ true
     → Lowers (λ k. symbolAt (p .symbols) k .weight) rules n
-unfolding weight weightBy ruleOf ruleOfRow
+unfolding weight weightBy ruleOf ruleOfRow removedHeads
 well-formed-lowers p names rules n e w =
     record { falls = λ i l. rule-lowers p i (ruleOf names rules i) w (rw e (rule-stands names rules n i l)) }
 
@@ -170,6 +178,10 @@ module _ (names symbols : List ℕ) (s : ℕ) (rules : List ℕ) (n : ℕ) (r : 
     abbrev hs : List Constraint
     hs = ruleOfRow [] row .heads
 
+    -- those that are removed
+    abbrev rs : List Constraint
+    rs = removedHeads (ruleOfRow [] row)
+
     abbrev bs : List Constraint
     bs = ruleOfRow [] row .body
 
@@ -185,14 +197,14 @@ module _ (names symbols : List ℕ) (s : ℕ) (rules : List ℕ) (n : ℕ) (r : 
     -- what its being well formed says, part by part
     parts :
         (every ofRule hs ≡ true) × (every ofRule bs ≡ true) × (every below es ≡ true)
-        × (weight declaredTable bs < weight declaredTable hs)
-    unfolding isRuleOf ruleOfRow
+        × (weight declaredTable bs < weight declaredTable rs)
+    unfolding isRuleOf ruleOfRow removedHeads
     parts =
-        let light = ltb (weight declaredTable bs) (weight declaredTable hs) in
+        let light = ltb (weight declaredTable bs) (weight declaredTable rs) in
         let three = and-true (every ofRule hs && every ofRule bs && every below es) light rule-of in
         let two = and-true (every ofRule hs && every ofRule bs) (every below es) (three .0) in
         let one = and-true (every ofRule hs) (every ofRule bs) (two .0) in
-        (one .0, one .1, two .1, ltb-true (weight declaredTable bs) (weight declaredTable hs) (three .1))
+        (one .0, one .1, two .1, ltb-true (weight declaredTable bs) (weight declaredTable rs) (three .1))
 
     of-rule : (c : Constraint) → isOfRule declaredTable c ≡ true → (isDeclared declaredTable c ≡ true) × (isLettered c ≡ true)
     unfolding isOfRule isLettered
@@ -214,6 +226,7 @@ module _ (names symbols : List ℕ) (s : ℕ) (rules : List ℕ) (n : ℕ) (r : 
         record {
           size = length-take-le 64 (drop (64 * i) rules) (omega (arith, r .size, length-drop (64 * i) rules));
           heads-few = r .heads-few i l;
+          kept-few = r .kept-few i l;
           body-few = r .body-few i l;
           heads = every-weaker ofRule isLettered hs (λ c h. of-rule c h .1) (parts .0);
           body = every-weaker ofRule (λ (c : Constraint). isLow c && isLettered c) bs of-body (parts .1);
@@ -221,10 +234,12 @@ module _ (names symbols : List ℕ) (s : ℕ) (rules : List ℕ) (n : ℕ) (r : 
               (λ (e : Equation). isSide (e .left) && isSide (e .right)) es of-equations (parts .2) (r .used i l);
         }
 
-    falls : weightBy weigh bs < weightBy weigh hs
+    falls : weightBy weigh bs < weightBy weigh rs
+    unfolding removedHeads ruleOfRow
     falls =
         let body = weight-same bs (every-weaker ofRule (isDeclared declaredTable) bs (λ c h. of-rule c h .0) (parts .1)) in
-        let heads = weight-same hs (every-weaker ofRule (isDeclared declaredTable) hs (λ c h. of-rule c h .0) (parts .0)) in
+        let heads = weight-same rs (every-drop (isDeclared declaredTable) (getD row 1 0) hs
+        (every-weaker ofRule (isDeclared declaredTable) hs (λ c h. of-rule c h .0) (parts .0))) in
         omega (arith, parts .3, body, heads)
 
   -- the engine runs the rules of such a table

@@ -7,7 +7,7 @@ use native.Mathlib.Omega.{arith}
 use mathlib.Core.Bool.{Bool, true, _||_}
 use mathlib.Core.List.{List, [], _∷_, _++_, map}
 use mathlib.Core.Logic.{⊎-elim}
-use mathlib.Core.Path.{_≡_, refl, ap}
+use mathlib.Core.Path.{_≡_, refl, ap, _∙_}
 use lib.Dec.{eqb}
 use lib.ListN.{length, getD, take, replicate, length-map}
 use lib.Seq.{length-take-le}
@@ -26,6 +26,7 @@ use Rattle.search.specs.Known.{Marked, Forgotten}
 use Rattle.engine.specs.Runs.{Keeps}
 use Rattle.search.proofs.BarrenLaws.{without-few}
 use Rattle.search.proofs.NotedLaws.{noted-nothing, noted-fired, marked-bounded}
+use Rattle.engine.proofs.RuleLaws.{removedAt, removed-size}
 use Rattle.engine.proofs.FiredLaws.{fired-plain, fired-length}
 
 -- nothing is known at the start
@@ -73,25 +74,25 @@ concerns-mapped (h ∷ hs) σ cs = rw (symbol-mapped (h .symbol) σ cs, concerns
 
 module _ (row ps b : List ℕ) (next : ℕ) (bound cells : List ℕ) (m : ℕ) (bound′ cells′ : List ℕ) (count : ℕ)
     (done : Fired row ps b next bound cells m bound′ cells′ true count) (given : Row row) (size : length ps ≡ 4)
-    (there : 5 * count ≤ length cells′) (gone : ℕ) (last last′ : List ℕ)
-    (marks : Marked last (ruleOfRow [] row .body) (gone + getD row 3 0 + count) last′) where
+    (there : 5 * count ≤ length cells′) (gone taken : ℕ) (removed : taken ≡ getD row 3 0 - getD row 1 0) (last last′ : List ℕ)
+    (marks : Marked last (ruleOfRow [] row .body) (gone + taken + count) last′) where
   abbrev placed : List ℕ
-  placed = take (getD row 3 0) ps
+  placed = removedAt row ps
 
-  placed-size : length (take (getD row 3 0) ps) ≡ getD row 3 0
-  placed-size = length-take-le (getD row 3 0) ps (omega (arith, given .heads-few))
+  placed-size : length (removedAt row ps) ≡ taken
+  placed-size = removed-size row ps given size ∙ omega arith
 
   store-size : length (storeOf cells′ count) ≡ count
   unfolding storeOf
   store-size = constraints-length count (take (5 * count) cells′) (length-take-le (5 * count) cells′ there)
 
-  marked-now : Marked last (ruleOfRow [] row .body) (gone + getD row 3 0 + length (storeOf cells′ count)) last′
+  marked-now : Marked last (ruleOfRow [] row .body) (gone + taken + length (storeOf cells′ count)) last′
   marked-now = rw store-size marks
 
   -- no symbol came later than now
   bounded-now :
       ((s : ℕ) → getD last s (gone + length (storeOf cells m)) ≤ gone + length (storeOf cells m)) → (s : ℕ)
-      → getD last′ s (gone + getD row 3 0 + length (storeOf cells′ count)) ≤ gone + getD row 3 0 + length (storeOf cells′ count)
+      → getD last′ s (gone + taken + length (storeOf cells′ count)) ≤ gone + taken + length (storeOf cells′ count)
   bounded-now =
       marked-bounded last (ruleOfRow [] row .body) (gone + length (storeOf cells m)) _ last′ marked-now
       (omega (
@@ -104,14 +105,15 @@ module _ (row ps b : List ℕ) (next : ℕ) (bound cells : List ℕ) (m : ℕ) (
   -- what is known of a rule after a firing without equations
   plain-noted :
       getD row 5 0 ≤ 0 → (hs : List Constraint) (v : ℕ) → Noted hs (storeOf cells m) last gone v
-      → Noted hs (storeOf cells′ count) last′ (gone + getD row 3 0) v
+      → Noted hs (storeOf cells′ count) last′ (gone + taken) v
   unfolding ruleOfRow cellEquations
   plain-noted plain hs v known =
       let no-equations : ruleOfRow [] row .equations ≡ [] = let z : 2 * getD row 5 0 ≡ 0 = omega arith in rw z in
       let after = fired-plain row ps b next bound cells m bound′ cells′ true count done refl no-equations in
       let body′ = map (mapTerms (instance next (assigned b))) (ruleOfRow [] row .body) in
       let came : Marked last (ruleOfRow [] row .body)
-      (gone + length placed + length (without 0 placed (storeOf cells m) ++ body′)) last′ = rw (placed-size, ← after) marked-now in
+      (gone + length placed + length (without 0 placed (storeOf cells m) ++ body′)) last′ =
+      rw (placed-size, ← after) marked-now in
       let new = noted-fired hs (storeOf cells m) placed (ruleOfRow [] row .body) body′ last last′ gone v known
       (length-map (ruleOfRow [] row .body) _) (concerns-mapped hs _ (ruleOfRow [] row .body)) came in
       rw after (rw placed-size at new)
@@ -120,12 +122,12 @@ module _ (row ps b : List ℕ) (next : ℕ) (bound cells : List ℕ) (m : ℕ) (
   pub knows-fired :
       (rules : List ℕ) (n : ℕ) (known known′ : List ℕ) → Knows rules n known last gone (storeOf cells m)
       → (0 < getD row 5 0 → Forgotten known′) → (getD row 5 0 ≤ 0 → known′ ≡ known)
-      → Knows rules n known′ last′ (gone + getD row 3 0) (storeOf cells′ count)
+      → Knows rules n known′ last′ (gone + taken) (storeOf cells′ count)
   knows-fired rules n known known′ ks equated plain =
       record {
         noted = λ i l. ⊎-elim
             (λ h. rw (plain h) (plain-noted h _ (getD known i 8192) (ks .noted i l)))
-            (λ h. rw (equated h .forgotten i) (noted-nothing _ (storeOf cells′ count) last′ (gone + getD row 3 0)))
+            (λ h. rw (equated h .forgotten i) (noted-nothing _ (storeOf cells′ count) last′ (gone + taken)))
             (le-or-lt (getD row 5 0) 0);
         bounded = bounded-now (ks .bounded);
       }

@@ -1,4 +1,6 @@
 -- A rule's body and equations, from cells; and the firing that they make up.
+--   removedAt              the positions whose constraints a firing removes
+--   left-equated, …        what is left there, and the rest of the firing
 -- Assumes nothing.
 use Prim.Native.Nat.{ℕ, suc, _+_, _-_, _*_, _≤_, _<_, min}
 use native.Mathlib.Omega.{arith}
@@ -7,7 +9,7 @@ use mathlib.Core.List.{List, [], _∷_, _++_, map, append-assoc}
 use mathlib.Core.Logic.{⊎-elim}
 use mathlib.Core.Path.{_≡_, refl, ap, sym, _∙_}
 use lib.Dec.{leb}
-use lib.ListN.{length, getD, take, drop, replicate, length-append, length-drop, length-map}
+use lib.ListN.{length, getD, take, drop, replicate, length-append, length-drop, length-map, drop-of-length-le}
 use lib.Seq.{take-append-le, take-all, length-take-le, take-at, take-nil}
 use borrow.Author.Tests.{le-leb}
 use Rattle.text.specs.Lists.{has, every}
@@ -23,6 +25,7 @@ use Rattle.engine.specs.States.{Solvable, Solved, Removed, Appended, Equ
 use Rattle.text.proofs.Bools.{and-true}
 use Rattle.tables.proofs.CellLaws.{le-or-lt, cell-low}
 use Rattle.tables.proofs.MapLaws.{low-kept, acts-constraints, acts-equations, acts-used}
+use Rattle.search.proofs.PartLaws.{behind, behind-all}
 use Rattle.engine.proofs.FireLaws.{instance-acts, constraints-append}
 
 -- a side of an equation is no unused cell
@@ -209,6 +212,25 @@ low-body (c ∷ cs) h =
       low-body cs (and-true (isLow c && isLettered c) (every (λ (c : Constraint). isLow c && isLettered c) cs) h .1),
     )
 
+-- the positions whose constraints a firing removes: those behind the kept heads'
+abbrev pub removedAt : List ℕ → List ℕ → List ℕ
+removedAt row positions = drop (getD row 1 0) (take (getD row 3 0) positions)
+
+-- no positions
+removed-none : (row : List ℕ) → removedAt row [] ≡ []
+removed-none row = rw (take-nil (getD row 3 0)) (drop-of-length-le {A = ℕ} [] {i = getD row 1 0} (omega arith))
+
+module _ (row positions : List ℕ) where
+  -- how many they are
+  pub removed-size : Row row → length positions ≡ 4 → length (removedAt row positions) ≡ getD row 3 0 - getD row 1 0
+  removed-size given size =
+      length-drop (getD row 1 0) (take (getD row 3 0) positions)
+      ∙ ap (_- getD row 1 0) (length-take-le (getD row 3 0) positions (omega (arith, given .heads-few)))
+
+  -- as the code lends them
+  pub removed-lent : (h k : ℕ) → h ≡ getD row 3 0 → k ≡ getD row 1 0 → behind k (take h positions) ≡ removedAt row positions
+  removed-lent h k heads kept = rw (behind-all k (take h positions), heads, kept)
+
 module _ (row bindings : List ℕ) (next : ℕ) (cells : List ℕ) (k : ℕ) (q : Equated row bindings next (take (5 * k) cells))
     (space : 5 * k + 30 ≤ length cells) where
   module _ (c : List ℕ) (n : ℕ) (same-size : length c ≡ length cells) (appended : Appended row bindings next cells c k n) where
@@ -245,7 +267,7 @@ module _ (row bindings : List ℕ) (next : ℕ) (cells : List ℕ) (k : ℕ) (q 
           same = λ names.
               rw (
                 take-at s (drop (5 * n) c) (5 * n) (l ∙ sym complete-lends),
-                take-nil (getD row 3 0),
+                removed-none row,
                 without-none 0 (cellConstraints (take (5 * k) cells)),
               ) (solved .same (next + 26) ∙ rw (appended .same));
           few = few-after;
@@ -257,62 +279,75 @@ module _ (row positions bindings : List ℕ) (next : ℕ) (cells : List ℕ) (m 
   fires-equated f =
       record { given = f .given; bindings-size = f .bindings-size; room = f .room; low = f .low }
 
-  -- the constraints that are kept, wherever they stand
+  -- the constraints that are left, wherever they stand
   module _ (left : List ℕ) (k : ℕ) (few-left : k ≤ m)
-      (same : cellConstraints (take (5 * k) left)
-      ≡ without 0 (take (getD row 3 0) positions) (cellConstraints (take (5 * m) cells))) where
-    pub kept-equated : Equated row bindings next (take (5 * m) cells) → Equated row bindings next (take (5 * k) left)
-    kept-equated q =
-        record {
-          given = q .given;
-          bindings-size = q .bindings-size;
-          room = q .room;
-          low = rw same (low-without 0 (take (getD row 3 0) positions) (cellConstraints (take (5 * m) cells)) (q .low));
-        }
+      (same : cellConstraints (take (5 * k) left) ≡ without 0 (removedAt row positions) (cellConstraints (take (5 * m) cells)))
+    where
+      pub left-equated : Equated row bindings next (take (5 * m) cells) → Equated row bindings next (take (5 * k) left)
+      left-equated q =
+          record {
+            given = q .given;
+            bindings-size = q .bindings-size;
+            room = q .room;
+            low = rw same (low-without 0 (removedAt row positions) (cellConstraints (take (5 * m) cells)) (q .low));
+          }
 
-    pub kept-fired :
-        (bound b c : List ℕ) (alive : Bool) (n : ℕ) → Fired row [] bindings next bound left k b c alive n
-        → Fired row positions bindings next bound cells m b c alive n
-    unfolding fired
-    kept-fired bound b c alive n done =
-        record {
-          same = λ names.
-              rw (take-nil (getD row 3 0), without-none 0 (cellConstraints (take (5 * k) left)), same) at (done .same names);
-          few = omega (arith, done .few);
-        }
+      pub left-fired :
+          (bound b c : List ℕ) (alive : Bool) (n : ℕ) → Fired row [] bindings next bound left k b c alive n
+          → Fired row positions bindings next bound cells m b c alive n
+      unfolding fired ruleOfRow
+      left-fired bound b c alive n done =
+          record {
+            same = λ names.
+                rw (removed-none row, without-none 0 (cellConstraints (take (5 * k) left)), same) at (done .same names);
+            few = omega (arith, done .few);
+          }
 
 module _ (row positions bindings : List ℕ) (next : ℕ) (cells : List ℕ) (m : ℕ) (f : Fires row positions bindings next cells m)
   where
-    module _ (w : ℕ) (z : w ≡ getD row 3 0) where
-      -- the constraints that there are
-      pub fire-lent : 5 * m ≡ length (take (5 * m) cells)
-      fire-lent = sym (length-take-le (5 * m) cells (omega (arith, f .space)))
+    -- the constraints that there are
+    pub fire-lent : 5 * m ≡ length (take (5 * m) cells)
+    fire-lent = sym (length-take-le (5 * m) cells (omega (arith, f .space)))
 
-      pub fire-removes : (length (take (5 * m) cells) ≡ 5 * m) × (w ≤ 4) × (length positions ≡ 4)
-      fire-removes = (sym fire-lent, omega (arith, f .given .heads-few), f .positions-size)
+    pub fire-removes : length (take (5 * m) cells) ≡ 5 * m
+    fire-removes = sym fire-lent
 
-      module _ (left : List ℕ) (k : ℕ) (kept : length left ≡ length (take (5 * m) cells))
-          (removed : Removed m (take w positions) (take (5 * m) cells) left k) where
+    module _ (h k : ℕ) (heads : h ≡ getD row 3 0) (kept : k ≡ getD row 1 0) where
+      -- the positions of all heads, and of those that are removed
+      pub fire-within : h ≤ length positions
+      fire-within = omega (arith, f .given .heads-few, f .positions-size)
+
+      pub fire-placed : h ≡ length (take h positions)
+      fire-placed = sym (length-take-le h positions fire-within)
+
+      pub fire-kept : k ≤ length (take h positions)
+      fire-kept = omega (arith, fire-placed, f .given .kept-few)
+
+      module _ (left : List ℕ) (n : ℕ) (size : length left ≡ length (take (5 * m) cells))
+          (removed : Removed m (behind k (take h positions)) (take (5 * m) cells) left n) where
         size-left : length left ≡ 5 * m
-        size-left = kept ∙ sym fire-lent
+        size-left = size ∙ sym fire-lent
 
-        same-left : cellConstraints (take (5 * k) (left ++ drop (5 * m) cells))
-            ≡ without 0 (take (getD row 3 0) positions) (cellConstraints (take (5 * m) cells))
+        same-left : cellConstraints (take (5 * n) (left ++ drop (5 * m) cells))
+            ≡ without 0 (removedAt row positions) (cellConstraints (take (5 * m) cells))
         same-left =
-            rw (take-append-le (5 * k) left (drop (5 * m) cells) (omega (arith, removed .few, size-left)), ← z) (removed .same)
+            rw (
+              take-append-le (5 * n) left (drop (5 * m) cells) (omega (arith, removed .few, size-left)),
+              ← removed-lent row positions h k heads kept,
+            ) (removed .same)
 
         -- what the rest of the firing asks
-        pub fire-completes : Equated row bindings next (take (5 * k) (left ++ drop (5 * m) cells))
-            × (5 * k + 30 ≤ length (left ++ drop (5 * m) cells))
+        pub fire-completes : Equated row bindings next (take (5 * n) (left ++ drop (5 * m) cells))
+            × (5 * n + 30 ≤ length (left ++ drop (5 * m) cells))
         fire-completes = (
-          kept-equated row positions bindings next cells m (left ++ drop (5 * m) cells) k (removed .few) same-left
+          left-equated row positions bindings next cells m (left ++ drop (5 * m) cells) n (removed .few) same-left
               (fires-equated row positions bindings next cells m f),
           omega (arith, removed .few, f .space, length-append left (drop (5 * m) cells), length-drop (5 * m) cells, size-left),
         )
 
         -- the state after all
         pub fire-done :
-            (bound b c : List ℕ) (alive : Bool) (n : ℕ)
-            → Fired row [] bindings next bound (left ++ drop (5 * m) cells) k b c alive n
-            → Fired row positions bindings next bound cells m b c alive n
-        fire-done = kept-fired row positions bindings next cells m (left ++ drop (5 * m) cells) k (removed .few) same-left
+            (bound b c : List ℕ) (alive : Bool) (count : ℕ)
+            → Fired row [] bindings next bound (left ++ drop (5 * m) cells) n b c alive count
+            → Fired row positions bindings next bound cells m b c alive count
+        fire-done = left-fired row positions bindings next cells m (left ++ drop (5 * m) cells) n (removed .few) same-left

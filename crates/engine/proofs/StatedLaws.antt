@@ -23,9 +23,10 @@ use Rattle.engine.specs.States.{Removed, Equated, Fired}
 use Rattle.engine.specs.Runs.{storeOf}
 use Rattle.engine.specs.Stated.{statedAt, matchRow, fireRow, Stated, FiredFrom}
 use Rattle.tables.proofs.CellLaws.{every-first, every-rest, constraints-at, element-row, element-none}
+use Rattle.search.proofs.PartLaws.{behind}
 use Rattle.search.proofs.SearchLaws.{cond-none, cond-bind, lent, five, lent-size}
 use Rattle.search.proofs.ChooseLaws.{zeros-unassigned}
-use Rattle.engine.proofs.RuleLaws.{kept-equated, kept-fired}
+use Rattle.engine.proofs.RuleLaws.{removedAt, removed-lent, left-equated, left-fired}
 use Rattle.engine.proofs.FiredLaws.{fired-lighter, fired-low}
 use Rattle.engine.proofs.StepLaws.{no-way, no-way-back}
 
@@ -180,12 +181,16 @@ module _ (row positions : List ℕ) (next : ℕ) (goal : List ℕ) (m : ℕ) (ce
   stated-frees = (s .size, omega (arith, s .space))
 
   -- the positions as they are lent
-  module _ (w : ℕ) (heads : w ≡ getD row 3 0) where
-    pub stated-within : w ≤ length positions
+  module _ (h : ℕ) (heads : h ≡ getD row 3 0) where
+    pub stated-within : h ≤ length positions
     stated-within = omega (arith, s .given .heads-few, s .positions-size)
 
-    pub stated-lent : w ≡ length (take w positions)
-    stated-lent = sym (length-take-le w positions stated-within)
+    pub stated-lent : h ≡ length (take h positions)
+    stated-lent = sym (length-take-le h positions stated-within)
+
+    -- no more heads are kept than there are
+    pub stated-kept : (k : ℕ) → k ≡ getD row 1 0 → k ≤ length (take h positions)
+    stated-kept k kept = omega (arith, stated-lent, s .given .kept-few)
 
   all : take (5 * m) goal ≡ goal
   all = take-all (5 * m) goal (omega (arith, s .size))
@@ -210,29 +215,29 @@ module _ (row positions : List ℕ) (next : ℕ) (goal : List ℕ) (m : ℕ) (ce
           few = omega arith;
         }
 
-    module _ (z : f ≡ true) (w : ℕ) (heads : w ≡ getD row 3 0) where
-      module _ (c : List ℕ) (k : ℕ) (size : length c ≡ length cells) (kept : Removed m (take w positions) goal c k) where
-        left :
-            cellConstraints (take (5 * k) c) ≡ without 0 (take (getD row 3 0) positions) (cellConstraints (take (5 * m) goal))
-        left = rw (all, ← heads) (kept .same)
+    module _ (z : f ≡ true) (h k : ℕ) (heads : h ≡ getD row 3 0) (kept : k ≡ getD row 1 0) where
+      module _ (c : List ℕ) (n : ℕ) (size : length c ≡ length cells)
+          (copied : Removed m (behind k (take h positions)) goal c n) where
+        left : cellConstraints (take (5 * n) c) ≡ without 0 (removedAt row positions) (cellConstraints (take (5 * m) goal))
+        left = rw (all, ← removed-lent row positions h k heads kept) (copied .same)
 
         -- what the rest of the firing asks
-        pub stated-completes : Equated row b next (take (5 * k) c) × (5 * k + 30 ≤ length c)
+        pub stated-completes : Equated row b next (take (5 * n) c) × (5 * n + 30 ≤ length c)
         stated-completes = (
-          kept-equated row positions b next goal m c k (kept .few) left
+          left-equated row positions b next goal m c n (copied .few) left
               (record { given = s .given; bindings-size = given .size; room = s .room; low = rw all (s .low) }),
-          omega (arith, kept .few, s .space),
+          omega (arith, copied .few, s .space),
         )
 
         -- the rule has fired
         pub stated-moves :
             (bound bound′ cells′ : List ℕ) (alive : Bool) (count : ℕ)
-            → Fired row [] b next bound c k bound′ cells′ alive count
+            → Fired row [] b next bound c n bound′ cells′ alive count
             → FiredFrom row positions next bound goal m bound′ cells′ true alive count
         unfolding fireRow fireAt fitOf storeOf
         stated-moves bound bound′ cells′ alive count rest =
             let done : Fired row positions b next bound goal m bound′ cells′ alive count =
-            kept-fired row positions b next goal m c k (kept .few) left bound bound′ cells′ alive count rest in
+            left-fired row positions b next goal m c n (copied .few) left bound bound′ cells′ alive count rest in
             record {
               rests = λ y. no-way-back y;
               moves = λ y name. rw (matched name, z) (ap some (sym (rw all at (done .same name))));

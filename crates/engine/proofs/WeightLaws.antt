@@ -3,20 +3,24 @@
 --   weight-length                  no more constraints than weight
 --   match-few                      no more heads than constraints
 --   match-lighter                  what is left beside the matched positions, and the heads, weigh as much as all
+--   match-removed                  the same of the later positions and heads
 -- Assumes nothing.
-use Prim.Native.Nat.{ℕ, _+_, _≤_}
+use Prim.Native.Nat.{ℕ, zero, suc, _+_, _≤_}
 use native.Mathlib.Nat.{add-zero}
 use native.Mathlib.Omega.{arith}
+use mathlib.Core.Bool.{Bool, true, false, _||_}
 use mathlib.Core.List.{List, [], _∷_, _++_, map, append-assoc, append-nil}
 use mathlib.Core.Option.{some}
-use mathlib.Core.Path.{_≡_, refl, ap}
-use lib.ListN.{length}
+use mathlib.Core.Path.{_≡_, refl, ap, _∙_}
+use lib.Dec.{eqb}
+use lib.ListN.{length, drop}
+use Rattle.text.specs.Lists.{has}
 use Rattle.semantics.specs.Terms.{Term, Constraint, mapTerms}
 use Rattle.semantics.specs.Matching.{Assignment, unassigned, matchAt}
 use Rattle.semantics.specs.Firing.{without}
 use Rattle.semantics.specs.Variants.{Inserted, here, there}
 use Rattle.semantics.proofs.Options.{none-some}
-use Rattle.semantics.proofs.Removal.{without-one, without-none}
+use Rattle.semantics.proofs.Removal.{without-one, without-none, has-front}
 use Rattle.semantics.proofs.Search.{matchAt-cons}
 use Rattle.semantics.proofs.Weights.{matchConstraint-symbol}
 use Rattle.engine.specs.Runs.{weightBy}
@@ -60,6 +64,49 @@ module _ (w : ℕ → ℕ) where
       let more = rw append-assoc at (match-lighter hs ps cs (chosen ++ (p ∷ [])) (f .next) end (f .rest)) in
       let same = ap w (matchConstraint-symbol h (f .constraint) θ (f .next) (f .fits)) in
       omega (arith, one, more, same)
+
+-- heads match where fewer positions are chosen before
+match-fewer :
+    (hs : List Constraint) (ps : List ℕ) (cs : List Constraint) (many few : List ℕ) (θ end : Assignment)
+    → ((n : ℕ) → has n many ≡ false → has n few ≡ false) → matchAt hs ps cs many θ ≡ some end
+    → matchAt hs ps cs few θ ≡ some end
+unfolding matchAt
+match-fewer [] [] cs many few θ end h e = e
+match-fewer [] (p ∷ ps) cs many few θ end h e = none-some refl e
+match-fewer (g ∷ hs) [] cs many few θ end h e = none-some refl e
+match-fewer (g ∷ hs) (p ∷ ps) cs many few θ end h e =
+    let f = matchAt-cons g hs p ps cs many θ end e in
+    let rest = match-fewer hs ps cs (many ++ (p ∷ [])) (few ++ (p ∷ [])) (f .next) end more (f .rest) in
+    rw (h p (f .free), f .stands, f .fits) rest
+  where
+    more : (n : ℕ) → has n (many ++ (p ∷ [])) ≡ false → has n (few ++ (p ∷ [])) ≡ false
+    more n z = rw (has-front n p few) (go (eqb n p) (rw (has-front n p many) at z))
+      where
+        go : (b : Bool) → (b || has n many) ≡ false → (b || has n few) ≡ false
+        go true z = z
+        go false z = h n z
+
+-- the later heads match at their positions
+match-later :
+    (k : ℕ) (hs : List Constraint) (ps : List ℕ) (cs : List Constraint) (θ end : Assignment)
+    → matchAt hs ps cs [] θ ≡ some end → (η : Assignment) × (matchAt (drop k hs) (drop k ps) cs [] η ≡ some end)
+unfolding matchAt
+match-later zero hs ps cs θ end e = (θ, e)
+match-later (suc k) [] [] cs θ end e = (θ, e)
+match-later (suc k) [] (p ∷ ps) cs θ end e = none-some refl e
+match-later (suc k) (h ∷ hs) [] cs θ end e = none-some refl e
+match-later (suc k) (h ∷ hs) (p ∷ ps) cs θ end e =
+    let f = matchAt-cons h hs p ps cs [] θ end e in
+    match-later k hs ps cs (f .next) end (match-fewer hs ps cs (p ∷ []) [] (f .next) end (λ n z. refl) (f .rest))
+
+-- what is left beside the positions of the later heads, and these heads, weigh as much as all
+pub match-removed :
+    (w : ℕ → ℕ) (k : ℕ) (hs : List Constraint) (ps : List ℕ) (cs : List Constraint) (end : Assignment)
+    → matchAt hs ps cs [] unassigned ≡ some end
+    → weightBy w (without 0 (drop k ps) cs) + weightBy w (drop k hs) ≡ weightBy w cs
+match-removed w k hs ps cs end e =
+    let (η, later) = match-later k hs ps cs unassigned end e in
+    match-lighter w (drop k hs) (drop k ps) cs [] η end later ∙ ap (weightBy w) (without-none 0 cs)
 
 -- where every symbol weighs 1, the weight is the number of constraints
 weight-one : (l : List Constraint) → weightBy (λ k. 1) l ≡ length l

@@ -13,7 +13,7 @@ use mathlib.Core.Option.{none, some}
 use mathlib.Core.Path.{_≡_}
 use lib.ListN.{length, take}
 use Rattle.text.specs.Lists.{total, every}
-use Rattle.semantics.specs.Terms.{Constraint, live}
+use Rattle.semantics.specs.Terms.{Constraint, live, removedHeads}
 use Rattle.semantics.specs.Strategy.{advance, normalise}
 use Rattle.tables.specs.Layout.{constraintSize}
 use Rattle.tables.specs.Cells.{cellTerm, cellConstraints, isLow, stateOf}
@@ -25,11 +25,11 @@ use Rattle.search.specs.Positions.{Table}
 unfoldable pub weightBy : (ℕ → ℕ) → List Constraint → ℕ
 weightBy w cs = total (λ (c : Constraint). w (c .symbol)) cs
 
--- a weighing under which every rule's heads weigh more than its body
+-- a weighing under which what every rule removes weighs more than its body
 pub record Lowers (w : ℕ → ℕ) (rules : List ℕ) (n : ℕ) : Type 0 where
   pub falls :
       (i : ℕ) → i < n
-      → weightBy w (ruleOfRow [] (rowOf rules i) .body) < weightBy w (ruleOfRow [] (rowOf rules i) .heads)
+      → weightBy w (ruleOfRow [] (rowOf rules i) .body) < weightBy w (removedHeads (ruleOfRow [] (rowOf rules i)))
 
 -- the constraints of a live state of m constraints
 unfoldable pub storeOf : List ℕ → ℕ → List Constraint

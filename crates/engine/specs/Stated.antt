@@ -10,7 +10,7 @@ use mathlib.Core.Option.{Option, none, some}
 use mathlib.Core.Path.{_≡_}
 use lib.ListN.{length, take, getD}
 use Rattle.text.specs.Lists.{every}
-use Rattle.semantics.specs.Terms.{State, live}
+use Rattle.semantics.specs.Terms.{State, live, removedHeads}
 use Rattle.semantics.specs.Matching.{Assignment, matchAt}
 use Rattle.semantics.specs.Firing.{fireAt}
 use Rattle.tables.specs.Layout.{constraintSize, headsCell}
@@ -56,7 +56,7 @@ pub record FiredFrom (row positions : List ℕ) (next : ℕ) (bound goal : List 
       ≡ some (stateOf alive (next + 26) bound′ (take (constraintSize * count) cells′))
   pub lighter :
       fired ≡ true
-      → (w : ℕ → ℕ) → weightBy w (ruleOfRow [] row .body) < weightBy w (ruleOfRow [] row .heads)
+      → (w : ℕ → ℕ) → weightBy w (ruleOfRow [] row .body) < weightBy w (removedHeads (ruleOfRow [] row))
       → cond alive (weightBy w (storeOf cells′ count)) 0 < weightBy w (cellConstraints goal)
   pub low : fired ≡ true → alive ≡ true → every isLow (storeOf cells′ count) ≡ true
   pub few : count ≤ m + 6

@@ -7,6 +7,7 @@ use search::known::remember;
 use search::search::choose;
 use tables::layout::CONSTRAINT_SIZE;
 use tables::layout::HEADS_CELL;
+use tables::layout::KEPT_CELL;
 use tables::layout::ROW_SIZE;
 use tables::wide;
 ghost use Prim.Native.Nat.{_+_, _*_, _≤_};
@@ -85,7 +86,9 @@ pub fn advance(
     let alive = after.alive;
     let count = after.count;
     let skip = after.skip;
-    let removed = gone + wide(row[HEADS_CELL]);
+    let heads = wide(row[HEADS_CELL]);
+    let kept = wide(row[KEPT_CELL]);
+    let removed = gone + (heads - kept);
     remember(row, known, last, removed + count);
     Forward {
         fired: true,

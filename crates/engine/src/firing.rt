@@ -7,6 +7,7 @@ use tables::layout::FIRST_BODY;
 use tables::layout::FIRST_EQUATION;
 use tables::layout::FIRST_VARIABLE;
 use tables::layout::HEADS_CELL;
+use tables::layout::KEPT_CELL;
 use tables::wide;
 ghost use mathlib.Core.Bool.{true};
 ghost use mathlib.Core.List.{[], map};
@@ -77,14 +78,13 @@ pub fn close_gap(cells: &mut [u16], k: usize, p: usize)
     }
 }
 
-// One more than the highest of the first n positions that lie below p; 0 where none does.
-pub fn highest(positions: [usize; 4], n: usize, p: usize) -> usize
-    requires { ⌜ (n ≤ 4) × (length positions ≡ 4) ⌝ }
-    ensures { λ r. ⌜ Highest (take n positions) p r ⌝ }
+// One more than the highest of the positions that lie below p; 0 where none does.
+pub fn highest(positions: &[usize], p: usize) -> usize
+    ensures { λ r. ⌜ Highest (now (positions .entry)) p r ⌝ }
 {
     let mut top = 0;
     let mut i = 0;
-    while i < n {
+    while i < positions.len() {
         let q = positions[i];
         i += 1;
         if q < p {
@@ -96,18 +96,18 @@ pub fn highest(positions: [usize; 4], n: usize, p: usize) -> usize
     top
 }
 
-// Removes the constraints at the first n positions, the highest first, and closes each gap; answers how many are left.
-pub fn remove(cells: &mut [u16], m: usize, positions: [usize; 4], n: usize) -> usize
-    requires { ⌜ (length (now cells) ≡ constraintSize * m) × (n ≤ 4) × (length positions ≡ 4) ⌝ }
-    ensures { λ r. ⌜ Removed m (take n positions) (now (cells .entry)) (now (cells .exit)) r ⌝ }
+// Removes the constraints at the positions, the highest first, and closes each gap; answers how many are left.
+pub fn remove(cells: &mut [u16], m: usize, positions: &[usize]) -> usize
+    requires { ⌜ length (now cells) ≡ constraintSize * m ⌝ }
+    ensures { λ r. ⌜ Removed m (now (positions .entry)) (now (cells .entry)) (now (cells .exit)) r ⌝ }
 {
     let mut k = m;
-    let mut top = highest(positions, n, m);
+    let mut top = highest(positions, m);
     while 0 < top {
         let p = top - 1;
         close_gap(cells, k, p);
         k -= 1;
-        top = highest(positions, n, p);
+        top = highest(positions, p);
     }
     k
 }
@@ -159,27 +159,27 @@ pub struct After {
     pub count: usize,
 }
 
-// The rest of a firing, behind the constraints that are kept: the body is appended and the equations are solved.
+// The rest of a firing, behind the constraints that are left: the body is appended and the equations are solved.
 pub fn complete(
     row: &[u16],
     bindings: &[u16],
     next: u16,
     bound: &mut [u16],
     cells: &mut [u16],
-    kept: usize,
+    left: usize,
 ) -> After
-    requires { ⌜ Equated (now row) (now bindings) next (take (constraintSize * kept) (now cells))
-        × (constraintSize * kept + 30 ≤ length (now cells)) ⌝ }
-    ensures { λ r. ⌜ Fired (now (row .entry)) [] (now (bindings .entry)) next (now (bound .entry)) (now (cells .entry)) kept
+    requires { ⌜ Equated (now row) (now bindings) next (take (constraintSize * left) (now cells))
+        × (constraintSize * left + 30 ≤ length (now cells)) ⌝ }
+    ensures { λ r. ⌜ Fired (now (row .entry)) [] (now (bindings .entry)) next (now (bound .entry)) (now (cells .entry)) left
         (now (bound .exit)) (now (cells .exit)) (r .alive) (r .count) ⌝ }
 {
-    let count = append_body(row, bindings, next, cells, kept);
+    let count = append_body(row, bindings, next, cells, left);
     let end = CONSTRAINT_SIZE * count;
     let alive = solve_rule(row, bindings, next, bound, &mut cells[..end]);
     After { alive, count }
 }
 
-// The state after firing a rule at positions that fit.
+// The state after firing a rule at positions that fit: the constraints of its kept heads stay where they are.
 pub fn fire(
     row: &[u16],
     positions: [usize; 4],
@@ -193,19 +193,20 @@ pub fn fire(
     ensures { λ r. ⌜ Fired (now (row .entry)) positions (now (bindings .entry)) next (now (bound .entry)) (now (cells .entry)) m
         (now (bound .exit)) (now (cells .exit)) (r .alive) (r .count) ⌝ }
 {
-    let n = wide(row[HEADS_CELL]);
+    let heads = wide(row[HEADS_CELL]);
+    let kept = wide(row[KEPT_CELL]);
+    let placed = &positions[..heads];
     let old = CONSTRAINT_SIZE * m;
-    let kept = remove(&mut cells[..old], m, positions, n);
-    complete(row, bindings, next, bound, cells, kept)
+    let left = remove(&mut cells[..old], m, &placed[kept..]);
+    complete(row, bindings, next, bound, cells, left)
 }
 
-// Whether the first n positions are 0, 1 and on.
-pub fn is_front(positions: [usize; 4], n: usize) -> bool
-    requires { ⌜ (n ≤ 4) × (length positions ≡ 4) ⌝ }
-    ensures { λ r. ⌜ (r ≡ true → take n positions ≡ upTo n) ⌝ }
+// Whether positions are 0, 1 and on.
+pub fn is_front(positions: &[usize]) -> bool
+    ensures { λ r. ⌜ (r ≡ true → now (positions .entry) ≡ upTo (length (now (positions .entry)))) ⌝ }
 {
     let mut i = 0;
-    while i < n {
+    while i < positions.len() {
         if positions[i] != i {
             return false;
         }
@@ -237,13 +238,16 @@ pub fn fire_front(
         × Skips m (r .skip) (r .count) ⌝ }
 {
     let heads = wide(row[HEADS_CELL]);
-    if is_front(positions, heads) {
-        let s = CONSTRAINT_SIZE * heads;
-        let after = complete(row, bindings, next, bound, &mut cells[s..], m - heads);
+    let kept = wide(row[KEPT_CELL]);
+    let placed = &positions[..heads];
+    if is_front(&placed[kept..]) {
+        let removed = heads - kept;
+        let s = CONSTRAINT_SIZE * removed;
+        let after = complete(row, bindings, next, bound, &mut cells[s..], m - removed);
         return Front {
             alive: after.alive,
             count: after.count,
-            skip: heads,
+            skip: removed,
         };
     }
     let after = fire(row, positions, bindings, next, bound, cells, m);

@@ -7,6 +7,7 @@ use search::matching::fit_free;
 use tables::layout::CONSTRAINT_SIZE;
 use tables::layout::FIRST_HEAD;
 use tables::layout::HEADS_CELL;
+use tables::layout::KEPT_CELL;
 use tables::wide;
 ghost use mathlib.Core.Path.{_≡_};
 ghost use Prim.Native.Nat.{_*_};
@@ -74,9 +75,11 @@ pub fn fire_from(
             count: m,
         };
     }
-    let n = wide(row[HEADS_CELL]);
-    let kept = copy_free(goal, m, &positions[..n], cells);
-    let after = complete(row, &bindings, next, bound, cells, kept);
+    let heads = wide(row[HEADS_CELL]);
+    let kept = wide(row[KEPT_CELL]);
+    let placed = &positions[..heads];
+    let left = copy_free(goal, m, &placed[kept..], cells);
+    let after = complete(row, &bindings, next, bound, cells, left);
     Step {
         fired: true,
         alive: after.alive,

@@ -15,7 +15,7 @@ use Rattle.text.specs.Lists.{every}
 use Rattle.semantics.specs.Terms.{Term, con, var, Constraint, Equation, isBelow, alphabet}
 use Rattle.semantics.specs.Matching.{unassigned}
 use Rattle.semantics.specs.Strategy.{Match, Choice, find, choose}
-use Rattle.tables.specs.Layout.{constraintSize, rowSize, headsCell, bodyCell}
+use Rattle.tables.specs.Layout.{constraintSize, rowSize, keptCell, headsCell, bodyCell}
 use Rattle.tables.specs.Cells.{cellConstraints, isLow}
 use Rattle.tables.specs.Rows.{ruleOfRow, ruleOf, rulesOf, rowOf}
 use Rattle.search.specs.Cells.{assigned}
@@ -50,10 +50,12 @@ unfoldable pub isSide : Term → Bool
 isSide (con c) = leb 1 c
 isSide (var x) = ltb x alphabet
 
--- a rule's 64 cells: heads and body within the row's room, letters for the variables, and terms in the equations
+-- a rule's 64 cells: heads and body within the row's room, no more kept heads than heads, letters for the variables, and terms in
+-- the equations
 pub record Row (row : List ℕ) : Type 0 where
   pub size : length row ≡ rowSize
   pub heads-few : getD row headsCell 0 ≤ 4
+  pub kept-few : getD row keptCell 0 ≤ getD row headsCell 0
   pub body-few : getD row bodyCell 0 ≤ 6
   pub heads : every isLettered (ruleOfRow [] row .heads) ≡ true
   pub body : every (λ c. isLow c && isLettered c) (ruleOfRow [] row .body) ≡ true

@@ -98,8 +98,8 @@ reach-events p g {n} (fires {s = s} {t = t} k r ps e f more) =
     let (es, h) = reach-events p g more in (
       fire k ps ∷ es,
       λ d q.
-      ap (followAll p g es) (firing-fires p k r ps d s t q e f)
-      ∙ (rw (suc-add, ← add-suc) at (h (record { state = t; entered = d .entered; firings = suc (d .firings) }) refl)),
+          ap (followAll p g es) (firing-fires p k r ps d s t q e f)
+          ∙ (rw (suc-add, ← add-suc) at (h (record { state = t; entered = d .entered; firings = suc (d .firings) }) refl)),
     )
 
 -- what a goal reaches by firings, and where no rule fits, ends a finished derivation
@@ -266,9 +266,9 @@ passes-rewritten p w n =
     let count : length (overlaps (rewrittenAll p)) ≡ length (overlaps p) =
     ap length (overlaps-rewritten p) ∙ length-map (overlaps p) rewrittenOverlap in (
       λ e.
-      let (m, f) = there .exact .1 (forth (here .exact .0 (n, e))) in
-      subst (λ k. verdict (rewrittenAll p) ≡ confluent k) (there .counted m f ∙ count ∙ sym (here .counted n e)) f,
+          let (m, f) = there .exact .1 (forth (here .exact .0 (n, e))) in
+          subst (λ k. verdict (rewrittenAll p) ≡ confluent k) (there .counted m f ∙ count ∙ sym (here .counted n e)) f,
       λ e.
-      let (m, f) = here .exact .1 (back (there .exact .0 (n, e))) in
-      subst (λ k. verdict p ≡ confluent k) (here .counted m f ∙ sym count ∙ sym (there .counted n e)) f,
+          let (m, f) = here .exact .1 (back (there .exact .0 (n, e))) in
+          subst (λ k. verdict p ≡ confluent k) (here .counted m f ∙ sym count ∙ sym (there .counted n e)) f,
     )

@@ -1,79 +1,85 @@
 -- `fire_front` meets its contract: behind the first constraints, or as `fire` does.
 -- Assumes nothing.
 use borrow.Author.Needs.{needs}
-use Rattle.engine.proofs.FrontLaws.{front-asks, front-completes, front-done, front-skips, none-skipped}
+use native.Mathlib.Omega.{arith}
+use Rattle.engine.proofs.RuleLaws.{fire-within, fire-placed, fire-kept}
+use Rattle.engine.proofs.FrontLaws.{front-kept, front-few, front-completes, front-done, front-skips, none-skipped}
 use Rattle.engine.proofs.firing.fire_front.Statement.{statement}
 use Rattle.engine.proofs.firing.fire_front.Tie as tie
 use Rattle.engine.proofs.firing.complete.Reads as complete-reads
 use Rattle.engine.proofs.firing.fire.Reads as fire-reads
 use Rattle.engine.proofs.firing.is_front.Reads as is-front-reads
 
-shared-slice-read-wide : tie.Need-shared-slice-read-wide
-shared-slice-read-wide c = search needs
+-- from the count of kept heads, that of all heads, and where the function starts
+abbrev counted : tie.After-wide2 → tie.After-wide
+counted c = c .before .before
 
-wide-requires : tie.Need-wide-requires
-wide-requires c κs = search needs
+abbrev entry : tie.After-wide2 → tie.Start
+entry c = counted c .before .before .before .before .before .before
 
-is-front-requires : tie.Need-is-front-requires
-is-front-requires c κs =
-    let start = c .before .before .before .before .before .before in
-    front-asks _ _ _ _ _ _ (start .pre .0) (start .pre .1) _ (c .wide .ensures .0)
+-- from where the first constraints are removed, the look at the positions, and the counts
+abbrev looked : tie.Then1 → tie.After-is-front
+looked c = c .before
 
-mul-s : tie.Need-mul-s
-mul-s c = search needs
+abbrev both : tie.Then1 → tie.After-wide2
+both c = c .before .before .before .before
 
-mul-complete : tie.Need-mul-complete
-mul-complete c = search needs
+array-share-prefix-positions : tie.Need-array-share-prefix-positions
+array-share-prefix-positions c =
+    fire-within _ _ _ _ _ _ (entry c .pre .0) _ _ (counted c .wide .ensures .0) (c .wide2 .ensures .0)
 
-sub-complete : tie.Need-sub-complete
-sub-complete c = search needs
+slice-aggregate-placed : tie.Need-slice-aggregate-placed
+slice-aggregate-placed c =
+    let at = c .before in
+    fire-placed _ _ _ _ _ _ (entry at .pre .0) _ _ (counted at .wide .ensures .0) (at .wide2 .ensures .0)
+
+part-is-front-start : tie.Need-part-is-front-start
+part-is-front-start c =
+    let at = c .before in
+    fire-kept _ _ _ _ _ _ (entry at .pre .0) _ _ (counted at .wide .ensures .0) (at .wide2 .ensures .0)
+
+sub-is-front : tie.Need-sub-is-front
+sub-is-front c = part-is-front-start c
+
+sub-removed : tie.Need-sub-removed
+sub-removed c =
+    let at = both c in
+    front-kept _ _ _ _ _ _ (entry at .pre .0) (entry at .pre .1) _ _ (counted at .wide .ensures .0) (at .wide2 .ensures .0)
 
 part-complete-start : tie.Need-part-complete-start
-part-complete-start c = search needs
-
-part-complete-end : tie.Need-part-complete-end
-part-complete-end c = search needs
+part-complete-start c =
+    let at = both (c .before) in
+    let few = front-few _ _ _ _ _ _ (entry at .pre .0) (entry at .pre .1) _ _ (counted at .wide .ensures .0)
+    (at .wide2 .ensures .0) in
+    omega (arith, few, entry at .pre .0 .space)
 
 sub-complete-2 : tie.Need-sub-complete-2
-sub-complete-2 c = search needs
+sub-complete-2 c =
+    let at = both (c .before .before) in
+    front-few _ _ _ _ _ _ (entry at .pre .0) (entry at .pre .1) _ _ (counted at .wide .ensures .0) (at .wide2 .ensures .0)
 
 complete-requires : tie.Need-complete-requires
 complete-requires c κs =
-    let at-if1 = c .before .before in
-    let at-is-front = at-if1 .before in
-    let at-wide = at-is-front .before in
-    let start = at-wide .before .before .before .before .before .before in
-    front-completes _ _ _ _ _ _ (start .pre .0) (start .pre .1) _ (at-wide .wide .ensures .0)
-    (at-is-front .is-front .ensures (at-if1 .if1 .taken))
-
-same-length : tie.Need-same-length
-same-length c = search needs
-
-same-length-2 : tie.Need-same-length-2
-same-length-2 c = search needs
+    let front′ = c .before .before in
+    let at = both front′ in
+    front-completes _ _ _ _ _ _ (entry at .pre .0) (entry at .pre .1) _ _ (counted at .wide .ensures .0) (at .wide2 .ensures .0)
+    (looked front′ .is-front .ensures (front′ .if1 .taken))
 
 returns : tie.Need-returns
 returns c =
     let at-complete = c .before .before .before .before in
-    let at-if1 = at-complete .before .before .before in
-    let at-is-front = at-if1 .before in
-    let at-wide = at-is-front .before in
-    let start = at-wide .before .before .before .before .before .before in
-    let pre′ = start .pre in
-    let few′ = at-wide .wide .ensures .0 in
-    let front′ = at-is-front .is-front .ensures (at-if1 .if1 .taken) in (
-      front-done _ _ _ _ _ _ (pre′ .0) (pre′ .1) _ few′ front′ _ _ _ _ _ (at-complete .complete .ensures),
-      front-skips _ _ _ _ _ _ (pre′ .0) (pre′ .1) _ few′ front′ _ _ _ _ _ (at-complete .complete .ensures),
+    let front′ = at-complete .before .before .before in
+    let at = both front′ in
+    let pre′ = entry at .pre in
+    let heads′ = counted at .wide .ensures .0 in
+    let kept′ = at .wide2 .ensures .0 in
+    let first′ = looked front′ .is-front .ensures (front′ .if1 .taken) in (
+      front-done _ _ _ _ _ _ (pre′ .0) (pre′ .1) _ _ heads′ kept′ first′ _ _ _ _ _ (at-complete .complete .ensures),
+      front-skips _ _ _ _ _ _ (pre′ .0) (pre′ .1) _ _ heads′ kept′ first′ _ _ _ _ _ (at-complete .complete .ensures),
     )
 
 fire-requires : tie.Need-fire-requires
-fire-requires c κs = search needs
-
-same-length-3 : tie.Need-same-length-3
-same-length-3 c = search needs
-
-same-length-4 : tie.Need-same-length-4
-same-length-4 c = search needs
+fire-requires c κs = entry (c .before .before .before .before .before .before) .pre .0
 
 returns-2 : tie.Need-returns-2
 returns-2 c = (c .before .before .before .before .fire .ensures, search none-skipped)
@@ -82,20 +88,21 @@ pub fire-front-spec : {M : Type 1} → statement M
 fire-front-spec =
     tie.close
     (tie.spec
-    shared-slice-read-wide
-    wide-requires
-    is-front-requires
-    mul-s
-    mul-complete
-    sub-complete
+    (λ c. search needs) (λ c κs. search needs) (λ c. search needs) (λ c κs. search needs)
+    array-share-prefix-positions
+    slice-aggregate-placed
+    (λ c. search needs)
+    sub-is-front
+    part-is-front-start
+    (λ c. search needs) (λ c κs. search needs)
+    sub-removed
+    (λ c. search needs) (λ c. search needs) (λ c. search needs)
     part-complete-start
-    part-complete-end
+    (λ c. search needs)
     sub-complete-2
     complete-requires
-    same-length
-    same-length-2
+    (λ c. search needs) (λ c. search needs)
     returns
     fire-requires
-    same-length-3
-    same-length-4
+    (λ c. search needs) (λ c. search needs)
     returns-2)

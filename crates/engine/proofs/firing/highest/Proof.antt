@@ -2,18 +2,19 @@
 -- Assumes nothing.
 use Prim.Native.Nat.{_-_}
 use native.Mathlib.Omega.{arith}
+use lib.ListN.{length}
 use Rattle.engine.proofs.GapLaws.{Topping, topping-start, topping-higher, topping-lower, topping-behind, topping-end}
 use Rattle.engine.proofs.firing.highest.Statement.{statement}
 use Rattle.engine.proofs.firing.highest.Tie as tie
 
 abbrev Inv-loop : tie.InvT-loop
-Inv-loop n p positions top₀ i₀ top i = Topping positions n p top i
+Inv-loop positions p top₀ i₀ top i = Topping positions p top i
 
 abbrev μ-loop : tie.MeasureT-loop
-μ-loop n p positions top₀ i₀ top i = n - i
+μ-loop positions p top₀ i₀ top i = length positions - i
 
 loop-holds : tie.Need-loop-holds Inv-loop μ-loop
-loop-holds c = topping-start _ _ _
+loop-holds c = topping-start _ _
 
 loop-again : tie.Need-loop-again Inv-loop μ-loop
 loop-again c = search topping-higher

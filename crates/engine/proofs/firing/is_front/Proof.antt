@@ -2,25 +2,26 @@
 -- Assumes nothing.
 use Prim.Native.Nat.{_-_}
 use native.Mathlib.Omega.{arith}
+use lib.ListN.{length}
 use Rattle.engine.proofs.StepLaws.{no-way}
 use Rattle.engine.proofs.FrontLaws.{Leading, leading-start, leading-next, leading-end}
 use Rattle.engine.proofs.firing.is_front.Statement.{statement}
 use Rattle.engine.proofs.firing.is_front.Tie as tie
 
 abbrev Inv-loop : tie.InvT-loop
-Inv-loop n positions i₀ i = Leading positions n i
+Inv-loop positions i₀ i = Leading positions i
 
 abbrev μ-loop : tie.MeasureT-loop
-μ-loop n positions i₀ i = n - i
+μ-loop positions i₀ i = length positions - i
 
 loop-holds : tie.Need-loop-holds Inv-loop μ-loop
-loop-holds c = leading-start _ _
+loop-holds c = leading-start _
 
 mul-if1 : tie.Need-mul-if1 Inv-loop μ-loop
 mul-if1 c = omega arith
 
-array-read-if1 : tie.Need-array-read-if1 Inv-loop μ-loop
-array-read-if1 c = omega arith
+shared-slice-read-if1 : tie.Need-shared-slice-read-if1 Inv-loop μ-loop
+shared-slice-read-if1 c = omega arith
 
 returns : tie.Need-returns Inv-loop μ-loop
 returns c = λ y. no-way y
@@ -35,7 +36,7 @@ loop-again : tie.Need-loop-again Inv-loop μ-loop
 loop-again c = search leading-next
 
 returns-2 : tie.Need-returns-2 Inv-loop μ-loop
-returns-2 c = leading-end _ _ _ (c .before .loop .inv) (c .loop-test .left)
+returns-2 c = leading-end _ _ (c .before .loop .inv) (c .loop-test .left)
 
 pub is-front-spec : {M : Type 1} → statement M
 is-front-spec =
@@ -45,7 +46,7 @@ is-front-spec =
     μ-loop
     loop-holds
     mul-if1
-    array-read-if1
+    shared-slice-read-if1
     returns
     add-i
     loop-less

@@ -2,7 +2,6 @@
 -- Assumes nothing.
 use borrow.Author.Needs.{needs}
 use native.Mathlib.Omega.{arith}
-use lib.ListN.{take}
 use Rattle.engine.proofs.GapLaws.{Removing, removing-start, removing-end, removing-room, removing-next}
 use Rattle.engine.proofs.firing.remove.Statement.{statement}
 use Rattle.engine.proofs.firing.remove.Tie as tie
@@ -10,13 +9,13 @@ use Rattle.engine.proofs.firing.close_gap.Reads as close-gap-reads
 use Rattle.engine.proofs.firing.highest.Reads as highest-reads
 
 abbrev Inv-loop : tie.InvT-loop
-Inv-loop cells₀ m positions n k₀ top₀ cells k top = Removing m (take n positions) cells₀ cells k top
+Inv-loop cells₀ m positions k₀ top₀ cells k top = Removing m positions cells₀ cells k top
 
 abbrev μ-loop : tie.MeasureT-loop
-μ-loop cells₀ m positions n k₀ top₀ cells k top = top
+μ-loop cells₀ m positions k₀ top₀ cells k top = top
 
 loop-holds : tie.Need-loop-holds Inv-loop μ-loop
-loop-holds c = removing-start _ _ _ _ (c .before .before .pre .0) (c .highest .ensures)
+loop-holds c = removing-start _ _ _ _ (c .before .before .before .pre) (c .highest .ensures)
 
 close-gap-requires : tie.Need-close-gap-requires Inv-loop μ-loop
 close-gap-requires c κs = removing-room _ _ _ _ _ _ (c .before .before .loop .inv) (c .before .loop-test .taken)

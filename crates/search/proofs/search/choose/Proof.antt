@@ -5,7 +5,8 @@ use Prim.Native.Nat.{_-_}
 use mathlib.Core.Path.{_≡_, sym, _∙_}
 use lib.ListN.{length}
 use native.Mathlib.Omega.{arith}
-use Rattle.search.proofs.ChooseLaws.{Noting, noting-start, noting-look, noting-row, noting-passed, noting-impossible, noting-next, noting-found, noting-room, choosing-none, choosing-leads}
+use Rattle.search.proofs.ChooseLaws.{Noting, noting-start, noting-look, noting-row, noting-passed, noting-impossible}
+use Rattle.search.proofs.ChooseLaws.{noting-next, noting-found, noting-room, choosing-none, choosing-leads}
 use Rattle.search.proofs.search.choose.Statement.{statement}
 use Rattle.search.proofs.search.choose.Tie as tie
 
