@@ -1,6 +1,6 @@
--- Demand 2 for every well-formed program: `derivation-published`. Firing is the published Simplify step of the rule rewritten, the
--- overlaps are the published critical pairs, and the run is the one by the order of choice. What it says whatever the program is stands alone too:
--- `groundwork`.
+-- Demand 2 for every well-formed program: `derivation-published`. Firing is the published Simplify step of the rule rewritten,
+-- the overlaps are the published critical pairs, and the run is the one by the order of choice. What it says whatever the
+-- program is stands alone too: `groundwork`.
 -- Assumes nothing.
 use mathlib.Core.Bool.{true}
 use mathlib.Core.Path.{_≡_}

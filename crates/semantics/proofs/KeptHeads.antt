@@ -18,7 +18,7 @@ use Rattle.semantics.specs.Matching.{Assignment, unassigned, matchAt}
 use Rattle.semantics.specs.Solving.{solve}
 use Rattle.semantics.specs.Firing.{without, instance, settle, fired, fireAt}
 use Rattle.semantics.specs.Variants.{Pointwise, empty, each, SameMultiset}
-use Rattle.semantics.specs.Rewriting.{wholeBody, rewritten, Reordered, bothFailed, reordered}
+use Rattle.semantics.specs.Rewriting.{rewritten, Reordered, bothFailed, reordered}
 use Rattle.semantics.specs.Correspondence.{FiresAsRewritten}
 use Rattle.semantics.proofs.Multisets.{pointwise-drop, multiset-refl, multiset-mono, multiset-map, multiset-append}
 use Rattle.semantics.proofs.Multisets.{multiset-swap, multiset-right, multiset-back, multiset-cancel}
@@ -134,6 +134,11 @@ unfolding fireAt
 fires-as-rewritten r ps failed = record { forth = λ t e. none-some refl e; back = λ t e. none-some refl e }
 fires-as-rewritten r ps (live n b cs) = record { forth = forth; back = back }
   where
+    same :
+        (θ : Assignment) → matchAt (r .heads) ps cs [] unassigned ≡ some θ
+        → Reordered (fired r ps θ n b cs) (fired (rewritten r) ps θ n b cs)
+    same θ m = fired-reordered r ps θ n b cs (matchAt-sound (r .heads) ps cs [] unassigned m)
+
     forth :
         (t : State) → fireAt r ps (live n b cs) ≡ some t
         → (u : State) × (fireAt (rewritten r) ps (live n b cs) ≡ some u) × Reordered t u
@@ -142,7 +147,7 @@ fires-as-rewritten r ps (live n b cs) = record { forth = forth; back = back }
         let final : fired r ps θ n b cs ≡ t = cc in (
           fired (rewritten r) ps θ n b cs,
           ap (λ o. bind o (λ θ. some (fired (rewritten r) ps θ n b cs))) m,
-          subst (λ s. Reordered s (fired (rewritten r) ps θ n b cs)) final (fired-reordered r ps θ n b cs (matchAt-sound (r .heads) ps cs [] unassigned m)),
+          subst (λ s. Reordered s (fired (rewritten r) ps θ n b cs)) final (same θ m),
         )
 
     back :
@@ -153,5 +158,5 @@ fires-as-rewritten r ps (live n b cs) = record { forth = forth; back = back }
         let final : fired (rewritten r) ps θ n b cs ≡ u = cc in (
           fired r ps θ n b cs,
           ap (λ o. bind o (λ θ. some (fired r ps θ n b cs))) m,
-          subst (Reordered (fired r ps θ n b cs)) final (fired-reordered r ps θ n b cs (matchAt-sound (r .heads) ps cs [] unassigned m)),
+          subst (Reordered (fired r ps θ n b cs)) final (same θ m),
         )

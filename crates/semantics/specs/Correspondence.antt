@@ -71,14 +71,14 @@ pub data StandAt (a : Published) (cs : List Constraint) (ps : List ℕ) : State 
 
 -- firing in a state is Simplify in the published state whose stores it represents
 pub record FiringIsSimplify (p : Program) (a : Published) (s : State) : Type 1 where
-  -- every firing is a Simplify step of the rule rewritten on the constraints at its positions, followed by the Introduce and Solve
-  -- steps of the body
+  -- every firing is a Simplify step of the rule rewritten, on the constraints at its positions, followed by the Introduce and
+  -- Solve steps of the body
   pub published :
       (n : ℕ) (r : Rule) (ps : List ℕ) (t : State) → getElem? (p .rules) n ≡ some r → fireAt r ps s ≡ some t
       → (cs : List Constraint) × (b : Published) × (c : Published) × StandAt a cs ps s × Simplify (rewritten r) cs a b
       × Cleared (a .goals) b c × Represents c t
-  -- every Simplify step of a rule rewritten, followed by the Introduce and Solve steps of the body in any order, is a firing at the
-  -- positions of the constraints that it matches
+  -- every Simplify step of a rule rewritten, followed by the Introduce and Solve steps of the body in any order, is a firing at
+  -- the positions of the constraints that it matches
   pub fires :
       (n : ℕ) (r : Rule) (cs : List Constraint) (b c : Published) → getElem? (p .rules) n ≡ some r → Simplify (rewritten r) cs a b
       → Cleared (a .goals) b c
@@ -136,15 +136,15 @@ pub record OverlapsAreCriticalPairs (p : Program) : Type 1 where
       → o .first .number ≡ u .first .number → o .second .number ≡ u .second .number
       → jointsOf (o .partners) ≡ jointsOf (u .partners) → m ≡ n
 
--- demand 2 of a program: every state of a derivation of one of its goals represents a published state that the rewritten program
--- reaches from the goal's initial state, and whose goal store holds what has not entered; firing in it is Simplify there; the overlaps are the
--- critical pairs; and the run is by the order of choice
+-- demand 2 of a program: every state of a derivation of one of its goals represents a published state that the program rewritten
+-- reaches from the goal's initial state, and whose goal store holds what has not entered; firing in it is Simplify there; the
+-- overlaps are the critical pairs; and the run is by the order of choice
 pub record Demand2 (p : Program) : Type 1 where
   pub groundwork : Groundwork
   pub represented :
       (g : Goal) (es : List Event) → isGoalOf p g ≡ true
-      → (a : Published) × Reaches (rewrittenAll p) (initial g) a × SameMultiset _≡_ (a .goals) (map user (waiting g (derive p g es)))
-      × Represents a (derive p g es .state)
+      → (a : Published) × Reaches (rewrittenAll p) (initial g) a
+      × SameMultiset _≡_ (a .goals) (map user (waiting g (derive p g es))) × Represents a (derive p g es .state)
   pub firing :
       (g : Goal) (es : List Event) (a : Published) → isGoalOf p g ≡ true → Represents a (derive p g es .state)
       → FiringIsSimplify p a (derive p g es .state)
