@@ -3,6 +3,7 @@
 --   kept-left                what is left where only the later of distinct positions are removed
 --   fired-reordered          the states after both firings are equal but for the order of their constraints
 --   fires-as-rewritten       where one fires the other does
+--   keeps-nothing            a rule that keeps nothing is itself rewritten
 -- Assumes nothing.
 use Prim.Native.Nat.{ℕ, zero, suc, _+_}
 use mathlib.Core.Bool.{Bool, true, false, _||_}
@@ -160,3 +161,10 @@ fires-as-rewritten r ps (live n b cs) = record { forth = forth; back = back }
           ap (λ o. bind o (λ θ. some (fired r ps θ n b cs))) m,
           subst (Reordered (fired r ps θ n b cs)) final (same θ m),
         )
+
+-- a rule that keeps nothing is itself rewritten
+pub keeps-nothing : (r : Rule) → r .kept ≡ 0 → rewritten r ≡ r
+unfolding keptHeads
+keeps-nothing r e =
+    ap (λ k. record { name = r .name; kept = 0; heads = r .heads; body = take k (r .heads) ++ r .body; equations = r .equations }) e
+    ∙ ap (λ k. record { name = r .name; kept = k; heads = r .heads; body = r .body; equations = r .equations }) (sym e)
