@@ -2,8 +2,8 @@
 derivations. tests/reader.py reads texts for it.
 
 A program is its kinds (name, number of terms, weight) and rules; a fact is (kind, terms). In a rule and in a goal's text a term
-is a str: a capital letter is a variable, anything else a constant. In a state a constant is a str and a variable a number. A state
-is None where it has failed, or (facts, what the goal variables became, a number above every variable in use).
+is a str: a capital letter is a variable, anything else a constant. In a state a constant is a str and a variable a number. A
+state is None where it has failed, or (facts, what the goal variables became, a number above every variable in use).
 """
 import collections
 
