@@ -90,8 +90,8 @@ static inline const char *roketuma_words(unsigned number)
     case 5: return "the name of a symbol or a rule is repeated";
     case 6: return "the symbol was not declared, or has another number of terms";
     case 7: return "the line would pass one of the limits on counts";
-    case 8: return "the rule has no head";
-    case 9: return "the heads of the rule do not weigh more than its body";
+    case 8: return "the rule has no H line";
+    case 9: return "the H lines of the rule do not weigh more than its B lines";
     case 10: return "the goal weighs more than 512";
     case 11: return "the lent output is shorter than the listing";
     default: return "no refusal";

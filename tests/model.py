@@ -1,9 +1,20 @@
-"""The run and the check of document 01 in Python, written apart from the proved code, and a brute force over all derivations.
+"""The run and the check of documents 01 and 02 in Python, written apart from the proved code, and a brute force over all
+derivations. tests/reader.py reads texts for it.
 
-A program is its kinds (name, number of terms, weight) and rules (heads, body, equations); a fact is (kind, terms). In a rule and in a
-goal's text a term is a str: a capital letter is a variable, anything else a constant. In a state a constant is a str and a variable a
-number. A state is None where it has failed, or (facts, what the goal variables became, a number above every variable in use).
+A program is its kinds (name, number of terms, weight) and rules; a fact is (kind, terms). In a rule and in a goal's text a term
+is a str: a capital letter is a variable, anything else a constant. In a state a constant is a str and a variable a number. A
+state is None where it has failed, or (facts, what the goal variables became, a number above every variable in use).
 """
+import collections
+
+
+class Rule(collections.namedtuple('Rule', 'kept removed body equations')):
+    """A rule: its J lines, its H lines, its body facts and equations."""
+
+    @property
+    def heads(self):
+        """All heads, in the order in which they are numbered: J, then H."""
+        return self.kept + self.removed
 
 
 def is_variable(term):
@@ -33,15 +44,16 @@ def places(heads, facts, used=(), bindings={}):
 
 
 def fire(rule, used, bindings, state):
-    """The state after firing a rule at places."""
-    _, body, equations = rule
+    """The state after firing a rule at places. The facts of its kept heads stay where they are."""
     facts, became, last = state
     bindings = dict(bindings)
-    for t in [t for _, terms in body for t in terms] + [t for e in equations for t in e]:
+    for t in [t for _, terms in rule.body for t in terms] + [t for e in rule.equations for t in e]:
         if is_variable(t) and t not in bindings:
             bindings[t], last = last, last + 1
-    facts = [f for i, f in enumerate(facts) if i not in used] + [(k, [bindings.get(t, t) for t in terms]) for k, terms in body]
-    left = [(bindings.get(a, a), bindings.get(b, b)) for a, b in equations]
+    removed = used[len(rule.kept):]
+    facts = [f for i, f in enumerate(facts) if i not in removed]
+    facts += [(k, [bindings.get(t, t) for t in terms]) for k, terms in rule.body]
+    left = [(bindings.get(a, a), bindings.get(b, b)) for a, b in rule.equations]
     while left:
         (a, b), left = left[0], left[1:]
         if a == b:
@@ -60,7 +72,7 @@ def fire(rule, used, bindings, state):
 def normalise(rules, state, firings):
     """The run from a state: the lowest rule that fits, at the smallest list of places, to the end."""
     while state is not None:
-        choice = next(((r, f) for r in rules for f in [next(places(r[0], state[0]), None)] if f), None)
+        choice = next(((r, f) for r in rules for f in [next(places(r.heads, state[0]), None)] if f), None)
         if not choice:
             break
         state = fire(choice[0], choice[1][0], choice[1][1], state)
@@ -181,8 +193,8 @@ def overlaps(rules):
     """Every overlap: (i, j, partners, goal facts over numbers, how many variables)."""
     for i, one in enumerate(rules):
         for j in range(i, len(rules)):
-            first = one[0]
-            second = [(k, [(t,) if is_variable(t) else t for t in terms]) for k, terms in rules[j][0]]
+            first = one.heads
+            second = [(k, [(t,) if is_variable(t) else t for t in terms]) for k, terms in rules[j].heads]
             for partners in pairings(len(first), len(second)):
                 joined = [(first[h], second[d - 1]) for h, d in enumerate(partners) if d]
                 if any(f[0] != g[0] for f, g in joined):
@@ -211,7 +223,7 @@ def side(rules, rule, used, facts, variables):
     """The end of a side of an overlap."""
     state = start(facts, variables)
     bindings = {}
-    for (_, pattern), place in zip(rule[0], used):
+    for (_, pattern), place in zip(rule.heads, used):
         bindings = match(pattern, facts[place][1], bindings)
     return normalise(rules, fire(rule, used, bindings, state), 1)
 
@@ -221,7 +233,7 @@ def check(kinds, rules, names):
     (i, j, partners), numbers and lists compared from the left, whatever the order in which overlaps are found."""
     count = 0
     for i, j, partners, facts, variables in sorted(overlaps(rules), key=lambda overlap: overlap[:3]):
-        m, n = len(rules[i][0]), len(rules[j][0])
+        m, n = len(rules[i].heads), len(rules[j].heads)
         one = side(rules, rules[i], tuple(range(m)), facts, variables)
         two = side(rules, rules[j], second_places(m, n, partners), facts, variables)
         if equal(one[0], two[0]):
@@ -249,7 +261,7 @@ def key(state, entered):
 
 
 def outcomes(rules, facts, variables, limit):
-    """The ends of all derivations of a goal, unequal ones, with facts entering at any moment; None where there are too many states."""
+    """The unequal ends of all derivations of a goal, facts entering at any moment; None where there are too many states."""
     todo, met, ends = [(([], list(range(variables)), variables), frozenset())], set(), []
     while todo:
         state, entered = todo.pop()
@@ -269,7 +281,7 @@ def outcomes(rules, facts, variables, limit):
                 todo.append(((state[0] + [fact],) + state[1:], entered | {n}))
         fits = False
         for rule in rules:
-            for used, bindings in places(rule[0], state[0]):
+            for used, bindings in places(rule.heads, state[0]):
                 fits = True
                 todo.append((fire(rule, used, bindings, state), entered))
         if not fits and len(entered) == len(facts) and not any(equal(state, e) for e in ends):

@@ -4,6 +4,7 @@ pub mod Starred
 pub mod Appearance
 pub mod Demand2
 pub mod Demand3
+pub mod Rewritten
 pub mod Instances
 pub mod Parting
 pub mod Prefix

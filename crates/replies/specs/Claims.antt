@@ -2,10 +2,11 @@
 --   verdictReply      the reply that lists a verdict
 --   Decided           a program is passed or failed
 --   Demand3On         demand 3 for a text that can be read
+--   PassTogether      two texts that can be read are passed together
 --   Demand2On         demand 2 for a text that can be read
 --   Sheetchecked      what `sheetcheck` prints of such a text
--- `check-exact` of proofs/Demand3.antt, `run-published` of proofs/Demand2.antt and `sheetcheck-exact` of proofs/Sheetcheck.antt
--- say that these hold of every such text.
+-- `check-exact` of proofs/Demand3.antt, `run-published` of proofs/Demand2.antt, `sheetcheck-exact` of proofs/Sheetcheck.antt and
+-- `check-rewritten` of proofs/Rewritten.antt say that these hold of every such text.
 -- Assumes nothing.
 use Prim.Native.Nat.{ℕ, _≤_}
 use mathlib.Core.Bool.{true}
@@ -61,6 +62,13 @@ pub record Demand3On (s : List ℕ) (r : Reading) : Type 1 where
   pub ordered : StrictTotalOrder (IsOverlapOf (r .program)) Earlier
   pub bounded : Bounded (r .program)
   pub decimals : (n : ℕ) → (isNumber (decimal n) ≡ true) × (valueOf (decimal n) ≡ n)
+
+-- the checks of two texts that read as r and q, in a room that both listings fit: one passes with a number exactly when the other
+-- does
+abbrev pub PassTogether : List ℕ → List ℕ → Reading → Reading → Type 0
+PassTogether s t r q =
+    (room n : ℕ) → length (checkListing r) ≤ room → length (checkListing q) ≤ room
+    → (checkReply s room ≡ verdictReply r (confluent n)) ↔ (checkReply t room ≡ verdictReply q (confluent n))
 
 -- the reply to a goal's text that reads as g, in a room that the listing fits: the listing of an end, and the run of the goal,
 -- which is over the program's symbols and counts its variables by first appearance, ends so

@@ -228,7 +228,8 @@ module _ (r : Rule) (n : ℕ) (b : List Term) (cs : List Constraint) (ps : List 
     store-becomes =
         rw (
           map-append (mapTerms σ) (without 0 ps cs) (map (mapTerms (instance n θ)) (wholeBody r)),
-          map-append liftAtom (map (mapTerms σ) (without 0 ps cs)) (map (mapTerms σ) (map (mapTerms (instance n θ)) (wholeBody r))),
+          map-append liftAtom (map (mapTerms σ) (without 0 ps cs))
+              (map (mapTerms σ) (map (mapTerms (instance n θ)) (wholeBody r))),
         )
         (pointwise-append old-store new-store)
 

@@ -205,8 +205,8 @@ module _ (p : Program) (w : isWellFormed p ≡ true) (a : Published) where
       go :
           (o : Option (Term → Term)) → solve (a .builtInStore) (λ t. t) ≡ o
           → Variant (settle o 0 (map T.var (a .variables)) (a .userStore)) (live m l ds)
-          → (cs : List Constraint) × (b : Published) × (c : Published) × StandAt a cs ps (live m l ds) × Simplify (rewritten r) cs a b
-          × Cleared (a .goals) b c × Represents c t
+          → (cs : List Constraint) × (b : Published) × (c : Published) × StandAt a cs ps (live m l ds)
+          × Simplify (rewritten r) cs a b × Cleared (a .goals) b c × Represents c t
       go none q v = absurd (v .lower)
       go (some σ) q (ρ, o, f, s) = live-published a ρ σ m l ds q o f s scoped r ps (program-letters p n w i) h
 

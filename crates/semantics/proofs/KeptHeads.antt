@@ -1,16 +1,20 @@
 -- Firing a rule beside firing it rewritten, at the same positions: what is kept and what is put back are the same constraints.
 --   instance-fits            a term of a rule that fits is what it is assigned
+--   keeps-places             a firing leaves what it does not remove in its place
 --   kept-left                what is left where only the later of distinct positions are removed
 --   fired-reordered          the states after both firings are equal but for the order of their constraints
 --   fires-as-rewritten       where one fires the other does
+--   keeps-nothing            a rule that keeps nothing is itself rewritten
 -- Assumes nothing.
-use Prim.Native.Nat.{ℕ, zero, suc, _+_}
-use mathlib.Core.Bool.{Bool, true, false, _||_}
+use Prim.Native.Nat.{ℕ, zero, suc, _+_, _<_}
+use native.Mathlib.Nat.{zero-add, add-zero}
+use native.Mathlib.Omega.{arith}
+use mathlib.Core.Bool.{Bool, true, false, cond}
 use mathlib.Core.List.{List, [], _∷_, _++_, map, map-append, append-assoc}
 use mathlib.Core.Option.{Option, none, some}
 use mathlib.Core.Path.{_≡_, refl, sym, ap, ap₂, subst, _∙_}
 use lib.Dec.{eqb}
-use lib.ListN.{take, drop, take-append-drop}
+use lib.ListN.{take, drop, getElem?, take-append-drop}
 use Rattle.text.specs.Lists.{bind, has}
 use Rattle.semantics.specs.Terms.{Term, Constraint, Rule, State, failed, live, mapTerms, mapSides, alphabet, keptHeads}
 use Rattle.semantics.specs.Terms as T
@@ -18,13 +22,14 @@ use Rattle.semantics.specs.Matching.{Assignment, unassigned, matchAt}
 use Rattle.semantics.specs.Solving.{solve}
 use Rattle.semantics.specs.Firing.{without, instance, settle, fired, fireAt}
 use Rattle.semantics.specs.Variants.{Pointwise, empty, each, SameMultiset}
-use Rattle.semantics.specs.Rewriting.{wholeBody, rewritten, Reordered, bothFailed, reordered}
-use Rattle.semantics.specs.Correspondence.{FiresAsRewritten}
+use Rattle.semantics.specs.Rewriting.{rewritten, Reordered, bothFailed, reordered}
+use Rattle.semantics.specs.Correspondence.{placeAfter, KeepsPlaces, FiresAsRewritten}
 use Rattle.semantics.proofs.Multisets.{pointwise-drop, multiset-refl, multiset-mono, multiset-map, multiset-append}
 use Rattle.semantics.proofs.Multisets.{multiset-swap, multiset-right, multiset-back, multiset-cancel}
-use Rattle.semantics.proofs.Options.{none-some, bind-some}
-use Rattle.text.proofs.Bools.{never}
-use Rattle.semantics.proofs.Removal.{has-front}
+use Rattle.semantics.proofs.Options.{true-false, none-some, bind-some}
+use Rattle.semantics.proofs.Bools.{or-right}
+use Rattle.semantics.proofs.Indices.{false-unless, some-equal, getElem-map, getElem-left, Distinct, distinct-fresh}
+use Rattle.semantics.proofs.Indices.{fresh-distinct}
 use Rattle.semantics.proofs.PositionLaws.{Stands, Fresh, without-taken}
 use Rattle.semantics.proofs.MatchLaws.{TermFits, ConstraintRel, AtMatch, matchAt-sound}
 
@@ -51,33 +56,86 @@ matched-instances n θ (each {a = h} {b = c} f p) =
         → _≡_ {A = Constraint} (record { symbol = k; terms = ss }) (record { symbol = l; terms = ts })
     one a b = rw (a, b)
 
--- positions are fresh where fewer are chosen
-fresh-fewer :
-    (few many ps : List ℕ) → ((n : ℕ) → has n many ≡ false → has n few ≡ false) → Fresh many ps → Fresh few ps
-fresh-fewer few many [] h f = tt
-fresh-fewer few many (p ∷ ps) h f =
-    (h p (f .0), fresh-fewer (few ++ (p ∷ [])) (many ++ (p ∷ [])) ps (λ n e. more n e) (f .1))
-  where
-    more : (n : ℕ) → has n (many ++ (p ∷ [])) ≡ false → has n (few ++ (p ∷ [])) ≡ false
-    more n e = rw (has-front n p few) (go (eqb n p) (rw (has-front n p many) at e))
-      where
-        go : (b : Bool) → (b || has n many) ≡ false → (b || has n few) ≡ false
-        go true e = e
-        go false e = h n e
+-- the later ones of distinct positions are distinct
+distinct-drop : (k : ℕ) (ps : List ℕ) → Distinct ps → Distinct (drop k ps)
+distinct-drop zero ps d = d
+distinct-drop (suc k) [] d = tt
+distinct-drop (suc k) (p ∷ ps) d = distinct-drop k ps (d .1)
 
--- the later ones of fresh positions are fresh
-fresh-drop : (k : ℕ) (chosen ps : List ℕ) → Fresh chosen ps → Fresh chosen (drop k ps)
-fresh-drop zero chosen ps f = f
-fresh-drop (suc k) chosen [] f = tt
-fresh-drop (suc k) chosen (p ∷ ps) f =
-    fresh-drop k chosen ps (fresh-fewer chosen (chosen ++ (p ∷ [])) ps (λ n e. fewer n (rw (has-front n p chosen) at e)) (f .1))
+-- an earlier one is none of the later ones
+distinct-apart : (k i p : ℕ) (ps : List ℕ) → Distinct ps → i < k → getElem? ps i ≡ some p → has p (drop k ps) ≡ false
+distinct-apart k i p [] d l e = none-some refl e
+distinct-apart zero i p (q ∷ ps) d l e = absurd (omega arith)
+distinct-apart (suc k) zero p (q ∷ ps) d l e =
+    false-unless (has p (drop k ps)) (λ h.
+    true-false (dropped k ps h) (subst (λ x. has x ps ≡ false) (let z : q ≡ p = cc in z) (d .0)))
   where
-    fewer : (n : ℕ) → (eqb n p || has n chosen) ≡ false → has n chosen ≡ false
-    fewer n e = go (eqb n p) e
+    dropped : (k : ℕ) (l : List ℕ) → has p (drop k l) ≡ true → has p l ≡ true
+    dropped zero l h = h
+    dropped (suc k) [] h = h
+    dropped (suc k) (x ∷ l) h = or-right (eqb p x) (has p l) (dropped k l h)
+distinct-apart (suc k) (suc i) p (q ∷ ps) d l e = distinct-apart k i p ps (d .1) (omega arith) e
+
+-- a constraint that is not removed stands behind as many as are not removed before it
+without-place :
+    (k : ℕ) (qs : List ℕ) (cs : List Constraint) (p : ℕ) {c : Constraint} → getElem? cs p ≡ some c → has (k + p) qs ≡ false
+    → getElem? (without k qs cs) (placeAfter k qs p) ≡ some c
+unfolding without placeAfter
+without-place k qs [] p e f = none-some refl e
+without-place k qs (b ∷ cs) zero e f = let free : has k qs ≡ false = rw (add-zero k) at f in rw free e
+without-place k qs (b ∷ cs) (suc p) {c} e f =
+    go (has k qs) (without-place (suc k) qs cs p e (let z : suc k + p ≡ k + suc p = omega arith in rw z f))
+  where
+    go :
+        (t : Bool) → getElem? (without (suc k) qs cs) (placeAfter (suc k) qs p) ≡ some c
+        → getElem? (cond t (without (suc k) qs cs) (b ∷ without (suc k) qs cs))
+        (cond t (placeAfter (suc k) qs p) (suc (placeAfter (suc k) qs p))) ≡ some c
+    go true h = h
+    go false h = h
+
+-- a firing removes the constraints of the heads that are not kept, and leaves each other one in its place
+pub keeps-places :
+    (r : Rule) (ps : List ℕ) (n : ℕ) (b : List Term) (cs : List Constraint) → KeepsPlaces r ps n b cs
+unfolding fireAt fired settle
+keeps-places r ps n b cs = record { stays = stays; spared = spared }
+  where
+    stays :
+        (m : ℕ) (c : List Term) (ds : List Constraint) → fireAt r ps (live n b cs) ≡ some (live m c ds)
+        → (σ : Term → Term) × (c ≡ map σ b)
+        × ((p : ℕ) (d : Constraint) → getElem? cs p ≡ some d → has p (drop (r .kept) ps) ≡ false
+        → getElem? ds (placeAfter 0 (drop (r .kept) ps) p) ≡ some (mapTerms σ d))
+    stays m c ds e =
+        let (θ, _, q) = bind-some (matchAt (r .heads) ps cs [] unassigned) (λ θ. some (fired r ps θ n b cs)) e in
+        go (solve (map (mapSides (instance n θ)) (r .equations)) (λ t. t)) (map (mapTerms (instance n θ)) (r .body))
+        (some-equal q)
       where
-        go : (b : Bool) → (b || has n chosen) ≡ false → has n chosen ≡ false
-        go true e = absurd (never e)
-        go false e = e
+        go :
+            (o : Option (Term → Term)) (body : List Constraint)
+            → settle o (n + alphabet) b (without 0 (drop (r .kept) ps) cs ++ body) ≡ live m c ds
+            → (σ : Term → Term) × (c ≡ map σ b)
+            × ((p : ℕ) (d : Constraint) → getElem? cs p ≡ some d → has p (drop (r .kept) ps) ≡ false
+            → getElem? ds (placeAfter 0 (drop (r .kept) ps) p) ≡ some (mapTerms σ d))
+        go none body q = absurd (let z : _≡_ {A = ℕ} 0 1 = cc in omega arith)
+        go (some σ) body q =
+            let left : List Constraint = without 0 (drop (r .kept) ps) cs in
+            let terms : map σ b ≡ c = cc in
+            let same : map (mapTerms σ) (left ++ body) ≡ ds = cc in (
+              σ,
+              sym terms,
+              λ p d s f.
+                  subst (λ l. getElem? l (placeAfter 0 (drop (r .kept) ps) p) ≡ some (mapTerms σ d)) same
+                  (getElem-map (mapTerms σ) (left ++ body) (placeAfter 0 (drop (r .kept) ps) p)
+                  (getElem-left left body (placeAfter 0 (drop (r .kept) ps) p)
+                  (without-place 0 (drop (r .kept) ps) cs p s (rw zero-add f)))),
+            )
+
+    spared :
+        (t : State) → fireAt r ps (live n b cs) ≡ some t → (i p : ℕ) → i < r .kept → getElem? ps i ≡ some p
+        → has p (drop (r .kept) ps) ≡ false
+    spared t e i p l at =
+        let (θ, m, _) = bind-some (matchAt (r .heads) ps cs [] unassigned) (λ θ. some (fired r ps θ n b cs)) e in
+        let fresh = matchAt-sound (r .heads) ps cs [] unassigned m .fresh in
+        distinct-apart (r .kept) i p ps (fresh-distinct [] ps fresh) l at
 
 -- what is left where only the later of distinct positions are removed: the constraints at the others, and what is left without
 -- them
@@ -86,7 +144,9 @@ pub kept-left :
     → SameMultiset _≡_ (without 0 (drop k ps) cs) (without 0 ps cs ++ take k M)
 kept-left k cs ps {M} f h =
     let W = without 0 ps cs in
-    let some = without-taken cs (drop k ps) (fresh-drop k [] ps f) (pointwise-drop k h) in
+    let fresh : Fresh [] (drop k ps) =
+    distinct-fresh [] (drop k ps) (distinct-drop k ps (fresh-distinct [] ps f)) (λ q e. refl) in
+    let some = without-taken cs (drop k ps) fresh (pointwise-drop k h) in
     let all : SameMultiset _≡_ cs ((take k M ++ drop k M) ++ W) = rw (take-append-drop k M) (without-taken cs ps f h) in
     let turned : SameMultiset _≡_ ((take k M ++ drop k M) ++ W) (drop k M ++ (take k M ++ W)) =
     rw (append-assoc (drop k M) (take k M) W) at
@@ -134,6 +194,11 @@ unfolding fireAt
 fires-as-rewritten r ps failed = record { forth = λ t e. none-some refl e; back = λ t e. none-some refl e }
 fires-as-rewritten r ps (live n b cs) = record { forth = forth; back = back }
   where
+    same :
+        (θ : Assignment) → matchAt (r .heads) ps cs [] unassigned ≡ some θ
+        → Reordered (fired r ps θ n b cs) (fired (rewritten r) ps θ n b cs)
+    same θ m = fired-reordered r ps θ n b cs (matchAt-sound (r .heads) ps cs [] unassigned m)
+
     forth :
         (t : State) → fireAt r ps (live n b cs) ≡ some t
         → (u : State) × (fireAt (rewritten r) ps (live n b cs) ≡ some u) × Reordered t u
@@ -142,7 +207,7 @@ fires-as-rewritten r ps (live n b cs) = record { forth = forth; back = back }
         let final : fired r ps θ n b cs ≡ t = cc in (
           fired (rewritten r) ps θ n b cs,
           ap (λ o. bind o (λ θ. some (fired (rewritten r) ps θ n b cs))) m,
-          subst (λ s. Reordered s (fired (rewritten r) ps θ n b cs)) final (fired-reordered r ps θ n b cs (matchAt-sound (r .heads) ps cs [] unassigned m)),
+          subst (λ s. Reordered s (fired (rewritten r) ps θ n b cs)) final (same θ m),
         )
 
     back :
@@ -153,5 +218,14 @@ fires-as-rewritten r ps (live n b cs) = record { forth = forth; back = back }
         let final : fired (rewritten r) ps θ n b cs ≡ u = cc in (
           fired r ps θ n b cs,
           ap (λ o. bind o (λ θ. some (fired r ps θ n b cs))) m,
-          subst (Reordered (fired r ps θ n b cs)) final (fired-reordered r ps θ n b cs (matchAt-sound (r .heads) ps cs [] unassigned m)),
+          subst (Reordered (fired r ps θ n b cs)) final (same θ m),
         )
+
+-- a rule that keeps nothing is itself rewritten
+pub keeps-nothing : (r : Rule) → r .kept ≡ 0 → rewritten r ≡ r
+unfolding keptHeads
+keeps-nothing r e = ap (ruleWith 0) e ∙ ap (λ k. ruleWith k 0) (sym e)
+  where
+    ruleWith : ℕ → ℕ → Rule
+    ruleWith k b =
+        record { name = r .name; kept = k; heads = r .heads; body = take b (r .heads) ++ r .body; equations = r .equations }

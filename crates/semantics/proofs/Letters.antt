@@ -6,8 +6,8 @@ use mathlib.Core.List.{List, [], _∷_}
 use mathlib.Core.Path.{_≡_, refl}
 use lib.Dec.{ltb}
 use Rattle.text.specs.Lists.{every}
-use Rattle.semantics.specs.Terms.{Constraint, Equation, Rule, Symbol, Program, keptHeads, removedHeads, weight, isDeclared, isBelow}
-use Rattle.semantics.specs.Terms.{alphabet, isOfRule, isRuleOf, isWellFormed}
+use Rattle.semantics.specs.Terms.{Constraint, Equation, Rule, Symbol, Program, keptHeads, removedHeads, weight}
+use Rattle.semantics.specs.Terms.{isDeclared, isBelow, alphabet, isOfRule, isRuleOf, isWellFormed}
 use Rattle.semantics.proofs.Configurations.{All, none, also}
 use Rattle.semantics.proofs.Multisets.{all-mono, all-append, all-take}
 use Rattle.semantics.proofs.Options.{true-false, isBelow-below}

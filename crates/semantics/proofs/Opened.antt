@@ -1,7 +1,7 @@
 -- Opens every definition of this crate at once: a proof that says `unfolding opened` computes with all of them.
 -- Assumes nothing.
 use Prim.Native.Nat.{ℕ}
-use Rattle.semantics.specs.Terms.{sameTerm, mapTerms, mapSides, noSymbol, symbolAt, weight, isDeclared, isBelow}
+use Rattle.semantics.specs.Terms.{sameTerm, mapTerms, mapSides, keptHeads, removedHeads, noSymbol, symbolAt, weight, isDeclared, isBelow}
 use Rattle.semantics.specs.Terms.{isGoalOf, alphabet, isOfRule, isRuleOf, isWellFormed}
 use Rattle.semantics.specs.Matching.{unassigned, extend, matchTerm, matchTerms, matchConstraint, matchAt}
 use Rattle.semantics.specs.Solving.{replace, unify, solve}
@@ -19,5 +19,5 @@ use Rattle.semantics.specs.Verdict.{isJoinable, judge, verdict}
 
 -- a name to say on an `unfolding` line
 unfoldable pub opened : ℕ
-unfolding sameTerm mapTerms mapSides noSymbol symbolAt weight isDeclared isBelow isGoalOf alphabet isOfRule isRuleOf isWellFormed unassigned extend matchTerm matchTerms matchConstraint matchAt replace unify solve without instance settle fired fireAt become taken entering firing follow followAll start derive allEntered firstIn find chooseFrom choose advance normalise goalState run arePartners arePaired pairTerm pairTerms pairConstraint tryPartners place sameState partnerLists isOneToOne isPairing pairings apart equateTerms equate joinEquations unjoinedHeads secondPositions appearingIn appearing numbered goalOf overlapOf numberedFrom overlapsOf overlapsAmong overlaps sideEnd firstEnd secondEnd isJoinable judge verdict
+unfolding sameTerm mapTerms mapSides keptHeads removedHeads noSymbol symbolAt weight isDeclared isBelow isGoalOf alphabet isOfRule isRuleOf isWellFormed unassigned extend matchTerm matchTerms matchConstraint matchAt replace unify solve without instance settle fired fireAt become taken entering firing follow followAll start derive allEntered firstIn find chooseFrom choose advance normalise goalState run arePartners arePaired pairTerm pairTerms pairConstraint tryPartners place sameState partnerLists isOneToOne isPairing pairings apart equateTerms equate joinEquations unjoinedHeads secondPositions appearingIn appearing numbered goalOf overlapOf numberedFrom overlapsOf overlapsAmong overlaps sideEnd firstEnd secondEnd isJoinable judge verdict
 opened = 0

@@ -18,7 +18,8 @@ use lib.Dec.{ltb}
 use lib.ListN.{length, getD, getElem?, length-map}
 use Rattle.text.specs.Lists.{every, has, tabled, upTo}
 use Rattle.semantics.specs.Terms.{Term, con, var, Constraint, Symbol, Rule, Program, Goal, State, mapTerms}
-use Rattle.semantics.specs.Terms.{removedHeads, isDeclared, isBelow, isGoalOf, alphabet, isOfRule, isRuleOf, isWellFormed, weight}
+use Rattle.semantics.specs.Terms.{removedHeads, isDeclared, isBelow, isGoalOf, alphabet, isOfRule, isRuleOf, weight}
+use Rattle.semantics.specs.Terms.{isWellFormed}
 use Rattle.semantics.specs.Matching.{Assignment, unassigned, matchAt}
 use Rattle.semantics.specs.Firing.{fired, fireAt}
 use Rattle.semantics.specs.Strategy.{goalState, normalise}

@@ -173,7 +173,9 @@ module _
       let into = cleared-into l in
       record {
         at = c;
-        reaches = reaches-trans (h .reaches) (goes (simplifying n (rewritten r) (getElem-map rewritten (p .rules) n i) k) (cleared-reaches (rewrittenAll p) l));
+        reaches =
+            reaches-trans (h .reaches)
+            (goes (simplifying n (rewritten r) (getElem-map rewritten (p .rules) n i) k) (cleared-reaches (rewrittenAll p) l));
         goals = multiset-right (into .goals) (h .goals);
         variables = into .variables ∙ simplify-variables k ∙ h .variables;
         represents = rep;

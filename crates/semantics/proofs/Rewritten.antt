@@ -6,11 +6,10 @@
 --   overlaps-rewritten       the overlaps are the same, their rules rewritten
 --   rewritten-well-formed    a well-formed program is well-formed rewritten
 -- Assumes nothing.
-use Prim.Native.Nat.{ℕ, zero, suc, _+_}
+use Prim.Native.Nat.{ℕ, suc, _+_}
 use native.Mathlib.Nat.{add-zero, suc-add, add-suc}
-use native.Mathlib.Omega.{arith}
-use mathlib.Core.Bool.{true, _&&_}
-use mathlib.Core.List.{List, [], _∷_, _++_, map, map-append, append-nil}
+use mathlib.Core.Bool.{true}
+use mathlib.Core.List.{List, [], _∷_, _++_, map, map-append}
 use mathlib.Core.Logic.{_↔_}
 use mathlib.Core.Option.{Option, none, some}
 use mathlib.Core.Path.{_≡_, refl, sym, ap, subst, subst₂, _∙_}
@@ -18,10 +17,11 @@ use lib.Dec.{ltb, ltb→lt, lt→ltb}
 use lib.ListN.{length, getElem?, length-map}
 use Rattle.text.specs.Lists.{every, gather, answers, onward, bind}
 use Rattle.semantics.specs.Terms.{Term, Constraint, Equation, Symbol, Rule, Program, Goal, State, mapTerms, keptHeads}
-use Rattle.semantics.specs.Terms.{removedHeads, weight, isGoalOf, isBelow, alphabet, isOfRule, isRuleOf, isWellFormed}
+use Rattle.semantics.specs.Terms.{removedHeads, weight, isGoalOf, isOfRule, isRuleOf, isWellFormed}
 use Rattle.semantics.specs.Solving.{solve}
 use Rattle.semantics.specs.Firing.{fireAt}
-use Rattle.semantics.specs.Derivations.{Event, fire, Progress, follow, followAll, start, derive, NoRuleFits, Finished, byRest}
+use Rattle.semantics.specs.Derivations.{Event, fire, Progress, follow, followAll, start, derive, NoRuleFits, Finished}
+use Rattle.semantics.specs.Derivations.{byRest}
 use Rattle.semantics.specs.Strategy.{goalState}
 use Rattle.semantics.specs.Runs.{arrivals}
 use Rattle.semantics.specs.Variants.{Variant}
@@ -110,7 +110,8 @@ unfolding derive arrivals
 reach-finished p g {n} t h rest =
     let (es, f) = reach-events p g h in
     let all = arrivedAt g (length (g .constraints)) in
-    let whole : followAll p g (arrivals g ++ es) (start g) ≡ record { state = t; entered = all .entered; firings = all .firings + n } =
+    let whole : followAll p g (arrivals g ++ es) (start g)
+    ≡ record { state = t; entered = all .entered; firings = all .firings + n } =
     followAll-append p g (arrivals g) es (start g) ∙ ap (followAll p g es) (enters-all p g) ∙ f all (arrivedAt-state g) in (
       arrivals g ++ es,
       byRest (arrivedAt-entered g _ (ap (λ d. d .entered) whole)) (subst (NoRuleFits p) (sym (ap (λ d. d .state) whole)) rest),
@@ -200,7 +201,8 @@ answers-image {A} {B} f h k e (a ∷ l) = rw (e a, answers-image f h k e l) (go 
   where
     go :
         (o : Option B)
-        → onward (image f o) (map f (answers k l)) (λ y. y ∷ map f (answers k l)) ≡ map f (onward o (answers k l) (λ y. y ∷ answers k l))
+        → onward (image f o) (map f (answers k l)) (λ y. y ∷ map f (answers k l))
+        ≡ map f (onward o (answers k l) (λ y. y ∷ answers k l))
     go none = refl
     go (some b) = refl
 

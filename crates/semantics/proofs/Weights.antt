@@ -17,7 +17,8 @@ use lib.Dec.{eqb, ltb, ltb→lt}
 use lib.ListN.{getElem?, take-append-drop}
 use Rattle.text.specs.Lists.{every}
 use Rattle.semantics.specs.Terms.{Term, Constraint, Symbol, Rule, Program, State, failed, live, mapTerms, mapSides}
-use Rattle.semantics.specs.Terms.{keptHeads, removedHeads, symbolAt, weight, isOfRule, isBelow, alphabet, isRuleOf, isWellFormed}
+use Rattle.semantics.specs.Terms.{keptHeads, removedHeads, symbolAt, weight, isOfRule, isBelow, alphabet, isRuleOf}
+use Rattle.semantics.specs.Terms.{isWellFormed}
 use Rattle.semantics.specs.Matching.{Assignment, unassigned, matchConstraint, matchAt}
 use Rattle.semantics.specs.Solving.{solve}
 use Rattle.semantics.specs.Firing.{without, instance, settle, fired, fireAt}

@@ -2,21 +2,22 @@
 -- critical pairs. The published rules keep nothing: a rule that keeps constraints stands there rewritten (document 02).
 --   SolvingIsExact               of equations and their solution
 --   JoiningsArePairings          of the numbers of heads of two rules
+--   KeepsPlaces                  of a firing
 --   FiresAsRewritten             of a rule, positions and a state
---   Groundwork                   all three, whatever the program
+--   Groundwork                   all four, whatever the program
 --   StandAt, FiringIsSimplify    of a state and the published state that it represents
 --   Side, Sides                  of an overlap and a critical pair
 --   OverlapsAreCriticalPairs     of a program
 --   Demand2                      all of demand 2, as one claim
 -- Assumes nothing.
-use Prim.Native.Nat.{ℕ, _<_, _≤_}
-use mathlib.Core.Bool.{true}
+use Prim.Native.Nat.{ℕ, zero, suc, _<_, _≤_}
+use mathlib.Core.Bool.{true, false, cond}
 use mathlib.Core.List.{List, [], map}
 use mathlib.Core.Logic.{_↔_}
 use mathlib.Core.Option.{none, some}
 use mathlib.Core.Path.{_≡_}
-use lib.ListN.{length, getElem?}
-use Rattle.text.specs.Lists.{upTo}
+use lib.ListN.{length, drop, getElem?}
+use Rattle.text.specs.Lists.{has, upTo}
 use Rattle.semantics.specs.Terms.{Term, var, Constraint, Equation, Rule, Program, Goal, State, live, mapTerms, isGoalOf}
 use Rattle.semantics.specs.Solving.{solve}
 use Rattle.semantics.specs.Firing.{fireAt}
@@ -45,17 +46,36 @@ pub record JoiningsArePairings (m n : ℕ) : Type 0 where
   pub forth : (i : ℕ) (ds : List ℕ) → getElem? (pairings m n) i ≡ some ds → partnersOf m (jointsOf ds) ≡ ds
   pub once : (i k : ℕ) (ds : List ℕ) → getElem? (pairings m n) i ≡ some ds → getElem? (pairings m n) k ≡ some ds → i ≡ k
 
+-- where a constraint stands when those at the positions qs are removed: the number of those before it, the first at position k,
+-- that are not
+unfoldable pub placeAfter : ℕ → List ℕ → ℕ → ℕ
+placeAfter k qs zero = 0
+placeAfter k qs (suc p) = cond (has k qs) (placeAfter (suc k) qs p) (suc (placeAfter (suc k) qs p))
+
+-- a firing removes the constraints at the positions of heads that are not kept, and no other: each other one keeps its place,
+-- with the solution put in (`stays`); and the positions of kept heads are none of those (`spared`)
+pub record KeepsPlaces (r : Rule) (ps : List ℕ) (next : ℕ) (bound : List Term) (cs : List Constraint) : Type 0 where
+  pub stays :
+      (m : ℕ) (after : List Term) (ds : List Constraint) → fireAt r ps (live next bound cs) ≡ some (live m after ds)
+      → (σ : Term → Term) × (after ≡ map σ bound)
+      × ((p : ℕ) (c : Constraint) → getElem? cs p ≡ some c → has p (drop (r .kept) ps) ≡ false
+      → getElem? ds (placeAfter 0 (drop (r .kept) ps) p) ≡ some (mapTerms σ c))
+  pub spared :
+      (t : State) → fireAt r ps (live next bound cs) ≡ some t → (i p : ℕ) → i < r .kept → getElem? ps i ≡ some p
+      → has p (drop (r .kept) ps) ≡ false
+
 -- firing a rule, and firing it with its kept heads on both sides, at the same positions: where one fires so does the other, and
 -- the states are equal but for the order of their constraints
 pub record FiresAsRewritten (r : Rule) (ps : List ℕ) (s : State) : Type 0 where
   pub forth : (t : State) → fireAt r ps s ≡ some t → (u : State) × (fireAt (rewritten r) ps s ≡ some u) × Reordered t u
   pub back : (u : State) → fireAt (rewritten r) ps s ≡ some u → (t : State) × (fireAt r ps s ≡ some t) × Reordered t u
 
--- the part of demand 2 that is about no program: solving is exact, the joinings are the pairings, and a rule fires as it does
--- rewritten
+-- the part of demand 2 that is about no program: solving is exact, the joinings are the pairings, a firing leaves what it does
+-- not remove in its place, and a rule fires as it does rewritten
 pub record Groundwork : Type 0 where
   pub solving : (es : List Equation) → SolvingIsExact es
   pub joinings : (m n : ℕ) → JoiningsArePairings m n
+  pub places : (r : Rule) (ps : List ℕ) (n : ℕ) (b : List Term) (cs : List Constraint) → KeepsPlaces r ps n b cs
   pub rewriting : (r : Rule) (ps : List ℕ) (s : State) → FiresAsRewritten r ps s
 
 -- constraints of a published state stand at positions of a state that represents it: one renaming makes equal what each variable
@@ -71,14 +91,14 @@ pub data StandAt (a : Published) (cs : List Constraint) (ps : List ℕ) : State 
 
 -- firing in a state is Simplify in the published state whose stores it represents
 pub record FiringIsSimplify (p : Program) (a : Published) (s : State) : Type 1 where
-  -- every firing is a Simplify step of the rule rewritten on the constraints at its positions, followed by the Introduce and Solve
-  -- steps of the body
+  -- every firing is a Simplify step of the rule rewritten, on the constraints at its positions, followed by the Introduce and
+  -- Solve steps of the body
   pub published :
       (n : ℕ) (r : Rule) (ps : List ℕ) (t : State) → getElem? (p .rules) n ≡ some r → fireAt r ps s ≡ some t
       → (cs : List Constraint) × (b : Published) × (c : Published) × StandAt a cs ps s × Simplify (rewritten r) cs a b
       × Cleared (a .goals) b c × Represents c t
-  -- every Simplify step of a rule rewritten, followed by the Introduce and Solve steps of the body in any order, is a firing at the
-  -- positions of the constraints that it matches
+  -- every Simplify step of a rule rewritten, followed by the Introduce and Solve steps of the body in any order, is a firing at
+  -- the positions of the constraints that it matches
   pub fires :
       (n : ℕ) (r : Rule) (cs : List Constraint) (b c : Published) → getElem? (p .rules) n ≡ some r → Simplify (rewritten r) cs a b
       → Cleared (a .goals) b c
@@ -136,15 +156,15 @@ pub record OverlapsAreCriticalPairs (p : Program) : Type 1 where
       → o .first .number ≡ u .first .number → o .second .number ≡ u .second .number
       → jointsOf (o .partners) ≡ jointsOf (u .partners) → m ≡ n
 
--- demand 2 of a program: every state of a derivation of one of its goals represents a published state that the rewritten program
--- reaches from the goal's initial state, and whose goal store holds what has not entered; firing in it is Simplify there; the overlaps are the
--- critical pairs; and the run is by the order of choice
+-- demand 2 of a program: every state of a derivation of one of its goals represents a published state that the program rewritten
+-- reaches from the goal's initial state, and whose goal store holds what has not entered; firing in it is Simplify there; the
+-- overlaps are the critical pairs; and the run is by the order of choice
 pub record Demand2 (p : Program) : Type 1 where
   pub groundwork : Groundwork
   pub represented :
       (g : Goal) (es : List Event) → isGoalOf p g ≡ true
-      → (a : Published) × Reaches (rewrittenAll p) (initial g) a × SameMultiset _≡_ (a .goals) (map user (waiting g (derive p g es)))
-      × Represents a (derive p g es .state)
+      → (a : Published) × Reaches (rewrittenAll p) (initial g) a
+      × SameMultiset _≡_ (a .goals) (map user (waiting g (derive p g es))) × Represents a (derive p g es .state)
   pub firing :
       (g : Goal) (es : List Event) (a : Published) → isGoalOf p g ≡ true → Represents a (derive p g es .state)
       → FiringIsSimplify p a (derive p g es .state)
