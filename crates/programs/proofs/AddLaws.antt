@@ -5,7 +5,7 @@
 --   sides-..                   an E line
 -- Assumes nothing.
 use mathlib.Core.Path.{_≡_, refl, sym, ap, ap₂, _∙_}
-use mathlib.Core.Bool.{true, false, not, _&&_}
+use mathlib.Core.Bool.{Bool, true, false, not, _&&_}
 use mathlib.Core.List.{List, [], _∷_, map}
 use Prim.Native.Nat.{ℕ, zero, suc, _+_, _-_, _*_, _≤_, _<_}
 use native.Mathlib.Numerals.{add-one}
@@ -157,7 +157,11 @@ module _ (f : Fields) (s : Stage) (names places rules : List ℕ) (size : length
   -- an H or B line, by what is found of it
   module _ (w h : ℕ) (p : w ≤ 1) (e : h ≡ getD rules (64 * i + (3 + w)) 0) (used names′ places′ : List ℕ)
       (sized : length used ≡ 2 * s .symbols) (r : ConstraintRead)
-      (c : ConstraintIn f (leb (4 + 2 * w) h) 0 (s .constants) used names places names′ places′ r) where
+      (full : Bool) (found : ConstraintIn f full 0 (s .constants) used names places names′ places′ r)
+      (full-is : full ≡ leb (4 + 2 * w) h) where
+    c : ConstraintIn f (leb (4 + 2 * w) h) 0 (s .constants) used names places names′ places′ r
+    c = rw full-is at found
+
     pub adds-few : h ≤ 4 + 2 * w
     adds-few = omega (arith, e, row-cell rules i (3 + w) (omega arith), few-constraints (rowOf rules i) w p fits)
 
