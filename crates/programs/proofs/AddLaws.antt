@@ -1,27 +1,29 @@
--- Laws of H, B and E lines: their answers from what is found of the line, and the draft with the last rule changed.
+-- Laws of J, H, B and E lines: their answers from what is found of the line, and the draft with the last rule changed.
 --   draft-used, draft-grown    a draft over the used part of the symbols, and with its last rule changed
 --   adds-..                    an H or B line
+--   kept-refused, kept-next    a J line, by what is found of it as an H line
 --   sides-..                   an E line
 -- Assumes nothing.
 use mathlib.Core.Path.{_≡_, refl, sym, ap, ap₂, _∙_}
-use mathlib.Core.Bool.{true, false, not, _&&_}
+use mathlib.Core.Bool.{Bool, true, false, not, _&&_}
 use mathlib.Core.List.{List, [], _∷_, map}
 use Prim.Native.Nat.{ℕ, zero, suc, _+_, _-_, _*_, _≤_, _<_}
+use native.Mathlib.Numerals.{add-one}
 use native.Mathlib.Omega.{arith}
 use borrow.Author.Tests.{leb-false, le-leb, lt-leb, lt-ltb, le-ltb, ne-eqb, eq-eqb}
 use lib.Dec.{leb, eqb}
 use lib.ListN.{length, take, drop, getD, set}
-use lib.Seq.{paste, getD-take}
+use lib.Seq.{paste, paste-zero, getD-take}
 use Rattle.text.specs.Lists.{every, indexOf}
 use Rattle.text.specs.Fields.{isTerm}
 use Rattle.text.specs.Splits.{Holds}
 use Rattle.text.specs.declared.fields.Fields.{Fields}
 use Rattle.text.proofs.Bools.{and-true}
-use Rattle.semantics.specs.Terms.{Symbol, Rule}
+use Rattle.semantics.specs.Terms.{Constraint, Symbol, Rule}
 use Rattle.syntax.specs.Answers.{Answer, refused, accepted, andThen}
-use Rattle.syntax.specs.Forms.{equationForm, fieldAt, constantsAfter, termOf, letterNumber, isEquationFaulty}
-use Rattle.syntax.specs.Programs.{Draft, Found, constraintLine, onLast, lastRule, withEquation, withRule, readConstraint}
-use Rattle.syntax.specs.Programs.{readEquation, readForm}
+use Rattle.syntax.specs.Forms.{keptForm, headForm, equationForm, fieldAt, constantsAfter, termOf, letterNumber, isEquationFaulty}
+use Rattle.syntax.specs.Programs.{RuleRead, Draft, Found, constraintLine, onLast, lastRule, withKept, withHead, withEquation}
+use Rattle.syntax.specs.Programs.{withRule, readConstraint, readEquation, readForm}
 use Rattle.syntax.proofs.WellFormed.{or-neither, not-false}
 use Rattle.syntax.proofs.Tabled.{tabled-same, name-most}
 use Rattle.tables.specs.Layout.{firstRule}
@@ -34,11 +36,13 @@ use Rattle.lines.proofs.HeadLaws.{symbols-same}
 use Rattle.lines.proofs.TermCells.{cell-term}
 use Rattle.lines.proofs.TermLaws.{constants-length}
 use Rattle.programs.specs.declared.Stage.{Stage}
+use Rattle.programs.specs.declared.LineRead.{LineRead}
 use Rattle.programs.specs.declared.LineRead.the-variants.{Refused, Next}
-use Rattle.programs.specs.Read.{partForm, rulesRead, draftOf, lineAnswer, RowFits, Sound, Kept, AddsIn}
+use Rattle.programs.specs.Read.{partForm, rulesRead, draftOf, lineAnswer, RowFits, Sound, Begun, Kept, AddsIn, headGained}
 use Rattle.programs.proofs.Drafts.{row-cell, kept-same}
-use Rattle.programs.proofs.Grown.{grown, grown-length, rules-grown, sound-grown, sides-grown, constraintsIn}
-use Rattle.programs.proofs.Grown.{withConstraint, constraint-grown, last-constraints, last-sides}
+use Rattle.programs.proofs.Grown.{grown, grown-length, cell-counted, other-count, rules-grown, sound-grown, sides-grown}
+use Rattle.programs.proofs.Grown.{constraintsIn, withConstraint, constraint-grown, last-constraints, last-sides}
+use Rattle.programs.proofs.Grown.{withOneKept, kept-grown}
 
 -- the symbols of a table, from its used part
 pub symbols-used : (names symbols : List ℕ) (k : ℕ) → symbolsOf names (take (2 * k) symbols) k ≡ symbolsOf names symbols k
@@ -69,6 +73,28 @@ unfolding readForm partForm
 read-part zero p n fs d = refl
 read-part (suc zero) p n fs d = refl
 read-part (suc (suc w)) p n fs d = absurd (omega arith)
+
+-- the draft where one more head of the last rule is kept
+abbrev oneKept : Draft → Answer Draft
+oneKept d = accepted (withRule withOneKept (d .constants) d)
+
+-- a J line is an H line whose head is kept
+kept-last : (c : Constraint) (rs : List RuleRead) → onLast (withKept c) rs ≡ onLast withOneKept (onLast (withHead c) rs)
+unfolding onLast withKept withHead withOneKept
+kept-last c [] = refl
+kept-last c (r ∷ []) = refl
+kept-last c (r ∷ q ∷ []) = refl
+kept-last c (r ∷ q ∷ p ∷ rs) = ap (λ (l : List RuleRead). r ∷ l) (kept-last c (q ∷ p ∷ rs))
+
+read-kept : (n : ℕ) (fs : List (List ℕ)) (d : Draft) → andThen (readForm headForm n fs d) oneKept ≡ readForm keptForm n fs d
+unfolding readForm readConstraint withRule
+read-kept n fs d = go (constraintLine (leb 4 (length (lastRule (d .rules) .heads))) (d .symbols) letterNumber (d .constants) n fs)
+  where
+    go : (a : Answer Found)
+        → andThen (andThen a (λ x. accepted (withRule (withHead (x .constraint)) (x .constants) d))) oneKept
+        ≡ andThen a (λ x. accepted (withRule (withKept (x .constraint)) (x .constants) d))
+    go (refused x l) = refl
+    go (accepted x) = rw (kept-last (x .constraint) (d .rules)) refl
 
 few-constraints : (row : List ℕ) (w : ℕ) → w ≤ 1 → RowFits row → getD row (3 + w) 0 ≤ 4 + 2 * w
 few-constraints row zero p fits = fits .heads
@@ -131,7 +157,11 @@ module _ (f : Fields) (s : Stage) (names places rules : List ℕ) (size : length
   -- an H or B line, by what is found of it
   module _ (w h : ℕ) (p : w ≤ 1) (e : h ≡ getD rules (64 * i + (3 + w)) 0) (used names′ places′ : List ℕ)
       (sized : length used ≡ 2 * s .symbols) (r : ConstraintRead)
-      (c : ConstraintIn f (leb (4 + 2 * w) h) 0 (s .constants) used names places names′ places′ r) where
+      (full : Bool) (found : ConstraintIn f full 0 (s .constants) used names places names′ places′ r)
+      (full-is : full ≡ leb (4 + 2 * w) h) where
+    c : ConstraintIn f (leb (4 + 2 * w) h) 0 (s .constants) used names places names′ places′ r
+    c = rw full-is at found
+
     pub adds-few : h ≤ 4 + 2 * w
     adds-few = omega (arith, e, row-cell rules i (3 + w) (omega arith), few-constraints (rowOf rules i) w p fits)
 
@@ -214,11 +244,119 @@ module _ (f : Fields) (s : Stage) (names places rules : List ℕ) (size : length
             sound = (
               rw grow (sound-grown rules i (3 + w) at h (r .cells) room (omega arith) (omega arith) (omega arith) s
                   (r .count)
-                  q sound (c .few) (λ y. omega (arith, y)) (λ y. omega (arith, y)) (λ y. omega (arith, y))),
+                  q sound (c .few) e (λ y. omega (arith, y)) (λ y. omega (arith, y)) (λ y. omega (arith, y))
+                  (λ y. omega (arith, y))),
               λ _. begun,
             );
             kept = kept-outside f names places names′ places′ (c .outside) (c .sized) (c .keeps);
             size = ap length grow ∙ grown-length rules i (3 + w) at h (r .cells) room (omega arith) (omega arith) (omega arith);
+          }
+
+      -- a head that is added is not kept
+      pub adds-gained : (rules′ : List ℕ)
+          → rules′ ≡ set (paste rules (64 * i + (6 + 20 * w + 5 * h)) (r .cells) (length (r .cells))) (64 * i + (3 + w))
+          (suc (getD rules (64 * i + (3 + w)) 0))
+          → headGained w s rules′ (Next (next (r .count)))
+      adds-gained rules′ g =
+          let at : ℕ = 6 + 20 * w + 5 * h in
+          let less : h < 4 + 2 * w = adds-room in
+          let five : length (r .cells) ≡ 5 = c .size in
+          let grow : rules′ ≡ grown rules i (3 + w) at h (r .cells) room (omega arith) (omega arith) (omega arith) =
+          g ∙ ap (λ (v : ℕ). set (paste rules (64 * i + at) (r .cells) (length (r .cells))) (64 * i + (3 + w)) (suc v)) (sym e) in
+          let kept : getD rules′ (64 * i + 1) 0 ≡ getD rules (64 * i + 1) 0 =
+          ap (λ (l : List ℕ). getD l (64 * i + 1) 0) grow
+          ∙ other-count rules i (3 + w) at h (r .cells) room (omega arith) (omega arith) (omega arith) 1 (omega arith)
+          (λ z. omega (arith, z)) in
+          let heads : getD rules′ (64 * i + (3 + w)) 0 ≡ suc h =
+          ap (λ (l : List ℕ). getD l (64 * i + (3 + w)) 0) grow
+          ∙ cell-counted rules i (3 + w) at h (r .cells) room (omega arith) (omega arith) (omega arith) in (
+            refl,
+            λ first. (let same : getD rules (64 * i + (3 + w)) 0 ≡ getD rules (64 * i + 3) 0 =
+                ap (λ (v : ℕ). getD rules (64 * i + (3 + v)) 0) first in
+                let more : getD rules′ (64 * i + (3 + w)) 0 ≡ getD rules′ (64 * i + 3) 0 =
+                ap (λ (v : ℕ). getD rules′ (64 * i + (3 + v)) 0) first in
+                omega (
+                  arith,
+                  kept,
+                  heads,
+                  same,
+                  more,
+                  e,
+                  fits .kept,
+                  row-cell rules i 1 (omega arith),
+                  row-cell rules i 3 (omega arith),
+                  row-cell rules′ i 1 (omega arith),
+                  row-cell rules′ i 3 (omega arith),
+                )),
+          )
+
+  -- a J line, by what is found of it as an H line
+  module _ (used names′ places′ rules′ : List ℕ) (r : LineRead)
+      (c : AddsIn headForm f s used names places rules names′ places′ rules′ r) where
+    pub kept-refused : (x : ℕ) → r ≡ Refused x
+        → AddsIn keptForm f s used names places rules names′ places′ rules′ (Refused x)
+    unfolding lineAnswer
+    kept-refused x z =
+        let d : AddsIn headForm f s used names places rules names′ places′ rules′ (Refused x) = rw z at c in
+        record {
+          answers = λ fs symbols n hold u.
+              ap (λ (a : Answer Draft). andThen a oneKept) (d .answers fs symbols n hold u)
+              ∙ read-kept n fs (draftOf names symbols rules s);
+          sound = tt;
+          kept = d .kept;
+          size = d .size;
+        }
+
+    module _ (t : Stage) (z : r ≡ Next t) (gained : headGained 0 s rules′ r) where
+      abbrev k : ℕ
+      k = getD rules′ (64 * i + 1) 0
+
+      as-head : AddsIn headForm f s used names places rules names′ places′ rules′ (Next t)
+      as-head = rw z at c
+
+      gains : headGained 0 s rules′ (Next t)
+      gains = rw z at gained
+
+      same-rules : t .rules ≡ suc i
+      same-rules = gains .0 ∙ q
+
+      kept-room : 64 * i + 64 ≤ length rules′
+      kept-room = omega (arith, room, as-head .size)
+
+      pub kept-small : k < getD rules′ (64 * i + 3) 0
+      kept-small =
+          omega (arith, gains .1 refl, row-cell rules′ i 1 (omega arith), row-cell rules′ i 3 (omega arith))
+
+      pub kept-cell : (64 * i + 1 < length rules′) × (k < 4)
+      kept-cell =
+          let last : RowFits (rowOf rules′ i) = as-head .sound .0 .rows i (omega (arith, same-rules)) in
+          (omega (arith, kept-room), omega (arith, kept-small, last .heads, row-cell rules′ i 3 (omega arith)))
+
+      pub kept-next : (rules″ : List ℕ) → rules″ ≡ set rules′ (64 * i + 1) (k + 1)
+          → AddsIn keptForm f s used names places rules names′ places′ rules″ (Next t)
+      unfolding lineAnswer draftOf
+      kept-next rules″ g =
+          let grow : rules″ ≡ grown rules′ i 1 6 k [] kept-room (omega arith) (omega arith) (omega arith) =
+          g ∙ ap₂ (λ (l : List ℕ) (v : ℕ). set l (64 * i + 1) v) (paste-zero rules′ (64 * i + 6) []) (add-one k) in
+          let same : Outside names′ names′ = record { size = refl; symbols = λ j h. refl; rules = λ j h. refl } in
+          record {
+            answers = λ fs symbols n hold u.
+                ap accepted (draft-grown names′ symbols rules′ names′ rules″ t i (t .constants) withOneKept
+                (as-head .sound .0 .few-symbols) same-rules same
+                (ap (λ (l : List ℕ). rulesRead names′ l (suc i)) grow
+                ∙ rules-grown rules′ i 1 6 k [] kept-room (omega arith) (omega arith) (omega arith) names′ names′ withOneKept
+                (λ j h. refl) (λ y. omega (arith, y)) (kept-grown names′ rules′ i kept-room k refl)))
+                ∙ ap (λ (a : Answer Draft). andThen a oneKept) (as-head .answers fs symbols n hold u)
+                ∙ read-kept n fs (draftOf names symbols rules s);
+            sound = (
+              rw grow (sound-grown rules′ i 1 6 k [] kept-room (omega arith) (omega arith) (omega arith) t (t .constants)
+                  same-rules (as-head .sound .0) (as-head .sound .0 .few-constants) refl (λ y. kept-small)
+                  (λ y. omega (arith, y)) (λ y. omega (arith, y)) (λ y. omega (arith, y))),
+              as-head .sound .1,
+            );
+            kept = as-head .kept;
+            size = ap length grow
+                ∙ grown-length rules′ i 1 6 k [] kept-room (omega arith) (omega arith) (omega arith) ∙ as-head .size;
           }
 
   -- an E line, by the test that decides it
@@ -343,7 +481,8 @@ module _ (f : Fields) (s : Stage) (names places rules : List ℕ) (size : length
                     ∙ sides-read fs hold symbols n;
                 sound = (
                   rw grow (sound-grown rules i 5 at h vs room (omega arith) (omega arith) (omega arith) s (t .count)
-                      q sound (c .few) (λ y. omega (arith, y)) (λ y. omega (arith, y)) (λ y. omega (arith, y))),
+                      q sound (c .few) e (λ y. omega (arith, y)) (λ y. omega (arith, y)) (λ y. omega (arith, y))
+                      (λ y. omega (arith, y))),
                   λ _. begun,
                 );
                 kept = kept-outside f names places names′ places′ (c .outside) (c .sized) (c .keeps);

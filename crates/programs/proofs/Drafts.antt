@@ -124,11 +124,12 @@ module _ (names rules : List ℕ) (n key line : ℕ) (room : 64 * n + 64 ≤ len
       rw (row-before i h, getD-set-other names (firstRule + n) (firstRule + i) key 0 (λ q. omega (arith, h, q)))
 
   rule-newest : ruleRead (set names (firstRule + n) key) with-rule n
-      ≡ record { rule = record { name = spell key; heads = []; body = []; equations = [] }; line = line }
+      ≡ record { rule = record { name = spell key; kept = 0; heads = []; body = []; equations = [] }; line = line }
   unfolding ruleRead ruleOf ruleOfRow nameOf cellConstraints cellEquations
   rule-newest =
       rw (
         getD-set-same names (firstRule + n) key 0 named,
+        fresh-cell 1 (omega arith),
         fresh-cell 2 (omega arith),
         fresh-cell 3 (omega arith),
         fresh-cell 4 (omega arith),
@@ -137,7 +138,7 @@ module _ (names rules : List ℕ) (n key line : ℕ) (room : 64 * n + 64 ≤ len
 
   pub rules-more : rulesRead (set names (firstRule + n) key) with-rule (suc n)
       ≡ rulesRead names rules n
-      ++ (record { rule = record { name = spell key; heads = []; body = []; equations = [] }; line = line } ∷ [])
+      ++ (record { rule = record { name = spell key; kept = 0; heads = []; body = []; equations = [] }; line = line } ∷ [])
   unfolding rulesRead
   rules-more =
       ap₂ (λ (xs : List RuleRead) (x : RuleRead). xs ++ (x ∷ []))
@@ -146,6 +147,7 @@ module _ (names rules : List ℕ) (n key line : ℕ) (room : 64 * n + 64 ≤ len
   pub fresh-fits : RowFits (rowOf with-rule n)
   fresh-fits =
       record {
+        kept = omega (arith, fresh-cell 1 (omega arith), fresh-cell 3 (omega arith));
         heads = omega (arith, fresh-cell 3 (omega arith));
         body = omega (arith, fresh-cell 4 (omega arith));
         equations = omega (arith, fresh-cell 5 (omega arith));

@@ -2,11 +2,13 @@
 --   rules-grown, sound-grown          the table, where one more is stored in its last row
 --   last-constraints, last-sides      the counts of the last rule
 --   constraint-grown, sides-grown     the last rule with one constraint more in a part, or one equation more
+--   withOneKept, kept-grown           one more of its heads counted as kept
 -- Assumes nothing.
 use mathlib.Core.Path.{_≡_, refl, sym, ap, ap₂, _∙_}
 use mathlib.Core.List.{List, [], _∷_, _++_}
 use Prim.Native.Nat.{ℕ, zero, suc, _+_, _-_, _*_, _≤_, _<_}
 use native.Mathlib.Nat.{mul-suc}
+use native.Mathlib.Numerals.{add-one}
 use native.Mathlib.Decide.{ℕ-discrete, decLt}
 use native.Mathlib.Omega.{arith}
 use lib.ListN.{length, take, drop, getD, set, length-set, length-drop}
@@ -90,13 +92,13 @@ module _ (cells : List ℕ) (i s at h : ℕ) (vs : List ℕ) (room : 64 * i + 64
   pub grown-length : length grown ≡ length cells
   grown-length = length-set stored (64 * i + s) (suc h) ∙ stored-length
 
-  cell-counted : getD grown (64 * i + s) 0 ≡ suc h
+  pub cell-counted : getD grown (64 * i + s) 0 ≡ suc h
   cell-counted = getD-set-same stored (64 * i + s) (suc h) 0 (omega (arith, stored-length))
 
   cell-kept : (j : ℕ) → j < 64 * i + 6 → (j ≡ 64 * i + s → ⊥) → getD grown j 0 ≡ getD cells j 0
   cell-kept j p q = getD-set-other stored (64 * i + s) j (suc h) 0 q ∙ at-before cells (64 * i + at) vs inner j (omega arith)
 
-  other-count : (j : ℕ) → j < 6 → (j ≡ s → ⊥) → getD grown (64 * i + j) 0 ≡ getD cells (64 * i + j) 0
+  pub other-count : (j : ℕ) → j < 6 → (j ≡ s → ⊥) → getD grown (64 * i + j) 0 ≡ getD cells (64 * i + j) 0
   other-count j p q = cell-kept (64 * i + j) (omega arith) (λ e. q (omega (arith, e)))
 
   count-grown : (t m : ℕ) → t < 6 → getD cells (64 * i + t) 0 ≤ m → (t ≡ s → suc h ≤ m) → getD grown (64 * i + t) 0 ≤ m
@@ -160,23 +162,47 @@ module _ (cells : List ℕ) (i s at h : ℕ) (vs : List ℕ) (room : 64 * i + 64
       ∙ take-set-le 64 (drop (64 * j) stored) x (suc h) (omega arith)
       ∙ cut-before cells (64 * i + at) vs inner (64 * j) 64 (omega arith)
 
-  row-grown : RowFits (rowOf cells i) → (3 ≡ s → h < 4) → (4 ≡ s → h < 6) → (5 ≡ s → h < 4) → RowFits (rowOf grown i)
-  row-grown g x y z =
+  -- no more heads are kept than there are, still
+  kept-few : h ≡ getD cells (64 * i + s) 0 → getD cells (64 * i + 1) 0 ≤ getD cells (64 * i + 3) 0
+      → (1 ≡ s → h < getD cells (64 * i + 3) 0) → getD grown (64 * i + 1) 0 ≤ getD grown (64 * i + 3) 0
+  kept-few e few v = elim (ℕ-discrete 1 s) [
+    | yes p ↦
+        let one : getD grown (64 * i + 1) 0 ≡ suc h = ap (λ (k : ℕ). getD grown (64 * i + k) 0) p ∙ cell-counted in
+        omega (arith, one, other-count 3 (omega arith) (λ q. omega (arith, p, q)), v p)
+    | no p ↦ elim (ℕ-discrete 3 s) [
+      | yes q ↦
+          let three : getD grown (64 * i + 3) 0 ≡ suc h = ap (λ (k : ℕ). getD grown (64 * i + k) 0) q ∙ cell-counted in
+          let before : h ≡ getD cells (64 * i + 3) 0 = e ∙ ap (λ (k : ℕ). getD cells (64 * i + k) 0) (sym q) in
+          omega (arith, three, before, few, other-count 1 (omega arith) p)
+      | no q ↦ omega (arith, few, other-count 1 (omega arith) p, other-count 3 (omega arith) q)
+    ]
+  ]
+
+  row-grown : RowFits (rowOf cells i) → h ≡ getD cells (64 * i + s) 0 → (1 ≡ s → h < getD cells (64 * i + 3) 0)
+      → (3 ≡ s → h < 4) → (4 ≡ s → h < 6) → (5 ≡ s → h < 4) → RowFits (rowOf grown i)
+  row-grown g e v x y z =
       let few : (t m : ℕ) → t < 6 → getD (rowOf cells i) t 0 ≤ m → (t ≡ s → suc h ≤ m) → getD (rowOf grown i) t 0 ≤ m =
       λ t m p q r. (let a = row-cell cells i t (omega (arith, p)) in
       let b = row-cell grown i t (omega (arith, p)) in
       let c = count-grown t m p (omega (arith, a, q)) r in
       omega (arith, b, c)) in
+      let before : (t : ℕ) → t < 6 → getD (rowOf cells i) t 0 ≡ getD cells (64 * i + t) 0 =
+      λ t p. row-cell cells i t (omega (arith, p)) in
+      let after : (t : ℕ) → t < 6 → getD (rowOf grown i) t 0 ≡ getD grown (64 * i + t) 0 =
+      λ t p. row-cell grown i t (omega (arith, p)) in
+      let kept = kept-few e (omega (arith, g .kept, before 1 (omega arith), before 3 (omega arith))) v in
       record {
+        kept = omega (arith, kept, after 1 (omega arith), after 3 (omega arith));
         heads = few 3 4 (omega arith) (g .heads) (λ e. omega (arith, x e));
         body = few 4 6 (omega arith) (g .body) (λ e. omega (arith, y e));
         equations = few 5 4 (omega arith) (g .equations) (λ e. omega (arith, z e));
       }
 
-  pub sound-grown : (st : Stage) (count : ℕ) → st .rules ≡ suc i → Sound cells st → count ≤ 64 → (3 ≡ s → h < 4)
-      → (4 ≡ s → h < 6) → (5 ≡ s → h < 4)
+  pub sound-grown : (st : Stage) (count : ℕ) → st .rules ≡ suc i → Sound cells st → count ≤ 64
+      → h ≡ getD cells (64 * i + s) 0 → (1 ≡ s → h < getD cells (64 * i + 3) 0)
+      → (3 ≡ s → h < 4) → (4 ≡ s → h < 6) → (5 ≡ s → h < 4)
       → Sound grown (record { section = st .section; symbols = st .symbols; rules = st .rules; constants = count })
-  sound-grown st count q g fit x y z =
+  sound-grown st count q g fit e v x y z =
       record {
         few-symbols = g .few-symbols;
         few-rules = g .few-rules;
@@ -184,8 +210,8 @@ module _ (cells : List ℕ) (i s at h : ℕ) (vs : List ℕ) (room : 64 * i + 64
         rows = λ j p. elim (decLt j i) [
           | yes k ↦ rw (row-before j k) (g .rows j p)
           | no k ↦
-              let e : j ≡ i = omega (arith, k, p) in
-              rw e (row-grown (g .rows i (omega arith)) x y z)
+              let same : j ≡ i = omega (arith, k, p) in
+              rw same (row-grown (g .rows i (omega arith)) e v x y z)
         ];
       }
 
@@ -203,11 +229,12 @@ module _ (cells : List ℕ) (i s at h : ℕ) (vs : List ℕ) (room : 64 * i + 64
       (rw (same i (omega arith), e, row-cell-kept 2 (omega arith) (λ z. q (sym z))))
       ∙ sym (on-snoc f (tabled (ruleRead names cells) i) (ruleRead names cells i))
 
-abbrev ruleWith : List ℕ → List Constraint → List Constraint → List Equation → Rule
-ruleWith name heads body equations = record { name = name; heads = heads; body = body; equations = equations }
+abbrev ruleWith : List ℕ → ℕ → List Constraint → List Constraint → List Equation → Rule
+ruleWith name kept heads body equations =
+    record { name = name; kept = kept; heads = heads; body = body; equations = equations }
 
-rule-path : {n n′ : List ℕ} {h h′ b b′ : List Constraint} {e e′ : List Equation} → n ≡ n′ → h ≡ h′ → b ≡ b′ → e ≡ e′
-    → ruleWith n h b e ≡ ruleWith n′ h′ b′ e′
+rule-path : {n : List ℕ} {k k′ : ℕ} {h h′ b b′ : List Constraint} {e e′ : List Equation} → k ≡ k′ → h ≡ h′ → b ≡ b′ → e ≡ e′
+    → ruleWith n k h b e ≡ ruleWith n k′ h′ b′ e′
 rule-path p q r s = cc
 
 two-are : (a b : ℕ) → cellEquations (a ∷ b ∷ []) ≡ record { left = cellTerm a; right = cellTerm b } ∷ []
@@ -222,6 +249,11 @@ constraintsIn (suc w) r = r .body
 abbrev pub withConstraint : ℕ → Constraint → Rule → Rule
 withConstraint zero = withHead
 withConstraint (suc w) = withBody
+
+-- one more head counted as kept
+unfoldable pub withOneKept : Rule → Rule
+withOneKept r =
+    record { name = r .name; kept = r .kept + 1; heads = r .heads; body = r .body; equations = r .equations }
 
 row-constraints : (name row : List ℕ) (w : ℕ) → w ≤ 1
     → constraintsIn w (ruleOfRow name row) ≡ cellConstraints (partOf row (3 + w) (6 + 20 * w) 5)
@@ -291,13 +323,18 @@ module _ (names cells : List ℕ) (i : ℕ) (room : 64 * i + 64 ≤ length cells
         ≡ withConstraint w (rowConstraint five) (ruleOfRow name (rowOf cells i))
     unfolding ruleOfRow withHead withBody
     constraint-grown zero p e few =
-        rule-path refl (constraints-more 0 p e few)
+        rule-path
+        (row-cell-kept cells i 3 (6 + 5 * h) h five room (omega arith) (omega arith) (omega arith) 1 (omega arith)
+        (λ z. omega (arith, z)))
+        (constraints-more 0 p e few)
         (ap cellConstraints (part-behind cells i 3 (6 + 5 * h) h five room (omega arith) (omega arith) (omega arith)
         4 26 5 (omega arith) (λ z. omega (arith, z)) (omega arith) (omega arith)))
         (ap cellEquations (part-behind cells i 3 (6 + 5 * h) h five room (omega arith) (omega arith) (omega arith)
         5 56 2 (omega arith) (λ z. omega (arith, z)) (omega arith) (omega arith)))
     constraint-grown (suc zero) p e few =
-        rule-path refl
+        rule-path
+        (row-cell-kept cells i 4 (26 + 5 * h) h five room (omega arith) (omega arith) (omega arith) 1 (omega arith)
+        (λ z. omega (arith, z)))
         (heads-kept 4 (26 + 5 * h) h five (omega arith) (omega arith) (omega arith) (λ z. omega (arith, z)) few-heads
         (omega arith))
         (constraints-more 1 p e few)
@@ -316,7 +353,10 @@ module _ (names cells : List ℕ) (i : ℕ) (room : 64 * i + 64 ≤ length cells
     unfolding ruleOfRow withEquation
     sides-grown =
         let n : getD (rowOf cells i) 4 0 ≡ getD cells (64 * i + 4) 0 = row-cell cells i 4 (omega arith) in
-        rule-path refl (heads-kept 5 (56 + 2 * h) h two-more (omega arith) (omega arith) (omega arith) (λ z. omega (
+        rule-path
+        (row-cell-kept cells i 5 (56 + 2 * h) h two-more room (omega arith) (omega arith) (omega arith) 1 (omega arith)
+        (λ z. omega (arith, z)))
+        (heads-kept 5 (56 + 2 * h) h two-more (omega arith) (omega arith) (omega arith) (λ z. omega (
           arith,
           z,
         )) heads
@@ -327,3 +367,22 @@ module _ (names cells : List ℕ) (i : ℕ) (room : 64 * i + 64 ≤ length cells
         (omega arith) refl refl e)
         ∙ equations-append h (partOf (rowOf cells i) 5 56 2) two-more (part-length 5 56 2 h (omega arith) e (omega arith))
         ∙ ap (λ (l : List Equation). cellEquations (partOf (rowOf cells i) 5 56 2) ++ l) (two-are a b))
+
+  -- one more head counted as kept, and nothing stored behind the counts
+  module _ (k : ℕ) (e : k ≡ getD cells (64 * i + 1) 0) where
+    abbrev pub kept-row : List ℕ
+    kept-row = rowOf (grown cells i 1 6 k [] room (omega arith) (omega arith) (omega arith)) i
+
+    part-stays : (t b w : ℕ) → t < 6 → (t ≡ 1 → ⊥) → 6 ≤ b → b ≤ 64 → partOf kept-row t b w ≡ partOf (rowOf cells i) t b w
+    part-stays t b w p x low high =
+        part-behind cells i 1 6 k [] room (omega arith) (omega arith) (omega arith) t b w p x high low
+
+    pub kept-grown : ruleOfRow name kept-row ≡ withOneKept (ruleOfRow name (rowOf cells i))
+    unfolding ruleOfRow withOneKept
+    kept-grown =
+        rule-path
+        (row-cell-counted cells i 1 6 k [] room (omega arith) (omega arith) (omega arith)
+        ∙ sym (add-one k) ∙ ap (λ (n : ℕ). n + 1) (e ∙ sym (row-cell cells i 1 (omega arith))))
+        (ap cellConstraints (part-stays 3 6 5 (omega arith) (λ z. omega (arith, z)) (omega arith) (omega arith)))
+        (ap cellConstraints (part-stays 4 26 5 (omega arith) (λ z. omega (arith, z)) (omega arith) (omega arith)))
+        (ap cellEquations (part-stays 5 56 2 (omega arith) (λ z. omega (arith, z)) (omega arith) (omega arith)))

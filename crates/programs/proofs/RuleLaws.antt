@@ -10,36 +10,23 @@ use native.Mathlib.Omega.{arith}
 use borrow.Author.Tests.{le-leb, lt-leb, ne-eqb, eq-eqb}
 use lib.Dec.{leb, eqb}
 use lib.ListN.{length, take, drop, getD, length-drop, length-take, drop-of-length-le}
-use lib.Seq.{drop-cons, take-all}
+use lib.Seq.{drop-cons, drop-drop}
 use Rattle.text.specs.Lists.{tabled}
-use Rattle.text.proofs.Laws.{tabled-length, tabled-at}
-use Rattle.semantics.specs.Terms.{Symbol, weight}
+use Rattle.text.proofs.Laws.{drop-take, tabled-length, tabled-at}
+use Rattle.semantics.specs.Terms.{Symbol, removedHeads, weight}
 use Rattle.syntax.specs.Answers.{Answer, refused, refuseIf}
 use Rattle.syntax.specs.Programs.{Reading, RuleRead, checkRules}
 use Rattle.tables.specs.Cells.{cellConstraints}
 use Rattle.tables.specs.Rows.{symbolsOf, nameOf, ruleOfRow, rowOf, ruleOf}
 use Rattle.tables.specs.Layout.{firstRule}
+use Rattle.tables.proofs.CellLaws.{constraints-drop}
 use Rattle.programs.specs.declared.RulesRead.the-variants.{Refused, Fine}
-use Rattle.programs.specs.Read.{ruleRead, rulesRead, ruleFault, FaultIn, rulesAnswer, RulesIn}
+use Rattle.programs.specs.Read.{RowFits, RowsFit, ruleRead, rulesRead, ruleFault, FaultIn, rulesAnswer, RulesIn}
 use Rattle.programs.proofs.Drafts.{row-cell, rules-length}
 
--- a part of a row from b on, as far as the row goes, of which h are counted in cell t
-part-is : (row l : List ℕ) (h b t : ℕ) → l ≡ take (5 * h) (take (length row - b) (drop b row)) → h ≡ getD row t 0
-    → l ≡ take (5 * getD row t 0) (drop b row)
-part-is row l h b t f e =
-    f ∙ ap (take (5 * h)) (take-all (length row - b) (drop b row) (omega (arith, length-drop b row)))
-    ∙ ap (λ (n : ℕ). take (5 * n) (drop b row)) e
-
-pub part-short : (row l : List ℕ) (h b : ℕ) → l ≡ take (5 * h) (take (length row - b) (drop b row)) → length row ≡ 64
-    → length l ≤ 4096
-part-short row l h b f sized =
-    omega (
-      arith,
-      ap (λ (l : List ℕ). length l) f,
-      length-take (5 * h) (take (length row - b) (drop b row)),
-      length-take (length row - b) (drop b row),
-      sized,
-    )
+-- the cells of a row from one to another, as they are lent to be weighed
+pub part-short : (row : List ℕ) (n b : ℕ) → length row ≡ 64 → length (take n (drop b row)) ≤ 4096
+part-short row n b sized = omega (arith, length-take n (drop b row), length-drop b row)
 
 some-constraints : (l : List ℕ) → 5 ≤ length l → 0 < length (cellConstraints l)
 unfolding cellConstraints
@@ -51,38 +38,68 @@ some-constraints (a ∷ b ∷ c ∷ d ∷ []) z = absurd (omega arith)
 some-constraints (a ∷ b ∷ c ∷ d ∷ e ∷ l) z = omega arith
 
 -- numbers 8 and 9 of a row
-module _ (symbols row : List ℕ) (h b : ℕ) (p : h ≡ getD row 3 0) (q : b ≡ getD row 4 0) (sized : length row ≡ 64) where
-  pub fault-eight : h ≡ 0 → FaultIn symbols row 8
-  unfolding ruleFault ruleOfRow cellConstraints
-  fault-eight e = record { fault = λ names name k size. rw (← p, e) }
+module _ (symbols row : List ℕ) (k h b : ℕ) (o : k ≡ getD row 1 0) (p : h ≡ getD row 3 0) (q : b ≡ getD row 4 0)
+    (sized : length row ≡ 64) (fits : RowFits row) where
+  -- the cells of the heads that are removed, and those of the body
+  abbrev removed : List ℕ
+  removed = take (6 + 5 * h - (6 + 5 * k)) (drop (6 + 5 * k) row)
 
-  module _ (heads body : List ℕ) (w v : ℕ) (f : heads ≡ take (5 * h) (take (length row - 6) (drop 6 row)))
-      (g : body ≡ take (5 * b) (take (length row - 26) (drop 26 row)))
-      (x : (names : List ℕ) (k : ℕ) → length symbols ≡ 2 * k → w ≡ weight (symbolsOf names symbols k) (cellConstraints heads))
-      (y : (names : List ℕ) (k : ℕ) → length symbols ≡ 2 * k → v ≡ weight (symbolsOf names symbols k) (cellConstraints body))
-      (e : 0 < h) where
-    module _ (names name : List ℕ) (k : ℕ) (size : length symbols ≡ 2 * k) where
-      some-heads : 0 < length (ruleOfRow name row .heads)
-      unfolding ruleOfRow
-      some-heads =
-          some-constraints (take (5 * getD row 3 0) (drop 6 row))
-          (omega (arith, length-take (5 * getD row 3 0) (drop 6 row), length-drop 6 row))
+  abbrev placed : List ℕ
+  placed = take (26 + 5 * b - 26) (drop 26 row)
 
-      tests : ruleFault (symbolsOf names symbols k) (ruleOfRow name row) ≡ cond (leb w v) 9 0
-      unfolding ruleFault ruleOfRow
-      tests =
-          let S : List Symbol = symbolsOf names symbols k in
-          rw (
-            ne-eqb (length (cellConstraints (take (5 * getD row 3 0) (drop 6 row)))) 0 (λ z. omega (arith, z, some-heads)),
-            sym (x names k size ∙ ap (λ (l : List ℕ). weight S (cellConstraints l)) (part-is row heads h 6 3 f p)),
-            sym (y names k size ∙ ap (λ (l : List ℕ). weight S (cellConstraints l)) (part-is row body b 26 4 g q)),
-          )
+  removed-is : (name : List ℕ) → removedHeads (ruleOfRow name row) ≡ cellConstraints removed
+  unfolding removedHeads ruleOfRow
+  removed-is name =
+      let less : k ≤ h = omega (arith, o, p, fits .kept) in
+      let wide : 5 * h - 5 * k ≡ 6 + 5 * h - (6 + 5 * k) = omega arith in
+      rw (← o, ← p) (constraints-drop k (take (5 * h) (drop 6 row))
+      ∙ ap cellConstraints (drop-take (5 * k) (5 * h) (drop 6 row) (omega arith)
+      ∙ ap₂ (λ (n : ℕ) (l : List ℕ). take n l) wide (drop-drop (5 * k) 6 row)))
+
+  placed-is : (name : List ℕ) → ruleOfRow name row .body ≡ cellConstraints placed
+  unfolding ruleOfRow
+  placed-is name =
+      let wide : 5 * getD row 4 0 ≡ 26 + 5 * b - 26 = omega (arith, q) in
+      ap (λ (n : ℕ). cellConstraints (take n (drop 26 row))) wide
+
+  pub fault-eight : h ≤ k → FaultIn symbols row 8
+  unfolding ruleFault cellConstraints
+  fault-eight e =
+      let none : 6 + 5 * h - (6 + 5 * k) ≡ 0 = omega arith in
+      record { fault = λ names name m size. rw (removed-is name, none) refl }
+
+  module _ (w v : ℕ)
+      (x : (names : List ℕ) (m : ℕ) → length symbols ≡ 2 * m → w ≡ weight (symbolsOf names symbols m) (cellConstraints removed))
+      (y : (names : List ℕ) (m : ℕ) → length symbols ≡ 2 * m → v ≡ weight (symbolsOf names symbols m) (cellConstraints placed))
+      (e : k < h) where
+    some-heads : 0 < length (cellConstraints removed)
+    some-heads =
+        some-constraints removed
+        (omega (
+          arith,
+          length-take (6 + 5 * h - (6 + 5 * k)) (drop (6 + 5 * k) row),
+          length-drop (6 + 5 * k) row,
+          p,
+          fits .heads,
+        ))
+
+    tests : (names name : List ℕ) (m : ℕ) → length symbols ≡ 2 * m
+        → ruleFault (symbolsOf names symbols m) (ruleOfRow name row) ≡ cond (leb w v) 9 0
+    unfolding ruleFault
+    tests names name m size =
+        rw (
+          removed-is name,
+          placed-is name,
+          ne-eqb (length (cellConstraints removed)) 0 (λ z. omega (arith, z, some-heads)),
+          ← x names m size,
+          ← y names m size,
+        )
 
     pub fault-nine : w ≤ v → FaultIn symbols row 9
-    fault-nine z = record { fault = λ names name k size. rw (tests names name k size, le-leb w v z) }
+    fault-nine z = record { fault = λ names name m size. rw (tests names name m size, le-leb w v z) }
 
     pub fault-none : v < w → FaultIn symbols row 0
-    fault-none z = record { fault = λ names name k size. rw (tests names name k size, lt-leb w v z) }
+    fault-none z = record { fault = λ names name m size. rw (tests names name m size, lt-leb w v z) }
 
 -- the rules from one on
 check-one : (symbols : List Symbol) (r : RuleRead) (rs : List RuleRead) (otherwise : Answer Reading)
@@ -91,7 +108,8 @@ check-one : (symbols : List Symbol) (r : RuleRead) (rs : List RuleRead) (otherwi
     (r .line))
 unfolding checkRules ruleFault
 check-one symbols r rs otherwise =
-    go (eqb (length (r .rule .heads)) 0) (leb (weight symbols (r .rule .heads)) (weight symbols (r .rule .body)))
+    go (eqb (length (removedHeads (r .rule))) 0)
+    (leb (weight symbols (removedHeads (r .rule))) (weight symbols (r .rule .body)))
     (checkRules symbols rs otherwise)
   where
     go : (s t : Bool) (more : Answer Reading)
@@ -124,6 +142,13 @@ module _ (symbols rules : List ℕ) (at : ℕ) (c : Checked symbols rules at) wh
         rw (drop-of-length-le (rulesRead names rules m) out) in
         z ∙ c .left names k m otherwise a b);
   }
+
+  -- the row there is one of the table
+  pub check-row : at + 64 ≤ length rules → RowsFit rules → RowFits (take (at + 64 - at) (drop at rules))
+  check-row h fit =
+      let same : take (at + 64 - at) (drop at rules) ≡ rowOf rules (c .row) =
+      ap₂ (λ (i j : ℕ). take i (drop j rules)) (let z : at + 64 - at ≡ 64 = omega arith in z) (c .placed) in
+      rw same (fit (c .row) (omega (arith, c .placed)))
 
   module _ (x : ℕ) (h : at + 64 ≤ length rules) (e : FaultIn symbols (take (at + 64 - at) (drop at rules)) x) where
     module _ (names : List ℕ) (k m : ℕ) (otherwise : Answer Reading) (a : length symbols ≡ 2 * k) (b : length rules ≡ 64 * m)
@@ -170,7 +195,8 @@ module _ (symbols rules : List ℕ) (at : ℕ) (c : Checked symbols rules at) wh
           ap (refused x) here
           ∙ sym (onward names k m otherwise a b
           ∙ ap (λ (t : Bool). cond t (checkRules (S names k m otherwise a b)
-          (drop (suc (c .row)) (rulesRead names rules m)) otherwise) (refused x (getD (rowOf rules (c .row)) 2 0))) (ne-eqb x 0 z))
+          (drop (suc (c .row)) (rulesRead names rules m)) otherwise) (refused x (getD (rowOf rules (c .row)) 2 0)))
+          (ne-eqb x 0 z))
           ∙ c .left names k m otherwise a b);
     }
 

@@ -25,10 +25,10 @@ use Rattle.text.proofs.LineLaws.{fields-some}
 use Rattle.text.proofs.SplitLaws.{lines-at, lines-split, lines-done, line-fine}
 use Rattle.semantics.specs.Terms.{Symbol, Rule}
 use Rattle.syntax.specs.Answers.{Answer, refused, accepted, andThen}
-use Rattle.syntax.specs.Forms.{Form, symbolForm, ruleForm, headForm, bodyForm, equationForm, goalForm, noForm, formOf}
-use Rattle.syntax.specs.Forms.{Section, inSymbols, inHeads, inBody, inEquations, sectionAfter, fieldAt}
-use Rattle.syntax.specs.Programs.{RuleRead, Draft, Reading, blank, inSection, readForm, readFields, readLine, readLines, checkRules}
-use Rattle.syntax.specs.Programs.{readProgram}
+use Rattle.syntax.specs.Forms.{Form, symbolForm, ruleForm, keptForm, headForm, bodyForm, equationForm, goalForm, noForm, formOf}
+use Rattle.syntax.specs.Forms.{Section, inSymbols, inKept, inHeads, inBody, inEquations, sectionAfter, fieldAt}
+use Rattle.syntax.specs.Programs.{RuleRead, Draft, Reading, blank, inSection, readForm, readFields, readLine, readLines}
+use Rattle.syntax.specs.Programs.{checkRules, readProgram}
 use Rattle.syntax.proofs.Tabled.{tabled-same, map-tabled}
 use Rattle.tables.specs.Rows.{symbolsOf, constantsOf, rowOf, ruleOf, rulesOf}
 use Rattle.tables.specs.Names.{Placed}
@@ -44,25 +44,26 @@ use Rattle.programs.specs.declared.LinesRead.the-variants.{Refused as li
 use Rattle.programs.specs.declared.RulesRead.{RulesRead}
 use Rattle.programs.specs.declared.RulesRead.the-variants.{Refused as rulesRefused, Fine}
 use Rattle.programs.specs.declared.ProgramRead.the-variants.{Refused as programRefused, Accepted}
-use Rattle.programs.specs.Read.{ruleRead, rulesRead, draftOf, lineAnswer, Sound, Begun, Room, SymbolIn}
+use Rattle.programs.specs.Read.{ruleRead, rulesRead, draftOf, lineAnswer, RowsFit, Sound, Begun, Room, SymbolIn}
 use Rattle.programs.specs.Read.{RuleIn, AddsIn, LineIn, linesAnswer, LinesIn, rulesAnswer, RulesIn, readingOf}
 use Rattle.programs.specs.Read.{programAnswer, programFits, ProgramIn}
 use Rattle.programs.proofs.Drafts.{kept-same}
 use Rattle.programs.proofs.AddLaws.{symbols-used}
 
 -- a section that a line leads to
-section-some : (p : ℕ) (o : Option Section) → sectionAnswer p ≡ o → p < 4 → o ≡ some (sectionMeant p)
+section-some : (p : ℕ) (o : Option Section) → sectionAnswer p ≡ o → p < 5 → o ≡ some (sectionMeant p)
 unfolding sectionAnswer
-section-some p o q r = sym q ∙ ap (λ (b : Bool). cond b (some (sectionMeant p)) none) (lt-ltb p 4 r)
+section-some p o q r = sym q ∙ ap (λ (b : Bool). cond b (some (sectionMeant p)) none) (lt-ltb p 5 r)
 
-section-none : (p : ℕ) (o : Option Section) → sectionAnswer p ≡ o → 3 < p → o ≡ none
+section-none : (p : ℕ) (o : Option Section) → sectionAnswer p ≡ o → 4 < p → o ≡ none
 unfolding sectionAnswer
-section-none p o q r = sym q ∙ ap (λ (b : Bool). cond b (some (sectionMeant p)) none) (le-ltb p 4 (omega arith))
+section-none p o q r = sym q ∙ ap (λ (b : Bool). cond b (some (sectionMeant p)) none) (le-ltb p 5 (omega arith))
 
 -- a K line leads to the section of symbols
 symbols-only : (w v : Section) → sectionAfter symbolForm w ≡ some v → v ≡ inSymbols
 unfolding sectionAfter
 symbols-only inSymbols v z = cc
+symbols-only inKept v z = absurd (let y : _≡_ {A = ℕ} 0 1 = cc in omega arith)
 symbols-only inHeads v z = absurd (let y : _≡_ {A = ℕ} 0 1 = cc in omega arith)
 symbols-only inBody v z = absurd (let y : _≡_ {A = ℕ} 0 1 = cc in omega arith)
 symbols-only inEquations v z = absurd (let y : _≡_ {A = ℕ} 0 1 = cc in omega arith)
@@ -72,21 +73,27 @@ unfolding sectionMeant
 section-zero zero e = refl
 section-zero (suc zero) e = absurd (let y : _≡_ {A = ℕ} 0 1 = cc in omega arith)
 section-zero (suc (suc zero)) e = absurd (let y : _≡_ {A = ℕ} 0 1 = cc in omega arith)
-section-zero (suc (suc (suc p))) e = absurd (let y : _≡_ {A = ℕ} 0 1 = cc in omega arith)
+section-zero (suc (suc (suc zero))) e = absurd (let y : _≡_ {A = ℕ} 0 1 = cc in omega arith)
+section-zero (suc (suc (suc (suc p)))) e = absurd (let y : _≡_ {A = ℕ} 0 1 = cc in omega arith)
 
-pub first-section : (p q : ℕ) → sectionAnswer p ≡ sectionAfter symbolForm (sectionMeant q) → p < 4 → p ≡ 0
+pub first-section : (p q : ℕ) → sectionAnswer p ≡ sectionAfter symbolForm (sectionMeant q) → p < 5 → p ≡ 0
 first-section p q e h =
-    section-zero p (symbols-only (sectionMeant q) (sectionMeant p) (section-some p (sectionAfter symbolForm (sectionMeant q)) e h))
+    section-zero p (symbols-only (sectionMeant q) (sectionMeant p)
+    (section-some p (sectionAfter symbolForm (sectionMeant q)) e h))
 
-begun : (form : Form) (p q : ℕ) → sectionAfter form inSymbols ≡ none → sectionAnswer p ≡ sectionAfter form (sectionMeant q) → p < 4
-    → 0 < q
+begun : (form : Form) (p q : ℕ) → sectionAfter form inSymbols ≡ none → sectionAnswer p ≡ sectionAfter form (sectionMeant q)
+    → p < 5 → 0 < q
 unfolding sectionMeant
 begun form p zero x e h =
     let z : none ≡ some (sectionMeant p) = sym x ∙ section-some p (sectionAfter form inSymbols) e h in
     absurd (let y : _≡_ {A = ℕ} 0 1 = cc in omega arith)
 begun form p (suc q) x e h = omega arith
 
-module _ (form : Form) (p q : ℕ) (led : sectionAnswer p ≡ sectionAfter form (sectionMeant q)) (l : p < 4) where
+module _ (form : Form) (p q : ℕ) (led : sectionAnswer p ≡ sectionAfter form (sectionMeant q)) (l : p < 5) where
+  pub begun-kept : form ≡ keptForm → 0 < q
+  unfolding sectionAfter
+  begun-kept e = begun form p q (rw e) led l
+
   pub begun-head : form ≡ headForm → 0 < q
   unfolding sectionAfter
   begun-head e = begun form p q (rw e) led l
@@ -123,7 +130,7 @@ module _ (f : Fields) (n : ℕ) (s : Stage) (names places symbols rules : List �
   onward-is fs d h some-field e = rw (← first-form fs h some-field, e)
 
   -- a line that may not stand there
-  pub line-placeless : 3 < p → LineIn f n s names places symbols rules names places symbols rules (Refused 3)
+  pub line-placeless : 4 < p → LineIn f n s names places symbols rules names places symbols rules (Refused 3)
   unfolding lineAnswer draftOf
   line-placeless l =
       record {
@@ -137,7 +144,7 @@ module _ (f : Fields) (n : ℕ) (s : Stage) (names places symbols rules : List �
         rules-size = refl;
       }
 
-  module _ (l : p < 4) where
+  module _ (l : p < 5) where
     moved : (fs : List (List ℕ)) → Holds fs f → 0 < length fs
         → readForm form n fs (draftOf names symbols rules at) ≡ readFields n fs (draftOf names symbols rules s)
     unfolding draftOf inSection
@@ -336,6 +343,12 @@ row-used : (rules : List ℕ) (i n : ℕ) → i < n → rowOf (take (64 * n) rul
 row-used rules i n h =
     ap (take 64) (drop-take (64 * i) (64 * n) rules (omega arith))
     ∙ take-take 64 (64 * n - 64 * i) (drop (64 * i) rules) (omega arith)
+
+-- and each of them fits
+pub used-fit : (rules : List ℕ) (s : Stage) → Sound rules s → RowsFit (take (64 * s .rules) rules)
+used-fit rules s d i h =
+    let inside : i < s .rules = omega (arith, length-take (64 * s .rules) rules) in
+    rw (row-used rules i (s .rules) inside) (d .rows i inside)
 
 pub used-short : (n : ℕ) (l : List ℕ) → length l ≡ 2048 → length (take n l) ≤ 2048
 used-short n l h = omega (arith, length-take n l)

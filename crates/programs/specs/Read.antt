@@ -1,13 +1,14 @@
 -- What the program reader's answers and tables mean: one decoding for each, and what is promised of each line.
 --   ruleRead, rulesRead, draftOf           what the tables hold behind a line
---   RowFits, Sound, Begun, Room            tables whose counts are within their room
+--   RowFits, RowsFit, Sound, Begun, Room   tables whose counts are within their room
 --   lineAnswer, Kept                       the code's answer to a line, and what every line keeps
---   SymbolIn, RuleIn, AddsIn, LineIn       what is promised of a K line, an R line, an H, B or E line, and any line
+--   SymbolIn, RuleIn, AddsIn, LineIn       what is promised of a K line, an R line, a J, H, B or E line, and any line
+--   headGained                             what is promised of an H line besides
 --   LinesIn, FaultIn, RulesIn              of all lines, and of the rules
 --   programAnswer, ProgramIn               of a program's text
 -- Assumes nothing.
 use mathlib.Core.Path.{_≡_}
-use Prim.Native.Nat.{ℕ, zero, suc, _*_, _≤_, _<_}
+use Prim.Native.Nat.{ℕ, zero, suc, _+_, _-_, _*_, _≤_, _<_}
 use mathlib.Core.Bool.{cond}
 use mathlib.Core.List.{List}
 use lib.Dec.{leb, eqb}
@@ -22,7 +23,7 @@ use Rattle.syntax.specs.Forms.{Form, headForm, bodyForm}
 use Rattle.syntax.specs.Programs.{RuleRead, Draft, Reading, blank, readSymbol, readRule}
 use Rattle.syntax.specs.Programs.{readForm, readFields, readLines, checkRules}
 use Rattle.syntax.specs.Programs.{readProgram}
-use Rattle.tables.specs.Layout.{maxNames, symbolSize, rowSize, lineCell, headsCell, bodyCell, equationsCell}
+use Rattle.tables.specs.Layout.{maxNames, symbolSize, rowSize, keptCell, lineCell, headsCell, bodyCell, equationsCell}
 use Rattle.tables.specs.Rows.{symbolsOf, constantsOf, ruleOfRow, rowOf, ruleOf, rulesOf}
 use Rattle.tables.specs.Names.{Placed}
 use Rattle.lines.specs.Read.{sectionMeant, KeepsPlaces}
@@ -55,11 +56,16 @@ draftOf names symbols rules s =
       constants = constantsOf names (s .constants);
     }
 
--- the counts of a rule's row are within its room
+-- the counts of a rule's row are within its room, and no more heads are kept than there are
 pub record RowFits (row : List ℕ) : Type 0 where
+  pub kept : getD row keptCell 0 ≤ getD row headsCell 0
   pub heads : getD row headsCell 0 ≤ 4
   pub body : getD row bodyCell 0 ≤ 6
   pub equations : getD row equationsCell 0 ≤ 4
+
+-- the counts of each row of a table are
+abbrev pub RowsFit : List ℕ → Type 0
+RowsFit rules = (i : ℕ) → rowSize * i + rowSize ≤ length rules → RowFits (rowOf rules i)
 
 -- the counts are within the tables, and each rule's counts within its row
 pub record Sound (rules : List ℕ) (s : Stage) : Type 0 where
@@ -119,7 +125,7 @@ unfoldable pub partForm : ℕ → Form
 partForm zero = headForm
 partForm (suc w) = bodyForm
 
--- what is promised of an H, B or E line, over the used part of the table of symbols
+-- what is promised of a J, H, B or E line, over the used part of the table of symbols
 pub record AddsIn (form : Form) (f : Fields) (s : Stage) (used names places rules names′ places′ rules′ : List ℕ) (r : LineRead)
     : Type 0 where
   pub answers :
@@ -128,6 +134,13 @@ pub record AddsIn (form : Form) (f : Fields) (s : Stage) (used names places rule
   pub sound : soundAfter rules′ r
   pub kept : Kept f names places names′ places′
   pub size : length rules′ ≡ length rules
+
+-- what is promised of an H line (part 0) besides: the rules are as many as before, and not all heads of the last one are kept
+abbrev pub headGained : ℕ → Stage → List ℕ → LineRead → Type 0
+headGained part s rules (lineRefused x) = Unit {0}
+headGained part s rules (Next t) =
+    (t .rules ≡ s .rules)
+    × (part ≡ 0 → getD (rowOf rules (s .rules - 1)) keptCell 0 < getD (rowOf rules (s .rules - 1)) headsCell 0)
 
 -- what is promised of line n
 pub record LineIn (f : Fields) (n : ℕ) (s : Stage) (names places symbols rules names′ places′ symbols′ rules′ : List ℕ)
@@ -160,7 +173,8 @@ pub record LinesIn (text names places names′ places′ symbols′ rules′ : L
 -- the number that a rule meets: 8, then 9; 0 where it meets neither
 unfoldable pub ruleFault : List terms.Symbol → terms.Rule → ℕ
 ruleFault symbols r =
-    cond (eqb (length (r .heads)) 0) 8 (cond (leb (terms.weight symbols (r .heads)) (terms.weight symbols (r .body))) 9 0)
+    cond (eqb (length (terms.removedHeads r)) 0) 8
+    (cond (leb (terms.weight symbols (terms.removedHeads r)) (terms.weight symbols (r .body))) 9 0)
 
 -- what is promised of a rule's row, whatever its name: x is the number that it meets
 pub record FaultIn (symbols row : List ℕ) (x : ℕ) : Type 0 where

@@ -1,4 +1,4 @@
-// What H, B and E lines add to the last rule: numbers 4, 6 and 7.
+// What J, H, B and E lines add to the last rule: numbers 4, 6 and 7.
 use crate::LineRead;
 use crate::Stage;
 use lines::constraints::read_constraint;
@@ -9,6 +9,7 @@ use tables::layout::EQUATIONS_CELL;
 use tables::layout::FIRST_EQUATION;
 use tables::layout::FIRST_HEAD;
 use tables::layout::HEADS_CELL;
+use tables::layout::KEPT_CELL;
 use tables::layout::ROW_SIZE;
 use tables::wide;
 use text::fields::Fields;
@@ -18,9 +19,9 @@ ghost use mathlib.Core.List.{List};
 ghost use Prim.Native.Nat.{ℕ, _*_, _≤_, _<_};
 ghost use lib.ListN.{length};
 ghost use Rattle.text.specs.Splits.{Holds};
-ghost use Rattle.syntax.specs.Forms.{equationForm, isEquationFaulty};
+ghost use Rattle.syntax.specs.Forms.{keptForm, equationForm, isEquationFaulty};
 ghost use Rattle.lines.specs.Read.{Lent};
-ghost use Rattle.programs.specs.Read.{partForm, Sound, AddsIn};
+ghost use Rattle.programs.specs.Read.{partForm, Sound, AddsIn, headGained};
 
 // An H or B line: one constraint more of the last rule, in its heads (part 0) or in its body (part 1). Its row counts them in
 // cells 3 and 4, and holds them from cells 6 and 26 on, at most 4 and 6.
@@ -36,7 +37,8 @@ pub fn constraint_line(
     requires { ⌜ Lent f 0 (now names) (now places) × (length (now symbols) ≡ 2 * stage .symbols) × (length (now rules) ≡ 2048)
         × Sound (now rules) stage × (0 < stage .rules) × (part ≤ 1) ⌝ }
     ensures { λ r. ⌜ AddsIn (partForm part) f stage (now (symbols .entry)) (now (names .entry)) (now (places .entry))
-        (now (rules .entry)) (now (names .exit)) (now (places .exit)) (now (rules .exit)) r ⌝ }
+        (now (rules .entry)) (now (names .exit)) (now (places .exit)) (now (rules .exit)) r
+        × headGained part stage (now (rules .exit)) r ⌝ }
 {
     let row = ROW_SIZE * (stage.rules - 1);
     let slot = HEADS_CELL + part;
@@ -55,6 +57,30 @@ pub fn constraint_line(
         rules: stage.rules,
         constants: r.count,
     })
+}
+
+// A J line: as an H line, and its row counts one more of the heads as kept.
+pub fn kept_line(
+    f: Fields,
+    stage: Stage,
+    symbols: &[u16],
+    names: &mut [u64],
+    places: &mut [u16],
+    rules: &mut [u16],
+) -> LineRead
+    requires { ⌜ Lent f 0 (now names) (now places) × (length (now symbols) ≡ 2 * stage .symbols) × (length (now rules) ≡ 2048)
+        × Sound (now rules) stage × (0 < stage .rules) ⌝ }
+    ensures { λ r. ⌜ AddsIn keptForm f stage (now (symbols .entry)) (now (names .entry)) (now (places .entry))
+        (now (rules .entry)) (now (names .exit)) (now (places .exit)) (now (rules .exit)) r ⌝ }
+{
+    let cell = ROW_SIZE * (stage.rules - 1) + KEPT_CELL;
+    match constraint_line(f, 0, stage, symbols, names, places, rules) {
+        LineRead::Refused(x) => LineRead::Refused(x),
+        LineRead::Next(next) => {
+            rules[cell] += 1;
+            LineRead::Next(next)
+        }
+    }
 }
 
 // Number 4 of an E line: not three fields, two terms.

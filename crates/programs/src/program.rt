@@ -7,6 +7,7 @@ use crate::RulesRead;
 use crate::Stage;
 use crate::adds::constraint_line;
 use crate::adds::equation_line;
+use crate::adds::kept_line;
 use crate::declarations::rule_line;
 use crate::declarations::symbol_line;
 use crate::rules::check_rules;
@@ -41,7 +42,7 @@ fn read_line(
     let keys = f.keys;
     let form = form_of(keys[0]);
     let section = section_after(form, stage.section);
-    if 3 < section {
+    if 4 < section {
         return LineRead::Refused(3);
     }
     let at = Stage {
@@ -54,6 +55,7 @@ fn read_line(
     match form {
         LineForm::Symbol => symbol_line(f, at, names, places, symbols),
         LineForm::Rule => rule_line(f, number, at, names, places, rules),
+        LineForm::Kept => kept_line(f, at, &symbols[..used], names, places, rules),
         LineForm::Head => constraint_line(f, 0, at, &symbols[..used], names, places, rules),
         LineForm::Body => constraint_line(f, 1, at, &symbols[..used], names, places, rules),
         LineForm::Equation => equation_line(f, at, names, places, rules),

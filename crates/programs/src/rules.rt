@@ -5,36 +5,32 @@ use tables::layout::BODY_CELL;
 use tables::layout::FIRST_BODY;
 use tables::layout::FIRST_HEAD;
 use tables::layout::HEADS_CELL;
+use tables::layout::KEPT_CELL;
 use tables::layout::LINE_CELL;
 use tables::layout::ROW_SIZE;
 use tables::wide;
 ghost use mathlib.Core.Path.{_≡_};
-ghost use Prim.Native.Nat.{_*_, _≤_};
-ghost use lib.ListN.{length, take};
-ghost use Rattle.programs.specs.Read.{FaultIn, RulesIn};
+ghost use Prim.Native.Nat.{_≤_};
+ghost use lib.ListN.{length};
+ghost use Rattle.programs.specs.Read.{RowFits, RowsFit, FaultIn, RulesIn};
 
-// The first cells of a part, as far as it goes.
-fn prefix_of(cells: &[u16], n: usize) -> &[u16]
-    ensures { λ r. ⌜ now r ≡ take n (now (cells .entry)) ⌝ }
-{
-    if n < cells.len() {
-        return &cells[..n];
-    }
-    cells
-}
-
-// Numbers 8 and 9 of a rule's row: it has a head, and its heads weigh more than its body; 0 where it meets neither.
+// Numbers 8 and 9 of a rule's row: it removes a head, and the heads that it removes weigh more than its body; 0 where it meets
+// neither.
 fn rule_fault(symbols: &[u16], row: &[u16]) -> u8
-    requires { ⌜ length (now row) ≡ 64 ⌝ }
+    requires { ⌜ (length (now row) ≡ 64) × RowFits (now row) ⌝ }
     ensures { λ r. ⌜ FaultIn (now (symbols .entry)) (now (row .entry)) r ⌝ }
 {
+    let k = wide(row[KEPT_CELL]);
     let h = wide(row[HEADS_CELL]);
     let b = wide(row[BODY_CELL]);
-    if h == 0 {
+    if h <= k {
         return 8;
     }
-    let heads = weight_of(symbols, prefix_of(&row[FIRST_HEAD..], 5 * h));
-    let body = weight_of(symbols, prefix_of(&row[FIRST_BODY..], 5 * b));
+    let first = FIRST_HEAD + 5 * k;
+    let stop = FIRST_HEAD + 5 * h;
+    let end = FIRST_BODY + 5 * b;
+    let heads = weight_of(symbols, &row[first..stop]);
+    let body = weight_of(symbols, &row[FIRST_BODY..end]);
     if heads <= body {
         return 9;
     }
@@ -43,7 +39,7 @@ fn rule_fault(symbols: &[u16], row: &[u16]) -> u8
 
 // The rules in order: numbers 8 and 9. Both tables are lent as far as they are used.
 pub fn check_rules(symbols: &[u16], rules: &[u16]) -> RulesRead
-    requires { ⌜ length (now rules) ≤ 2048 ⌝ }
+    requires { ⌜ (length (now rules) ≤ 2048) × RowsFit (now rules) ⌝ }
     ensures { λ r. ⌜ RulesIn (now (symbols .entry)) (now (rules .entry)) r ⌝ }
 {
     let mut at = 0;

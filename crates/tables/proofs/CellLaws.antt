@@ -5,6 +5,7 @@
 --   terms-none, terms-more                         the terms of cells from one on
 --   constraints-length                             how many constraints whole rows are
 --   constraints-at, constraints-short              the constraints of cells from one on
+--   constraints-drop                               the constraints behind the first k
 --   element-row, element-none                      the constraint of a number
 -- Assumes nothing.
 use Prim.Native.Nat.{ℕ, zero, suc, _+_, _-_, _*_, _≤_, _<_}
@@ -130,6 +131,19 @@ constraints-short l i h = few (drop (5 * i) l) (omega (arith, length-drop (5 * i
     few (k₀ ∷ a ∷ b ∷ []) k = refl
     few (k₀ ∷ a ∷ b ∷ c ∷ []) k = refl
     few (k₀ ∷ a ∷ b ∷ c ∷ d ∷ m) k = absurd (omega arith)
+
+-- the constraints behind the first k
+pub constraints-drop : (k : ℕ) (l : List ℕ) → drop k (cellConstraints l) ≡ cellConstraints (drop (5 * k) l)
+unfolding cellConstraints
+constraints-drop zero l = refl
+constraints-drop (suc k) [] = sym (constraints-short [] (suc k) (omega arith))
+constraints-drop (suc k) (a ∷ []) = sym (constraints-short (a ∷ []) (suc k) (omega arith))
+constraints-drop (suc k) (a ∷ b ∷ []) = sym (constraints-short (a ∷ b ∷ []) (suc k) (omega arith))
+constraints-drop (suc k) (a ∷ b ∷ c ∷ []) = sym (constraints-short (a ∷ b ∷ c ∷ []) (suc k) (omega arith))
+constraints-drop (suc k) (a ∷ b ∷ c ∷ d ∷ []) = sym (constraints-short (a ∷ b ∷ c ∷ d ∷ []) (suc k) (omega arith))
+constraints-drop (suc k) (a ∷ b ∷ c ∷ d ∷ e ∷ l) =
+    let five : suc (suc (suc (suc (suc (5 * k))))) ≡ 5 * suc k = omega arith in
+    constraints-drop k l ∙ ap (λ (n : ℕ). cellConstraints (drop n (a ∷ b ∷ c ∷ d ∷ e ∷ l))) five
 
 -- the constraint of number k
 pub element-row :

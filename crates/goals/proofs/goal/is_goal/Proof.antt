@@ -21,11 +21,12 @@ is-goal-spec =
     tie.close
     (tie.spec
     (λ c κs. search needs) (λ c. search needs) (λ c. search needs) (λ c. search needs) (λ c. search needs)
-    (λ c. search needs) (λ c. search needs) (λ c. search needs)
+    (λ c. search needs) (λ c. search needs) (λ c. search needs) (λ c. search needs)
     (λ c f e. told _ _ (c .enum-told .given .1) (c .before .before .form-of .ensures f e))
     (λ c f e. told _ _ (c .enum-told2 .given .1) (c .before .before .form-of .ensures f e))
     (λ c f e. told _ _ (c .enum-told3 .given .1) (c .before .before .form-of .ensures f e))
     (λ c f e. told _ _ (c .enum-told4 .given .1) (c .before .before .form-of .ensures f e))
     (λ c f e. told _ _ (c .enum-told5 .given .1) (c .before .before .form-of .ensures f e))
     (λ c f e. told _ _ (c .enum-told6 .given .1) (c .before .before .form-of .ensures f e))
-    (λ c f e. told _ _ (c .enum-told7 .given .1) (c .before .before .form-of .ensures f e)))
+    (λ c f e. told _ _ (c .enum-told7 .given .1) (c .before .before .form-of .ensures f e))
+    (λ c f e. told _ _ (c .enum-told8 .given .1) (c .before .before .form-of .ensures f e)))

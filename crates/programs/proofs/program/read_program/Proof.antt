@@ -5,7 +5,8 @@ use Prim.Native.Nat.{_*_}
 use mathlib.Core.Path.{sym}
 use native.Mathlib.Omega.{arith}
 use lib.Seq.{length-take-le}
-use Rattle.programs.proofs.Whole.{stage-sound, used-short, program-long, program-lines, program-rules, program-read}
+use Rattle.programs.proofs.Whole.{stage-sound, used-fit, used-short, program-long, program-lines, program-rules}
+use Rattle.programs.proofs.Whole.{program-read}
 use Rattle.programs.proofs.program.read_program.Statement.{statement}
 use Rattle.programs.proofs.program.read_program.Tie as tie
 
@@ -86,9 +87,11 @@ check-rules-requires : tie.Need-check-rules-requires
 check-rules-requires c κs =
     let at-stage = c .before .before .before .before .before in
     let at-names = at-stage .before .before .before .before .before .before .before .before .before in
-    let at-read-lines = at-names .before in
-    used-short (64 * at-stage .stage .given .0 .0 .rules) (at-read-lines .read-lines .last .1 .1 .1 .1 .0)
-    (at-read-lines .read-lines .ensures .room .rules-size)
+    let at-read-lines = at-names .before in (
+      used-short (64 * at-stage .stage .given .0 .0 .rules) (at-read-lines .read-lines .last .1 .1 .1 .1 .0)
+          (at-read-lines .read-lines .ensures .room .rules-size),
+      used-fit _ _ (stage-sound _ (at-stage .stage .given .1) (at-read-lines .read-lines .ensures)),
+    )
 
 returns-2 : tie.Need-returns-2
 returns-2 c =

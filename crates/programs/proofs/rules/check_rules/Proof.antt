@@ -5,7 +5,7 @@ use mathlib.Core.Path.{refl}
 use Prim.Native.Nat.{_-_, _+_}
 use native.Mathlib.Omega.{arith}
 use lib.ListN.{length, length-take, length-drop, drop}
-use Rattle.programs.proofs.RuleLaws.{Checked, check-start, check-refused, check-next, check-end}
+use Rattle.programs.proofs.RuleLaws.{Checked, check-start, check-row, check-refused, check-next, check-end}
 use Rattle.programs.proofs.rules.check_rules.Statement.{statement}
 use Rattle.programs.proofs.rules.check_rules.Tie as tie
 
@@ -22,13 +22,15 @@ rule-fault-requires : tie.Need-rule-fault-requires Inv-loop μ-loop
 rule-fault-requires c κs =
     let at-loop-test = c .before in
     let at-loop = at-loop-test .before in
-    let start = at-loop .before .before .before in
-    omega (
-      arith,
-      at-loop-test .loop-test .taken,
-      length-take (at-loop .loop .at + 64 - at-loop .loop .at) (drop
-          (at-loop .loop .at) (start .args .rules .now)),
-      length-drop (at-loop .loop .at) (start .args .rules .now),
+    let start = at-loop .before .before .before in (
+      omega (
+        arith,
+        at-loop-test .loop-test .taken,
+        length-take (at-loop .loop .at + 64 - at-loop .loop .at) (drop
+            (at-loop .loop .at) (start .args .rules .now)),
+        length-drop (at-loop .loop .at) (start .args .rules .now),
+      ),
+      check-row _ _ _ (at-loop .loop .inv) (at-loop-test .loop-test .taken) (start .pre .1),
     )
 
 returns : tie.Need-returns Inv-loop μ-loop
