@@ -5,10 +5,11 @@
 use Prim.Native.Nat.{ℕ, zero, suc, _-_, _*_}
 use native.Mathlib.Omega.{arith}
 use mathlib.Core.List.{List, [], _∷_}
-use mathlib.Core.Path.{_≡_, refl}
+use mathlib.Core.Path.{_≡_, refl, sym}
 use lib.ListN.{length, take, drop, length-drop}
 use lib.Seq.{take-all}
 use Rattle.tables.specs.Cells.{cellConstraints}
+use Rattle.tables.proofs.CellLaws.{constraints-drop}
 
 -- five cells more
 five-more : (k : ℕ) → 5 * suc k ≡ suc (suc (suc (suc (suc (5 * k)))))
@@ -27,14 +28,7 @@ take-constraints (suc k) (a ∷ b ∷ c ∷ d ∷ e ∷ l) = rw (five-more, take
 
 -- the others
 pub drop-constraints : (k : ℕ) (l : List ℕ) → cellConstraints (drop (5 * k) l) ≡ drop k (cellConstraints l)
-unfolding cellConstraints
-drop-constraints zero l = refl
-drop-constraints (suc k) [] = rw five-more
-drop-constraints (suc k) (a ∷ []) = rw five-more
-drop-constraints (suc k) (a ∷ b ∷ []) = rw five-more
-drop-constraints (suc k) (a ∷ b ∷ c ∷ []) = rw five-more
-drop-constraints (suc k) (a ∷ b ∷ c ∷ d ∷ []) = rw five-more
-drop-constraints (suc k) (a ∷ b ∷ c ∷ d ∷ e ∷ l) = rw (five-more, drop-constraints k l)
+drop-constraints k l = sym (constraints-drop k l)
 
 -- the cells from a place on, as they are lent
 abbrev pub behind : ℕ → List ℕ → List ℕ
