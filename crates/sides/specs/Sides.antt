@@ -12,7 +12,7 @@ use mathlib.Core.Option.{none, some}
 use mathlib.Core.Path.{_≡_}
 use lib.ListN.{length, take}
 use Rattle.text.specs.Lists.{every, tabled}
-use Rattle.semantics.specs.Terms.{var, Program, Goal, isWellFormed}
+use Rattle.semantics.specs.Terms.{var, Program, Goal, isWellFormed, removedHeads}
 use Rattle.semantics.specs.Firing.{fireAt}
 use Rattle.semantics.specs.Strategy.{goalState}
 use Rattle.semantics.specs.Overlaps.{sideEnd}
@@ -57,7 +57,7 @@ pub record Begun (rules : List ℕ) (i : ℕ) (positions goal : List ℕ) (m v :
   pub lighter :
       fired ≡ true
       → (w : ℕ → ℕ)
-      → weightBy w (ruleOfRow [] (rowOf rules i) .body) < weightBy w (ruleOfRow [] (rowOf rules i) .heads)
+      → weightBy w (ruleOfRow [] (rowOf rules i) .body) < weightBy w (removedHeads (ruleOfRow [] (rowOf rules i)))
       → cond alive (weightBy w (storeOf cells count)) 0 < weightBy w (cellConstraints goal)
   pub low : fired ≡ true → alive ≡ true → every isLow (storeOf cells count) ≡ true
   pub few : count ≤ m + 6
