@@ -1,6 +1,7 @@
 -- `fire` meets its contract: remove, and the rest of the firing.
 -- Assumes nothing.
 use borrow.Author.Needs.{needs}
+use native.Mathlib.Omega.{arith}
 use Rattle.engine.proofs.RuleLaws.{fire-lent, fire-removes, fire-within, fire-placed, fire-kept, fire-completes, fire-done}
 use Rattle.engine.proofs.firing.fire.Statement.{statement}
 use Rattle.engine.proofs.firing.fire.Tie as tie
@@ -13,6 +14,14 @@ counted c = c .before .before
 
 abbrev entry : tie.After-wide2 → tie.Start
 entry c = counted c .before .before .before .before .before .before
+
+returns : tie.Need-returns
+returns c =
+    let at-complete = c .before .before .before .before in
+    let at-remove = at-complete .before .before .before .before .before in
+    let at = at-remove .before .before .before .before in
+    fire-done _ _ _ _ _ _ (entry at .pre) _ _ (counted at .wide .ensures .0) (at .wide2 .ensures .0) _ _
+    (at-remove .remove .kept .0) (at-remove .remove .ensures) _ _ _ _ _ (at-complete .complete .ensures)
 
 array-share-prefix-positions : tie.Need-array-share-prefix-positions
 array-share-prefix-positions c =
@@ -29,7 +38,7 @@ slice-aggregate-remove c = fire-lent _ _ _ _ _ _ (entry (c .before .before) .pre
 part-remove-start : tie.Need-part-remove-start
 part-remove-start c =
     let at = c .before .before in
-    fire-kept _ _ _ _ _ _ (entry at .pre) _ _ (counted at .wide .ensures .0) (at .wide2 .ensures .0)
+    omega (arith, fire-kept _ _ _ _ _ _ (entry at .pre) _ _ (counted at .wide .ensures .0) (at .wide2 .ensures .0))
 
 sub-remove : tie.Need-sub-remove
 sub-remove c = part-remove-start c
@@ -43,14 +52,6 @@ complete-requires c κs =
     let at = at-remove .before .before .before .before in
     fire-completes _ _ _ _ _ _ (entry at .pre) _ _ (counted at .wide .ensures .0) (at .wide2 .ensures .0) _ _
     (at-remove .remove .kept .0) (at-remove .remove .ensures)
-
-returns : tie.Need-returns
-returns c =
-    let at-complete = c .before .before .before .before in
-    let at-remove = at-complete .before .before .before .before .before in
-    let at = at-remove .before .before .before .before in
-    fire-done _ _ _ _ _ _ (entry at .pre) _ _ (counted at .wide .ensures .0) (at .wide2 .ensures .0) _ _
-    (at-remove .remove .kept .0) (at-remove .remove .ensures) _ _ _ _ _ (at-complete .complete .ensures)
 
 pub fire-spec : {M : Type 1} → statement M
 fire-spec =
