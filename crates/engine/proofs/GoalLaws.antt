@@ -31,8 +31,9 @@ use Rattle.semantics.specs.Terms.{
   noSymbol,
   symbolAt,
   weight,
+  removedHeads,
 }
-use Rattle.semantics.specs.Terms.{isDeclared, isBelow, isGoalOf, alphabet, isOfRule, isRuleOf, isWellFormed}
+use Rattle.semantics.specs.Terms.{keptHeads, isDeclared, isBelow, isGoalOf, alphabet, isOfRule, isRuleOf, isWellFormed}
 use Rattle.semantics.specs.Strategy.{goalState, run}
 use Rattle.tables.specs.Layout.{firstRule}
 use Rattle.tables.specs.Cells.{cellTerm, isLow, stateOf}
@@ -42,7 +43,7 @@ use Rattle.engine.specs.Runs.{weightBy, Lowers, storeOf, Runnable, Start
 use Rattle.text.proofs.Bools.{and-true}
 use Rattle.engine.proofs.ChooseLaws.{length-tabled, getD-tabled}
 use Rattle.semantics.proofs.Indices.{getElem-at, getD-at}
-use Rattle.semantics.proofs.Weights.{rule-lowers}
+use Rattle.semantics.proofs.Weights.{weight-append, heads-parts, rule-lowers}
 
 -- whether a term is no constant 0, which stands for no term
 unfoldable pub isUsed : Term → Bool
@@ -53,14 +54,15 @@ isUsed (var x) = true
 unfoldable pub programOf : List ℕ → List ℕ → ℕ → List ℕ → ℕ → Program
 programOf names symbols s rules n = record { symbols = symbolsOf names symbols s; rules = rulesOf names rules n }
 
--- what the reading of a program promises: it is well formed, its heads and bodies are within a row's room, its weights are
--- positive, and its constants not 0
+-- what the reading of a program promises: it is well formed, its heads and bodies are within a row's room, it keeps no more
+-- heads than there are, its weights are positive, and its constants not 0
 pub record AsRead (names symbols : List ℕ) (s : ℕ) (rules : List ℕ) (n : ℕ) : Type 0 where
   pub well-formed : isWellFormed (programOf names symbols s rules n) ≡ true
   pub few-symbols : s ≤ 32
   pub heavy : (k : ℕ) → k < s → 1 ≤ getD symbols (2 * k + 1) 0
   pub size : 64 * n ≤ length rules
   pub heads-few : (i : ℕ) → i < n → getD (rowOf rules i) 3 0 ≤ 4
+  pub kept-few : (i : ℕ) → i < n → getD (rowOf rules i) 1 0 ≤ getD (rowOf rules i) 3 0
   pub body-few : (i : ℕ) → i < n → getD (rowOf rules i) 4 0 ≤ 6
   pub used :
       (i : ℕ) → i < n
@@ -105,13 +107,23 @@ rule-stands names rules n i l =
     let (a, e) = getElem-at rs i (omega (arith, length-tabled (ruleOf names rules) n)) in
     e ∙ ap some (sym (getD-at rs i a e) ∙ getD-tabled (ruleOf names rules) n i a l)
 
+-- what is removed weighs no more than all heads
+removed-light : (symbols : List Symbol) (q : Rule) → weight symbols (removedHeads q) ≤ weight symbols (q .heads)
+removed-light symbols q = omega (arith, rw heads-parts at (weight-append symbols (keptHeads q) (removedHeads q)))
+
 -- every rule of a well-formed program lowers the weight
 pub well-formed-lowers :
     (p : Program) (names rules : List ℕ) (n : ℕ) → p .rules ≡ rulesOf names rules n → isWellFormed p ≡ true
     → Lowers (λ k. symbolAt (p .symbols) k .weight) rules n
 unfolding weight weightBy ruleOf ruleOfRow
 well-formed-lowers p names rules n e w =
-    record { falls = λ i l. rule-lowers p i (ruleOf names rules i) w (rw e (rule-stands names rules n i l)) }
+    record {
+      falls = λ i l. omega (
+        arith,
+        rule-lowers p i (ruleOf names rules i) w (rw e (rule-stands names rules n i l)),
+        removed-light (p .symbols) (ruleOf names rules i),
+      );
+    }
 
 module _ (names symbols : List ℕ) (s : ℕ) (rules : List ℕ) (n : ℕ) (r : AsRead names symbols s rules n) where
   -- the program's symbols
@@ -186,13 +198,15 @@ module _ (names symbols : List ℕ) (s : ℕ) (rules : List ℕ) (n : ℕ) (r : 
     parts :
         (every ofRule hs ≡ true) × (every ofRule bs ≡ true) × (every below es ≡ true)
         × (weight declaredTable bs < weight declaredTable hs)
-    unfolding isRuleOf ruleOfRow
+    unfolding isRuleOf ruleOfRow removedHeads
     parts =
-        let light = ltb (weight declaredTable bs) (weight declaredTable hs) in
+        let rs = removedHeads (ruleOfRow [] row) in
+        let light = ltb (weight declaredTable bs) (weight declaredTable rs) in
         let three = and-true (every ofRule hs && every ofRule bs && every below es) light rule-of in
         let two = and-true (every ofRule hs && every ofRule bs) (every below es) (three .0) in
         let one = and-true (every ofRule hs) (every ofRule bs) (two .0) in
-        (one .0, one .1, two .1, ltb-true (weight declaredTable bs) (weight declaredTable hs) (three .1))
+        let less = ltb-true (weight declaredTable bs) (weight declaredTable rs) (three .1) in
+        (one .0, one .1, two .1, omega (arith, less, removed-light declaredTable (ruleOfRow [] row)))
 
     of-rule : (c : Constraint) → isOfRule declaredTable c ≡ true → (isDeclared declaredTable c ≡ true) × (isLettered c ≡ true)
     unfolding isOfRule isLettered
