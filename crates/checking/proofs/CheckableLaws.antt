@@ -15,7 +15,7 @@ use Rattle.text.specs.Lists.{every}
 use Rattle.text.proofs.Bools.{and-true}
 use Rattle.text.proofs.Laws.{tabled-length}
 use Rattle.semantics.specs.Terms.{Constraint, Equation, Symbol, Rule, Program, noSymbol, symbolAt, weight, alphabet}
-use Rattle.semantics.specs.Terms.{isBelow, isDeclared, isOfRule, isRuleOf, isWellFormed}
+use Rattle.semantics.specs.Terms.{removedHeads, isBelow, isDeclared, isOfRule, isRuleOf, isWellFormed}
 use Rattle.semantics.proofs.Configurations.{All, none, also}
 use Rattle.semantics.proofs.Weights.{every-at}
 use Rattle.syntax.specs.Programs.{Reading}
@@ -53,7 +53,8 @@ heads-low symbols few r h =
     let heads = every (isOfRule symbols) (r .heads) in
     let body = every (isOfRule symbols) (r .body) in
     let equations = every (λ (e : Equation). isBelow alphabet (e .left) && isBelow alphabet (e .right)) (r .equations) in
-    let three = and-true (heads && body && equations) (ltb (weight symbols (r .body)) (weight symbols (r .heads))) h .0 in
+    let light = ltb (weight symbols (r .body)) (weight symbols (removedHeads r)) in
+    let three = and-true (heads && body && equations) light h .0 in
     all-low symbols few (r .heads) (and-true heads body (and-true (heads && body) equations three .0) .0)
 
 -- a symbol's weight, or that of a number that no symbol has

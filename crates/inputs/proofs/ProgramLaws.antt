@@ -105,6 +105,7 @@ module _ {program names symbols rules : List ℕ} {k n : ℕ} {p : Reading} (r :
         heavy = heavy;
         size = omega (arith, few-rules, r .rules-size);
         heads-few = r .heads-few;
+        kept-few = r .kept-few;
         body-few = r .body-few;
         used = used;
       }
@@ -151,6 +152,7 @@ module _ {program names places names′ places′ symbols′ rules′ : List ℕ
           holds = refl;
           rules-size = r .room .rules-size;
           heads-few = λ i l. fits .rows i l .heads;
+          kept-few = λ i l. fits .rows i l .kept;
           body-few = λ i l. fits .rows i l .body;
         };
         spelled = refl;

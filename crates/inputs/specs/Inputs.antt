@@ -15,7 +15,7 @@ use Rattle.semantics.specs.Terms.{Program}
 use Rattle.syntax.specs.Answers.{accepted}
 use Rattle.syntax.specs.Forms.{firstConstant}
 use Rattle.syntax.specs.Programs.{Reading, readProgram}
-use Rattle.tables.specs.Layout.{maxNames, headsCell, bodyCell}
+use Rattle.tables.specs.Layout.{maxNames, keptCell, headsCell, bodyCell}
 use Rattle.tables.specs.Rows.{symbolsOf, constantsOf, rowOf, rulesOf}
 use Rattle.tables.specs.Names.{Placed}
 use Rattle.programs.specs.declared.Counts.{Counts}
@@ -28,12 +28,14 @@ programTable names symbols rules k n = record { symbols = symbolsOf names symbol
 unfoldable pub isKnown : ℕ → ℕ → ℕ → Bool
 isKnown k c n = ltb n k || (leb firstConstant n && ltb n (firstConstant + c))
 
--- a program as read, in its tables: a row holds at most 4 heads and 6 constraints of the body
+-- a program as read, in its tables: a row holds at most 4 heads, keeps no more than there are, and holds at most 6 constraints of
+-- the body
 pub record ProgramReady (program names symbols rules : List ℕ) (k n : ℕ) (p : Reading) : Type 0 where
   pub read : readProgram program ≡ accepted p
   pub holds : p .program ≡ programTable names symbols rules k n
   pub rules-size : length rules ≡ 2048
   pub heads-few : (i : ℕ) → i < n → getD (rowOf rules i) headsCell 0 ≤ 4
+  pub kept-few : (i : ℕ) → i < n → getD (rowOf rules i) keptCell 0 ≤ getD (rowOf rules i) headsCell 0
   pub body-few : (i : ℕ) → i < n → getD (rowOf rules i) bodyCell 0 ≤ 6
 
 -- a program as read, in its tables and that of its constants; each name stands where its place says

@@ -19,17 +19,17 @@ use Rattle.text.specs.Bytes.{between}
 use Rattle.text.specs.Lists.{onward, every, indexOf, isKnown, withName}
 use Rattle.text.specs.Lines.{Line, lines, inFirstLine, lineIsFaulty}
 use Rattle.text.specs.Fields.{fields, isName, isVariable, isTerm, isNumberIn}
-use Rattle.semantics.specs.Terms.{Constraint, Symbol, Rule, weight}
+use Rattle.semantics.specs.Terms.{Constraint, Symbol, Rule, removedHeads, weight}
 use Rattle.semantics.proofs.Configurations.{All, also}
 use Rattle.semantics.proofs.Configurations as C
 use Rattle.semantics.proofs.Multisets.{all-append, all-mono, all-map}
 use Rattle.syntax.specs.Answers.{Answer, refused, accepted, refuseIf, andThen}
-use Rattle.syntax.specs.Forms.{Form, symbolForm, ruleForm, headForm, bodyForm, equationForm, goalForm, noForm, formOf}
+use Rattle.syntax.specs.Forms.{Form, symbolForm, ruleForm, keptForm, headForm, bodyForm, equationForm, goalForm, noForm, formOf}
 use Rattle.syntax.specs.Forms.{Section, sectionAfter, fieldAt, constantsAfter, letterNumber}
 use Rattle.syntax.specs.Forms.{isSymbolFaulty, isRuleFaulty, isEquationFaulty, isConstraintFaulty, isUndeclared, constraintOf}
-use Rattle.syntax.specs.Programs.{RuleRead, Draft, Reading, Found, blank, inSection, onLast, lastRule, withHead, withBody}
-use Rattle.syntax.specs.Programs.{withEquation, withRule, readSymbol, readRule, constraintLine, readConstraint, readEquation}
-use Rattle.syntax.specs.Programs.{readForm, readFields, readLine, readLines, checkRules, readProgram}
+use Rattle.syntax.specs.Programs.{RuleRead, Draft, Reading, Found, blank, inSection, onLast, lastRule, withKept, withHead}
+use Rattle.syntax.specs.Programs.{withBody, withEquation, withRule, readSymbol, readRule, constraintLine, readConstraint}
+use Rattle.syntax.specs.Programs.{readEquation, readForm, readFields, readLine, readLines, checkRules, readProgram}
 use Rattle.syntax.specs.Programs.{maxText, maxSymbols, maxRules, maxHeads, maxBody, maxEquations, maxConstants}
 use Rattle.syntax.specs.Goals.{GoalDraft, GoalReading, maxGoal, maxWeight, lettersAfter, readConstraintOfGoal, isGoalForm}
 use Rattle.syntax.specs.Goals.{readGoalFields, readGoalLine, readGoalLines, readGoal}
@@ -252,9 +252,11 @@ module _ (n : ℕ) (low : n ≤ 16384) where
       λ _. change-termed _ constants d (λ r. refl) s (constants-termed (drop 1 fs) (d .constants) (s .constants))
 
   form-reads : (form : Form) (fs : List (List ℕ)) (d : Draft) → TermedDraft d → Reads 9 TermedDraft (readForm form n fs d)
-  unfolding readForm withHead withBody
+  unfolding readForm withKept withHead withBody
   form-reads symbolForm fs d s = symbol-reads fs d s
   form-reads ruleForm fs d s = rule-reads fs d s
+  form-reads keptForm fs d s =
+      constraint-reads (length (lastRule (d .rules) .heads)) maxHeads withKept fs d (λ c r. refl) s
   form-reads headForm fs d s =
       constraint-reads (length (lastRule (d .rules) .heads)) maxHeads withHead fs d (λ c r. refl) s
   form-reads bodyForm fs d s =
@@ -296,8 +298,8 @@ rules-read :
 unfolding checkRules
 rules-read P symbols [] otherwise all h = h
 rules-read P symbols (r ∷ rs) otherwise (also s all) h =
-    reads-refuseIf 9 P (eqb (length (r .rule .heads)) 0) 8 (r .line) _ refl (s .within)
-    λ _. reads-refuseIf 9 P (leb (weight symbols (r .rule .heads)) (weight symbols (r .rule .body))) 9 (r .line) _ refl
+    reads-refuseIf 9 P (eqb (length (removedHeads (r .rule))) 0) 8 (r .line) _ refl (s .within)
+    λ _. reads-refuseIf 9 P (leb (weight symbols (removedHeads (r .rule))) (weight symbols (r .rule .body))) 9 (r .line) _ refl
     (s .within)
     λ _. rules-read P symbols rs otherwise all h
 

@@ -121,6 +121,7 @@ module _ {program names places symbols rules : List ℕ} {c : Counts} (r : GoalR
               holds = same-program;
               rules-size = r .first .rules-size;
               heads-few = r .first .heads-few;
+              kept-few = r .first .kept-few;
               body-few = r .first .body-few;
             };
             read = read;
