@@ -24,7 +24,7 @@ use Rattle.syntax.proofs.WellFormed.{read-wellFormed}
 use Rattle.tables.specs.Cells.{isLow}
 use Rattle.tables.specs.Rows.{symbolsOf, ruleOfRow, rowOf, ruleOf, rulesOf}
 use Rattle.engine.proofs.GoalLaws.{weigh, rule-stands, read-table, read-lowers}
-use Rattle.overlapping.specs.Cells.{RuleRow}
+use Rattle.overlaps.specs.Cells.{RuleRow}
 use Rattle.critical.specs.Walks.{Checkable, Holds}
 use Rattle.inputs.specs.Inputs.{programTable, ProgramReady}
 use Rattle.inputs.proofs.ProgramLaws.{few-symbols, as-read}

@@ -21,8 +21,8 @@ use Rattle.semantics.proofs.Configurations.{Or, inl, inr}
 use Rattle.semantics.proofs.Options.{true-false}
 use Rattle.semantics.proofs.Enumeration.{numbered-at}
 use Rattle.semantics.proofs.Indices.{le-or-lt}
-use Rattle.overlapping.specs.Rests.{Judged}
-use Rattle.overlapping.proofs.JoinLaws.{drop-at-element, at-left, at-right}
+use Rattle.overlaps.specs.Rests.{Judged}
+use Rattle.overlaps.proofs.JoinLaws.{drop-at-element, at-left, at-right}
 
 module _ (p : Program) where
   -- nothing to judge

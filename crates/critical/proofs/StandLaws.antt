@@ -24,7 +24,7 @@ use Rattle.sides.specs.Sides.{cellGoal}
 use Rattle.judging.specs.Judging.{Stands, Overlapping}
 use Rattle.critical.specs.Walks.{Holds, ruleAt, PairAt, firstHeads, secondHeads}
 use Rattle.critical.proofs.JudgeLaws.{tabled-element}
-use Rattle.overlapping.proofs.NodeLaws.{heads-count}
+use Rattle.overlaps.proofs.NodeLaws.{heads-count}
 
 -- a rule of a program that a table holds
 rule-at :

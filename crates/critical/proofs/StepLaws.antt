@@ -21,16 +21,16 @@ use Rattle.tables.specs.Cells.{cellConstraints, isLow}
 use Rattle.tables.specs.Rows.{ruleOfRow, ruleOf}
 use Rattle.sides.specs.Sides.{cellGoal}
 use Rattle.judging.specs.Judging.{Stands, Overlapping, Joins}
-use Rattle.overlapping.specs.Joins.{joinNext, paired, goalFrom}
-use Rattle.overlapping.specs.Cells.{joinedOf, Partner}
-use Rattle.overlapping.specs.Overlapped.{Node, Whole, Finished}
-use Rattle.overlapping.specs.Rests.{rest, Judged}
+use Rattle.overlaps.specs.Joins.{joinNext, paired, goalFrom}
+use Rattle.overlaps.specs.Cells.{joinedOf, Partner}
+use Rattle.overlaps.specs.Overlapped.{Node, Whole, Finished}
+use Rattle.overlaps.specs.Rests.{rest, Judged}
 use Rattle.critical.specs.Walks.{Holds, ruleAt, firstHeads, secondHeads, Walkable, leaves, Walked}
 use Rattle.critical.specs.Walks.{Room}
-use Rattle.overlapping.proofs.PairedLaws.{paired-overlap}
+use Rattle.overlaps.proofs.PairedLaws.{paired-overlap}
 use Rattle.critical.proofs.JudgeLaws.{judged-none, judged-joins, judged-parts}
-use Rattle.overlapping.proofs.WithinLaws.{finished-fewer}
-use Rattle.overlapping.proofs.NodeLaws.{node-whole, node-partner, node-next, node-cut}
+use Rattle.overlaps.proofs.WithinLaws.{finished-fewer}
+use Rattle.overlaps.proofs.NodeLaws.{node-whole, node-partner, node-next, node-cut}
 use Rattle.critical.proofs.StandLaws.{first-count, second-count, pair-few, first-heads, second-heads, overlap-judged}
 use Rattle.critical.proofs.StandLaws.{overlap-stands}
 use Rattle.critical.proofs.WalkLaws.{overlapBy, leaf-none, leaf-overlap}

@@ -22,18 +22,18 @@ use Rattle.semantics.specs.Verdict.{judge}
 use Rattle.semantics.proofs.Options.{true-false}
 use Rattle.tables.specs.Cells.{cellConstraints}
 use Rattle.tables.specs.Rows.{ruleOfRow, ruleOf, rulesOf, rowOf}
-use Rattle.overlapping.specs.Cells.{RuleRow, RulePair, headsOf}
-use Rattle.overlapping.specs.Overlapped.{Partners}
-use Rattle.overlapping.specs.Rests.{rest, Judged}
+use Rattle.overlaps.specs.Cells.{RuleRow, RulePair, headsOf}
+use Rattle.overlaps.specs.Overlapped.{Partners}
+use Rattle.overlaps.specs.Rests.{rest, Judged}
 use Rattle.critical.specs.Walks.{Holds, ruleAt, Checkable, PairAt, firstHeads, secondHeads, leaves, Walkable, Walked}
 use Rattle.critical.specs.Walks.{allRules, PairWalked, RowWalked, AllWalked}
-use Rattle.overlapping.specs.Shares.{headSymbols, isShared}
-use Rattle.overlapping.proofs.ShareLaws.{unshared-overlaps}
-use Rattle.overlapping.proofs.RestLaws.{rest-all}
+use Rattle.overlaps.specs.Shares.{headSymbols, isShared}
+use Rattle.overlaps.proofs.ShareLaws.{unshared-overlaps}
+use Rattle.overlaps.proofs.RestLaws.{rest-all}
 use Rattle.critical.proofs.JudgeLaws.{second-next, second-end, first-next, first-end, numbered-length, numbered-rule}
 use Rattle.critical.proofs.JudgeLaws.{judged-none}
-use Rattle.overlapping.proofs.LayLaws.{zeros}
-use Rattle.overlapping.proofs.NodeLaws.{node-start}
+use Rattle.overlaps.proofs.LayLaws.{zeros}
+use Rattle.overlaps.proofs.NodeLaws.{node-start}
 use Rattle.critical.proofs.StandLaws.{pair-few, first-heads}
 
 -- at most 625 pairings of four heads

@@ -36,11 +36,11 @@ use Rattle.judging.proofs.JoinLaws.{live-room}
 use Rattle.critical.specs.declared.walking.Reply.{Reply}
 use Rattle.critical.specs.declared.deciding.Answer.the-variants.{Confluent, Unjoined}
 use Rattle.critical.specs.declared.deciding.Shown.{Shown}
-use Rattle.overlapping.specs.Overlapped.{Partners, OverlapOf}
+use Rattle.overlaps.specs.Overlapped.{Partners, OverlapOf}
 use Rattle.critical.specs.Walks.{Holds, ruleAt, Checkable, PairAt, AllWalked}
 use Rattle.critical.specs.Verdicts.{Deciding, Stopped, Remade, Runs, BothRun, EndIn, UnjoinedIn, VerdictIn}
 use Rattle.critical.proofs.JudgeLaws.{judged-confluent, judged-unjoined}
-use Rattle.overlapping.proofs.ShareLaws.{pairing-joins}
+use Rattle.overlaps.proofs.ShareLaws.{pairing-joins}
 use Rattle.critical.proofs.StandLaws.{pair-few, overlap-judged, overlap-stands}
 use Rattle.critical.proofs.StepLaws.{room-kept}
 use Rattle.critical.proofs.TableLaws.{lent, lent-row, lent-first, lent-second, pair-lent}

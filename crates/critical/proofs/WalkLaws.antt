@@ -16,10 +16,10 @@ use Rattle.semantics.specs.Terms.{Constraint, Program, mapTerms}
 use Rattle.semantics.specs.Overlaps.{isPairing, apart, Numbered, Overlap, overlapOf, firstEnd, secondEnd}
 use Rattle.semantics.specs.Verdict.{unjoined, judge}
 use Rattle.semantics.proofs.Options.{true-false}
-use Rattle.overlapping.specs.Joins.{paired, goalFrom}
-use Rattle.overlapping.specs.Rests.{rest, restFrom, Judged}
-use Rattle.overlapping.proofs.RestLaws.{rest-more, rest-next, rest-past, rest-done}
-use Rattle.overlapping.proofs.PairedLaws.{paired-none, paired-overlap, paired-pairing}
+use Rattle.overlaps.specs.Joins.{paired, goalFrom}
+use Rattle.overlaps.specs.Rests.{rest, restFrom, Judged}
+use Rattle.overlaps.proofs.RestLaws.{rest-more, rest-next, rest-past, rest-done}
+use Rattle.overlaps.proofs.PairedLaws.{paired-none, paired-overlap, paired-pairing}
 use Rattle.critical.proofs.JudgeLaws.{judged-none}
 
 module _ (i j : Numbered) where

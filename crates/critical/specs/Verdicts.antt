@@ -28,7 +28,7 @@ use Rattle.critical.specs.declared.walking.Reply.{Reply}
 use Rattle.critical.specs.declared.deciding.Shown.{Shown}
 use Rattle.critical.specs.declared.deciding.Answer.the-variants.{Confluent, Unjoined}
 use Rattle.critical.specs.declared.deciding.Verdict.{Verdict}
-use Rattle.overlapping.specs.Overlapped.{Partners}
+use Rattle.overlaps.specs.Overlapped.{Partners}
 use Rattle.critical.specs.Walks.{Holds, ruleAt, Checkable, Room}
 
 -- what deciding asks: a table of at most 64 rules that can be checked, and cells for an overlap's goal, for what its variables

@@ -17,9 +17,9 @@ use Rattle.semantics.specs.Overlaps.{apart, Numbered, overlapOf, numberedFrom, 
 use Rattle.tables.specs.Layout.{constraintSize, rowSize, headsCell}
 use Rattle.tables.specs.Rows.{ruleOfRow, ruleOf, rulesOf, rowOf}
 use Rattle.engine.specs.Runs.{Lowers}
-use Rattle.overlapping.specs.Cells.{RuleRow}
-use Rattle.overlapping.specs.Overlapped.{Node, Partners}
-use Rattle.overlapping.specs.Rests.{rest, Judged}
+use Rattle.overlaps.specs.Cells.{RuleRow}
+use Rattle.overlaps.specs.Overlapped.{Node, Partners}
+use Rattle.overlaps.specs.Rests.{rest, Judged}
 
 -- a program whose rules are the n of a table
 pub record Holds (p : Program) (rules : List ℕ) (n : ℕ) : Type 0 where

@@ -1,11 +1,11 @@
 // The walk over the pairings of two rules, partner by partner, which leaves out what cannot unify and judges each overlap.
 use judging::Peak;
 use judging::joins;
-use overlapping::finishing::finish;
-use overlapping::finishing::second_positions;
-use overlapping::joining::join_partner;
-use overlapping::laying::lay_heads;
-use overlapping::sharing::share_symbol;
+use overlaps::finishing::finish;
+use overlaps::finishing::second_positions;
+use overlaps::joining::join_partner;
+use overlaps::laying::lay_heads;
+use overlaps::sharing::share_symbol;
 use tables::layout::CONSTRAINT_SIZE;
 use tables::layout::HEADS_CELL;
 use tables::layout::ROW_SIZE;

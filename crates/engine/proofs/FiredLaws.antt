@@ -18,8 +18,8 @@ use Rattle.semantics.specs.Solving.{solve}
 use Rattle.semantics.specs.Firing.{without, instance, settle, fired}
 use Rattle.tables.specs.Cells.{isLow, stateOf}
 use Rattle.tables.specs.Rows.{ruleOfRow}
-use Rattle.search.specs.Cells.{assigned}
-use Rattle.search.specs.Positions.{Row}
+use Rattle.fitting.specs.Cells.{assigned}
+use Rattle.fitting.specs.Positions.{Row}
 use Rattle.engine.specs.States.{Fired}
 use Rattle.engine.specs.Runs.{weightBy, storeOf}
 use Rattle.tables.proofs.MapLaws.{low-kept}

@@ -23,7 +23,7 @@ use Rattle.tables.specs.Cells.{cellConstraints}
 use Rattle.tables.proofs.CellLaws.{le-or-lt, constraints-length}
 use Rattle.engine.specs.States.{Equated, Fires, Fired, Skips, Placed}
 use Rattle.engine.proofs.FireLaws.{Moving, moving-next, moving-end}
-use Rattle.search.proofs.PartLaws.{drop-constraints, behind, behind-all}
+use Rattle.fitting.proofs.PartLaws.{drop-constraints, behind, behind-all}
 use Rattle.engine.proofs.GapLaws.{drop-part}
 use Rattle.engine.proofs.RuleLaws.{removedAt, removed-size, removed-lent, fires-equated, left-equated, left-fired}
 

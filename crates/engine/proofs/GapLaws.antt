@@ -21,7 +21,7 @@ use Rattle.tables.specs.Cells.{cellConstraints}
 use Rattle.tables.proofs.CellLaws.{constraints-length}
 use Rattle.engine.specs.Cells.{closedGap}
 use Rattle.engine.specs.States.{Highest, Removed}
-use Rattle.search.proofs.PartLaws.{take-constraints, drop-constraints}
+use Rattle.fitting.proofs.PartLaws.{take-constraints, drop-constraints}
 use Rattle.engine.proofs.FireLaws.{Moving, moving-start, moving-next, moving-end, constraints-append}
 
 -- the cells behind position p of k constraints are moved as far as place i

@@ -38,10 +38,10 @@ use Rattle.semantics.specs.Strategy.{goalState, run}
 use Rattle.tables.specs.Layout.{firstRule}
 use Rattle.tables.specs.Cells.{cellTerm, isLow, stateOf}
 use Rattle.tables.specs.Rows.{symbolOf, symbolsOf, ruleOfRow, ruleOf, rulesOf, rowOf, nameOf}
-use Rattle.search.specs.Positions.{isLettered, isSide, Row, Table}
+use Rattle.fitting.specs.Positions.{isLettered, isSide, Row, Table}
 use Rattle.engine.specs.Runs.{weightBy, Lowers, storeOf, Runnable, Startable, Ended}
 use Rattle.text.proofs.Bools.{and-true}
-use Rattle.search.proofs.ChooseLaws.{length-tabled, getD-tabled}
+use Rattle.fitting.proofs.ChooseLaws.{length-tabled, getD-tabled}
 use Rattle.semantics.proofs.Indices.{getElem-at, getD-at}
 use Rattle.semantics.proofs.Weights.{rule-lowers}
 

@@ -17,15 +17,15 @@ use Rattle.tables.specs.Cells.{cellEquations}
 use Rattle.tables.specs.Rows.{ruleOfRow}
 use Rattle.tables.proofs.CellLaws.{constraints-length}
 use Rattle.tables.proofs.CellLaws.{le-or-lt}
-use Rattle.search.specs.Cells.{assigned}
-use Rattle.search.specs.Positions.{Row}
+use Rattle.fitting.specs.Cells.{assigned}
+use Rattle.fitting.specs.Positions.{Row}
 use Rattle.engine.specs.States.{Fired}
 use Rattle.engine.specs.Runs.{storeOf}
-use Rattle.search.specs.Known.{hasSymbol, concerns, Noted, Knows}
-use Rattle.search.specs.Known.{Marked, Forgotten}
+use Rattle.fitting.specs.Known.{hasSymbol, concerns, Noted, Knows}
+use Rattle.fitting.specs.Known.{Marked, Forgotten}
 use Rattle.engine.specs.Runs.{Keeps}
-use Rattle.search.proofs.BarrenLaws.{without-few}
-use Rattle.search.proofs.NotedLaws.{noted-nothing, noted-fired, marked-bounded}
+use Rattle.fitting.proofs.BarrenLaws.{without-few}
+use Rattle.fitting.proofs.NotedLaws.{noted-nothing, noted-fired, marked-bounded}
 use Rattle.engine.proofs.RuleLaws.{removedAt, removed-size}
 use Rattle.engine.proofs.FiredLaws.{fired-plain, fired-length}
 

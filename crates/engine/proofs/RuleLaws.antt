@@ -18,14 +18,14 @@ use Rattle.semantics.specs.Firing.{without, instance, fired}
 use Rattle.semantics.proofs.Removal.{without-none}
 use Rattle.tables.specs.Cells.{cellTerm, cellConstraints, cellEquations, isLow}
 use Rattle.tables.specs.Rows.{ruleOfRow}
-use Rattle.search.specs.Cells.{assigned}
+use Rattle.fitting.specs.Cells.{assigned}
 use Rattle.engine.specs.Cells.{instanceCell}
-use Rattle.search.specs.Positions.{isLettered, isSide, Row}
+use Rattle.fitting.specs.Positions.{isLettered, isSide, Row}
 use Rattle.engine.specs.States.{Solvable, Solved, Removed, Appended, Equated, SolvedRule, Fires, Fired}
 use Rattle.text.proofs.Bools.{and-true}
 use Rattle.tables.proofs.CellLaws.{le-or-lt, cell-low}
 use Rattle.tables.proofs.MapLaws.{low-kept, acts-constraints, acts-equations, acts-used}
-use Rattle.search.proofs.PartLaws.{behind, behind-all}
+use Rattle.fitting.proofs.PartLaws.{behind, behind-all}
 use Rattle.engine.proofs.FireLaws.{instance-acts, constraints-append}
 
 -- a side of an equation is no unused cell

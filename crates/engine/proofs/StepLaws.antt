@@ -14,13 +14,13 @@ use Rattle.semantics.proofs.Search.{find-sound}
 use Rattle.tables.specs.Layout.{firstRule}
 use Rattle.tables.specs.Cells.{cellConstraints}
 use Rattle.tables.specs.Rows.{nameOf, ruleOfRow, rowOf, ruleOf}
-use Rattle.search.specs.Cells.{assigned}
-use Rattle.search.specs.Positions.{foundOf, Row, Table, choiceOf, Chosen}
+use Rattle.fitting.specs.Cells.{assigned}
+use Rattle.fitting.specs.Positions.{foundOf, Row, Table, choiceOf, Chosen}
 use Rattle.engine.specs.States.{Fires, Fired, Skips}
 use Rattle.engine.specs.Runs.{storeOf, Live, Stepped}
-use Rattle.search.specs.Known.{Knows, Remembered}
+use Rattle.fitting.specs.Known.{Knows, Remembered}
 use Rattle.engine.specs.Runs.{Keeps}
-use Rattle.search.proofs.ChooseLaws.{lentRow, row-cells}
+use Rattle.fitting.proofs.ChooseLaws.{lentRow, row-cells}
 use Rattle.engine.proofs.FiredLaws.{fired-lighter, fired-low}
 use Rattle.engine.proofs.KeepsLaws.{knows-fired}
 use Rattle.engine.proofs.WeightLaws.{match-few}

@@ -18,8 +18,8 @@ use Rattle.semantics.specs.Strategy.{advance, normalise}
 use Rattle.tables.specs.Layout.{constraintSize}
 use Rattle.tables.specs.Cells.{cellTerm, cellConstraints, isLow, stateOf}
 use Rattle.tables.specs.Rows.{ruleOfRow, rulesOf, rowOf}
-use Rattle.search.specs.Known.{Knows}
-use Rattle.search.specs.Positions.{Table}
+use Rattle.fitting.specs.Known.{Knows}
+use Rattle.fitting.specs.Positions.{Table}
 
 -- the weight of constraints, where w weighs the symbols by their numbers
 unfoldable pub weightBy : (ℕ → ℕ) → List Constraint → ℕ

@@ -2,9 +2,9 @@
 use crate::firing::fire_front;
 use crate::firing::make_room;
 use crate::firing::move_down;
-use search::known::Stage;
-use search::known::remember;
-use search::search::choose;
+use fitting::known::Stage;
+use fitting::known::remember;
+use fitting::search::choose;
 use tables::layout::CONSTRAINT_SIZE;
 use tables::layout::HEADS_CELL;
 use tables::layout::KEPT_CELL;
@@ -15,7 +15,7 @@ ghost use lib.ListN.{drop};
 ghost use Rattle.tables.specs.Layout.{constraintSize};
 ghost use Rattle.engine.specs.States.{Skips};
 ghost use Rattle.engine.specs.Runs.{Live, Stepped, Startable, Ended, Continued, storeOf};
-ghost use Rattle.search.specs.Known.{Knows};
+ghost use Rattle.fitting.specs.Known.{Knows};
 ghost use Rattle.engine.specs.Runs.{Keeps};
 
 // Whether a rule fired, whether the state lives on, and how many constraints it has then.

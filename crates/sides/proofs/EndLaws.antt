@@ -23,7 +23,7 @@ use Rattle.tables.specs.Cells.{cellTerm, cellConstraints, stateOf}
 use Rattle.tables.specs.Layout.{firstRule}
 use Rattle.tables.specs.Rows.{nameOf, ruleOfRow, ruleOf, rulesOf, rowOf}
 use Rattle.tables.proofs.CellLaws.{constraints-length}
-use Rattle.search.specs.Positions.{Row}
+use Rattle.fitting.specs.Positions.{Row}
 use Rattle.engine.specs.Stated.{statedAt}
 use Rattle.engine.proofs.GoalLaws.{rule-stands}
 use Rattle.sides.specs.Sides.{cellGoal, Begun, Sided}

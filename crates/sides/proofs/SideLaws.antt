@@ -20,7 +20,7 @@ use Rattle.tables.specs.Cells.{cellTerm, cellConstraints, stateOf}
 use Rattle.tables.specs.Rows.{nameOf, ruleOf, rowOf}
 use Rattle.engine.specs.Runs.{weightBy, Lowers, storeOf, Continued}
 use Rattle.engine.specs.Stated.{statedAt, fireRow, Stated, FiredFrom}
-use Rattle.search.proofs.ChooseLaws.{lentRow, row-cells}
+use Rattle.fitting.proofs.ChooseLaws.{lentRow, row-cells}
 use Rattle.engine.proofs.RunLaws.{count-weight, normalise-rests, failed-rests}
 use Rattle.engine.proofs.StepLaws.{no-way}
 use Rattle.engine.proofs.GoalLaws.{well-formed-lowers}

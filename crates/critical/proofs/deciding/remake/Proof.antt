@@ -6,8 +6,8 @@ use Rattle.critical.proofs.VerdictLaws.{remake-partners, remake-lent}
 use borrow.Author.Needs.{needs}
 use Rattle.critical.proofs.deciding.remake.Statement.{statement}
 use Rattle.critical.proofs.deciding.remake.Tie as tie
-use Rattle.overlapping.proofs.finishing.second_positions.Reads as second-positions-reads
-use Rattle.overlapping.proofs.overlapping.overlap_by.Reads as overlap-by-reads
+use Rattle.overlaps.proofs.finishing.second_positions.Reads as second-positions-reads
+use Rattle.overlaps.proofs.overlapping.overlap_by.Reads as overlap-by-reads
 use Rattle.tables.proofs.wide.Reads as wide-reads
 
 mul-a : tie.Need-mul-a

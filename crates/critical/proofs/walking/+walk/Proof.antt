@@ -15,7 +15,7 @@ use Rattle.critical.proofs.StepLaws.{step-cut, step-next, step-stop, st
 use Rattle.critical.proofs.walking.walk.Reads as walk
 use Rattle.critical.proofs.walking.walk.Kinds as walk-kinds
 use Rattle.critical.proofs.walking.+walk.Lts-walk as lts
-use Rattle.overlapping.proofs.joining.join_partner.Reads as join-partner
+use Rattle.overlaps.proofs.joining.join_partner.Reads as join-partner
 use Rattle.critical.proofs.walking.judge_pairing.Reads as judge-pairing
 use Rattle.critical.proofs.walking.+walk.{statement}
 use Rattle.critical.proofs.walking.+walk.Tie.{close}

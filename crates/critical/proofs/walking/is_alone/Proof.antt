@@ -3,7 +3,7 @@
 use Prim.Native.Nat.{_-_}
 use native.Mathlib.Omega.{arith}
 use borrow.Author.Tests.{not-true, not-false}
-use Rattle.overlapping.proofs.PositionLaws.{Alone, alone-start, alone-end, alone-not, alone-next}
+use Rattle.overlaps.proofs.PositionLaws.{Alone, alone-start, alone-end, alone-not, alone-next}
 use Rattle.critical.proofs.walking.is_alone.Statement.{statement}
 use Rattle.critical.proofs.walking.is_alone.Tie as tie
 

@@ -7,8 +7,8 @@ use Rattle.critical.proofs.StepLaws.{leaf-used, leaf-share, leaf-goal, 
 use borrow.Author.Needs.{needs}
 use Rattle.critical.proofs.walking.judge_pairing.Statement.{statement}
 use Rattle.critical.proofs.walking.judge_pairing.Tie as tie
-use Rattle.overlapping.proofs.finishing.finish.Reads as finish-reads
-use Rattle.overlapping.proofs.finishing.second_positions.Reads as second-positions-reads
+use Rattle.overlaps.proofs.finishing.finish.Reads as finish-reads
+use Rattle.overlaps.proofs.finishing.second_positions.Reads as second-positions-reads
 use Rattle.critical.proofs.walking.is_alone.Reads as is-alone-reads
 use Rattle.judging.proofs.joins.Reads as joins-reads
 

@@ -5,7 +5,7 @@ use Rattle.critical.proofs.TableLaws.{lent-rule}
 use borrow.Author.Needs.{needs}
 use Rattle.critical.proofs.walking.walk_pair.Statement.{statement}
 use Rattle.critical.proofs.walking.walk_pair.Tie as tie
-use Rattle.overlapping.proofs.sharing.share_symbol.Reads as share-symbol-reads
+use Rattle.overlaps.proofs.sharing.share_symbol.Reads as share-symbol-reads
 use Rattle.critical.proofs.walking.walk_pairings.Reads as walk-pairings-reads
 
 mul-a : tie.Need-mul-a

@@ -6,7 +6,7 @@ use Rattle.critical.proofs.TableLaws.{pair-room, pair-lent, pair-lays, 
 use borrow.Author.Needs.{needs}
 use Rattle.critical.proofs.walking.walk_pairings.Statement.{statement}
 use Rattle.critical.proofs.walking.walk_pairings.Tie as tie
-use Rattle.overlapping.proofs.laying.lay_heads.Reads as lay-heads-reads
+use Rattle.overlaps.proofs.laying.lay_heads.Reads as lay-heads-reads
 use Rattle.critical.proofs.walking.walk.Reads as walk-reads
 use Rattle.tables.proofs.wide.Reads as wide-reads
 
