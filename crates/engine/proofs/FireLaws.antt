@@ -1,6 +1,6 @@
 -- Firing on cells is firing on constraints: copying, removing and instantiating.
 -- Assumes nothing.
-use Prim.Native.Nat.{ℕ, suc, _+_, _-_, _*_, _≤_, _<_}
+use Prim.Native.Nat.{ℕ, _+_, _-_, _*_, _≤_, _<_}
 use native.Mathlib.Omega.{arith}
 use native.Mathlib.Numerals.{add-one}
 use mathlib.Core.Bool.{true, false, cond}
@@ -12,7 +12,7 @@ use lib.ListN.{length, getD, set, take, drop, length-set, length-drop}
 use lib.Seq.{paste, paste-zero, paste-suc, drop-paste, getD-drop, drop-drop}
 use borrow.Author.Tests.{ne-eqb, eqb-false, lt-ltb, le-ltb}
 use Rattle.text.specs.Lists.{onward}
-use Rattle.semantics.specs.Terms.{var, Constraint, isBelow, alphabet}
+use Rattle.semantics.specs.Terms.{var, isBelow, alphabet}
 use Rattle.semantics.specs.Firing.{instance}
 use Rattle.tables.specs.Cells.{cellTerm, cellConstraints, rowConstraint}
 use Rattle.fitting.specs.Cells.{assigned}

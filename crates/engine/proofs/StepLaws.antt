@@ -127,43 +127,35 @@ module _ (rules : List ℕ) (n : ℕ) (cells : List ℕ) (m next : ℕ) (s : Liv
         done : Fired row ps b next bound cells m bound′ cells′ alive count
         done = rw (row-cells i) at given
 
-        module _ (gone h k : ℕ) (few : gone + m ≤ 6000) (e : h ≡ getD (lentRow rules i) 3 0)
-            (u : k ≡ getD (lentRow rules i) 1 0) where
-          heads-few : h ≤ 4
-          heads-few =
-              let o : h ≡ getD row 3 0 = rw (row-cells i) at e in
-              omega (arith, s .table .rows i (chosen .within z) .heads-few)
+        module _ (gone taken : ℕ) (few : gone + m ≤ 6000) (e : taken ≡ getD (lentRow rules i) 3 0 - getD (lentRow rules i) 1 0)
+          where
+            pub taken-few : taken ≤ 4
+            taken-few =
+                let o : taken ≡ getD row 3 0 - getD row 1 0 = rw (row-cells i) at e in
+                omega (arith, s .table .rows i (chosen .within z) .heads-few)
 
-          -- no more heads are kept than there are
-          pub step-kept : k ≤ h
-          step-kept =
-              let o : h ≡ getD row 3 0 = rw (row-cells i) at e in
-              let v : k ≡ getD row 1 0 = rw (row-cells i) at u in
-              omega (arith, s .table .rows i (chosen .within z) .kept-few)
+            -- what remembering it asks
+            pub step-remembers : Row (lentRow rules i) × (gone + taken + count ≤ 65000)
+            step-remembers = (rw (row-cells i) (s .table .rows i (chosen .within z)), omega (arith, done .few, taken-few))
 
-          -- what remembering it asks
-          pub step-remembers : Row (lentRow rules i) × (gone + (h - k) + count ≤ 65000)
-          step-remembers = (rw (row-cells i) (s .table .rows i (chosen .within z)), omega (arith, done .few, heads-few))
+            -- not many more constraints have been there
+            pub step-few : gone + taken + count ≤ gone + m + 10
+            step-few = omega (arith, done .few, taken-few)
 
-          -- not many more constraints have been there
-          pub step-few : gone + (h - k) + count ≤ gone + m + 10
-          step-few = omega (arith, done .few, heads-few)
-
-          -- what is known then
-          pub step-keeps :
-              (known known′ last last′ : List ℕ) → Knows rules n known last gone (cellConstraints (take (5 * m) cells))
-              → Remembered (lentRow rules i) (gone + (h - k) + count) known last known′ last′ → 5 * count ≤ length cells′
-              → Keeps rules n known′ last′ (gone + (h - k)) cells′ true alive count
-          unfolding storeOf
-          step-keeps known known′ last last′ ks remembered there =
-              let o : h ≡ getD row 3 0 = rw (row-cells i) at e in
-              let v : k ≡ getD row 1 0 = rw (row-cells i) at u in
-              let r : Remembered row (gone + (h - k) + count) known last known′ last′ = rw (row-cells i) at remembered in
-              record {
-                knows = λ x y. knows-fired row ps b next bound cells m bound′ cells′ count (rw y at done)
-                    (s .table .rows i (chosen .within z)) (chosen .positions-size) there gone (h - k) (omega arith) last last′
-                    (r .marks) rules n known known′ ks (r .equated) (r .plain);
-              }
+            -- what is known then
+            pub step-keeps :
+                (known known′ last last′ : List ℕ) → Knows rules n known last gone (cellConstraints (take (5 * m) cells))
+                → Remembered (lentRow rules i) (gone + taken + count) known last known′ last′ → 5 * count ≤ length cells′
+                → Keeps rules n known′ last′ (gone + taken) cells′ true alive count
+            unfolding storeOf
+            step-keeps known known′ last last′ ks remembered there =
+                let o : taken ≡ getD row 3 0 - getD row 1 0 = rw (row-cells i) at e in
+                let r : Remembered row (gone + taken + count) known last known′ last′ = rw (row-cells i) at remembered in
+                record {
+                  knows = λ x y. knows-fired row ps b next bound cells m bound′ cells′ count (rw y at done)
+                      (s .table .rows i (chosen .within z)) (chosen .positions-size) there gone taken o last last′ (r .marks)
+                      rules n known known′ ks (r .equated) (r .plain);
+                }
 
         -- a rule has fired
         pub step-moves : Stepped rules n bound cells m next bound′ cells′ true alive count

@@ -12,7 +12,7 @@ use mathlib.Core.Path.{_≡_}
 use lib.Dec.{leb}
 use lib.ListN.{length, take, drop, getD}
 use Rattle.text.specs.Lists.{every, has}
-use Rattle.semantics.specs.Terms.{live, mapTerms, mapSides}
+use Rattle.semantics.specs.Terms.{mapTerms, mapSides}
 use Rattle.semantics.specs.Solving.{solve}
 use Rattle.semantics.specs.Firing.{without, instance, settle, fired}
 use Rattle.tables.specs.Layout.{constraintSize, headsCell, bodyCell}

@@ -6,10 +6,7 @@ use fitting::known::Stage;
 use fitting::known::remember;
 use fitting::search::choose;
 use tables::layout::CONSTRAINT_SIZE;
-use tables::layout::HEADS_CELL;
-use tables::layout::KEPT_CELL;
 use tables::layout::ROW_SIZE;
-use tables::wide;
 ghost use Prim.Native.Nat.{_+_, _*_, _≤_};
 ghost use lib.ListN.{drop};
 ghost use Rattle.tables.specs.Layout.{constraintSize};
@@ -86,9 +83,7 @@ pub fn advance(
     let alive = after.alive;
     let count = after.count;
     let skip = after.skip;
-    let heads = wide(row[HEADS_CELL]);
-    let kept = wide(row[KEPT_CELL]);
-    let removed = gone + (heads - kept);
+    let removed = gone + after.removed;
     remember(row, known, last, removed + count);
     Forward {
         fired: true,

@@ -12,10 +12,10 @@ use tables::wide;
 ghost use mathlib.Core.Bool.{true};
 ghost use mathlib.Core.List.{[], map};
 ghost use mathlib.Core.Path.{_≡_};
-ghost use Prim.Native.Nat.{_+_, _*_, _≤_, _<_, min};
+ghost use Prim.Native.Nat.{_+_, _-_, _*_, _≤_, _<_, min};
 ghost use lib.ListN.{length, take, drop, getD};
 ghost use Rattle.text.specs.Lists.{upTo};
-ghost use Rattle.tables.specs.Layout.{constraintSize, headsCell};
+ghost use Rattle.tables.specs.Layout.{constraintSize, keptCell, headsCell};
 ghost use Rattle.engine.specs.Cells.{instanceCell, movedRow, closedGap};
 ghost use Rattle.fitting.specs.Positions.{Row};
 ghost use Rattle.engine.specs.States.{Highest, Removed, Appended, Equated, SolvedRule, Fires, Fired, Skips, Placed};
@@ -215,11 +215,13 @@ pub fn is_front(positions: &[usize]) -> bool
     true
 }
 
-// Whether a state lives on, how many constraints it has then, and how many rows before it are no longer its own.
+// Whether a state lives on, how many constraints it has then, how many rows before it are no longer its own, and how many
+// constraints were removed.
 pub struct Front {
     pub alive: bool,
     pub count: usize,
     pub skip: usize,
+    pub removed: usize,
 }
 
 // The same firing; where it removes the first constraints, the state begins behind them, and nothing is moved.
@@ -235,19 +237,21 @@ pub fn fire_front(
     requires { ⌜ Fires (now row) positions (now bindings) next (now cells) m × (getD (now row) headsCell 0 ≤ m) ⌝ }
     ensures { λ r. ⌜ Fired (now (row .entry)) positions (now (bindings .entry)) next (now (bound .entry)) (now (cells .entry)) m
         (now (bound .exit)) (drop (constraintSize * r .skip) (now (cells .exit))) (r .alive) (r .count)
-        × Skips m (r .skip) (r .count) ⌝ }
+        × Skips m (r .skip) (r .count)
+        × (r .removed ≡ getD (now (row .entry)) headsCell 0 - getD (now (row .entry)) keptCell 0) ⌝ }
 {
     let heads = wide(row[HEADS_CELL]);
     let kept = wide(row[KEPT_CELL]);
+    let removed = heads - kept;
     let placed = &positions[..heads];
     if is_front(&placed[kept..]) {
-        let removed = heads - kept;
         let s = CONSTRAINT_SIZE * removed;
         let after = complete(row, bindings, next, bound, &mut cells[s..], m - removed);
         return Front {
             alive: after.alive,
             count: after.count,
             skip: removed,
+            removed,
         };
     }
     let after = fire(row, positions, bindings, next, bound, cells, m);
@@ -255,6 +259,7 @@ pub fn fire_front(
         alive: after.alive,
         count: after.count,
         skip: 0,
+        removed,
     }
 }
 

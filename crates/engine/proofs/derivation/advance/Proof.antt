@@ -6,7 +6,7 @@ use mathlib.Core.Path.{refl, sym}
 use lib.ListN.{replicate}
 use borrow.Author.Needs.{needs}
 use Rattle.engine.proofs.StepLaws.{step-lent, step-chooses, step-there, step-rests, step-keeps-none, step-skips, step-row}
-use Rattle.engine.proofs.StepLaws.{step-fires, step-moves, step-kept, step-remembers, step-few, step-keeps}
+use Rattle.engine.proofs.StepLaws.{step-fires, step-moves, taken-few, step-remembers, step-few, step-keeps}
 use Rattle.engine.proofs.derivation.advance.Statement.{statement}
 use Rattle.engine.proofs.derivation.advance.Tie as tie
 
@@ -63,72 +63,54 @@ fire-front-requires c κs =
     let at-choose = at-if1 .before .before .before .before .before in
     step-fires _ _ _ _ _ (entry at-choose .pre .0) _ _ _ _ (at-choose .choose .ensures .0) (not-false _ (at-if1 .if1 .left))
 
--- from the count of kept heads, that of all heads; from there, where the rule has fired; from there, where a rule was found
-abbrev counted : tie.After-wide2 → tie.After-wide
-counted c = c .before .before
-
-abbrev fired : tie.After-wide → tie.After-fire-front
-fired c = c .before .before .before .before .before .before
-
+-- from the firing, where a rule was found, and the choice
 abbrev found : tie.After-fire-front → tie.Else1
 found c = c .before .before .before .before .before
 
--- and the choice
 abbrev chosen : tie.After-fire-front → tie.After-choose
 chosen c = found c .before .before .before .before .before
 
-sub-removed : tie.Need-sub-removed
-sub-removed c =
-    let at-fire-front = fired (counted c) in
-    let at-choose = chosen at-fire-front in
+add-removed : tie.Need-add-removed
+add-removed c =
+    let at = c .before .before .before .before .before in
+    let at-choose = chosen at in
     let start = entry at-choose in
-    step-kept _ _ _ _ _ (start .pre .0) _ _ _ _ (at-choose .choose .ensures .0) (not-false _ (found at-fire-front .if1 .left))
-    _ _ _ _ _ (at-fire-front .fire-front .ensures .0) _ _ _ (start .pre .2) (counted c .wide .ensures .0) (c .wide2 .ensures .0)
+    let few′ = taken-few _ _ _ _ _ (start .pre .0) _ _ _ _ (at-choose .choose .ensures .0) (not-false _ (found at .if1 .left))
+    _ _ _ _ _ (at .fire-front .ensures .0) _ _ (start .pre .2) (at .fire-front .ensures .2) in
+    omega (arith, start .pre .2, few′)
 
 remember-requires : tie.Need-remember-requires
 remember-requires c κs =
-    let at = c .before .before in
-    let at-fire-front = fired (counted at) in
-    let at-choose = chosen at-fire-front in
+    let at = c .before .before .before .before .before .before .before in
+    let at-choose = chosen at in
     let start = entry at-choose in
-    step-remembers _ _ _ _ _ (start .pre .0) _ _ _ _ (at-choose .choose .ensures .0)
-    (not-false _ (found at-fire-front .if1 .left)) _ _ _ _ _ (at-fire-front .fire-front .ensures .0) _ _ _ (start .pre .2)
-    (counted at .wide .ensures .0) (at .wide2 .ensures .0)
+    step-remembers _ _ _ _ _ (start .pre .0) _ _ _ _ (at-choose .choose .ensures .0) (not-false _ (found at .if1 .left))
+    _ _ _ _ _ (at .fire-front .ensures .0) _ _ (start .pre .2) (at .fire-front .ensures .2)
 
 add-remember : tie.Need-add-remember
 add-remember c =
-    let at = c .before .before in
-    let at-fire-front = fired (counted at) in
-    let at-choose = chosen at-fire-front in
+    let at = c .before .before .before .before .before .before .before in
+    let at-choose = chosen at in
     let start = entry at-choose in
-    let few′ = step-few _ _ _ _ _ (start .pre .0) _ _ _ _ (at-choose .choose .ensures .0)
-    (not-false _ (found at-fire-front .if1 .left)) _ _ _ _ _ (at-fire-front .fire-front .ensures .0) _ _ _ (start .pre .2)
-    (counted at .wide .ensures .0) (at .wide2 .ensures .0) in
+    let few′ = step-few _ _ _ _ _ (start .pre .0) _ _ _ _ (at-choose .choose .ensures .0) (not-false _ (found at .if1 .left))
+    _ _ _ _ _ (at .fire-front .ensures .0) _ _ (start .pre .2) (at .fire-front .ensures .2) in
     omega (arith, start .pre .2, few′)
-
-add-removed : tie.Need-add-removed
-add-removed c =
-    let at-choose = chosen (fired (counted c)) in
-    omega (arith, counted c .wide .ensures .1, entry at-choose .pre .2)
 
 returns-2 : tie.Need-returns-2
 returns-2 c =
     let at-remember = c .before .before .before .before in
-    let at = at-remember .before .before .before in
-    let at-fire-front = fired (counted at) in
-    let at-choose = chosen at-fire-front in
+    let at = at-remember .before .before .before .before .before .before .before .before in
+    let at-choose = chosen at in
     let start = entry at-choose in
-    let fits′ = not-false _ (found at-fire-front .if1 .left) in
-    let fired′ = at-fire-front .fire-front .ensures in
-    let heads′ = counted at .wide .ensures .0 in
-    let kept′ = at .wide2 .ensures .0 in (
+    let fits′ = not-false _ (found at .if1 .left) in
+    let fired′ = at .fire-front .ensures in (
       step-moves _ _ _ _ _ (start .pre .0) _ _ _ _ (at-choose .choose .ensures .0) fits′ _ _ _ _ _ (fired′ .0),
       step-keeps _ _ _ _ _ (start .pre .0) _ _ _ _ (at-choose .choose .ensures .0) fits′ _ _ _ _ _ (fired′ .0)
-          _ _ _ (start .pre .2) heads′ kept′ _ _ _ _ (at-choose .choose .ensures .1) (at-remember .remember .ensures)
-          (step-there _ _ _ _ _ (start .pre .0) _ _ _ (at-fire-front .fire-front .kept .1 .1 .1 .1 .1 .0) (fired′ .1)),
+          _ _ (start .pre .2) (fired′ .2) _ _ _ _ (at-choose .choose .ensures .1) (at-remember .remember .ensures)
+          (step-there _ _ _ _ _ (start .pre .0) _ _ _ (at .fire-front .kept .1 .1 .1 .1 .1 .0) (fired′ .1)),
       fired′ .1,
       step-few _ _ _ _ _ (start .pre .0) _ _ _ _ (at-choose .choose .ensures .0) fits′ _ _ _ _ _ (fired′ .0)
-          _ _ _ (start .pre .2) heads′ kept′,
+          _ _ (start .pre .2) (fired′ .2),
     )
 
 pub advance-spec : {M : Type 1} → statement M
@@ -148,8 +130,6 @@ advance-spec =
     part-row-end
     slice-aggregate-fire-front
     fire-front-requires
-    (λ c. search needs) (λ c κs. search needs) (λ c. search needs) (λ c κs. search needs)
-    sub-removed
     add-removed
     add-remember
     remember-requires

@@ -43,8 +43,7 @@ sub-is-front c = part-is-front-start c
 
 sub-removed : tie.Need-sub-removed
 sub-removed c =
-    let at = both c in
-    front-kept _ _ _ _ _ _ (entry at .pre .0) (entry at .pre .1) _ _ (counted at .wide .ensures .0) (at .wide2 .ensures .0)
+    front-kept _ _ _ _ _ _ (entry c .pre .0) (entry c .pre .1) _ _ (counted c .wide .ensures .0) (c .wide2 .ensures .0)
 
 part-complete-start : tie.Need-part-complete-start
 part-complete-start c =
@@ -76,26 +75,30 @@ returns c =
     let first′ = looked front′ .is-front .ensures (front′ .if1 .taken) in (
       front-done _ _ _ _ _ _ (pre′ .0) (pre′ .1) _ _ heads′ kept′ first′ _ _ _ _ _ (at-complete .complete .ensures),
       front-skips _ _ _ _ _ _ (pre′ .0) (pre′ .1) _ _ heads′ kept′ first′ _ _ _ _ _ (at-complete .complete .ensures),
+      omega (arith, heads′, kept′),
     )
 
 fire-requires : tie.Need-fire-requires
 fire-requires c κs = entry (c .before .before .before .before .before .before) .pre .0
 
 returns-2 : tie.Need-returns-2
-returns-2 c = (c .before .before .before .before .fire .ensures, search none-skipped)
+returns-2 c =
+    let at-fire = c .before .before .before .before in
+    let at = at-fire .before .before .before .before .before .before .before in
+    (at-fire .fire .ensures, search none-skipped, omega (arith, counted at .wide .ensures .0, at .wide2 .ensures .0))
 
 pub fire-front-spec : {M : Type 1} → statement M
 fire-front-spec =
     tie.close
     (tie.spec
     (λ c. search needs) (λ c κs. search needs) (λ c. search needs) (λ c κs. search needs)
+    sub-removed
     array-share-prefix-positions
     slice-aggregate-placed
     (λ c. search needs)
     sub-is-front
     part-is-front-start
     (λ c. search needs) (λ c κs. search needs)
-    sub-removed
     (λ c. search needs) (λ c. search needs) (λ c. search needs)
     part-complete-start
     (λ c. search needs)
