@@ -47,7 +47,6 @@ pub record SymbolSmall (s : Symbol) : Type 0 where
 
 -- a rule within the limits, over k constants
 pub record RuleSmall (k : ℕ) (r : Rule) : Type 0 where
-  pub kept-few : r .kept ≤ length (r .heads)
   pub heads-few : length (r .heads) ≤ 4
   pub body-few : length (r .body) ≤ 6
   pub equations-few : length (r .equations) ≤ 4
@@ -66,7 +65,6 @@ constraints-more h o = all-mono (λ c. all-mono (term-more h)) o
 rule-more : {k m : ℕ} → k ≤ m → (r : Rule) → RuleSmall k r → RuleSmall m r
 rule-more h r s =
     record {
-      kept-few = s .kept-few;
       heads-few = s .heads-few;
       body-few = s .body-few;
       equations-few = s .equations-few;
@@ -187,7 +185,6 @@ rule-small n fs d s =
       few-constants = s .few-constants;
       symbols = s .symbols;
       rules = all-append (s .rules) (also (record {
-        kept-few = omega arith;
         heads-few = omega arith;
         body-few = omega arith;
         equations-few = omega arith;
@@ -244,7 +241,6 @@ kept-small :
 unfolding withKept
 kept-small k c r o few s =
     record {
-      kept-few = simp length-append (omega (arith, s .kept-few));
       heads-few = simp length-append (omega arith);
       body-few = s .body-few;
       equations-few = s .equations-few;
@@ -258,7 +254,6 @@ head-small :
 unfolding withHead
 head-small k c r o few s =
     record {
-      kept-few = simp length-append (omega (arith, s .kept-few));
       heads-few = simp length-append (omega arith);
       body-few = s .body-few;
       equations-few = s .equations-few;
@@ -272,7 +267,6 @@ body-small :
 unfolding withBody
 body-small k c r o few s =
     record {
-      kept-few = s .kept-few;
       heads-few = s .heads-few;
       body-few = simp length-append (omega arith);
       equations-few = s .equations-few;
@@ -302,7 +296,6 @@ equation-small n fs d s =
     (fields-over letterNumber (drop 1 fs) (d .constants)) in
     change-small _ constants d s (constants-least (drop 1 fs) (d .constants)) (ltb-false 64 (length constants) known)
     λ small. record {
-      kept-few = small .kept-few;
       heads-few = small .heads-few;
       body-few = small .body-few;
       equations-few = simp length-append (omega (arith, leb-false 4 (length (last .equations)) counted));
