@@ -194,10 +194,10 @@ pub fn fire(
         (now (bound .exit)) (now (cells .exit)) (r .alive) (r .count) ⌝ }
 {
     let heads = wide(row[HEADS_CELL]);
-    let kept = wide(row[KEPT_CELL]);
+    let first = wide(row[KEPT_CELL]);
     let placed = &positions[..heads];
     let old = CONSTRAINT_SIZE * m;
-    let left = remove(&mut cells[..old], m, &placed[kept..]);
+    let left = remove(&mut cells[..old], m, &placed[first..]);
     complete(row, bindings, next, bound, cells, left)
 }
 
