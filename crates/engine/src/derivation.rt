@@ -79,7 +79,7 @@ pub fn advance(
     let a = ROW_SIZE * number;
     let b = a + ROW_SIZE;
     let row = &rules[a..b];
-    let after = fire_front(row, positions, &bindings, stage.next, bound, cells, m);
+    let after = fire_front(row, &positions, &bindings, stage.next, bound, cells, m);
     let alive = after.alive;
     let count = after.count;
     let skip = after.skip;

@@ -182,16 +182,16 @@ pub fn complete(
 // The state after firing a rule at positions that fit: the constraints of its kept heads stay where they are.
 pub fn fire(
     row: &[u16],
-    positions: [usize; 4],
+    positions: &[usize],
     bindings: &[u16],
     next: u16,
     bound: &mut [u16],
     cells: &mut [u16],
     m: usize,
 ) -> After
-    requires { ⌜ Fires (now row) positions (now bindings) next (now cells) m ⌝ }
-    ensures { λ r. ⌜ Fired (now (row .entry)) positions (now (bindings .entry)) next (now (bound .entry)) (now (cells .entry)) m
-        (now (bound .exit)) (now (cells .exit)) (r .alive) (r .count) ⌝ }
+    requires { ⌜ Fires (now row) (now positions) (now bindings) next (now cells) m ⌝ }
+    ensures { λ r. ⌜ Fired (now (row .entry)) (now (positions .entry)) (now (bindings .entry)) next (now (bound .entry))
+        (now (cells .entry)) m (now (bound .exit)) (now (cells .exit)) (r .alive) (r .count) ⌝ }
 {
     let heads = wide(row[HEADS_CELL]);
     let first = wide(row[KEPT_CELL]);
@@ -227,16 +227,16 @@ pub struct Front {
 // The same firing; where it removes the first constraints, the state begins behind them, and nothing is moved.
 pub fn fire_front(
     row: &[u16],
-    positions: [usize; 4],
+    positions: &[usize],
     bindings: &[u16],
     next: u16,
     bound: &mut [u16],
     cells: &mut [u16],
     m: usize,
 ) -> Front
-    requires { ⌜ Fires (now row) positions (now bindings) next (now cells) m × (getD (now row) headsCell 0 ≤ m) ⌝ }
-    ensures { λ r. ⌜ Fired (now (row .entry)) positions (now (bindings .entry)) next (now (bound .entry)) (now (cells .entry)) m
-        (now (bound .exit)) (drop (constraintSize * r .skip) (now (cells .exit))) (r .alive) (r .count)
+    requires { ⌜ Fires (now row) (now positions) (now bindings) next (now cells) m × (getD (now row) headsCell 0 ≤ m) ⌝ }
+    ensures { λ r. ⌜ Fired (now (row .entry)) (now (positions .entry)) (now (bindings .entry)) next (now (bound .entry))
+        (now (cells .entry)) m (now (bound .exit)) (drop (constraintSize * r .skip) (now (cells .exit))) (r .alive) (r .count)
         × Skips m (r .skip) (r .count)
         × (r .removed ≡ getD (now (row .entry)) headsCell 0 - getD (now (row .entry)) keptCell 0) ⌝ }
 {

@@ -55,17 +55,22 @@ mul-row c = omega (arith, part-row-end c)
 slice-aggregate-fire-front : tie.Need-slice-aggregate-fire-front
 slice-aggregate-fire-front c =
     let at-choose = c .before .before .before .before .before .before .before in
+    sym (at-choose .choose .ensures .0 .positions-size)
+
+slice-aggregate-fire-front-2 : tie.Need-slice-aggregate-fire-front-2
+slice-aggregate-fire-front-2 c =
+    let at-choose = c .before .before .before .before .before .before .before .before in
     sym (at-choose .choose .ensures .0 .bindings-size)
 
 fire-front-requires : tie.Need-fire-front-requires
 fire-front-requires c κs =
-    let at-if1 = c .before .before .before .before in
+    let at-if1 = c .before .before .before .before .before in
     let at-choose = at-if1 .before .before .before .before .before in
     step-fires _ _ _ _ _ (entry at-choose .pre .0) _ _ _ _ (at-choose .choose .ensures .0) (not-false _ (at-if1 .if1 .left))
 
 -- from the firing, where a rule was found, and the choice
 abbrev found : tie.After-fire-front → tie.Else1
-found c = c .before .before .before .before .before
+found c = c .before .before .before .before .before .before
 
 abbrev chosen : tie.After-fire-front → tie.After-choose
 chosen c = found c .before .before .before .before .before
@@ -129,6 +134,7 @@ advance-spec =
     (λ c. search needs) (λ c. search needs)
     part-row-end
     slice-aggregate-fire-front
+    slice-aggregate-fire-front-2
     fire-front-requires
     add-removed
     add-remember

@@ -2,7 +2,7 @@
 -- Assumes nothing.
 use borrow.Author.Needs.{needs}
 use native.Mathlib.Omega.{arith}
-use Rattle.engine.proofs.RuleLaws.{fire-lent, fire-removes, fire-within, fire-placed, fire-kept, fire-completes, fire-done}
+use Rattle.engine.proofs.RuleLaws.{fire-lent, fire-removes, fire-placed, fire-kept, fire-completes, fire-done}
 use Rattle.engine.proofs.firing.fire.Statement.{statement}
 use Rattle.engine.proofs.firing.fire.Tie as tie
 use Rattle.engine.proofs.firing.complete.Reads as complete-reads
@@ -13,7 +13,7 @@ abbrev counted : tie.After-wide2 → tie.After-wide
 counted c = c .before .before
 
 abbrev entry : tie.After-wide2 → tie.Start
-entry c = counted c .before .before .before .before .before .before
+entry c = counted c .before .before .before .before .before .before .before
 
 returns : tie.Need-returns
 returns c =
@@ -22,10 +22,6 @@ returns c =
     let at = at-remove .before .before .before .before in
     fire-done _ _ _ _ _ _ (entry at .pre) _ _ (counted at .wide .ensures .0) (at .wide2 .ensures .0) _ _
     (at-remove .remove .kept .0) (at-remove .remove .ensures) _ _ _ _ _ (at-complete .complete .ensures)
-
-array-share-prefix-positions : tie.Need-array-share-prefix-positions
-array-share-prefix-positions c =
-    fire-within _ _ _ _ _ _ (entry c .pre) _ _ (counted c .wide .ensures .0) (c .wide2 .ensures .0)
 
 slice-aggregate-placed : tie.Need-slice-aggregate-placed
 slice-aggregate-placed c =
@@ -58,7 +54,6 @@ fire-spec =
     tie.close
     (tie.spec
     (λ c. search needs) (λ c κs. search needs) (λ c. search needs) (λ c κs. search needs)
-    array-share-prefix-positions
     slice-aggregate-placed
     (λ c. search needs) (λ c. search needs)
     slice-aggregate-remove

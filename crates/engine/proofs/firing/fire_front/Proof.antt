@@ -2,7 +2,7 @@
 -- Assumes nothing.
 use borrow.Author.Needs.{needs}
 use native.Mathlib.Omega.{arith}
-use Rattle.engine.proofs.RuleLaws.{fire-within, fire-placed, fire-kept}
+use Rattle.engine.proofs.RuleLaws.{fire-placed, fire-kept}
 use Rattle.engine.proofs.FrontLaws.{front-kept, front-few, front-completes, front-done, front-skips, none-skipped}
 use Rattle.engine.proofs.firing.fire_front.Statement.{statement}
 use Rattle.engine.proofs.firing.fire_front.Tie as tie
@@ -15,7 +15,7 @@ abbrev counted : tie.After-wide2 → tie.After-wide
 counted c = c .before .before
 
 abbrev entry : tie.After-wide2 → tie.Start
-entry c = counted c .before .before .before .before .before .before
+entry c = counted c .before .before .before .before .before .before .before
 
 -- from where the first constraints are removed, the look at the positions, and the counts
 abbrev looked : tie.Then1 → tie.After-is-front
@@ -23,10 +23,6 @@ looked c = c .before
 
 abbrev both : tie.Then1 → tie.After-wide2
 both c = c .before .before .before .before
-
-array-share-prefix-positions : tie.Need-array-share-prefix-positions
-array-share-prefix-positions c =
-    fire-within _ _ _ _ _ _ (entry c .pre .0) _ _ (counted c .wide .ensures .0) (c .wide2 .ensures .0)
 
 slice-aggregate-placed : tie.Need-slice-aggregate-placed
 slice-aggregate-placed c =
@@ -93,7 +89,6 @@ fire-front-spec =
     (tie.spec
     (λ c. search needs) (λ c κs. search needs) (λ c. search needs) (λ c κs. search needs)
     sub-removed
-    array-share-prefix-positions
     slice-aggregate-placed
     (λ c. search needs)
     sub-is-front
