@@ -20,7 +20,7 @@ use Rattle.semantics.proofs.Demand3.{verdict-exact}
 use Rattle.syntax.specs.Answers.{Answer, refused, accepted}
 use Rattle.syntax.specs.Programs.{Reading, readProgram}
 use Rattle.syntax.proofs.WellFormed.{read-wellFormed}
-use Rattle.listing.proofs.Decimals.{decimal-exact}
+use Rattle.text.proofs.Decimals.{decimal-exact}
 use Rattle.replies.specs.Replies.{Text, programText, Reply, refusal, listing, replyOf, fitted, checkListing, checkReply}
 use Rattle.replies.specs.Replies.{outputAfter}
 use Rattle.replies.specs.Claims.{verdictReply}

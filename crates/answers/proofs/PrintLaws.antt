@@ -22,9 +22,10 @@ use Rattle.text.specs.Bytes.{ascii}
 use Rattle.text.specs.Lines.{Parts, parted}
 use Rattle.text.specs.Lists.{overlaid}
 use Rattle.text.specs.Cursors.{partsAt}
-use Rattle.listing.specs.Listing.{decimal, fieldsBehind, lineOf}
+use Rattle.text.specs.Fields.{decimal}
+use Rattle.listing.specs.Listing.{fieldsBehind, lineOf}
 use Rattle.listing.specs.Writing.{laid, Countable, Writes}
-use Rattle.listing.proofs.Decimals.{decimal-low, decimal-high, decimal-few}
+use Rattle.text.proofs.Decimals.{decimal-low, decimal-high, decimal-few}
 use Rattle.listing.proofs.WriteLaws.{partFrom, partBack, wrote-then, wrote-behind}
 use Rattle.replies.specs.Replies.{programText, goalText, Reply, refusal, listing, runReply, checkReply, outputAfter}
 use Rattle.replies.specs.Replies.{textLetter, printed, ample, sheetrun, sheetcheck}

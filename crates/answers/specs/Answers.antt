@@ -11,7 +11,7 @@ use mathlib.Core.List.{List, [], _∷_, _++_}
 use mathlib.Core.Path.{_≡_}
 use lib.ListN.{length, take, drop}
 use Rattle.text.specs.Bytes.{ascii}
-use Rattle.listing.specs.Listing.{decimal}
+use Rattle.text.specs.Fields.{decimal}
 use Rattle.replies.specs.Replies.{Text, programText, goalText, Reply, refusal, listing, outputAfter}
 use Rattle.answers.specs.declared.TextName.{TextName}
 use Rattle.answers.specs.declared.TextName.the-variants.{S, G}

@@ -12,7 +12,7 @@ use mathlib.Core.List.{List}
 use mathlib.Core.Logic.{_⊎_, _↔_}
 use mathlib.Core.Path.{_≡_}
 use lib.ListN.{length, take}
-use Rattle.text.specs.Fields.{isNumber, valueOf}
+use Rattle.text.specs.Fields.{isNumber, valueOf, decimal}
 use Rattle.semantics.specs.Strategy.{Final}
 use Rattle.semantics.specs.Overlaps.{Overlap, overlaps}
 use Rattle.semantics.specs.Order.{IsOverlapOf, Earlier, StrictTotalOrder}
@@ -20,7 +20,6 @@ use Rattle.semantics.specs.Verdict.{verdict, confluent, unjoined}
 use Rattle.semantics.specs.Claims.{Bounded}
 use Rattle.syntax.specs.Answers.{refused, accepted}
 use Rattle.syntax.specs.Programs.{Reading, readProgram}
-use Rattle.listing.specs.Listing.{decimal}
 use Rattle.replies.specs.Replies.{Reply, refusal, listing, checkListing, checkReply, outputAfter}
 use Rattle.replies.specs.Claims.{verdictReply}
 use Rattle.answers.specs.declared.TextName.the-variants.{S}

@@ -18,6 +18,7 @@ use lib.Dec.{ltb}
 use lib.ListN.{length, take, drop, length-append, length-take}
 use lib.Seq.{take-at, take-take, length-take-le}
 use Rattle.text.specs.Bytes.{ascii}
+use Rattle.text.specs.Fields.{decimal}
 use Rattle.text.proofs.Laws.{drop-take, tabled-length}
 use Rattle.semantics.specs.Terms.{Symbol, Rule, Program}
 use Rattle.semantics.specs.Strategy.{Final as End′}
@@ -44,7 +45,7 @@ use Rattle.judging.specs.Judging.{endIn}
 use Rattle.critical.specs.declared.deciding.Shown.{Shown}
 use Rattle.critical.specs.Walks.{Holds, ruleAt}
 use Rattle.critical.specs.Verdicts.{Deciding, finalIn, EndIn, ShownIn, UnjoinedIn}
-use Rattle.listing.specs.Listing.{decimal, lineOf, namingOf}
+use Rattle.listing.specs.Listing.{lineOf, namingOf}
 use Rattle.verdicts.specs.Verdicts.{verdictListing}
 use Rattle.listing.specs.Writing.{listedIn, listedOver, ListedAs}
 use Rattle.listing.specs.Ends.{Listable}

@@ -13,6 +13,7 @@ use mathlib.Core.List.{List, [], _∷_}
 use mathlib.Core.Path.{_≡_}
 use lib.ListN.{length, take, drop}
 use Rattle.text.specs.Bytes.{ascii}
+use Rattle.text.specs.Fields.{decimal}
 use Rattle.semantics.specs.Overlaps.{Overlap}
 use Rattle.semantics.specs.Verdict.{unjoined}
 use Rattle.syntax.specs.Programs.{Reading}
@@ -22,7 +23,7 @@ use Rattle.tables.specs.Names.{nameIn, Placed}
 use Rattle.engine.specs.declared.derivation.Final.{Final}
 use Rattle.critical.specs.declared.deciding.Shown.{Shown}
 use Rattle.critical.specs.Verdicts.{UnjoinedIn}
-use Rattle.listing.specs.Listing.{decimal, lineOf}
+use Rattle.listing.specs.Listing.{lineOf}
 use Rattle.verdicts.specs.Verdicts.{verdictListing}
 use Rattle.verdicts.specs.Checks.{finalOf, ShownBy}
 use Rattle.listing.specs.declared.End.{End}

@@ -14,12 +14,13 @@ use borrow.Author.Tests.{lt-ltb, le-ltb}
 use lib.Dec.{ltb}
 use lib.ListN.{length}
 use Rattle.text.specs.Bytes.{ascii}
+use Rattle.text.specs.Fields.{decimal}
 use Rattle.semantics.specs.Terms.{Term, con, var, Constraint, mapTerms}
 use Rattle.semantics.specs.Overlaps.{numbered}
 use Rattle.tables.specs.Cells.{cellTerm, cellConstraints, stateOf}
 use Rattle.tables.specs.Names.{nameIn}
 use Rattle.tables.specs.Numbers.{orderOf, Renumbered}
-use Rattle.listing.specs.Listing.{Naming, decimal, fieldsBehind, lineOf, termShown, constraintShown, constraintLines}
+use Rattle.listing.specs.Listing.{Naming, fieldsBehind, lineOf, termShown, constraintShown, constraintLines}
 use Rattle.listing.specs.Listing.{numberedAs, unbound, variableName, boundLines, stateListing, endListing}
 use Rattle.listing.specs.Writing.{laid, Countable, Writes, listedIn, listedOver, ListedAs}
 use Rattle.listing.specs.Ends.{liveBytes, numberedEnd, endBytes, EndNumbered}

@@ -1,6 +1,5 @@
 -- The laws of this crate. Assumes nothing.
 pub mod Opened
-pub mod Decimals
 pub mod WriteLaws
 pub mod LineLaws
 pub mod EndLaws

@@ -16,15 +16,16 @@ use borrow.Author.Tests.{lt-ltb, le-ltb}
 use lib.ListN.{length, take, drop, getD, length-drop, length-take, drop-of-length-le}
 use lib.Seq.{drop-cons, take-all}
 use Rattle.text.specs.Bytes.{ascii}
+use Rattle.text.specs.Fields.{decimal}
 use Rattle.tables.specs.Cells.{cellTerm, cellTerms, cellConstraints, rowConstraint}
 use Rattle.tables.specs.Numbers.{usedCells}
 use Rattle.tables.proofs.CellLaws.{cell-low, cell-high, constraints-at, constraints-short}
 use Rattle.tables.proofs.NumberLaws.{used-terms}
-use Rattle.listing.specs.Listing.{Naming, decimal, fieldsBehind, lineOf, termShown, constraintShown, constraintLines}
+use Rattle.listing.specs.Listing.{Naming, fieldsBehind, lineOf, termShown, constraintShown, constraintLines}
 use Rattle.listing.specs.Listing.{numberedAs, variableName, boundLines}
 use Rattle.listing.specs.Writing.{Countable, Writes}
 use Rattle.listing.specs.Ends.{cellShown, boundLine}
-use Rattle.listing.proofs.Decimals.{decimal-low, decimal-high}
+use Rattle.text.proofs.Decimals.{decimal-low, decimal-high}
 use Rattle.listing.proofs.WriteLaws.{wrote-then, wrote-is, count-is, count-first, count-next}
 use Rattle.listing.proofs.WriteLaws.{Writing, writing-count, writing-next, writing-end}
 use Rattle.listing.proofs.WriteLaws.{writing-last}

@@ -13,6 +13,7 @@ use borrow.Author.Tests.{lt-ltb, le-ltb}
 use lib.ListN.{length, getD}
 use Rattle.text.specs.Bytes.{ascii}
 use Rattle.text.specs.Lists.{every}
+use Rattle.text.specs.Fields.{decimal}
 use Rattle.semantics.specs.Terms.{Term, con, var, Constraint, Symbol, State, failed, live, noSymbol, symbolAt}
 use Rattle.semantics.specs.Overlaps.{appearingIn, appearing}
 use Rattle.semantics.specs.Verdict.{unjoined}
@@ -22,7 +23,7 @@ use Rattle.syntax.specs.Forms.{firstConstant}
 use Rattle.tables.specs.Layout.{maxNames}
 use Rattle.tables.specs.Rows.{nameOf, symbolOf, symbolsOf, constantsOf, lettersOf}
 use Rattle.tables.specs.Names.{nameIn, Placed}
-use Rattle.listing.specs.Listing.{Naming, decimal, lineOf, termShown, constraintShown, constraintLines, unbound, boundLines}
+use Rattle.listing.specs.Listing.{Naming, lineOf, termShown, constraintShown, constraintLines, unbound, boundLines}
 use Rattle.listing.specs.Listing.{namingOf, variableName, stateListing}
 
 -- whether a term is a variable, or a constant that passes a test

@@ -1,7 +1,8 @@
 -- Opens every definition of this crate at once: a proof that says `unfolding opened` computes with all of them.
 -- Assumes nothing.
 use Prim.Native.Nat.{ℕ}
-use Rattle.listing.specs.Listing.{decimalFrom, decimal, fieldsBehind, lineOf, namingOf, termShown, constraintShown}
+use Rattle.text.specs.Fields.{decimalFrom, decimal}
+use Rattle.listing.specs.Listing.{fieldsBehind, lineOf, namingOf, termShown, constraintShown}
 use Rattle.listing.specs.Listing.{constraintLines, numberedAs, unbound, variableName, boundLines, stateListing}
 use Rattle.listing.specs.Listing.{endListing}
 use Rattle.listing.specs.Writing.{laid, listedIn, listedOver, ample}

@@ -15,19 +15,20 @@ use lib.Dec.{ltb, eqb}
 use lib.ListN.{length, getD, length-append, length-map}
 use borrow.Author.Tests.{ltb-true, ltb-false}
 use Rattle.text.specs.Bytes.{ascii}
+use Rattle.text.specs.Fields.{decimal}
 use Rattle.semantics.specs.Terms.{Term, Constraint}
 use Rattle.semantics.proofs.Configurations.{All, also}
 use Rattle.semantics.proofs.Configurations as C
 use Rattle.semantics.proofs.Multisets.{all-map, all-mono}
 use Rattle.tables.specs.Cells.{cellTerm, cellTerms, cellConstraints}
 use Rattle.tables.proofs.CellLaws.{cell-low, cell-high, le-or-lt}
-use Rattle.listing.specs.Listing.{Naming, decimal, fieldsBehind, lineOf, termShown, constraintShown, constraintLines}
+use Rattle.listing.specs.Listing.{Naming, fieldsBehind, lineOf, termShown, constraintShown, constraintLines}
 use Rattle.listing.specs.Listing.{numberedAs, variableName, boundLines}
 use Rattle.listing.specs.Writing.{Writes, ListedAs, ample}
 use Rattle.listing.specs.Ends.{liveBytes, numberedEnd, Writable, maxCells, maxBound, Ample}
 use Rattle.listing.specs.declared.End.{End}
 use Rattle.listing.specs.declared.Listed.the-variants.{Written}
-use Rattle.listing.proofs.Decimals.{decimal-low, decimal-high}
+use Rattle.text.proofs.Decimals.{decimal-low, decimal-high}
 use Rattle.listing.proofs.EndLaws.{numbered-live, numbered-failed, listed-written}
 
 -- at most 8 bytes

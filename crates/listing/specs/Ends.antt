@@ -13,10 +13,11 @@ use mathlib.Core.List.{List, [], _∷_, _++_, map}
 use mathlib.Core.Path.{_≡_}
 use lib.ListN.{length}
 use Rattle.text.specs.Bytes.{ascii}
+use Rattle.text.specs.Fields.{decimal}
 use Rattle.tables.specs.Cells.{cellTerm, cellConstraints, stateOf}
 use Rattle.tables.specs.Names.{nameIn}
 use Rattle.tables.specs.Numbers.{Renumberable, Renumbered}
-use Rattle.listing.specs.Listing.{Naming, decimal, lineOf, termShown, constraintLines, numberedAs, variableName, boundLines}
+use Rattle.listing.specs.Listing.{Naming, lineOf, termShown, constraintLines, numberedAs, variableName, boundLines}
 use Rattle.listing.specs.Listing.{endListing}
 use Rattle.listing.specs.Writing.{Countable, ample}
 use Rattle.listing.specs.declared.End.{End}

@@ -1,31 +1,21 @@
 -- Listings as bytes (document 01: printed answers).
---   decimal, lineOf         a number, and a line from its fields
+--   lineOf                  a line from its fields
 --   Naming, namingOf        the name of each symbol and constant
 --   variableName            the name of each goal variable
 --   endListing              `END` with its A and S lines, or `FAILED`
 -- Assumes nothing.
-use Prim.Native.Nat.{ℕ, zero, suc, _+_, _-_, _/_, _%_}
+use Prim.Native.Nat.{ℕ, suc, _-_}
 use mathlib.Core.Bool.{cond}
 use mathlib.Core.List.{List, [], _∷_, _++_, map}
 use lib.Dec.{ltb, eqb}
 use lib.ListN.{length, getD}
 use Rattle.text.specs.Bytes.{ascii}
 use Rattle.text.specs.Lists.{indexFrom, gather}
+use Rattle.text.specs.Fields.{decimal}
 use Rattle.semantics.specs.Terms.{Term, con, var, Constraint, Symbol, State, failed, live, symbolAt}
 use Rattle.semantics.specs.Strategy.{Final}
 use Rattle.semantics.specs.Overlaps.{appearingIn, appearing}
 use Rattle.syntax.specs.Forms.{firstConstant}
-
--- the decimal digits of n in front of others, at most `fuel` of them
-unfoldable pub decimalFrom : ℕ → ℕ → List ℕ → List ℕ
-decimalFrom zero n behind = behind
-decimalFrom (suc fuel) n behind =
-    let more = decimalFrom fuel (n / 10) ((48 + n % 10) ∷ behind) in
-    cond (ltb n 10) ((48 + n) ∷ behind) more
-
--- a number in decimal digits
-unfoldable pub decimal : ℕ → List ℕ
-decimal n = decimalFrom (suc n) n []
 
 -- the fields behind the first, each behind its comma, and the line feed
 unfoldable pub fieldsBehind : List (List ℕ) → List ℕ
@@ -40,7 +30,7 @@ lineOf first fs = first ++ fieldsBehind fs
 abbrev pub Naming : Type 0
 Naming = ℕ → List ℕ
 
--- the names of declared symbols, and the spelling that the texts first had of each constant
+-- the names of declared symbols, and those of constants
 unfoldable pub namingOf : List Symbol → List (List ℕ) → Naming
 namingOf symbols constants n =
     cond (ltb n firstConstant) (symbolAt symbols n .name) (getD constants (n - firstConstant) [])

@@ -3,7 +3,7 @@
 ghost use mathlib.Core.List.{[], _∷_};
 ghost use mathlib.Core.Path.{_≡_};
 ghost use Prim.Native.Nat.{min, _<_};
-ghost use Rattle.listing.specs.Listing.{decimal};
+ghost use Rattle.text.specs.Fields.{decimal};
 ghost use Rattle.listing.specs.Writing.{Countable, Writes};
 
 // Where the part of an output behind those lines begins that end at a place: at the output's end if it is full.

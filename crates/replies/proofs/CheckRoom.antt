@@ -17,6 +17,7 @@ use lib.ListN.{length, length-append, length-map, getD, getElem?}
 use borrow.Author.Tests.{le-ltb}
 use Rattle.text.specs.Bytes.{ascii}
 use Rattle.text.specs.Lists.{onward, has, gather, answers, upTo}
+use Rattle.text.specs.Fields.{decimal}
 use Rattle.text.proofs.Laws.{tabled-length}
 use Rattle.semantics.specs.Terms.{Term, con, var, Constraint, Symbol, Rule, Program, Goal, weight, mapTerms, isDeclared}
 use Rattle.semantics.specs.Terms.{isGoalOf, isWellFormed}
@@ -41,7 +42,7 @@ use Rattle.syntax.specs.Answers.{Answer, refused, accepted}
 use Rattle.syntax.specs.Programs.{Reading, readProgram}
 use Rattle.syntax.proofs.WellFormed.{read-wellFormed}
 use Rattle.syntax.proofs.Vocabulary.{SymbolSmall, ReadSmall, read-small}
-use Rattle.listing.specs.Listing.{decimal, lineOf, Naming, namingOf, termShown, constraintLines, variableName, endListing}
+use Rattle.listing.specs.Listing.{lineOf, Naming, namingOf, termShown, constraintLines, variableName, endListing}
 use Rattle.verdicts.specs.Verdicts.{pairLines, verdictListing}
 use Rattle.listing.proofs.SizeLaws.{Short, decimal-short, number-short, line-few, ShortRow, rows-few}
 use Rattle.replies.specs.Replies.{Text, programText, refusal, replyOf, fitted, checkListing, checkReply}

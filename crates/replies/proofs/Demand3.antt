@@ -20,7 +20,7 @@ use Rattle.syntax.specs.Programs.{Reading, readProgram}
 use Rattle.syntax.proofs.WellFormed.{read-wellFormed}
 use Rattle.listing.specs.Listing.{lineOf}
 use Rattle.verdicts.specs.Verdicts.{verdictListing}
-use Rattle.listing.proofs.Decimals.{decimal-exact}
+use Rattle.text.proofs.Decimals.{decimal-exact}
 use Rattle.replies.specs.Replies.{Reply, refusal, listing, Text, programText, replyOf, fitted, checkListing, checkReply}
 use Rattle.replies.specs.Claims.{verdictReply, passes, fails, Checked, Demand3On}
 

@@ -19,6 +19,7 @@ use borrow.Author.Tests.{ltb-true, eqb-true}
 use Rattle.text.specs.Bytes.{ascii}
 use Rattle.text.specs.Lists.{has, indexFrom}
 use Rattle.text.specs.Lines.{parted}
+use Rattle.text.specs.Fields.{decimalFrom, decimal}
 use Rattle.semantics.specs.Terms.{Term, con, var, Constraint, Symbol, Rule, Program, Goal, State, failed, live}
 use Rattle.semantics.specs.Terms.{noSymbol, symbolAt, weight, isDeclared, isWellFormed}
 use Rattle.semantics.specs.Strategy.{goalState, run}
@@ -37,9 +38,9 @@ use Rattle.syntax.specs.Goals.{GoalReading, readGoal}
 use Rattle.syntax.proofs.WellFormed.{read-wellFormed}
 use Rattle.syntax.proofs.Vocabulary.{SymbolSmall, ReadSmall, read-small}
 use Rattle.syntax.proofs.GoalVocabulary.{ReadGoal, goal-small}
-use Rattle.listing.specs.Listing.{decimalFrom, decimal, fieldsBehind, lineOf, Naming, namingOf, termShown}
+use Rattle.listing.specs.Listing.{fieldsBehind, lineOf, Naming, namingOf, termShown}
 use Rattle.listing.specs.Listing.{constraintLines, unbound, boundLines, stateListing, endListing}
-use Rattle.listing.proofs.Decimals.{decimal-low, decimal-high}
+use Rattle.text.proofs.Decimals.{decimal-low, decimal-high}
 use Rattle.listing.proofs.SizeLaws.{Short, decimal-short, number-short, line-few, rows-few, bounds-few}
 use Rattle.replies.specs.Replies.{Text, programText, goalText, Reply, refusal, listing, replyOf, fitted}
 use Rattle.replies.specs.Replies.{runListing, runReply, printed, ample, sheetrun}

@@ -14,7 +14,7 @@ use mathlib.Core.List.{List, []}
 use mathlib.Core.Logic.{_↔_}
 use mathlib.Core.Path.{_≡_}
 use lib.ListN.{length, getD}
-use Rattle.text.specs.Fields.{isNumber, valueOf}
+use Rattle.text.specs.Fields.{isNumber, valueOf, decimal}
 use Rattle.semantics.specs.Terms.{isGoalOf}
 use Rattle.semantics.specs.Strategy.{Final}
 use Rattle.semantics.specs.Runs.{RunsTo}
@@ -26,7 +26,7 @@ use Rattle.semantics.specs.Correspondence.{Demand2}
 use Rattle.syntax.specs.Answers.{accepted}
 use Rattle.syntax.specs.Programs.{Reading}
 use Rattle.syntax.specs.Goals.{GoalReading, readGoal}
-use Rattle.listing.specs.Listing.{decimal, namingOf, endListing}
+use Rattle.listing.specs.Listing.{namingOf, endListing}
 use Rattle.verdicts.specs.Verdicts.{verdictListing}
 use Rattle.replies.specs.Replies.{Reply, listing, runListing, checkListing, runReply, checkReply, printed}
 use Rattle.replies.specs.Replies.{sheetcheck}

@@ -13,12 +13,13 @@ use lib.ListN.{length, getD}
 use Rattle.text.specs.Bytes.{ascii}
 use Rattle.text.specs.Lines.{parted}
 use Rattle.text.specs.Lists.{overlaid}
+use Rattle.text.specs.Fields.{decimal}
 use Rattle.semantics.specs.Strategy.{run}
 use Rattle.semantics.specs.Verdict.{verdict}
 use Rattle.syntax.specs.Answers.{Answer, refused, accepted}
 use Rattle.syntax.specs.Programs.{Reading, readProgram}
 use Rattle.syntax.specs.Goals.{GoalReading, readGoal}
-use Rattle.listing.specs.Listing.{decimal, lineOf, namingOf, endListing}
+use Rattle.listing.specs.Listing.{lineOf, namingOf, endListing}
 use Rattle.verdicts.specs.Verdicts.{verdictListing}
 unfoldable pub use Rattle.listing.specs.Writing.{ample}
 

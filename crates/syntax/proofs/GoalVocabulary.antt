@@ -168,7 +168,7 @@ letters-few names h = omega (arith, present-most 26 names)
 -- the letters after a line are those before it and more
 letters-least : (fs before : List (List ℕ)) → length before ≤ length (lettersAfter fs before)
 letters-least fs before =
-    let (more, e) = grown-front (λ f. not (isName f)) fs before in
+    let (more, e) = grown-front (λ f. not (isName f)) (λ f. f) fs before in
     omega (arith, ap length (letters-grown fs before ∙ e), length-append before more)
 
 -- a term field is below the letters, where its letter is among them
@@ -192,8 +192,8 @@ unfolding constraintOf
 constraint-lettered symbols constants fs before =
     rw (letters-grown (drop 2 fs) before)
     (all-map _
-    (all-mono (term-lettered (grown (λ f. not (isName f)) (drop 2 fs) before) constants)
-    (grown-known (λ f. not (isName f)) (drop 2 fs) before)))
+    (all-mono (term-lettered (grown (λ f. not (isName f)) (λ f. f) (drop 2 fs) before) constants)
+    (grown-known (λ f. not (isName f)) (λ f. f) (drop 2 fs) before)))
 
 -- the constraint of a line that did not meet 6 is declared
 constraint-declared :

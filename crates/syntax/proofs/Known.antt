@@ -13,6 +13,7 @@ use lib.ListN.{length, length-append}
 use borrow.Author.Tests.{lt-ltb, ltb-true}
 use Rattle.text.specs.Lists.{indexFrom, indexOf, sameBytes, isKnown, withName}
 use Rattle.text.specs.Fields.{isName}
+use Rattle.text.specs.Constants.{constantName}
 use Rattle.semantics.proofs.Configurations.{All, none, also}
 use Rattle.semantics.proofs.Bools.{eqb-same}
 use Rattle.syntax.specs.Forms.{constantsAfter}
@@ -53,9 +54,9 @@ known-behind f names =
     (omega (arith, length-append names (f ∷ [])))
 
 -- names, with those of the picked fields that are new behind them
-abbrev pub grown : (List ℕ → Bool) → List (List ℕ) → List (List ℕ) → List (List ℕ)
-grown pick [] names = names
-grown pick (f ∷ fs) names = grown pick fs (cond (pick f) (withName f names) names)
+abbrev pub grown : (List ℕ → Bool) → (List ℕ → List ℕ) → List (List ℕ) → List (List ℕ) → List (List ℕ)
+grown pick name [] names = names
+grown pick name (f ∷ fs) names = grown pick name fs (cond (pick f) (withName (name f) names) names)
 
 -- the names before stay in front
 with-front : (b : Bool) (f : List ℕ) (names : List (List ℕ))
@@ -68,12 +69,12 @@ with-front true f names = go (isKnown f names)
     go true = ([], sym (append-nil names))
     go false = (f ∷ [], refl)
 
-pub grown-front : (pick : List ℕ → Bool) (fs names : List (List ℕ))
-    → (more : List (List ℕ)) × (grown pick fs names ≡ names ++ more)
-grown-front pick [] names = ([], sym (append-nil names))
-grown-front pick (f ∷ fs) names =
-    let (one, e) = with-front (pick f) f names in
-    let (more, k) = grown-front pick fs (cond (pick f) (withName f names) names) in
+pub grown-front : (pick : List ℕ → Bool) (name : List ℕ → List ℕ) (fs names : List (List ℕ))
+    → (more : List (List ℕ)) × (grown pick name fs names ≡ names ++ more)
+grown-front pick name [] names = ([], sym (append-nil names))
+grown-front pick name (f ∷ fs) names =
+    let (one, e) = with-front (pick f) (name f) names in
+    let (more, k) = grown-front pick name fs (cond (pick f) (withName (name f) names) names) in
     (one ++ more, k ∙ ap (λ ns. ns ++ more) e ∙ append-assoc names one more)
 
 -- a name that was added is known
@@ -85,29 +86,31 @@ with-known f names = go (isKnown f names) refl
     go true e = e
     go false e = known-behind f names
 
--- each picked field is known afterwards
+-- the name of each picked field is known afterwards
 pub grown-known :
-    (pick : List ℕ → Bool) (fs names : List (List ℕ)) → All (λ f. pick f ≡ true → isKnown f (grown pick fs names) ≡ true) fs
-grown-known pick [] names = none
-grown-known pick (f ∷ fs) names = also picked (grown-known pick fs (cond (pick f) (withName f names) names))
+    (pick : List ℕ → Bool) (name : List ℕ → List ℕ) (fs names : List (List ℕ))
+    → All (λ f. pick f ≡ true → isKnown (name f) (grown pick name fs names) ≡ true) fs
+grown-known pick name [] names = none
+grown-known pick name (f ∷ fs) names =
+    also picked (grown-known pick name fs (cond (pick f) (withName (name f) names) names))
   where
-    picked : pick f ≡ true → isKnown f (grown pick fs (cond (pick f) (withName f names) names)) ≡ true
+    picked : pick f ≡ true → isKnown (name f) (grown pick name fs (cond (pick f) (withName (name f) names) names)) ≡ true
     picked e =
-        let (more, k) = grown-front pick fs (cond (pick f) (withName f names) names) in
-        let first : isKnown f (cond (pick f) (withName f names) names) ≡ true = rw e (with-known f names) in
-        rw k (known-front f _ more first)
+        let (more, k) = grown-front pick name fs (cond (pick f) (withName (name f) names) names) in
+        let first : isKnown (name f) (cond (pick f) (withName (name f) names) names) ≡ true = rw e (with-known (name f) names) in
+        rw k (known-front (name f) _ more first)
 
 -- so constants and letters grow
-pub constants-grown : (fs names : List (List ℕ)) → constantsAfter fs names ≡ grown isName fs names
+pub constants-grown : (fs names : List (List ℕ)) → constantsAfter fs names ≡ grown isName constantName fs names
 unfolding constantsAfter
 constants-grown [] names = refl
-constants-grown (f ∷ fs) names = constants-grown fs (cond (isName f) (withName f names) names)
+constants-grown (f ∷ fs) names = constants-grown fs (cond (isName f) (withName (constantName f) names) names)
 
-pub letters-grown : (fs names : List (List ℕ)) → lettersAfter fs names ≡ grown (λ f. not (isName f)) fs names
+pub letters-grown : (fs names : List (List ℕ)) → lettersAfter fs names ≡ grown (λ f. not (isName f)) (λ f. f) fs names
 unfolding lettersAfter
 letters-grown [] names = refl
 letters-grown (f ∷ fs) names =
-    letters-grown fs (cond (isName f) names (withName f names)) ∙ ap (grown (λ f. not (isName f)) fs) (turned (isName f))
+    letters-grown fs (cond (isName f) names (withName f names)) ∙ ap (grown (λ f. not (isName f)) (λ f. f) fs) (turned (isName f))
   where
     turned : (b : Bool) → cond b names (withName f names) ≡ cond (not b) (withName f names) names
     turned true = refl

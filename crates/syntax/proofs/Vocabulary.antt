@@ -17,6 +17,7 @@ use Rattle.text.specs.Bytes.{between}
 use Rattle.text.specs.Lists.{onward, isKnown, indexOf}
 use Rattle.text.specs.Lines.{Line, lines, lineIsFaulty}
 use Rattle.text.specs.Fields.{fields, isName, isNumber, isNumberIn, valueOf}
+use Rattle.text.specs.Constants.{constantName}
 use Rattle.text.proofs.Bools.{and-true}
 use Rattle.semantics.specs.Terms.{Term, con, var, Constraint, Symbol, Rule, removedHeads, weight}
 use Rattle.semantics.proofs.Configurations.{All, also}
@@ -77,20 +78,20 @@ rule-more h r s =
 
 -- a term field is over the constants, where its name is among them
 pub term-over :
-    (variable : List ℕ → ℕ) (constants : List (List ℕ)) (f : List ℕ) → (isName f ≡ true → isKnown f constants ≡ true)
+    (variable : List ℕ → ℕ) (constants : List (List ℕ)) (f : List ℕ) → (isName f ≡ true → isKnown (constantName f) constants ≡ true)
     → TermOver (ConstantOf (length constants)) (termOf variable constants f)
 unfolding termOf isKnown
 term-over variable constants f h = go (isName f) refl
   where
     go :
         (b : Bool) → isName f ≡ b
-        → TermOver (ConstantOf (length constants)) (cond b (con (firstConstant + indexOf f constants)) (var (variable f)))
-    go true e = let k : indexOf f constants < length constants = ltb-true _ _ (h e) in (omega arith, omega arith)
+        → TermOver (ConstantOf (length constants)) (cond b (con (firstConstant + indexOf (constantName f) constants)) (var (variable f)))
+    go true e = let k : indexOf (constantName f) constants < length constants = ltb-true _ _ (h e) in (omega arith, omega arith)
     go false e = tt
 
 -- the constants after a line are those before it and more
 pub constants-more : (fs before : List (List ℕ)) → (more : List (List ℕ)) × (constantsAfter fs before ≡ before ++ more)
-constants-more fs before = rw (constants-grown fs before) (grown-front isName fs before)
+constants-more fs before = rw (constants-grown fs before) (grown-front isName constantName fs before)
 
 pub constants-least : (fs before : List (List ℕ)) → length before ≤ length (constantsAfter fs before)
 constants-least fs before =
@@ -103,7 +104,7 @@ fields-over :
     → All (λ f. TermOver (ConstantOf (length (constantsAfter fs before))) (termOf variable (constantsAfter fs before) f)) fs
 fields-over variable fs before =
     rw (constants-grown fs before)
-    (all-mono (term-over variable (grown isName fs before)) (grown-known isName fs before))
+    (all-mono (term-over variable (grown isName constantName fs before)) (grown-known isName constantName fs before))
 
 pub constraint-over :
     (symbols : List Symbol) (variable : List ℕ → ℕ) (fs before : List (List ℕ))

@@ -1,7 +1,7 @@
 -- The forms of a line, and what its term fields stand for.
 --   Form, formOf             what a line means, by its first field
 --   Section, sectionAfter    which form may follow which
---   constantsAfter, termOf   constants and variables, numbered by first appearance
+--   constantsAfter, termOf   constants and variables, numbered by first appearance; constants by their names (text, Constants)
 --   isSymbolFaulty, isRuleFaulty, isEquationFaulty, isConstraintFaulty    number 4 of each form
 -- Assumes nothing.
 use Prim.Native.Nat.{ℕ, _+_, _-_}
@@ -13,6 +13,7 @@ use lib.ListN.{length, getD, drop}
 use Rattle.text.specs.Bytes.{between}
 use Rattle.text.specs.Lists.{every, indexOf, withName}
 use Rattle.text.specs.Fields.{isName, isTerm, isNumberIn}
+use Rattle.text.specs.Constants.{constantName}
 use Rattle.semantics.specs.Terms.{Term, con, var, Constraint, Symbol, symbolAt}
 
 -- the forms of a line: K, R, J, H, B, E and G, and any other
@@ -74,18 +75,18 @@ sectionAfter noForm section = none
 unfoldable pub fieldAt : ℕ → List (List ℕ) → List ℕ
 fieldAt n fs = getD fs n []
 
--- the constants after a line: those before it, then the new ones among its term fields, in order
+-- the names of constants after a line: those before it, then those of the new ones among its term fields, in order
 unfoldable pub constantsAfter : List (List ℕ) → List (List ℕ) → List (List ℕ)
 constantsAfter [] constants = constants
-constantsAfter (f ∷ fs) constants = constantsAfter fs (cond (isName f) (withName f constants) constants)
+constantsAfter (f ∷ fs) constants = constantsAfter fs (cond (isName f) (withName (constantName f) constants) constants)
 
 -- the number of the constant that appears first: constants count from 64, behind every symbol's number
 abbrev pub firstConstant : ℕ
 firstConstant = 64
 
--- what a term field stands for: a constant by its index, or a variable by the number that its letter has
+-- what a term field stands for: a constant by the index of its name, or a variable by the number that its letter has
 unfoldable pub termOf : (List ℕ → ℕ) → List (List ℕ) → List ℕ → Term
-termOf variable constants f = cond (isName f) (con (firstConstant + indexOf f constants)) (var (variable f))
+termOf variable constants f = cond (isName f) (con (firstConstant + indexOf (constantName f) constants)) (var (variable f))
 
 -- the number of a rule's variable: its letter's, A being 0
 unfoldable pub letterNumber : List ℕ → ℕ

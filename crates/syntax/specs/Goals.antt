@@ -23,14 +23,14 @@ maxGoal = 64
 abbrev pub maxWeight : ℕ
 maxWeight = 512
 
--- what the lines so far have given: the goal's constraints, the letters of its variables and all constants, the program's
--- among them, both in order of first appearance
+-- what the lines so far have given: the goal's constraints, the letters of its variables and the names of all constants, the
+-- program's among them, both in order of first appearance
 pub record GoalDraft : Type 0 where
   pub constraints : List Constraint
   pub letters : List (List ℕ)
   pub constants : List (List ℕ)
 
--- a goal as read: the goal, and the spelling of its variables and constants
+-- a goal as read: the goal, the letters of its variables and the names of all constants
 pub record GoalReading : Type 0 where
   pub goal : Goal
   pub letters : List (List ℕ)

@@ -42,7 +42,7 @@ maxEquations = 4
 abbrev pub maxConstants : ℕ
 maxConstants = 64
 
--- a program as read: the program, and the spelling of its constants in order of first appearance
+-- a program as read: the program, and the names of its constants in order of first appearance
 pub record Reading : Type 0 where
   pub program : Program
   pub constants : List (List ℕ)

@@ -6,6 +6,8 @@ pub mod ClassLaws
 pub mod LineLaws
 pub mod Keys
 pub mod Numbers
+pub mod Decimals
+pub mod ConstantLaws
 pub mod Words
 pub mod Passing
 pub mod Splitting

@@ -2,11 +2,12 @@
 --   fields                  a line cut at its commas
 --   isName, isTerm          document 01's name (1 to 8 bytes of a-z and 0-9) and term (a name or one capital letter)
 --   isNumberIn, valueOf     a number without leading zeros, within a range
+--   decimal                 a number's decimal digits
 -- Assumes nothing.
-use Prim.Native.Nat.{ℕ, _+_, _-_, _*_}
+use Prim.Native.Nat.{ℕ, zero, suc, _+_, _-_, _*_, _/_, _%_}
 use mathlib.Core.Bool.{Bool, false, cond, not, _&&_, _||_}
 use mathlib.Core.List.{List, [], _∷_}
-use lib.Dec.{eqb}
+use lib.Dec.{ltb, eqb}
 use lib.ListN.{length}
 use Rattle.text.specs.Bytes.{capital, digit, between, classOf, isClass, isNameClass}
 use Rattle.text.specs.Lists.{every}
@@ -53,3 +54,14 @@ valueOf f = valueFrom 0 f
 -- whether a field is a number from lo to hi
 unfoldable pub isNumberIn : ℕ → ℕ → List ℕ → Bool
 isNumberIn lo hi f = isNumber f && between lo hi (valueOf f)
+
+-- the decimal digits of n in front of others, at most `fuel` of them
+unfoldable pub decimalFrom : ℕ → ℕ → List ℕ → List ℕ
+decimalFrom zero n behind = behind
+decimalFrom (suc fuel) n behind =
+    let more = decimalFrom fuel (n / 10) ((48 + n % 10) ∷ behind) in
+    cond (ltb n 10) ((48 + n) ∷ behind) more
+
+-- a number in decimal digits
+unfoldable pub decimal : ℕ → List ℕ
+decimal n = decimalFrom (suc n) n []

@@ -3,6 +3,7 @@ pub mod Bytes
 pub mod Lists
 pub mod Lines
 pub mod Fields
+pub mod Constants
 pub mod Keys
 pub mod Cursors
 pub mod Splits

@@ -18,6 +18,7 @@ use lib.ListN.{length, take, drop, getD, length-append, length-take, length-drop
 use lib.Seq.{drop-cons, take-at, drop-at, getD-drop, length-take-le}
 use Rattle.text.specs.Bytes.{ascii}
 use Rattle.text.specs.Lists.{every}
+use Rattle.text.specs.Fields.{decimal}
 use Rattle.semantics.specs.Strategy.{Final}
 use Rattle.semantics.specs.Overlaps.{Overlap}
 use Rattle.semantics.specs.Verdict.{confluent, unjoined}
@@ -26,7 +27,7 @@ use Rattle.semantics.proofs.Configurations as C
 use Rattle.tables.specs.Cells.{cellConstraints}
 use Rattle.tables.specs.Names.{nameIn}
 use Rattle.tables.proofs.NameLaws.{lent-rest}
-use Rattle.listing.specs.Listing.{Naming, decimal, fieldsBehind, lineOf, constraintLines, numberedAs, variableName}
+use Rattle.listing.specs.Listing.{Naming, fieldsBehind, lineOf, constraintLines, numberedAs, variableName}
 use Rattle.listing.specs.Listing.{stateListing, endListing}
 use Rattle.verdicts.specs.Verdicts.{pairLines, verdictListing}
 use Rattle.listing.specs.Writing.{Countable, Writes, ListedAs}

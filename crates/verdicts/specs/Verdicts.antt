@@ -5,8 +5,9 @@
 use Prim.Native.Nat.{ℕ, zero, suc}
 use mathlib.Core.List.{List, [], _∷_, _++_}
 use Rattle.text.specs.Bytes.{ascii}
+use Rattle.text.specs.Fields.{decimal}
 use Rattle.semantics.specs.Verdict.{Verdict, confluent, unjoined}
-use Rattle.listing.specs.Listing.{Naming, decimal, lineOf, constraintLines, variableName, endListing}
+use Rattle.listing.specs.Listing.{Naming, lineOf, constraintLines, variableName, endListing}
 
 -- a line for each joined pair of heads, numbered from 1, the first of these of the first rule being n
 unfoldable pub pairLines : ℕ → List ℕ → List ℕ

@@ -1,6 +1,7 @@
 -- Decimal digits: a number below ten is one digit, and any other is the digits of its tenth and one more.
 --   decimal-low, decimal-high     the two cases
 --   decimal-few                   a number has at most one digit more than its value
+--   value-last                    the value of digits with one more behind them
 --   decimal-exact                 the digits have no leading zero, and their value is the number
 -- Assumes nothing.
 use mathlib.Core.Path.{_≡_, refl, sym, ap, _∙_}
@@ -11,13 +12,12 @@ use native.Mathlib.Omega.{arith}
 use lib.Dec.{ltb, leb}
 use lib.ListN.{length}
 use borrow.Author.Tests.{lt-ltb, le-ltb, le-leb, leb-true, ltb-true, ltb-false, ne-eqb}
 use Rattle.text.specs.Bytes.{digit, between, isClass}
-use Rattle.text.specs.Fields.{isNumber, valueFrom, valueOf}
+use Rattle.text.specs.Fields.{isNumber, valueFrom, valueOf, decimalFrom, decimal}
 use Rattle.text.specs.Lists.{every}
 use Rattle.text.proofs.ClassLaws.{is-digit}
 use Rattle.text.proofs.Bools.{and-true}
-use Rattle.semantics.proofs.Entering.{every-last}
-use Rattle.listing.specs.Listing.{decimalFrom, decimal}
+use Rattle.text.proofs.Laws.{every-append}
 
 -- digits go in front of what stands behind
 pub decimalFrom-behind : (f n : ℕ) (b : List ℕ) → decimalFrom f n b ≡ decimalFrom f n [] ++ b
@@ -79,7 +79,7 @@ unfolding decimal
 decimal-few n = omega (arith, decimalFrom-few (suc n) n [])
 
 -- the value of digits with one more behind them
-value-last : (v : ℕ) (s : List ℕ) (b : ℕ) → valueFrom v (s ++ (b ∷ [])) ≡ valueFrom v s * 10 + (b - 48)
+pub value-last : (v : ℕ) (s : List ℕ) (b : ℕ) → valueFrom v (s ++ (b ∷ [])) ≡ valueFrom v s * 10 + (b - 48)
 unfolding valueFrom
 value-last v [] b = refl
 value-last v (c ∷ s) b = value-last (v * 10 + (c - 48)) s b
@@ -125,8 +125,8 @@ decimal-led (suc f) n h k = go (ltb n 10) refl (decimal-led f (n / 10))
           others = l .others ++ ((48 + n % 10) ∷ []);
           are = decimal-high n high ∙ ap (λ s. s ++ ((48 + n % 10) ∷ [])) (l .are);
           leads = l .leads;
-          digits = every-last (between 48 57) (l .others) (48 + n % 10) (l .digits)
-              (digit-between 48 (n % 10) (omega arith) (omega arith));
+          digits = every-append (between 48 57) (l .others) ((48 + n % 10) ∷ [])
+              ∙ rw (l .digits, digit-between 48 (n % 10) (omega arith) (omega arith));
         }
 
 -- all of such digits are digits by class
