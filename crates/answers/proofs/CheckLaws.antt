@@ -20,6 +20,7 @@ use Rattle.semantics.proofs.Demand3.{verdict-exact}
 use Rattle.syntax.specs.Answers.{Answer, refused, accepted}
 use Rattle.syntax.specs.Programs.{Reading, readProgram}
 use Rattle.syntax.proofs.WellFormed.{read-wellFormed}
+use Rattle.syntax.proofs.ByValue.{read-by-value}
 use Rattle.text.proofs.Decimals.{decimal-exact}
 use Rattle.replies.specs.Replies.{Text, programText, Reply, refusal, listing, replyOf, fitted, checkListing, checkReply}
 use Rattle.replies.specs.Replies.{outputAfter}
@@ -173,6 +174,7 @@ module _ (s before after : List ℕ) (r : CheckReply) (c : CheckReplied (checkRe
           enough = λ h.
               outcome-claim (p .program) .1 (demand .enough (appearance-claim (p .program) .0 h));
           bounded = demand .bounded;
+          constants = read-by-value s e;
           decimals = decimal-exact;
         }
 

@@ -20,6 +20,7 @@ use Rattle.semantics.specs.Verdict.{verdict, confluent, unjoined}
 use Rattle.semantics.specs.Claims.{Bounded}
 use Rattle.syntax.specs.Answers.{refused, accepted}
 use Rattle.syntax.specs.Programs.{Reading, readProgram}
+use Rattle.syntax.specs.Claims.{ByValue}
 use Rattle.replies.specs.Replies.{Reply, refusal, listing, checkListing, checkReply, outputAfter}
 use Rattle.replies.specs.Claims.{verdictReply}
 use Rattle.answers.specs.declared.TextName.the-variants.{S}
@@ -61,8 +62,8 @@ pub record Told (s : List ℕ) (r : CheckReply) : Type 0 where
 -- the number of its overlaps. A fail leaves the earliest overlap of the program that does not join, its goal and two ends of
 -- finished derivations of this goal, which are not equal; so not each goal has one outcome. Where the listing fits, it is left
 -- wherever there is one, and there is at most one, since the order of overlaps is strict and total. For one outcome of all goals
--- it is enough that those as document 01 has them have one. No derivation fires more often than its goal's weight. A number is
--- shown in digits without a leading zero, whose value it is
+-- it is enough that those as document 01 has them have one. No derivation fires more often than its goal's weight. Two constants of
+-- the text have one number exactly if they are one. A number is shown in digits without a leading zero, whose value it is
 pub record CheckedAs (p : Reading) (before after : List ℕ) (r : CheckReply) : Type 0 where
   pub decided : length (checkListing p) ≤ length before → ((n : ℕ) × (r ≡ Confluent n)) ⊎ ((n : ℕ) × (r ≡ Unjoined n))
   pub exact : length (checkListing p) ≤ length before → ((n : ℕ) × (r ≡ Confluent n)) ↔ OneOutcome (p .program)
@@ -79,6 +80,7 @@ pub record CheckedAs (p : Reading) (before after : List ℕ) (r : CheckReply) : 
   pub ordered : StrictTotalOrder (IsOverlapOf (p .program)) Earlier
   pub enough : OneOutcomeByAppearance (p .program) → OneOutcome (p .program)
   pub bounded : Bounded (p .program)
+  pub constants : ByValue (p .constants)
   pub decimals : (n : ℕ) → (isNumber (decimal n) ≡ true) × (valueOf (decimal n) ≡ n)
 
 -- a refusal of the program's text

@@ -15,6 +15,7 @@ use borrow.Author.Tests.{lt-ltb, le-ltb, ltb-true, ltb-false, eqb-true, eqb-fals
 use Rattle.text.specs.Lists.{has, indexOf, sameBytes, isKnown, withName, upTo}
 use Rattle.text.specs.Lines.{Line, lines, lineIsFaulty}
 use Rattle.text.specs.Fields.{fields, isName}
+use Rattle.text.specs.Constants.{constantName}
 use Rattle.semantics.specs.Terms.{Term, con, var, Constraint, Symbol, weight}
 use Rattle.semantics.specs.Overlaps.{appearingIn, appearing}
 use Rattle.semantics.specs.Claims.{ByAppearance}
@@ -90,11 +91,11 @@ terms-count (f ∷ fs) letters constants = go (isName f) (λ names. terms-count 
         → ((names : List (List ℕ))
         → appearingIn (upTo (length names)) (others (lettersAfter fs names)) ≡ upTo (length (lettersAfter fs names)))
         → appearingIn (upTo (length letters))
-        (cond b (con (firstConstant + indexOf f constants)) (var (indexOf f (after b))) ∷ others (after b))
+        (cond b (con (firstConstant + indexOf (constantName f) constants)) (var (indexOf f (after b))) ∷ others (after b))
         ≡ upTo (length (after b))
     go true more = more letters
     go false more =
-        let (behind, e) = grown-front (λ g. not (isName g)) fs (withName f letters) in
+        let (behind, e) = grown-front (λ g. not (isName g)) (λ g. g) fs (withName f letters) in
         ap (λ (seen : List ℕ). appearingIn seen (others (after false)))
         (letter-counts f letters behind (indexOf f (after false)) (ap (indexOf f) (letters-grown fs (withName f letters) ∙ e)))
         ∙ more (withName f letters)

@@ -12,6 +12,7 @@ use Rattle.syntax.specs.Goals.{GoalReading, readGoal}
 use Rattle.syntax.proofs.WellFormed.{read-wellFormed}
 use Rattle.syntax.proofs.GoalVocabulary.{goal-small}
 use Rattle.syntax.proofs.Vocabulary.{read-small}
+use Rattle.syntax.proofs.ByValue.{read-by-value, goal-by-value}
 use Rattle.replies.specs.Replies.{listing, replyOf, goalText, runListing, runReply}
 use Rattle.replies.specs.Claims.{Demand2On}
 use Rattle.replies.proofs.Appearance.{goal-by-appearance}
@@ -33,10 +34,12 @@ run-published s r e =
     let published = derivation-published (r .program) (read-wellFormed s e) in
     record {
       program = published;
+      constants = read-by-value s e;
       ran =
           λ t room g f l.
           record {
             goal = goal-small r t (read-small s e .few-constants) f .is-goal;
+            constants = goal-by-value s t e f;
             appearance = goal-by-appearance (r .program .symbols) (r .constants) t f;
             end = run (r .program) (g .goal);
             reply = run-listed-in s t room r g e f l;

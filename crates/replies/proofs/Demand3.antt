@@ -18,6 +18,7 @@ use Rattle.semantics.proofs.Demand3.{verdict-exact}
 use Rattle.syntax.specs.Answers.{accepted}
 use Rattle.syntax.specs.Programs.{Reading, readProgram}
 use Rattle.syntax.proofs.WellFormed.{read-wellFormed}
+use Rattle.syntax.proofs.ByValue.{read-by-value}
 use Rattle.listing.specs.Listing.{lineOf}
 use Rattle.verdicts.specs.Verdicts.{verdictListing}
 use Rattle.text.proofs.Decimals.{decimal-exact}
@@ -97,5 +98,6 @@ check-exact s r e =
       enough = d .enough;
       ordered = d .ordered;
       bounded = d .bounded;
+      constants = read-by-value s e;
       decimals = decimal-exact;
     }

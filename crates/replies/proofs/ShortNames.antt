@@ -19,6 +19,7 @@ use Rattle.text.specs.Bytes.{between}
 use Rattle.text.specs.Lists.{onward, every, indexOf, isKnown, withName}
 use Rattle.text.specs.Lines.{Line, lines, inFirstLine, lineIsFaulty}
 use Rattle.text.specs.Fields.{fields, isName, isVariable, isTerm, isNumberIn}
+use Rattle.text.specs.Constants.{constantName}
 use Rattle.semantics.specs.Terms.{Constraint, Symbol, Rule, removedHeads, weight}
 use Rattle.semantics.proofs.Configurations.{All, also}
 use Rattle.semantics.proofs.Configurations as C
@@ -34,6 +35,7 @@ use Rattle.syntax.specs.Programs.{maxText, maxSymbols, maxRules, maxHeads, maxB
 use Rattle.syntax.specs.Goals.{GoalDraft, GoalReading, maxGoal, maxWeight, lettersAfter, readConstraintOfGoal, isGoalForm}
 use Rattle.syntax.specs.Goals.{readGoalFields, readGoalLine, readGoalLines, readGoal}
 use Rattle.text.proofs.Bools.{and-true}
+use Rattle.text.proofs.ConstantLaws.{constant-name}
 use Rattle.syntax.proofs.WellFormed.{or-neither, not-false}
 use Rattle.listing.proofs.SizeLaws.{Short}
 
@@ -85,10 +87,11 @@ with-termed f names h all = go (isKnown f names)
 constants-termed : (fs names : List (List ℕ)) → All Termed names → All Termed (constantsAfter fs names)
 unfolding constantsAfter
 constants-termed [] names all = all
-constants-termed (f ∷ fs) names all = constants-termed fs (cond (isName f) (withName f names) names) (go (isName f) refl)
+constants-termed (f ∷ fs) names all =
+    constants-termed fs (cond (isName f) (withName (constantName f) names) names) (go (isName f) refl)
   where
-    go : (b : Bool) → isName f ≡ b → All Termed (cond b (withName f names) names)
-    go true e = with-termed f names (name-termed f e) all
+    go : (b : Bool) → isName f ≡ b → All Termed (cond b (withName (constantName f) names) names)
+    go true e = with-termed (constantName f) names (name-termed (constantName f) (constant-name f e)) all
     go false e = all
 
 letters-termed : (fs names : List (List ℕ)) → every isTerm fs ≡ true → All Termed names → All Termed (lettersAfter fs names)

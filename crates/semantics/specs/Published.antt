@@ -7,7 +7,8 @@
 --   Cleared                  Introduce and Solve steps until only certain items are left in the goal store
 --   solvedForm, Represents   what is left of the stores when the built-in one is solved; a state of ours that equals it
 -- Where this departs from the paper:
---   rules have no guards, and the built-in theory is syntactic equality over constants and variables, said by values;
+--   rules have no guards, and the built-in theory is syntactic equality over constants and variables, said by values; constants
+--   are equal if they are one (document 02, W3: 07 is 7), that is, if they have one number;
 --   each step of figure 1 ends in the normal form N of its state. Here N stands where states are compared: it has no influence on
 --   which steps are possible (lemma 2.3);
 --   figure 1 does not say that the built-in store of a Simplify step is not false, as the text does; here the step asks it;

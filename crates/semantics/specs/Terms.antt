@@ -14,9 +14,10 @@ use lib.Dec.{ltb, eqb}
 use lib.ListN.{length, getD, take, drop}
 use Rattle.text.specs.Lists.{every, total}
 
--- a term: a constant or a variable, by its number. Different constants have different numbers; a program's own have those
--- that its reading gives, and every other number is a constant that the program lacks. A rule's variables are its letters,
--- 0 to 25; a goal's count from 0 by first appearance
+-- a term: a constant or a variable, by its number. Constants have one number exactly if they are one (`SameConstant` of text:
+-- same spelling, or digits of the same value; `ByValue` of syntax says it of the numbers that reading gives a program's own);
+-- every other number is a constant that the program lacks. A rule's variables are its letters, 0 to 25; a goal's count from 0 by
+-- first appearance
 pub data Term : Type 0 where
   con : ℕ → Term
   var : ℕ → Term

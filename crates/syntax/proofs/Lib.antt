@@ -6,3 +6,4 @@ pub mod Known
 pub mod Vocabulary
 pub mod GoalVocabulary
 pub mod Tabled
+pub mod ByValue

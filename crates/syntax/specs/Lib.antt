@@ -3,3 +3,4 @@ pub mod Answers
 pub mod Forms
 pub mod Programs
 pub mod Goals
+pub mod Claims

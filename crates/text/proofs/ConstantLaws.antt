@@ -1,5 +1,6 @@
 -- Laws of constants: two are one exactly if they have one name, and a numeral's name is the numeral without its leading zeros.
 --   same-name            two constants are one exactly if they have one name (the main law)
+--   own-name             the name of a name
 --   leadingZeros         how many zeros stand in front of the first digit that counts
 --   zeros-few            they are fewer than there are digits
 --   name-dropped         the name of a numeral is the rest behind them
@@ -45,6 +46,17 @@ number-numeral (b ∷ c ∷ s) h = and-true (not (eqb b 48)) (every (isClass dig
 
 decimal-numeral : (n : ℕ) → isNumeral (decimal n) ≡ true
 decimal-numeral n = number-numeral (decimal n) (decimal-exact n .0)
+
+-- a name is its own name
+pub own-name : (f : List ℕ) → constantName (constantName f) ≡ constantName f
+own-name f = go (isNumeral f) refl
+  where
+    go : (t : Bool) → isNumeral f ≡ t → constantName (constantName f) ≡ constantName f
+    go true h =
+        let n : ℕ = valueOf f in
+        ap constantName (numeral-name f h) ∙ numeral-name (decimal n) (decimal-numeral n) ∙ ap decimal (decimal-exact n .1)
+        ∙ sym (numeral-name f h)
+    go false h = ap constantName (other-name f h)
 
 -- two constants are one exactly if they have one name
 pub same-name : (f g : List ℕ) → SameConstant f g ↔ (constantName f ≡ constantName g)
