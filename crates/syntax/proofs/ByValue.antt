@@ -239,8 +239,7 @@ pub line-by-value :
     → AllAmong fs (constantsAfter fs before) × KeepsNumbers before (constantsAfter fs before)
 line-by-value fs before v =
     let t = by-value-tidy before v in
-    let next = constants-tidy fs before t in
-    (
+    let next = constants-tidy fs before t in (
       λ i h e. known-among (constantsAfter fs before) next (getD fs i []) (fields-known fs before i h e),
       going-on before (constantsAfter fs before) (constants-more fs before) t next,
     )
