@@ -174,7 +174,6 @@ module _ (s before after : List ℕ) (r : CheckReply) (c : CheckReplied (checkRe
           enough = λ h.
               outcome-claim (p .program) .1 (demand .enough (appearance-claim (p .program) .0 h));
           bounded = demand .bounded;
-          constants = read-by-value s e;
           decimals = decimal-exact;
         }
 
@@ -260,4 +259,5 @@ demand-of s before after r c told =
       );
       untouched = refusing s before after r c;
       read = λ p e. checked-as s before after r c told p e;
+      constants = λ p e. read-by-value s e;
     }

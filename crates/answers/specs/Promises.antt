@@ -20,7 +20,7 @@ use Rattle.semantics.specs.Verdict.{verdict, confluent, unjoined}
 use Rattle.semantics.specs.Claims.{Bounded}
 use Rattle.syntax.specs.Answers.{refused, accepted}
 use Rattle.syntax.specs.Programs.{Reading, readProgram}
-use Rattle.syntax.specs.Claims.{ByValue}
+use Rattle.syntax.specs.Claims.{TextByValue}
 use Rattle.replies.specs.Replies.{Reply, refusal, listing, checkListing, checkReply, outputAfter}
 use Rattle.replies.specs.Claims.{verdictReply}
 use Rattle.answers.specs.declared.TextName.the-variants.{S}
@@ -62,8 +62,8 @@ pub record Told (s : List ℕ) (r : CheckReply) : Type 0 where
 -- the number of its overlaps. A fail leaves the earliest overlap of the program that does not join, its goal and two ends of
 -- finished derivations of this goal, which are not equal; so not each goal has one outcome. Where the listing fits, it is left
 -- wherever there is one, and there is at most one, since the order of overlaps is strict and total. For one outcome of all goals
--- it is enough that those as document 01 has them have one. No derivation fires more often than its goal's weight. Two constants of
--- the text have one number exactly if they are one. A number is shown in digits without a leading zero, whose value it is
+-- it is enough that those as document 01 has them have one. No derivation fires more often than its goal's weight. A number is
+-- shown in digits without a leading zero, whose value it is
 pub record CheckedAs (p : Reading) (before after : List ℕ) (r : CheckReply) : Type 0 where
   pub decided : length (checkListing p) ≤ length before → ((n : ℕ) × (r ≡ Confluent n)) ⊎ ((n : ℕ) × (r ≡ Unjoined n))
   pub exact : length (checkListing p) ≤ length before → ((n : ℕ) × (r ≡ Confluent n)) ↔ OneOutcome (p .program)
@@ -80,7 +80,6 @@ pub record CheckedAs (p : Reading) (before after : List ℕ) (r : CheckReply) : 
   pub ordered : StrictTotalOrder (IsOverlapOf (p .program)) Earlier
   pub enough : OneOutcomeByAppearance (p .program) → OneOutcome (p .program)
   pub bounded : Bounded (p .program)
-  pub constants : ByValue (p .constants)
   pub decimals : (n : ℕ) → (isNumber (decimal n) ≡ true) × (valueOf (decimal n) ≡ n)
 
 -- a refusal of the program's text
@@ -89,7 +88,8 @@ ofProgram number line = Refused (record { number = number; text = S; line = line
 
 -- demand 3 of the answer to any text s, and of the bytes that it leaves: a text that meets one of document 01's numbers 1 to 9 is
 -- refused under it, with its line, and no other is; number 11 is the answer exactly where the text reads and the listing does
--- not fit; a refusal names the program's text and leaves the output untouched; and every text that reads is checked
+-- not fit; a refusal names the program's text and leaves the output untouched; and every text that reads is checked, as a program
+-- in which two constants have one number exactly if they are one
 pub record Demand3Of (s before after : List ℕ) (r : CheckReply) : Type 0 where
   pub numbers : (number line : ℕ) → readProgram s ≡ refused number line → (1 ≤ number) × (number ≤ 9)
   pub turned : (number line : ℕ) → number < 11 → (readProgram s ≡ refused number line) ↔ (r ≡ ofProgram number line)
@@ -97,6 +97,7 @@ pub record Demand3Of (s before after : List ℕ) (r : CheckReply) : Type 0 where
       ((p : Reading) × (readProgram s ≡ accepted p) × (length before < length (checkListing p))) ↔ (r ≡ ofProgram 11 0)
   pub untouched : (f : Refusal) → r ≡ Refused f → (f .text ≡ S) × (after ≡ before)
   pub read : (p : Reading) → readProgram s ≡ accepted p → CheckedAs p before after r
+  pub constants : (p : Reading) → readProgram s ≡ accepted p → TextByValue s (p .constants)
 
 -- an answer as one number: the length of a pass's listing; 2^31 more than that of an unjoined overlap's; or 2^32 times a
 -- refusal's number, 2^16 times the byte of its letter, and its line

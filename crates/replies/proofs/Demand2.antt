@@ -39,7 +39,8 @@ run-published s r e =
           λ t room g f l.
           record {
             goal = goal-small r t (read-small s e .few-constants) f .is-goal;
-            constants = goal-by-value s t e f;
+            constants = goal-by-value s t e f .0;
+            numbers = goal-by-value s t e f .1;
             appearance = goal-by-appearance (r .program .symbols) (r .constants) t f;
             end = run (r .program) (g .goal);
             reply = run-listed-in s t room r g e f l;

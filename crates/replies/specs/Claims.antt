@@ -26,7 +26,7 @@ use Rattle.semantics.specs.Correspondence.{Demand2}
 use Rattle.syntax.specs.Answers.{accepted}
 use Rattle.syntax.specs.Programs.{Reading}
 use Rattle.syntax.specs.Goals.{GoalReading, readGoal}
-use Rattle.syntax.specs.Claims.{ByValue, KeepsNumbers}
+use Rattle.syntax.specs.Claims.{TextByValue, KeepsNumbers}
 use Rattle.listing.specs.Listing.{namingOf, endListing}
 use Rattle.verdicts.specs.Verdicts.{verdictListing}
 use Rattle.replies.specs.Replies.{Reply, listing, runListing, checkListing, runReply, checkReply, printed}
@@ -63,7 +63,7 @@ pub record Demand3On (s : List ℕ) (r : Reading) : Type 1 where
   pub enough : OneOutcomeByAppearance (r .program) → OneOutcome (r .program)
   pub ordered : StrictTotalOrder (IsOverlapOf (r .program)) Earlier
   pub bounded : Bounded (r .program)
-  pub constants : ByValue (r .constants)
+  pub constants : TextByValue s (r .constants)
   pub decimals : (n : ℕ) → (isNumber (decimal n) ≡ true) × (valueOf (decimal n) ≡ n)
 
 -- the checks of two texts that read as r and q, in a room that both listings fit: one passes with a number exactly when the other
@@ -74,11 +74,12 @@ PassTogether s t r q =
     → (checkReply s room ≡ verdictReply r (confluent n)) ↔ (checkReply t room ≡ verdictReply q (confluent n))
 
 -- the reply to a goal's text that reads as g, in a room that the listing fits: the listing of an end, and the run of the goal,
--- which is over the program's symbols, goes on from the program's constants (two have one number exactly if they are one) and
--- counts its variables by first appearance, ends so
+-- which is over the program's symbols and counts its variables by first appearance, ends so. Its constants have one number exactly
+-- if they are one, the program's among them, which keep theirs
 pub record Ran (s t : List ℕ) (room : ℕ) (r : Reading) (g : GoalReading) : Type 0 where
   pub goal : isGoalOf (r .program) (g .goal) ≡ true
-  pub constants : KeepsNumbers (r .constants) (g .constants)
+  pub constants : TextByValue t (g .constants)
+  pub numbers : KeepsNumbers (r .constants) (g .constants)
   pub appearance : ByAppearance (g .goal)
   pub end : Final
   pub reply :
@@ -86,11 +87,11 @@ pub record Ran (s t : List ℕ) (room : ℕ) (r : Reading) (g : GoalReading) : T
       ≡ listing (endListing (namingOf (r .program .symbols) (g .constants)) (λ x. getD (g .letters) x []) end)
   pub runs : RunsTo (r .program) (g .goal) [] end
 
--- demand 2 for a text that reads as r: that of the program, whose terms are equal exactly if the constants that they stand for
--- are one; and every run on bytes is one
+-- demand 2 for a text that reads as r: that of the program, in which constants have one number exactly if they are one; and every
+-- run on bytes is one
 pub record Demand2On (s : List ℕ) (r : Reading) : Type 1 where
   pub program : Demand2 (r .program)
-  pub constants : ByValue (r .constants)
+  pub constants : TextByValue s (r .constants)
   pub ran :
       (t : List ℕ) (room : ℕ) (g : GoalReading) → readGoal (r .program .symbols) (r .constants) t ≡ accepted g
       → length (runListing r g) ≤ room → Ran s t room r g

@@ -1,16 +1,15 @@
 -- The numbering of constants gives two constants one number exactly if they are one.
---   line-by-value     behind every line
---   read-by-value     the constants of every program that is read
---   goal-by-value     the constants of every goal that is read, and those of its program keep their numbers
+--   read-by-value     in every program that is read
+--   goal-by-value     in every goal that is read, where those of its program keep their numbers
 -- Assumes nothing.
 use Prim.Native.Nat.{ℕ, zero, suc, _+_, _≤_, _<_}
 use native.Mathlib.Omega.{arith}
 use native.Mathlib.Decide.{decLt}
 use mathlib.Core.Bool.{Bool, true, false, cond, not, _||_}
-use mathlib.Core.List.{List, [], _∷_, _++_, map}
+use mathlib.Core.List.{List, [], _∷_, _++_, map, append-assoc, append-nil}
 use mathlib.Core.Logic.{_↔_}
 use mathlib.Core.Option.{Option, none, some}
-use mathlib.Core.Path.{_≡_, refl, sym, ap, _∙_}
+use mathlib.Core.Path.{_≡_, refl, sym, ap, subst, _∙_}
 use lib.Dec.{leb, ltb, eqb}
 use lib.ListN.{length, getD, drop, length-append, List·getD-append}
 use lib.Seq.{getD-append-seam}
@@ -22,6 +21,9 @@ use Rattle.text.specs.Constants.{SameConstant, constantName}
 use Rattle.text.proofs.Bools.{never, and-true}
 use Rattle.text.proofs.ConstantLaws.{same-name, own-name}
 use Rattle.semantics.specs.Terms.{Term, con, var, Constraint, Symbol, Rule, removedHeads, weight}
+use Rattle.semantics.proofs.Configurations.{All, also}
+use Rattle.semantics.proofs.Configurations as C
+use Rattle.semantics.proofs.Multisets.{all-append, all-mono}
 use Rattle.semantics.proofs.Indices.{indexFrom-hit, indexFrom-miss}
 use Rattle.syntax.specs.Answers.{Answer, refused, accepted}
 use Rattle.syntax.specs.Forms.{Form, symbolForm, ruleForm, keptForm, headForm, bodyForm, equationForm, goalForm, noForm}
@@ -33,12 +35,11 @@ use Rattle.syntax.specs.Programs.{readLine, readLines, checkRules, readP
 use Rattle.syntax.specs.Programs.{maxSymbols, maxRules, maxEquations, maxConstants, maxText}
 use Rattle.syntax.specs.Goals.{GoalDraft, GoalReading, maxGoal, maxWeight, lettersAfter, readConstraintOfGoal, isGoalForm}
 use Rattle.syntax.specs.Goals.{readGoalFields, readGoalLine, readGoalLines, readGoal}
-use Rattle.syntax.specs.Claims.{Among, ByValue, AllAmong, KeepsNumbers}
+use Rattle.syntax.specs.Claims.{Among, ByValue, termFields, termsIn, TextByValue, KeepsNumbers}
 use Rattle.syntax.proofs.WellFormed.{Holds, holds-refuseIf, holds-andThen, holds-accepted, holds-constraintLine}
-use Rattle.syntax.proofs.Known.{same-refl, known-front, with-known}
+use Rattle.syntax.proofs.Known.{same-refl, known-front, grown-known, constants-grown}
 use Rattle.syntax.proofs.Tabled.{name-first}
-use Rattle.syntax.proofs.Vocabulary.{constants-more, read-small}
-use Rattle.syntax.proofs.GoalVocabulary.{goal-small}
+use Rattle.syntax.proofs.Vocabulary.{constants-more}
 
 -- lists of the same bytes are the same
 pub same-is : (a b : List ℕ) → sameBytes a b ≡ true → a ≡ b
@@ -145,13 +146,6 @@ tidy-by-value cs t = record { one-number = numbers; once = counts; named = t .na
         t .once i j h k
         (sym (t .named i h) ∙ same-name (getD cs i []) (getD cs j []) .0 s ∙ t .named j k)
 
-by-value-tidy : (cs : List (List ℕ)) → ByValue cs → Tidy cs
-by-value-tidy cs v =
-    record {
-      named = v .named;
-      once = λ i j h k e. v .once i j h k (same-name (getD cs i []) (getD cs j []) .1 (ap constantName e));
-    }
-
 -- one name more, which is new
 module _ (cs : List (List ℕ)) (c : List ℕ) where
   last-at : (i : ℕ) → i < length (cs ++ (c ∷ [])) → (i < length cs → ⊥) → i ≡ length cs
@@ -206,172 +200,226 @@ constants-tidy (f ∷ fs) cs t = constants-tidy fs (cond (isName f) (withName (c
     go false = t
 
 -- more names behind do not change the number of a constant whose name is known
-term-front : (variable : List ℕ → ℕ) (cs more : List (List ℕ)) (f : List ℕ) → isName f ≡ true → isKnown (constantName f) cs ≡ true
+term-front :
+    (variable : List ℕ → ℕ) (cs more : List (List ℕ)) (f : List ℕ) → isName f ≡ true → isKnown (constantName f) cs ≡ true
     → termOf variable (cs ++ more) f ≡ termOf variable cs f
 term-front variable cs more f h k =
     constant-term variable (cs ++ more) f h
     ∙ ap (λ (i : ℕ). con (firstConstant + i)) (name-first (constantName f) cs more (known-below (constantName f) cs k))
     ∙ sym (constant-term variable cs f h)
 
-going-on : (before after : List (List ℕ)) → (more : List (List ℕ)) × (after ≡ before ++ more) → Tidy before → Tidy after
-    → KeepsNumbers before after
-going-on before after (more, k) t u = record {
-  stays = λ variable f h a.
-      ap (λ (cs : List (List ℕ)). termOf variable cs f) k ∙ term-front variable before more f h (among-known before t f a);
-  by-value = tidy-by-value after u;
-}
+-- the names of the constants among some fields are known
+abbrev NamesKnown : List (List ℕ) → List (List ℕ) → Type 0
+NamesKnown gs cs = All (λ f. isName f ≡ true → isKnown (constantName f) cs ≡ true) gs
 
--- the name of each constant of a line is known behind it
-fields-known : (fs cs : List (List ℕ)) (i : ℕ) → i < length fs → isName (getD fs i []) ≡ true
-    → isKnown (constantName (getD fs i [])) (constantsAfter fs cs) ≡ true
-unfolding constantsAfter
-fields-known [] cs i h e = absurd (omega arith)
-fields-known (f ∷ fs) cs zero h e =
-    let next = cond (isName f) (withName (constantName f) cs) cs in
-    let (more, k) = constants-more fs next in
-    let first : isKnown (constantName f) next ≡ true = rw e (with-known (constantName f) cs) in
-    rw k (known-front (constantName f) next more first)
-fields-known (f ∷ fs) cs (suc i) h e = fields-known fs (cond (isName f) (withName (constantName f) cs) cs) i (omega arith) e
+-- constants behind some term fields: tidy if they were, the names of the fields known, those before in front
+record Grows (before gs after : List (List ℕ)) : Type 0 where
+  tidy : Tidy before → Tidy after
+  known : NamesKnown gs after
+  front : (more : List (List ℕ)) × (after ≡ before ++ more)
 
--- behind every line
-pub line-by-value :
-    (fs before : List (List ℕ)) → ByValue before
-    → AllAmong fs (constantsAfter fs before) × KeepsNumbers before (constantsAfter fs before)
-line-by-value fs before v =
-    let t = by-value-tidy before v in
-    let next = constants-tidy fs before t in (
-      λ i h e. known-among (constantsAfter fs before) next (getD fs i []) (fields-known fs before i h e),
-      going-on before (constantsAfter fs before) (constants-more fs before) t next,
-    )
+grows-none : (cs : List (List ℕ)) → Grows cs [] cs
+grows-none cs = record { tidy = λ t. t; known = C.none; front = ([], sym (append-nil cs)) }
 
--- each line keeps a draft tidy
-abbrev TidyDraft : Draft → Type 0
-TidyDraft d = Tidy (d .constants)
+grows-fields : (fs cs : List (List ℕ)) → Grows cs fs (constantsAfter fs cs)
+grows-fields fs cs =
+    record {
+      tidy = constants-tidy fs cs;
+      known = rw (constants-grown fs cs) (grown-known isName constantName fs cs);
+      front = constants-more fs cs;
+    }
 
-constraint-tidy :
-    (count most : ℕ) (add : Constraint → Rule → Rule) (n : ℕ) (fs : List (List ℕ)) (d : Draft) → TidyDraft d
-    → Holds TidyDraft (readConstraint count most add n fs d)
+grows-then : {a b c gs hs : List (List ℕ)} → Grows a gs b → Grows b hs c → Grows a (gs ++ hs) c
+grows-then {a} {b} {c} p q =
+    let (one, e) = p .front in
+    let (more, k) = q .front in
+    record {
+      tidy = λ t. q .tidy (p .tidy t);
+      known = all-append (all-mono (λ f h n. rw k (known-front (constantName f) b more (h n))) (p .known)) (q .known);
+      front = (one ++ more, k ∙ ap (λ (l : List (List ℕ)). l ++ more) e ∙ append-assoc a one more);
+    }
+
+-- what holds of an answer, by what else does
+holds-mono : {A : Type 0} {P Q : A → Type 0} (r : Answer A) → ((a : A) → P a → Q a) → Holds P r → Holds Q r
+holds-mono (refused number line) f h = tt
+holds-mono (accepted a) f h = f a h
+
+-- each line of a program
+abbrev GrowsTo : Draft → List (List ℕ) → Draft → Type 0
+GrowsTo d gs e = Grows (d .constants) gs (e .constants)
+
+constraint-grows :
+    (count most : ℕ) (add : Constraint → Rule → Rule) (n : ℕ) (fs : List (List ℕ)) (d : Draft)
+    → Holds (GrowsTo d (drop 2 fs)) (readConstraint count most add n fs d)
 unfolding readConstraint withRule
-constraint-tidy count most add n fs d t =
-    holds-andThen (λ found. Tidy (found .constants)) TidyDraft
+constraint-grows count most add n fs d =
+    holds-andThen (λ found. Grows (d .constants) (drop 2 fs) (found .constants)) (GrowsTo d (drop 2 fs))
     (constraintLine (leb most count) (d .symbols) letterNumber (d .constants) n fs) _
     (holds-constraintLine _ (leb most count) (d .symbols) letterNumber (d .constants) n fs
-    λ _ _ _ _. constants-tidy (drop 2 fs) (d .constants) t)
+    λ _ _ _ _. grows-fields (drop 2 fs) (d .constants))
     λ found _ h. h
 
-equation-tidy : (n : ℕ) (fs : List (List ℕ)) (d : Draft) → TidyDraft d → Holds TidyDraft (readEquation n fs d)
+equation-grows : (n : ℕ) (fs : List (List ℕ)) (d : Draft) → Holds (GrowsTo d (drop 1 fs)) (readEquation n fs d)
 unfolding readEquation withRule
-equation-tidy n fs d t =
+equation-grows n fs d =
     let constants = constantsAfter (drop 1 fs) (d .constants) in
-    holds-refuseIf TidyDraft (isEquationFaulty fs) 4 n _
-    λ _. holds-refuseIf TidyDraft
-    (leb maxEquations (length (lastRule (d .rules) .equations)) || ltb maxConstants (length constants)) 7 n _
-    λ _. constants-tidy (drop 1 fs) (d .constants) t
+    let full = leb maxEquations (length (lastRule (d .rules) .equations)) || ltb maxConstants (length constants) in
+    holds-refuseIf (GrowsTo d (drop 1 fs)) (isEquationFaulty fs) 4 n _
+    λ _. holds-refuseIf (GrowsTo d (drop 1 fs)) full 7 n _ λ _. grows-fields (drop 1 fs) (d .constants)
 
-form-tidy : (form : Form) (n : ℕ) (fs : List (List ℕ)) (d : Draft) → TidyDraft d → Holds TidyDraft (readForm form n fs d)
-unfolding readForm readSymbol readRule
-form-tidy symbolForm n fs d t =
-    holds-refuseIf TidyDraft (isSymbolFaulty fs) 4 n _
-    λ _. holds-refuseIf TidyDraft (isKnown (fieldAt 1 fs) (map (λ s. s .name) (d .symbols))) 5 n _
-    λ _. holds-refuseIf TidyDraft (leb maxSymbols (length (d .symbols))) 7 n _ λ _. t
-form-tidy ruleForm n fs d t =
-    holds-refuseIf TidyDraft (isRuleFaulty fs) 4 n _
-    λ _. holds-refuseIf TidyDraft (isKnown (fieldAt 1 fs) (map (λ r. r .rule .name) (d .rules))) 5 n _
-    λ _. holds-refuseIf TidyDraft (leb maxRules (length (d .rules))) 7 n _ λ _. t
-form-tidy keptForm n fs d t = constraint-tidy _ _ _ n fs d t
-form-tidy headForm n fs d t = constraint-tidy _ _ _ n fs d t
-form-tidy bodyForm n fs d t = constraint-tidy _ _ _ n fs d t
-form-tidy equationForm n fs d t = equation-tidy n fs d t
-form-tidy goalForm n fs d t = tt
-form-tidy noForm n fs d t = tt
+form-grows :
+    (form : Form) (n : ℕ) (fs : List (List ℕ)) (d : Draft) → Holds (GrowsTo d (termFields form fs)) (readForm form n fs d)
+unfolding readForm readSymbol readRule termFields
+form-grows symbolForm n fs d =
+    holds-refuseIf (GrowsTo d []) (isSymbolFaulty fs) 4 n _
+    λ _. holds-refuseIf (GrowsTo d []) (isKnown (fieldAt 1 fs) (map (λ s. s .name) (d .symbols))) 5 n _
+    λ _. holds-refuseIf (GrowsTo d []) (leb maxSymbols (length (d .symbols))) 7 n _ λ _. grows-none (d .constants)
+form-grows ruleForm n fs d =
+    holds-refuseIf (GrowsTo d []) (isRuleFaulty fs) 4 n _
+    λ _. holds-refuseIf (GrowsTo d []) (isKnown (fieldAt 1 fs) (map (λ r. r .rule .name) (d .rules))) 5 n _
+    λ _. holds-refuseIf (GrowsTo d []) (leb maxRules (length (d .rules))) 7 n _ λ _. grows-none (d .constants)
+form-grows keptForm n fs d = constraint-grows _ _ _ n fs d
+form-grows headForm n fs d = constraint-grows _ _ _ n fs d
+form-grows bodyForm n fs d = constraint-grows _ _ _ n fs d
+form-grows equationForm n fs d = equation-grows n fs d
+form-grows goalForm n fs d = tt
+form-grows noForm n fs d = tt
 
-line-tidy : (n : ℕ) (l : Line) (d : Draft) → TidyDraft d → Holds TidyDraft (readLine n l d)
+-- the term fields of a line
+abbrev lineTerms : Line → List (List ℕ)
+lineTerms l = termFields (formOf (fieldAt 0 (fields (l .bytes)))) (fields (l .bytes))
+
+line-grows : (n : ℕ) (l : Line) (d : Draft) → Holds (GrowsTo d (lineTerms l)) (readLine n l d)
 unfolding readLine readFields inSection
-line-tidy n l d t =
+line-grows n l d =
     let fs = fields (l .bytes) in
-    holds-refuseIf TidyDraft (lineIsFaulty l) 2 n _ λ _. go fs (sectionAfter (formOf (fieldAt 0 fs)) (d .section))
+    holds-refuseIf (GrowsTo d (lineTerms l)) (lineIsFaulty l) 2 n _
+    λ _. go (formOf (fieldAt 0 fs)) fs (sectionAfter (formOf (fieldAt 0 fs)) (d .section))
   where
-    go : (fs : List (List ℕ)) (o : Option Section)
-        → Holds TidyDraft (onward o (refused 3 n) (λ section. readForm (formOf (fieldAt 0 fs)) n fs (inSection section d)))
-    go fs none = tt
-    go fs (some section) = form-tidy (formOf (fieldAt 0 fs)) n fs (inSection section d) t
+    go : (form : Form) (fs : List (List ℕ)) (o : Option Section)
+        → Holds (GrowsTo d (termFields form fs)) (onward o (refused 3 n) (λ section. readForm form n fs (inSection section d)))
+    go form fs none = tt
+    go form fs (some section) = form-grows form n fs (inSection section d)
 
-lines-tidy : (n : ℕ) (d : Draft) (ls : List Line) → TidyDraft d → Holds TidyDraft (readLines n d ls)
-unfolding readLines
-lines-tidy n d [] t = t
-lines-tidy n d (l ∷ ls) t =
-    holds-andThen TidyDraft TidyDraft (readLine n l d) _ (line-tidy n l d t) λ e _ u. lines-tidy (suc n) e ls u
-
-none-tidy : Tidy []
-none-tidy = record { named = λ i h. absurd (omega arith); once = λ i j h k e. absurd (omega arith) }
+lines-grow : (n : ℕ) (d : Draft) (ls : List Line) → Holds (GrowsTo d (termsIn ls)) (readLines n d ls)
+unfolding readLines termsIn
+lines-grow n d [] = grows-none (d .constants)
+lines-grow n d (l ∷ ls) =
+    holds-andThen (GrowsTo d (lineTerms l)) (GrowsTo d (lineTerms l ++ termsIn ls)) (readLine n l d) _ (line-grows n l d)
+    λ e _ p. holds-mono (readLines (suc n) e ls) (λ f q. grows-then p q) (lines-grow (suc n) e ls)
 
 -- the rules of a program say nothing of its constants
-rules-tidy :
+holds-rules :
     {A : Type 0} (P : A → Type 0) (symbols : List Symbol) (rs : List RuleRead) (otherwise : Answer A) → Holds P otherwise
     → Holds P (checkRules symbols rs otherwise)
 unfolding checkRules
-rules-tidy P symbols [] otherwise h = h
-rules-tidy P symbols (r ∷ rs) otherwise h =
+holds-rules P symbols [] otherwise h = h
+holds-rules P symbols (r ∷ rs) otherwise h =
     holds-refuseIf P (eqb (length (removedHeads (r .rule))) 0) 8 (r .line) _
     λ _. holds-refuseIf P (leb (weight symbols (removedHeads (r .rule))) (weight symbols (r .rule .body))) 9 (r .line) _
-    λ _. rules-tidy P symbols rs otherwise h
+    λ _. holds-rules P symbols rs otherwise h
 
-read-tidy : (s : List ℕ) {r : Reading} → readProgram s ≡ accepted r → Tidy (r .constants)
+read-grows : (s : List ℕ) {r : Reading} → readProgram s ≡ accepted r → Grows [] (termsIn (lines s)) (r .constants)
 unfolding readProgram blank
-read-tidy s e =
-    let P : Reading → Type 0 = λ r. Tidy (r .constants) in
+read-grows s e =
+    let P : Reading → Type 0 = λ r. Grows [] (termsIn (lines s)) (r .constants) in
     holds-accepted P _
     (holds-refuseIf P (ltb maxText (length s)) 1 0 _
-    λ _. holds-andThen TidyDraft P (readLines 1 blank (lines s)) _ (lines-tidy 1 blank (lines s) none-tidy)
-    λ d _ t. rules-tidy P (d .symbols) (d .rules) _ t) e
+    λ _. holds-andThen (GrowsTo blank (termsIn (lines s))) P (readLines 1 blank (lines s)) _ (lines-grow 1 blank (lines s))
+    λ d _ p. holds-rules P (d .symbols) (d .rules) _ p) e
 
--- the constants of every program that is read
-pub read-by-value : (s : List ℕ) {r : Reading} → readProgram s ≡ accepted r → ByValue (r .constants)
-read-by-value s {r} e = tidy-by-value (r .constants) (read-tidy s e)
+-- each line of a goal
+goal-form : (form : Form) (fs : List (List ℕ)) → not (isGoalForm form) ≡ false → termFields form fs ≡ drop 2 fs
+unfolding isGoalForm termFields
+goal-form symbolForm fs h = absurd (never h)
+goal-form ruleForm fs h = absurd (never h)
+goal-form keptForm fs h = refl
+goal-form headForm fs h = refl
+goal-form bodyForm fs h = refl
+goal-form equationForm fs h = absurd (never h)
+goal-form goalForm fs h = refl
+goal-form noForm fs h = absurd (never h)
 
--- a goal's lines keep its draft tidy
-abbrev TidyGoal : GoalDraft → Type 0
-TidyGoal d = Tidy (d .constants)
+abbrev GoalGrowsTo : GoalDraft → List (List ℕ) → GoalDraft → Type 0
+GoalGrowsTo d gs e = Grows (d .constants) gs (e .constants)
 
-goal-line-tidy :
-    (symbols : List Symbol) (n : ℕ) (l : Line) (d : GoalDraft) → TidyGoal d → Holds TidyGoal (readGoalLine symbols n l d)
+goal-line-grows :
+    (symbols : List Symbol) (n : ℕ) (l : Line) (d : GoalDraft)
+    → Holds (GoalGrowsTo d (lineTerms l)) (readGoalLine symbols n l d)
 unfolding readGoalLine readGoalFields readConstraintOfGoal
-goal-line-tidy symbols n l d t =
+goal-line-grows symbols n l d =
     let fs = fields (l .bytes) in
+    let form = formOf (fieldAt 0 fs) in
+    let P = GoalGrowsTo d (lineTerms l) in
     let letters = lettersAfter (drop 2 fs) (d .letters) in
     let full = leb maxGoal (length (d .constraints)) in
     let variable : List ℕ → ℕ = λ f. indexOf f letters in
-    holds-refuseIf TidyGoal (lineIsFaulty l) 2 n _
-    λ _. holds-refuseIf TidyGoal (not (isGoalForm (formOf (fieldAt 0 fs)))) 3 n _
-    λ _. holds-andThen (λ found. Tidy (found .constants)) TidyGoal (constraintLine full symbols variable (d .constants) n fs) _
-    (holds-constraintLine _ full symbols variable (d .constants) n fs λ _ _ _ _. constants-tidy (drop 2 fs) (d .constants) t)
-    λ found _ h. h
+    holds-refuseIf P (lineIsFaulty l) 2 n _
+    λ _. holds-refuseIf P (not (isGoalForm form)) 3 n _
+    λ g. holds-andThen (λ found. Grows (d .constants) (drop 2 fs) (found .constants)) P
+    (constraintLine full symbols variable (d .constants) n fs) _
+    (holds-constraintLine _ full symbols variable (d .constants) n fs λ _ _ _ _. grows-fields (drop 2 fs) (d .constants))
+    λ found _ h. subst (λ gs. Grows (d .constants) gs (found .constants)) (sym (goal-form form fs g)) h
 
-goal-lines-tidy :
-    (symbols : List Symbol) (n : ℕ) (d : GoalDraft) (ls : List Line) → TidyGoal d → Holds TidyGoal (readGoalLines symbols n d ls)
-unfolding readGoalLines
-goal-lines-tidy symbols n d [] t = t
-goal-lines-tidy symbols n d (l ∷ ls) t =
-    holds-andThen TidyGoal TidyGoal (readGoalLine symbols n l d) _ (goal-line-tidy symbols n l d t)
-    λ e _ u. goal-lines-tidy symbols (suc n) e ls u
+goal-lines-grow :
+    (symbols : List Symbol) (n : ℕ) (d : GoalDraft) (ls : List Line)
+    → Holds (GoalGrowsTo d (termsIn ls)) (readGoalLines symbols n d ls)
+unfolding readGoalLines termsIn
+goal-lines-grow symbols n d [] = grows-none (d .constants)
+goal-lines-grow symbols n d (l ∷ ls) =
+    holds-andThen (GoalGrowsTo d (lineTerms l)) (GoalGrowsTo d (lineTerms l ++ termsIn ls)) (readGoalLine symbols n l d) _
+    (goal-line-grows symbols n l d)
+    λ e _ p. holds-mono (readGoalLines symbols (suc n) e ls) (λ f q. grows-then p q) (goal-lines-grow symbols (suc n) e ls)
 
-goal-tidy :
-    (symbols : List Symbol) (constants : List (List ℕ)) (s : List ℕ) {g : GoalReading} → Tidy constants
-    → readGoal symbols constants s ≡ accepted g → Tidy (g .constants)
+goal-grows :
+    (symbols : List Symbol) (constants : List (List ℕ)) (s : List ℕ) {g : GoalReading}
+    → readGoal symbols constants s ≡ accepted g → Grows constants (termsIn (lines s)) (g .constants)
 unfolding readGoal
-goal-tidy symbols constants s t e =
+goal-grows symbols constants s e =
     let start : GoalDraft = record { constraints = []; letters = []; constants = constants } in
-    let P : GoalReading → Type 0 = λ g. Tidy (g .constants) in
+    let P : GoalReading → Type 0 = λ g. Grows constants (termsIn (lines s)) (g .constants) in
     holds-accepted P _
     (holds-refuseIf P (ltb maxText (length s)) 1 0 _
-    λ _. holds-andThen TidyGoal P (readGoalLines symbols 1 start (lines s)) _ (goal-lines-tidy symbols 1 start (lines s) t)
-    λ d _ u. holds-refuseIf P (ltb maxWeight (weight symbols (d .constraints))) 10 0 _ λ _. u) e
+    λ _. holds-andThen (GoalGrowsTo start (termsIn (lines s))) P (readGoalLines symbols 1 start (lines s)) _
+    (goal-lines-grow symbols 1 start (lines s))
+    λ d _ p. holds-refuseIf P (ltb maxWeight (weight symbols (d .constraints))) 10 0 _ λ _. p) e
 
--- the constants of every goal that is read, which go on from its program's
+-- constants that have grown so, by value
+none-tidy : Tidy []
+none-tidy = record { named = λ i h. absurd (omega arith); once = λ i j h k e. absurd (omega arith) }
+
+known-at : (gs cs : List (List ℕ)) → NamesKnown gs cs → (i : ℕ) → i < length gs → isName (getD gs i []) ≡ true
+    → isKnown (constantName (getD gs i [])) cs ≡ true
+known-at [] cs C.none i h = absurd (omega arith)
+known-at (g ∷ gs) cs (also k all) zero h = k
+known-at (g ∷ gs) cs (also k all) (suc i) h = known-at gs cs all i (omega arith)
+
+grown-by-value : (text : List ℕ) (before after : List (List ℕ)) → Tidy before → Grows before (termsIn (lines text)) after
+    → TextByValue text after
+grown-by-value text before after t p =
+    record {
+      all = λ i h n.
+          known-among after (p .tidy t) (getD (termsIn (lines text)) i []) (known-at (termsIn (lines text)) after (p .known) i h n);
+      by-value = tidy-by-value after (p .tidy t);
+    }
+
+-- the constants of every program that is read
+pub read-by-value : (s : List ℕ) {r : Reading} → readProgram s ≡ accepted r → TextByValue s (r .constants)
+read-by-value s {r} e = grown-by-value s [] (r .constants) none-tidy (read-grows s e)
+
+-- the constants of every goal that is read; those of its program keep their numbers
 pub goal-by-value :
     (s t : List ℕ) {r : Reading} {g : GoalReading} → readProgram s ≡ accepted r
-    → readGoal (r .program .symbols) (r .constants) t ≡ accepted g → KeepsNumbers (r .constants) (g .constants)
+    → readGoal (r .program .symbols) (r .constants) t ≡ accepted g
+    → TextByValue t (g .constants) × KeepsNumbers (r .constants) (g .constants)
 goal-by-value s t {r} {g} e k =
-    let tidy = read-tidy s e in
-    going-on (r .constants) (g .constants) (goal-small r t (read-small s e .few-constants) k .front) tidy
-    (goal-tidy (r .program .symbols) (r .constants) t tidy k)
+    let tidy = read-grows s e .tidy none-tidy in
+    let p = goal-grows (r .program .symbols) (r .constants) t k in
+    let (more, q) = p .front in (
+      grown-by-value t (r .constants) (g .constants) tidy p,
+      record {
+        stays = λ variable f h a.
+            ap (λ (cs : List (List ℕ)). termOf variable cs f) q
+            ∙ term-front variable (r .constants) more f h (among-known (r .constants) tidy f a);
+      },
+    )

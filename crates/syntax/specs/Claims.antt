@@ -1,20 +1,23 @@
 -- What is claimed of the numbers of constants (document 02, W3): two constants have one number exactly if they are one.
 --   Among          a constant is one of a list
 --   ByValue        the constants of a text as read
---   AllAmong       all constants of a line are
+--   termFields, termsIn    the term fields of a line and of lines
+--   TextByValue    the constants of a text, each of them among those read
 --   KeepsNumbers   constants that go on from others
--- `read-by-value`, `goal-by-value` and `line-by-value` of proofs/ByValue.antt say that these hold of every program and goal that is
--- read, and behind every line.
+-- `read-by-value` and `goal-by-value` of proofs/ByValue.antt say that these hold of every program and of every goal that is read.
 -- Assumes nothing.
 use Prim.Native.Nat.{ℕ, _<_}
 use mathlib.Core.Bool.{true}
 use mathlib.Core.List.{List, []}
 use mathlib.Core.Logic.{_↔_}
 use mathlib.Core.Path.{_≡_}
-use lib.ListN.{length, getD}
-use Rattle.text.specs.Fields.{isName}
+use lib.ListN.{length, getD, drop}
+use Rattle.text.specs.Lists.{gather}
+use Rattle.text.specs.Lines.{Line, lines}
+use Rattle.text.specs.Fields.{fields, isName}
 use Rattle.text.specs.Constants.{SameConstant, constantName}
-use Rattle.syntax.specs.Forms.{termOf}
+use Rattle.syntax.specs.Forms.{Form, symbolForm, ruleForm, keptForm, headForm, bodyForm, equationForm, goalForm, noForm}
+use Rattle.syntax.specs.Forms.{formOf, fieldAt, termOf}
 
 -- a constant is one of a list: the i-th
 pub record Among (f : List ℕ) (constants : List (List ℕ)) : Type 0 where
@@ -33,13 +36,30 @@ pub record ByValue (constants : List (List ℕ)) : Type 0 where
       (i j : ℕ) → i < length constants → j < length constants → SameConstant (getD constants i []) (getD constants j []) → i ≡ j
   pub named : (i : ℕ) → i < length constants → constantName (getD constants i []) ≡ getD constants i []
 
--- each constant among some term fields is among the constants
-abbrev pub AllAmong : List (List ℕ) → List (List ℕ) → Type 0
-AllAmong fs constants = (i : ℕ) → i < length fs → isName (getD fs i []) ≡ true → Among (getD fs i []) constants
+-- the term fields of a line of a form
+unfoldable pub termFields : Form → List (List ℕ) → List (List ℕ)
+termFields symbolForm fs = []
+termFields ruleForm fs = []
+termFields keptForm fs = drop 2 fs
+termFields headForm fs = drop 2 fs
+termFields bodyForm fs = drop 2 fs
+termFields equationForm fs = drop 1 fs
+termFields goalForm fs = drop 2 fs
+termFields noForm fs = []
 
--- constants that go on from those before: each of those before keeps its number
+-- the term fields of lines, in order
+unfoldable pub termsIn : List Line → List (List ℕ)
+termsIn ls = gather (λ l. termFields (formOf (fieldAt 0 (fields (l .bytes)))) (fields (l .bytes))) ls
+
+-- a text as read: each constant among the fields of its lines is among the constants, which are as a text gives them
+pub record TextByValue (text : List ℕ) (constants : List (List ℕ)) : Type 0 where
+  pub all :
+      (i : ℕ) → i < length (termsIn (lines text)) → isName (getD (termsIn (lines text)) i []) ≡ true
+      → Among (getD (termsIn (lines text)) i []) constants
+  pub by-value : ByValue constants
+
+-- constants that go on from others: each of those before keeps its number
 pub record KeepsNumbers (before after : List (List ℕ)) : Type 0 where
   pub stays :
       (variable : List ℕ → ℕ) (f : List ℕ) → isName f ≡ true → Among f before
       → termOf variable after f ≡ termOf variable before f
-  pub by-value : ByValue after
