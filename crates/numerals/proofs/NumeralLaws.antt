@@ -74,8 +74,8 @@ packed-one : (b : ℕ) → packed (b ∷ []) ≡ b
 unfolding packed packedFrom
 packed-one b = omega arith
 
--- a name f of whose bytes those behind are passed: those in front have the value `byte`, and a 1 in the place of the last of them is
--- worth `unit`
+-- a name f of whose bytes those behind are passed: those in front have the value `byte`, and a 1 in the place of the last of
+-- them is worth `unit`
 pub record Fronted (f : List ℕ) (byte unit : ℕ) : Type 0 where
   pub front : List ℕ
   pub behind : List ℕ
