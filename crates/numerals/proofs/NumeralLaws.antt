@@ -16,7 +16,7 @@ use native.Mathlib.Omega.{arith}
 use borrow.Author.Tests.{le-leb, ne-eqb, eq-eqb}
 use lib.Arith.{digits-div, digits-mod}
 use lib.ListN.{length, take, drop, getD, length-take, length-drop}
-use lib.Seq.{take-suc, take-all, append-snoc, drop-drop}
+use lib.Seq.{append-snoc, drop-drop}
 use Rattle.text.specs.Bytes.{digit, between, isClass}
 use Rattle.text.specs.Lists.{every}
 use Rattle.text.specs.Fields.{isName}
@@ -24,7 +24,7 @@ use Rattle.text.specs.Constants.{isNumeral, constantName}
 use Rattle.text.specs.Keys.{packedFrom, packed, keyOf}
 use Rattle.text.specs.Splits.{isPlain}
 use Rattle.text.proofs.Bools.{and-true, and-false}
-use Rattle.text.proofs.Laws.{every-append, every-implied}
+use Rattle.text.proofs.Laws.{every-append, every-implied, last-apart}
 use Rattle.text.proofs.ClassLaws.{name-plain, name-range, is-digit, between-above}
 use Rattle.text.proofs.Keys.{nameByte, name-size, name-bytes, key-of-name, packed-snoc, packed-under, packed-grows}
 use Rattle.text.proofs.ConstantLaws.{leadingZeros, name-dropped, constant-name, other-name}
@@ -52,8 +52,7 @@ ended : (b : ℕ) (s : List ℕ) → every nameByte (b ∷ s) ≡ true → Ended
 ended b s e =
     let g : List ℕ = take (length s) (b ∷ s) in
     let c : ℕ = getD (b ∷ s) (length s) 0 in
-    let is : b ∷ s ≡ g ++ (c ∷ []) =
-    sym (take-all (suc (length s)) (b ∷ s) (omega arith)) ∙ take-suc (b ∷ s) (length s) 0 (omega arith) in
+    let is : b ∷ s ≡ g ++ (c ∷ []) = last-apart b s in
     let both = and-true (every nameByte g) (every nameByte (c ∷ []))
     (sym (every-append nameByte g (c ∷ [])) ∙ sym (ap (every nameByte) is) ∙ e) in
     let range = name-range c (and-true (nameByte c) true (both .1) .0) in

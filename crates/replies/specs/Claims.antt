@@ -56,8 +56,8 @@ pub record Checked (s : List ℕ) (room : ℕ) (r : Reading) : Type 1 where
 
 -- demand 3 for a text that reads as r: its check, wherever the listing fits; for one outcome of all goals it is enough that
 -- those whose variables count by first appearance have one; the order of overlaps is strict and total; no derivation fires more
--- often than its goal's weight; two constants of the text have one number exactly if they are one; and a number is shown in digits
--- without a leading zero, whose value it is
+-- often than its goal's weight; two constants of the text have one number exactly if they are one; and a number is shown in
+-- digits without a leading zero, whose value it is
 pub record Demand3On (s : List ℕ) (r : Reading) : Type 1 where
   pub checked : (room : ℕ) → length (checkListing r) ≤ room → Checked s room r
   pub enough : OneOutcomeByAppearance (r .program) → OneOutcome (r .program)
@@ -74,8 +74,8 @@ PassTogether s t r q =
     → (checkReply s room ≡ verdictReply r (confluent n)) ↔ (checkReply t room ≡ verdictReply q (confluent n))
 
 -- the reply to a goal's text that reads as g, in a room that the listing fits: the listing of an end, and the run of the goal,
--- which is over the program's symbols and counts its variables by first appearance, ends so. Its constants have one number exactly
--- if they are one, the program's among them, which keep theirs
+-- which is over the program's symbols and counts its variables by first appearance, ends so. Its constants have one number
+-- exactly if they are one, the program's among them, which keep theirs
 pub record Ran (s t : List ℕ) (room : ℕ) (r : Reading) (g : GoalReading) : Type 0 where
   pub goal : isGoalOf (r .program) (g .goal) ≡ true
   pub constants : TextByValue t (g .constants)

@@ -10,17 +10,18 @@ use mathlib.Core.List.{List, [], _∷_, _++_, map, append-assoc, append-nil}
 use mathlib.Core.Logic.{_↔_}
 use mathlib.Core.Option.{Option, none, some}
 use mathlib.Core.Path.{_≡_, refl, sym, ap, subst, _∙_}
-use lib.Dec.{leb, ltb, eqb}
+use lib.Dec.{leb, ltb}
 use lib.ListN.{length, getD, drop, length-append, List·getD-append}
 use lib.Seq.{getD-append-seam}
-use borrow.Author.Tests.{lt-ltb, ltb-true, eqb-true}
+use borrow.Author.Tests.{lt-ltb, ltb-true}
 use Rattle.text.specs.Lists.{onward, indexFrom, indexOf, sameBytes, isKnown, withName}
 use Rattle.text.specs.Lines.{Line, lines, lineIsFaulty}
 use Rattle.text.specs.Fields.{fields, isName}
 use Rattle.text.specs.Constants.{SameConstant, constantName}
-use Rattle.text.proofs.Bools.{never, and-true}
+use Rattle.text.proofs.Bools.{never}
+use Rattle.text.proofs.Laws.{same-is}
 use Rattle.text.proofs.ConstantLaws.{same-name, own-name}
-use Rattle.semantics.specs.Terms.{Term, con, var, Constraint, Symbol, Rule, removedHeads, weight}
+use Rattle.semantics.specs.Terms.{Term, con, var, Constraint, Symbol, Rule, weight}
 use Rattle.semantics.proofs.Configurations.{All, also}
 use Rattle.semantics.proofs.Configurations as C
 use Rattle.semantics.proofs.Multisets.{all-append, all-mono}
@@ -29,9 +30,9 @@ use Rattle.syntax.specs.Answers.{Answer, refused, accepted}
 use Rattle.syntax.specs.Forms.{Form, symbolForm, ruleForm, keptForm, headForm, bodyForm, equationForm, goalForm, noForm}
 use Rattle.syntax.specs.Forms.{formOf, Section, sectionAfter, fieldAt, constantsAfter, firstConstant, termOf, letterNumber}
 use Rattle.syntax.specs.Forms.{isSymbolFaulty, isRuleFaulty, isEquationFaulty}
-use Rattle.syntax.specs.Programs.{Draft, RuleRead, Reading, Found, blank, inSection, lastRule, withRule}
+use Rattle.syntax.specs.Programs.{Draft, Reading, blank, inSection, lastRule, withRule}
 use Rattle.syntax.specs.Programs.{readSymbol, readRule, constraintLine, readConstraint, readEquation, readForm, readFields}
-use Rattle.syntax.specs.Programs.{readLine, readLines, checkRules, readProgram}
+use Rattle.syntax.specs.Programs.{readLine, readLines, readProgram}
 use Rattle.syntax.specs.Programs.{maxSymbols, maxRules, maxEquations, maxConstants, maxText}
 use Rattle.syntax.specs.Goals.{GoalDraft, GoalReading, maxGoal, maxWeight, lettersAfter, readConstraintOfGoal, isGoalForm}
 use Rattle.syntax.specs.Goals.{readGoalFields, readGoalLine, readGoalLines, readGoal}
@@ -39,16 +40,7 @@ use Rattle.syntax.specs.Claims.{Among, ByValue, termFields, termsIn, Tex
 use Rattle.syntax.proofs.WellFormed.{Holds, holds-refuseIf, holds-andThen, holds-accepted, holds-constraintLine}
 use Rattle.syntax.proofs.Known.{same-refl, known-front, grown-known, constants-grown}
 use Rattle.syntax.proofs.Tabled.{name-first}
-use Rattle.syntax.proofs.Vocabulary.{constants-more}
-
--- lists of the same bytes are the same
-pub same-is : (a b : List ℕ) → sameBytes a b ≡ true → a ≡ b
-same-is [] [] e = refl
-same-is [] (y ∷ b) e = absurd (never (sym e))
-same-is (x ∷ a) [] e = absurd (never (sym e))
-same-is (x ∷ a) (y ∷ b) e =
-    let (p, q) = and-true (eqb x y) (sameBytes a b) e in
-    ap (λ (z : ℕ). z ∷ a) (eqb-true x y p) ∙ ap (λ (l : List ℕ). y ∷ l) (same-is a b q)
+use Rattle.syntax.proofs.Vocabulary.{constants-more, holds-checked}
 
 -- what passes a test is not found behind where it stands, and what is found passes it
 index-reaches : (t : List ℕ → Bool) (xs : List (List ℕ)) (i : ℕ) → i < length xs → t (getD xs i []) ≡ true → indexFrom t 0 xs ≤ i
@@ -308,17 +300,6 @@ lines-grow n d (l ∷ ls) =
     holds-andThen (GrowsTo d (lineTerms l)) (GrowsTo d (lineTerms l ++ termsIn ls)) (readLine n l d) _ (line-grows n l d)
     λ e _ p. holds-mono (readLines (suc n) e ls) (λ f q. grows-then p q) (lines-grow (suc n) e ls)
 
--- the rules of a program say nothing of its constants
-holds-rules :
-    {A : Type 0} (P : A → Type 0) (symbols : List Symbol) (rs : List RuleRead) (otherwise : Answer A) → Holds P otherwise
-    → Holds P (checkRules symbols rs otherwise)
-unfolding checkRules
-holds-rules P symbols [] otherwise h = h
-holds-rules P symbols (r ∷ rs) otherwise h =
-    holds-refuseIf P (eqb (length (removedHeads (r .rule))) 0) 8 (r .line) _
-    λ _. holds-refuseIf P (leb (weight symbols (removedHeads (r .rule))) (weight symbols (r .rule .body))) 9 (r .line) _
-    λ _. holds-rules P symbols rs otherwise h
-
 read-grows : (s : List ℕ) {r : Reading} → readProgram s ≡ accepted r → Grows [] (termsIn (lines s)) (r .constants)
 unfolding readProgram blank
 read-grows s e =
@@ -326,7 +307,7 @@ read-grows s e =
     holds-accepted P _
     (holds-refuseIf P (ltb maxText (length s)) 1 0 _
     λ _. holds-andThen (GrowsTo blank (termsIn (lines s))) P (readLines 1 blank (lines s)) _ (lines-grow 1 blank (lines s))
-    λ d _ p. holds-rules P (d .symbols) (d .rules) _ p) e
+    λ d _ p. holds-checked P (d .symbols) (d .rules) _ p) e
 
 -- each line of a goal
 goal-form : (form : Form) (fs : List (List ℕ)) → not (isGoalForm form) ≡ false → termFields form fs ≡ drop 2 fs
@@ -397,9 +378,9 @@ known-at (g ∷ gs) cs (also k all) (suc i) h = known-at gs cs all i (omega arit
 grown-by-value : (text : List ℕ) (before after : List (List ℕ)) → Tidy before → Grows before (termsIn (lines text)) after
     → TextByValue text after
 grown-by-value text before after t p =
+    let gs = termsIn (lines text) in
     record {
-      all = λ i h n.
-          known-among after (p .tidy t) (getD (termsIn (lines text)) i []) (known-at (termsIn (lines text)) after (p .known) i h n);
+      all = λ i h n. known-among after (p .tidy t) (getD gs i []) (known-at gs after (p .known) i h n);
       by-value = tidy-by-value after (p .tidy t);
     }
 

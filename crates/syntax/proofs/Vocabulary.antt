@@ -78,14 +78,16 @@ rule-more h r s =
 
 -- a term field is over the constants, where its name is among them
 pub term-over :
-    (variable : List ℕ → ℕ) (constants : List (List ℕ)) (f : List ℕ) → (isName f ≡ true → isKnown (constantName f) constants ≡ true)
+    (variable : List ℕ → ℕ) (constants : List (List ℕ)) (f : List ℕ)
+    → (isName f ≡ true → isKnown (constantName f) constants ≡ true)
     → TermOver (ConstantOf (length constants)) (termOf variable constants f)
 unfolding termOf isKnown
 term-over variable constants f h = go (isName f) refl
   where
     go :
         (b : Bool) → isName f ≡ b
-        → TermOver (ConstantOf (length constants)) (cond b (con (firstConstant + indexOf (constantName f) constants)) (var (variable f)))
+        → TermOver (ConstantOf (length constants))
+        (cond b (con (firstConstant + indexOf (constantName f) constants)) (var (variable f)))
     go true e = let k : indexOf (constantName f) constants < length constants = ltb-true _ _ (h e) in (omega arith, omega arith)
     go false e = tt
 
@@ -349,7 +351,7 @@ lines-small n d (l ∷ ls) s = holds-andThen Small Small (readLine n l d) _ (lin
     (λ e _ t. lines-small (suc n) e ls t)
 
 -- rules that met neither 8 nor 9, whatever they are
-holds-checked :
+pub holds-checked :
     {A : Type 0} (P : A → Type 0) (symbols : List Symbol) (rs : List RuleRead) (otherwise : Answer A) → Holds P otherwise
     → Holds P (checkRules symbols rs otherwise)
 unfolding checkRules

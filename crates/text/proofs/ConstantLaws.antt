@@ -9,23 +9,23 @@
 -- Assumes nothing.
 use mathlib.Core.Path.{_≡_, refl, sym, ap, ap₂, _∙_}
 use mathlib.Core.Logic.{_↔_}
-use mathlib.Core.Bool.{Bool, true, false, cond, not, _&&_}
+use mathlib.Core.Bool.{Bool, true, false, cond, not}
 use mathlib.Core.List.{List, [], _∷_, _++_}
-use Prim.Native.Nat.{ℕ, zero, suc, _+_, _-_, _*_, _/_, _%_, _≤_, _<_}
+use Prim.Native.Nat.{ℕ, zero, suc, _+_, _-_, _*_, _/_, _%_, _≤_}
 use native.Mathlib.Nat.{not-suc-le-zero}
 use native.Mathlib.Omega.{arith}
-use borrow.Author.Tests.{eqb-true, eqb-false, not-true}
+use borrow.Author.Tests.{eqb-true, eqb-false}
 use lib.Dec.{eqb}
 use lib.ListN.{length, take, drop, getD, length-take, length-drop}
-use lib.Seq.{take-suc, take-all}
-use Rattle.text.specs.Bytes.{digit, between, isClass}
+use Rattle.text.specs.Bytes.{digit, isClass}
 use Rattle.text.specs.Lists.{every}
 use Rattle.text.specs.Fields.{isName, isNumber, valueFrom, valueOf, decimal}
 use Rattle.text.specs.Constants.{isNumeral, SameConstant, spelled, valued, constantName}
 use Rattle.text.proofs.Bools.{never, and-true}
-use Rattle.text.proofs.Laws.{every-append}
+use Rattle.text.proofs.Laws.{every-append, last-apart}
 use Rattle.text.proofs.ClassLaws.{between-true, is-digit}
 use Rattle.text.proofs.Keys.{nameByte, name-is, name-size, name-bytes}
+use Rattle.text.proofs.Numbers.{value-grows}
 use Rattle.text.proofs.Decimals.{value-last, decimal-low, decimal-high, decimal-exact}
 
 -- the name of a numeral, and of any other constant
@@ -78,11 +78,6 @@ same-name f g = (one, λ e. back (isNumeral f) (isNumeral g) refl refl e)
     back false false h k e = spelled (sym (other-name f h) ∙ e ∙ other-name g k)
 
 -- digits of which the first is not zero are those of their value
-value-grows : (v : ℕ) (s : List ℕ) → v ≤ valueFrom v s
-unfolding valueFrom
-value-grows v [] = omega arith
-value-grows v (b ∷ s) = omega (arith, value-grows (v * 10 + (b - 48)) s)
-
 digit-range : (b : ℕ) → isClass digit b ≡ true → (48 ≤ b) × (b ≤ 57)
 digit-range b h = between-true 48 57 b (sym (is-digit b) ∙ h)
 
@@ -102,8 +97,7 @@ led-decimal (suc n) b [] h k e = digit-decimal b e
 led-decimal (suc n) b (c ∷ s) h k e =
     let g : List ℕ = take (length s) (c ∷ s) in
     let d : ℕ = getD (c ∷ s) (length s) 0 in
-    let is : c ∷ s ≡ g ++ (d ∷ []) =
-    sym (take-all (suc (length s)) (c ∷ s) (omega arith)) ∙ take-suc (c ∷ s) (length s) 0 (omega arith) in
+    let is : c ∷ s ≡ g ++ (d ∷ []) = last-apart c s in
     let short : length g ≤ n = omega (arith, length-take (length s) (c ∷ s)) in
     let whole : every (isClass digit) ((b ∷ g) ++ (d ∷ [])) ≡ true =
     ap (λ (l : List ℕ). every (isClass digit) (b ∷ l)) (sym is) ∙ e in

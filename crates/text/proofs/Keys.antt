@@ -14,14 +14,14 @@ use native.Mathlib.Omega.{arith}
 use borrow.Author.Tests.{le-leb, lt-leb, lt-ltb, le-ltb, ne-eqb}
 use lib.Dec.{leb, ltb, eqb}
 use lib.ListN.{length, getD, take, length-take}
-use lib.Seq.{take-suc, take-all, append-snoc}
+use lib.Seq.{append-snoc}
 use Rattle.text.specs.Bytes.{between, classOf, isNameClass}
 use Rattle.text.specs.Lists.{every}
 use Rattle.text.specs.Fields.{isName, isVariable, isTerm}
 use Rattle.text.specs.Keys.{packedFrom, packed, spellFrom, spell, keyOf}
 use Rattle.text.specs.Splits.{isPlain, sevenBytes}
 use Rattle.text.proofs.Bools.{never, and-true, and-false}
-use Rattle.text.proofs.Laws.{every-append}
+use Rattle.text.proofs.Laws.{every-append, last-apart}
 use Rattle.text.proofs.ClassLaws.{between-true, plain-range, name-range, is-capital}
 
 abbrev pub nameByte : ℕ → Bool
@@ -189,8 +189,7 @@ spell-packed (suc n) [] behind h e = refl
 spell-packed (suc n) (b ∷ s) behind h e =
     let g : List ℕ = take (length s) (b ∷ s) in
     let c : ℕ = getD (b ∷ s) (length s) 0 in
-    let is : b ∷ s ≡ g ++ (c ∷ []) =
-    sym (take-all (suc (length s)) (b ∷ s) (omega arith)) ∙ take-suc (b ∷ s) (length s) 0 (omega arith) in
+    let is : b ∷ s ≡ g ++ (c ∷ []) = last-apart b s in
     let both = and-true (every nameByte g) (every nameByte (c ∷ []))
     (sym (every-append nameByte g (c ∷ [])) ∙ sym (ap (every nameByte) is) ∙ e) in
     let range = name-range c (and-true (nameByte c) true (both .1) .0) in

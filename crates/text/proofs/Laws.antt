@@ -1,22 +1,23 @@
 -- Laws of lists, as the definitions and the code of this crate use them.
 --   drop-take                          a part by its ends, and by its start and length
 --   every-append, every-implied        a test of all elements: of two lists, and one that follows from another
+--   last-apart                         a list by its last element
 --   same-..                            two parts compared: from a place on, of different lengths, equal
 --   tabled-length, tabled-at           the length of a table, an entry of it
 -- Assumes nothing.
-use mathlib.Core.Path.{_≡_, refl, sym, ap, _∙_}
+use mathlib.Core.Path.{_≡_, refl, sym, ap, ap₂, _∙_}
 use mathlib.Core.Bool.{Bool, true, false, _&&_}
 use mathlib.Core.List.{List, [], _∷_, _++_}
 use Prim.Native.Nat.{ℕ, zero, suc, _-_, _≤_, _<_}
 use native.Mathlib.Nat.{le-of-suc-le-suc, not-suc-le-zero, suc-sub-suc, sub-zero}
 use native.Mathlib.Decide.{decLt}
 use native.Mathlib.Omega.{arith}
-use borrow.Author.Tests.{eq-eqb, ne-eqb}
+use borrow.Author.Tests.{eq-eqb, ne-eqb, eqb-true}
 use lib.Dec.{eqb}
 use lib.ListN.{length, take, drop, getD, length-append, List·getD-append, drop-of-length-le}
-use lib.Seq.{drop-cons, getD-at}
+use lib.Seq.{drop-cons, getD-at, take-suc, take-all}
 use Rattle.text.specs.Lists.{every, sameBytes, tabled}
-use Rattle.text.proofs.Bools.{and-true, and-false, and-assoc}
+use Rattle.text.proofs.Bools.{never, and-true, and-false, and-assoc}
 
 -- a part by its ends, and by its start and length
 pub drop-take : (a e : ℕ) (s : List ℕ) → a ≤ e → drop a (take e s) ≡ take (e - a) (drop a s)
@@ -42,6 +43,10 @@ every-implied p q f (b ∷ s) h =
     let both = and-true (p b) (every p s) h in
     rw (f b (both .0), every-implied p q f s (both .1))
 
+-- a list that is not empty is all but its last element, and that
+pub last-apart : (b : ℕ) (s : List ℕ) → b ∷ s ≡ take (length s) (b ∷ s) ++ (getD (b ∷ s) (length s) 0 ∷ [])
+last-apart b s = sym (take-all (suc (length s)) (b ∷ s) (omega arith)) ∙ take-suc (b ∷ s) (length s) 0 (omega arith)
+
 -- two parts compared
 pub same-lengths : (a b : List ℕ) → (length a ≡ length b → ⊥) → sameBytes a b ≡ false
 same-lengths [] [] h = absurd (h refl)
@@ -65,6 +70,15 @@ same-length [] [] e = refl
 same-length [] (y ∷ b) e = absurd (let z : _≡_ {A = ℕ} 0 1 = cc in omega arith)
 same-length (x ∷ a) [] e = absurd (let z : _≡_ {A = ℕ} 0 1 = cc in omega arith)
 same-length (x ∷ a) (y ∷ b) e = ap suc (same-length a b (and-true (eqb x y) (sameBytes a b) e .1))
+
+-- lists of the same bytes are the same
+pub same-is : (a b : List ℕ) → sameBytes a b ≡ true → a ≡ b
+same-is [] [] e = refl
+same-is [] (y ∷ b) e = absurd (never (sym e))
+same-is (x ∷ a) [] e = absurd (never (sym e))
+same-is (x ∷ a) (y ∷ b) e =
+    let (p, q) = and-true (eqb x y) (sameBytes a b) e in
+    ap₂ (λ (z : ℕ) (l : List ℕ). z ∷ l) (eqb-true x y p) (same-is a b q)
 
 -- a table by its entries
 module _ {ℓ} {A : Type ℓ} (f : ℕ → A) where

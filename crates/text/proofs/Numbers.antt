@@ -1,6 +1,7 @@
 -- Laws of numbers: a field that is a number of one or two digits is told by its key, and so is its value.
 --   number-key     whether a field is a number in a range below 100
 --   value-key      the value of such a field
+--   value-grows    more digits do not make a value smaller
 --   number-one-digit, number-two-digits, number-no-digits     the number of a key, as the code tests it
 -- Assumes nothing.
 use mathlib.Core.Path.{_≡_, refl, sym, ap, _∙_}
@@ -46,7 +47,7 @@ number-two b c = rw (is-digit b, is-digit c, digit-more b) (go (not (eqb b 48)) 
     go true false u = refl
     go false t u = refl
 
-value-grows : (v : ℕ) (s : List ℕ) → v ≤ valueFrom v s
+pub value-grows : (v : ℕ) (s : List ℕ) → v ≤ valueFrom v s
 unfolding valueFrom
 value-grows v [] = omega arith
 value-grows v (b ∷ s) = omega (arith, value-grows (v * 10 + (b - 48)) s)
