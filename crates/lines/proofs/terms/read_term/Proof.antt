@@ -18,7 +18,8 @@ returns-2 c =
     let at-if1 = at-constant .before in
     let at-slice-known = at-if1 .before .before in
     let start = at-slice-known .before in
-    term-known _ _ _ _ _ (start .pre .0) (start .pre .1) (start .pre .2) _ _ (at-if1 .if1 .left) (λ i. omega (
+    term-known _ _ _ _ _ (start .pre .0) (start .pre .1) (start .pre .2) _ (at-constant .constant .result)
+    (at-if1 .if1 .left) (λ i. omega (
       arith,
       at-slice-known .slice-known .given i,
     )) (at-constant .constant .ensures .0) (at-find-key .find-key .ensures .0)
@@ -32,7 +33,8 @@ returns-3 c =
     let at-if1 = at-constant .before in
     let at-slice-known = at-if1 .before .before in
     let start = at-slice-known .before in
-    term-full _ _ _ _ _ (start .pre .0) (start .pre .1) (start .pre .2) _ _ (at-if1 .if1 .left) (λ i. omega (
+    term-full _ _ _ _ _ (start .pre .0) (start .pre .1) (start .pre .2) _ (at-constant .constant .result)
+    (at-if1 .if1 .left) (λ i. omega (
       arith,
       at-slice-known .slice-known .given i,
     )) (at-constant .constant .ensures .0) (at-find-key .find-key .ensures .0)
@@ -54,7 +56,8 @@ returns-4 c =
     let at-if1 = at-constant .before in
     let at-slice-known = at-if1 .before .before in
     let start = at-slice-known .before in
-    term-new _ _ _ _ _ (start .pre .0) (start .pre .1) (start .pre .2) _ _ (at-if1 .if1 .left) (λ i. omega (
+    term-new _ _ _ _ _ (start .pre .0) (start .pre .1) (start .pre .2) _ (at-constant .constant .result)
+    (at-if1 .if1 .left) (λ i. omega (
       arith,
       at-slice-known .slice-known .given i,
     )) (at-constant .constant .ensures .0) (at-find-key .find-key .ensures .0)
