@@ -359,7 +359,7 @@ module _ (goal symbols names₀ places₀ : List ℕ) (c : ℕ) (names places ce
         placed-on : (program : List ℕ) → Placed program goal names₀ places₀ → Placed program goal names′ places′
         placed-on program p =
             g .keeps .keeps program goal line-fields (split .holds fine)
-            (spelled-goal line-fields f (split .near) program goal (split .stands fine)) (w .placed program p)
+            (spelled-goal line-fields f program goal (split .stands fine)) (w .placed program p)
 
         room-on : Room symbols names′ places′ cells′ letters′
         room-on =

@@ -17,6 +17,7 @@ use lib.ListN.{length, take, drop, getD, set, length-set}
 use lib.Seq.{take-suc, getD-set-same, getD-set-other}
 use Rattle.text.specs.Lists.{every, indexFrom, indexOf, isKnown, withName, sameBytes}
 use Rattle.text.specs.Fields.{isName, isTerm}
+use Rattle.text.specs.Constants.{constantName}
 use Rattle.text.specs.Keys.{keyOf}
 use Rattle.text.proofs.Laws.{tabled-length, tabled-at}
 use Rattle.text.proofs.Keys.{letter-key, variable-range}
@@ -364,7 +365,7 @@ module _ (row : List ℕ) (v : ℕ) (l₀ l₁ l₂ l₃ l₄ : List ℕ) (a b c
       }
 
 -- the letter of a term's cell is the term
-module _ (cs : List (List ℕ)) (g : List ℕ) (t : isTerm g ≡ true) (few : indexOf g cs < 192) where
+module _ (cs : List (List ℕ)) (g : List ℕ) (t : isTerm g ≡ true) (few : indexOf (constantName g) cs < 192) where
   letter-back : isName g ≡ false → letterOf (254 + keyOf g) ≡ g
   unfolding letterOf
   letter-back n =
@@ -377,10 +378,10 @@ module _ (cs : List (List ℕ)) (g : List ℕ) (t : isTerm g ≡ true) (few : in
   one-letter l = go (isName g) refl
     where
       go : (b : Bool) → isName g ≡ b
-          → cond (ltb (cond b (firstConstant + indexOf g cs) (254 + keyOf g)) 256) l
-          (withName (letterOf (cond b (firstConstant + indexOf g cs) (254 + keyOf g))) l)
+          → cond (ltb (cond b (firstConstant + indexOf (constantName g) cs) (254 + keyOf g)) 256) l
+          (withName (letterOf (cond b (firstConstant + indexOf (constantName g) cs) (254 + keyOf g))) l)
           ≡ cond b l (withName g l)
-      go true e = rw (lt-ltb (firstConstant + indexOf g cs) 256 (omega arith))
+      go true e = rw (lt-ltb (firstConstant + indexOf (constantName g) cs) 256 (omega arith))
       go false e =
           rw (le-ltb (254 + keyOf g) 256 (omega (arith, letter-range g t e .0)), letter-back e)
 
@@ -389,12 +390,13 @@ module _ (cs : List (List ℕ)) (g : List ℕ) (t : isTerm g ≡ true) (few : in
   one-number l = go (isName g) refl
     where
       go : (b : Bool) → isName g ≡ b
-          → cellTerm (cond (ltb (cond b (firstConstant + indexOf g cs) (254 + keyOf g)) 256)
-          (cond b (firstConstant + indexOf g cs) (254 + keyOf g))
-          (256 + indexOf (letterOf (cond b (firstConstant + indexOf g cs) (254 + keyOf g))) l))
-          ≡ cond b (con (firstConstant + indexOf g cs)) (var (indexOf g l))
+          → cellTerm (cond (ltb (cond b (firstConstant + indexOf (constantName g) cs) (254 + keyOf g)) 256)
+          (cond b (firstConstant + indexOf (constantName g) cs) (254 + keyOf g))
+          (256 + indexOf (letterOf (cond b (firstConstant + indexOf (constantName g) cs) (254 + keyOf g))) l))
+          ≡ cond b (con (firstConstant + indexOf (constantName g) cs)) (var (indexOf g l))
       go true e =
-          rw (lt-ltb (firstConstant + indexOf g cs) 256 (omega arith)) (cell-low (firstConstant + indexOf g cs) (omega arith))
+          rw (lt-ltb (firstConstant + indexOf (constantName g) cs) 256 (omega arith))
+          (cell-low (firstConstant + indexOf (constantName g) cs) (omega arith))
       go false e =
           rw (le-ltb (254 + keyOf g) 256 (omega (arith, letter-range g t e .0)), letter-back e)
           (cell-high (256 + indexOf g l) (omega arith)
@@ -405,10 +407,10 @@ module _ (cs : List (List ℕ)) (g : List ℕ) (t : isTerm g ≡ true) (few : in
   one-used l = go (isName g) refl
     where
       go : (b : Bool) → isName g ≡ b
-          → cond (ltb (cond b (firstConstant + indexOf g cs) (254 + keyOf g)) 256)
-          (cond b (firstConstant + indexOf g cs) (254 + keyOf g))
-          (256 + indexOf (letterOf (cond b (firstConstant + indexOf g cs) (254 + keyOf g))) l) ≡ 0 → ⊥
-      go true e z = let y = rw (lt-ltb (firstConstant + indexOf g cs) 256 (omega arith)) at z in omega (arith, y)
+          → cond (ltb (cond b (firstConstant + indexOf (constantName g) cs) (254 + keyOf g)) 256)
+          (cond b (firstConstant + indexOf (constantName g) cs) (254 + keyOf g))
+          (256 + indexOf (letterOf (cond b (firstConstant + indexOf (constantName g) cs) (254 + keyOf g))) l) ≡ 0 → ⊥
+      go true e z = let y = rw (lt-ltb (firstConstant + indexOf (constantName g) cs) 256 (omega arith)) at z in omega (arith, y)
       go false e z =
           let y = rw (le-ltb (254 + keyOf g) 256 (omega (arith, letter-range g t e .0))) at z in omega (arith, y)
 
@@ -431,7 +433,7 @@ letters-after n cs [] l h few t = zeros-letters n l
 letters-after zero cs (g ∷ gs) l h few t = absurd (omega arith)
 letters-after (suc n) cs (g ∷ gs) l h few t =
     let (a, b) = and-true (isTerm g) (every isTerm gs) t in
-    ap (withLetters (padded n (map (termCell cs) gs))) (one-letter cs g a (few g) l)
+    ap (withLetters (padded n (map (termCell cs) gs))) (one-letter cs g a (few (constantName g)) l)
     ∙ letters-after n cs gs (cond (isName g) l (withName g l)) (omega arith) few b
 
 -- the terms that the numbered cells of a line stand for
@@ -443,5 +445,6 @@ cells-numbered n cs [] l h few t = zeros-terms n l
 cells-numbered zero cs (g ∷ gs) l h few t = absurd (omega arith)
 cells-numbered (suc n) cs (g ∷ gs) l h few t =
     let (a, b) = and-true (isTerm g) (every isTerm gs) t in
-    rw (ne-eqb (numberedCell l (termCell cs g)) 0 (one-used cs g a (few g) l))
-    (ap₂ (λ (y : Term) (ys : List Term). y ∷ ys) (one-number cs g a (few g) l) (cells-numbered n cs gs l (omega arith) few b))
+    rw (ne-eqb (numberedCell l (termCell cs g)) 0 (one-used cs g a (few (constantName g)) l))
+    (ap₂ (λ (y : Term) (ys : List Term). y ∷ ys) (one-number cs g a (few (constantName g)) l)
+    (cells-numbered n cs gs l (omega arith) few b))

@@ -138,7 +138,7 @@ pub record GoalLinesIn (goal symbols names places : List ℕ) (c : ℕ) (names�
   pub placed : (program : List ℕ) → Placed program goal names places → Placed program goal names′ places′
   pub room : Room symbols names′ places′ cells′ letters′
 
--- the goal that the tables hold, with the letters of its variables and the spelling of all constants
+-- the goal that the tables hold, with the letters of its variables and the names of all constants
 unfoldable pub goalReadingOf : List ℕ → List ℕ → List ℕ → GoalCounts → GoalReading
 goalReadingOf names cells letters s =
     record {

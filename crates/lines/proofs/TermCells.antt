@@ -14,6 +14,7 @@ use lib.ListN.{length, getD, set}
 use Rattle.text.specs.Bytes.{between}
 use Rattle.text.specs.Lists.{every, indexOf, isKnown}
 use Rattle.text.specs.Fields.{isName, isVariable, isTerm}
+use Rattle.text.specs.Constants.{constantName}
 use Rattle.text.specs.Keys.{keyOf}
 use Rattle.text.proofs.Bools.{and-true}
 use Rattle.semantics.specs.Terms.{Term, con, var}
@@ -48,14 +49,14 @@ module _ (f : List ℕ) (t : isTerm f ≡ true) (n : isName f ≡ false) where
 
 -- what the cell of a term stands for
 module _ (cs : List (List ℕ)) (f : List ℕ) (t : isTerm f ≡ true) where
-  pub cell-term : indexOf f cs < 192 → cellTerm (termCell cs f) ≡ termOf letterNumber cs f
+  pub cell-term : indexOf (constantName f) cs < 192 → cellTerm (termCell cs f) ≡ termOf letterNumber cs f
   unfolding termCell termOf
   cell-term h = go (isName f) refl
     where
       go : (b : Bool) → isName f ≡ b
-          → cellTerm (cond b (firstConstant + indexOf f cs) (254 + keyOf f))
-          ≡ cond b (con (firstConstant + indexOf f cs)) (var (letterNumber f))
-      go true e = cell-low (firstConstant + indexOf f cs) (omega arith)
+          → cellTerm (cond b (firstConstant + indexOf (constantName f) cs) (254 + keyOf f))
+          ≡ cond b (con (firstConstant + indexOf (constantName f) cs)) (var (letterNumber f))
+      go true e = cell-low (firstConstant + indexOf (constantName f) cs) (omega arith)
       go false e =
           let (a, b) = letter-range f t e in
           cell-high (254 + keyOf f) (omega arith)
@@ -65,25 +66,28 @@ module _ (cs : List (List ℕ)) (f : List ℕ) (t : isTerm f ≡ true) where
   unfolding termCell
   cell-used = go (isName f)
     where
-      go : (b : Bool) → cond b (firstConstant + indexOf f cs) (254 + keyOf f) ≡ 0 → ⊥
+      go : (b : Bool) → cond b (firstConstant + indexOf (constantName f) cs) (254 + keyOf f) ≡ 0 → ⊥
       go true e = omega arith
       go false e = omega arith
 
 -- later constants do not change the cell of a term whose name is known
-pub cell-later : (cs more : List (List ℕ)) (f : List ℕ) → (isName f ≡ true → isKnown f cs ≡ true)
+pub cell-later : (cs more : List (List ℕ)) (f : List ℕ) → (isName f ≡ true → isKnown (constantName f) cs ≡ true)
     → termCell (cs ++ more) f ≡ termCell cs f
 unfolding termCell isKnown
 cell-later cs more f h = go (isName f) h
   where
-    go : (b : Bool) → (b ≡ true → ltb (indexOf f cs) (length cs) ≡ true)
-        → cond b (firstConstant + indexOf f (cs ++ more)) (254 + keyOf f) ≡ cond b (firstConstant + indexOf f cs) (254 + keyOf f)
-    go true k = ap (λ (p : ℕ). firstConstant + p) (name-first f cs more (ltb-true (indexOf f cs) (length cs) (k refl)))
+    go : (b : Bool) → (b ≡ true → ltb (indexOf (constantName f) cs) (length cs) ≡ true)
+        → cond b (firstConstant + indexOf (constantName f) (cs ++ more)) (254 + keyOf f)
+        ≡ cond b (firstConstant + indexOf (constantName f) cs) (254 + keyOf f)
+    go true k =
+        ap (λ (p : ℕ). firstConstant + p)
+        (name-first (constantName f) cs more (ltb-true (indexOf (constantName f) cs) (length cs) (k refl)))
     go false k = refl
 
 -- a term's own name is known behind it
-pub one-known : (cs : List (List ℕ)) (f : List ℕ) → isName f ≡ true → isKnown f (constantsAfter (f ∷ []) cs) ≡ true
+pub one-known : (cs : List (List ℕ)) (f : List ℕ) → isName f ≡ true → isKnown (constantName f) (constantsAfter (f ∷ []) cs) ≡ true
 unfolding constantsAfter
-one-known cs f e = rw e (with-known f cs)
+one-known cs f e = rw e (with-known (constantName f) cs)
 
 pub padded-set : (n : ℕ) (l : List ℕ) (x : ℕ) → length l < n → set (padded n l) (length l) x ≡ padded n (l ++ (x ∷ []))
 unfolding padded
@@ -105,4 +109,5 @@ padded-terms zero cs (g ∷ gs) h few t = absurd (omega arith)
 padded-terms (suc n) cs (g ∷ gs) h few t =
     let (a, b) = and-true (isTerm g) (every isTerm gs) t in
     rw (ne-eqb (termCell cs g) 0 (cell-used cs g a))
-    (ap₂ (λ (x : Term) (l : List Term). x ∷ l) (cell-term cs g a (few g)) (padded-terms n cs gs (omega arith) few b))
+    (ap₂ (λ (x : Term) (l : List Term). x ∷ l) (cell-term cs g a (few (constantName g)))
+    (padded-terms n cs gs (omega arith) few b))

@@ -14,10 +14,14 @@ use lib.ListN.{length, take, drop, getD, set, length-append, length-map, length-
 use lib.Seq.{drop-cons, take-suc, take-all, getD-drop, getD-set-same, getD-set-other}
 use Rattle.text.specs.Lists.{every, indexFrom, indexOf, isKnown, withName}
 use Rattle.text.specs.Fields.{isName, isTerm}
+use Rattle.text.specs.Constants.{constantName}
 use Rattle.text.specs.Keys.{keyOf, spell}
 use Rattle.text.specs.Splits.{Holds}
 use Rattle.text.specs.declared.fields.Fields.{Fields}
+use Rattle.numerals.specs.declared.Constant.{Constant}
+use Rattle.numerals.specs.Numerals.{ConstantIn}
 use Rattle.text.proofs.Laws.{tabled-length}
+use Rattle.text.proofs.ConstantLaws.{constant-name}
 use Rattle.text.proofs.Bools.{and-true}
 use Rattle.syntax.specs.Forms.{constantsAfter, firstConstant}
 use Rattle.syntax.proofs.Vocabulary.{constants-more, constants-least}
@@ -67,19 +71,20 @@ module _ (g : List ℕ) (cs : List (List ℕ)) where
   unfolding constantsAfter
   after-letter e = rw e
 
-  after-known : isName g ≡ true → indexOf g cs < length cs → constantsAfter (g ∷ []) cs ≡ cs
+  after-known : isName g ≡ true → indexOf (constantName g) cs < length cs → constantsAfter (g ∷ []) cs ≡ cs
   unfolding constantsAfter withName isKnown
-  after-known e h = rw (e, lt-ltb (indexOf g cs) (length cs) h)
+  after-known e h = rw (e, lt-ltb (indexOf (constantName g) cs) (length cs) h)
 
-  after-new : isName g ≡ true → length cs ≤ indexOf g cs → constantsAfter (g ∷ []) cs ≡ cs ++ (g ∷ [])
+  after-new : isName g ≡ true → length cs ≤ indexOf (constantName g) cs
+      → constantsAfter (g ∷ []) cs ≡ cs ++ (constantName g ∷ [])
   unfolding constantsAfter withName isKnown
-  after-new e h = rw (e, le-ltb (indexOf g cs) (length cs) h)
+  after-new e h = rw (e, le-ltb (indexOf (constantName g) cs) (length cs) h)
 
   letter-cell : isName g ≡ false → termCell cs g ≡ 254 + keyOf g
   unfolding termCell
   letter-cell e = rw e
 
-  name-cell : isName g ≡ true → termCell cs g ≡ 64 + indexOf g cs
+  name-cell : isName g ≡ true → termCell cs g ≡ 64 + indexOf (constantName g) cs
   unfolding termCell
   name-cell e = rw e
 
@@ -107,11 +112,12 @@ module _ (key place count : ℕ) (names places : List ℕ) (few : count ≤ 64) 
               after = λ _. sym same;
               cell = λ _. ap (λ (k : ℕ). 254 + k) e ∙ sym (letter-cell g _ letter);
             });
-        keeps = λ program goal _ d. d;
+        keeps = λ program goal g _ _ d. d;
       }
 
-  module _ (k : ℕ) (h : 28 ≤ key) (w : Wide names)
-      (q : k ≡ indexFrom (eqb key) 0 (take (64 + count - 64) (drop 64 names))) where
+  module _ (k : ℕ) (r : Constant) (h : 28 ≤ key) (w : Wide names)
+      (named-by : (f : List ℕ) → isName f ≡ true → key ≡ keyOf f → ConstantIn f r)
+      (q : k ≡ indexFrom (eqb (r .key)) 0 (take (64 + count - 64) (drop 64 names))) where
     abbrev cs : List (List ℕ)
     cs = constantsOf names count
 
@@ -119,12 +125,25 @@ module _ (key place count : ℕ) (names places : List ℕ) (few : count ≤ 64) 
       named : isName g ≡ true
       named = name-key g ∙ lt-ltb 27 (keyOf g) (omega arith)
 
-      placed : k ≡ indexOf g cs
+      constant-in : ConstantIn g r
+      constant-in = named-by g named e
+
+      -- the key is that of the name
+      name-spelled : spell (r .key) ≡ constantName g
+      name-spelled = ap spell (constant-in .keyed) ∙ spell-key (constantName g) (constant-name g named)
+
+      placed : k ≡ indexOf (constantName g) cs
       unfolding constantsOf
       placed =
           let size : 64 + count - 64 ≡ count = omega arith in
-          q ∙ ap₂ (λ (x n : ℕ). indexFrom (eqb x) 0 (take n (drop 64 names))) e size
-          ∙ named-index g names 64 count named w (omega arith)
+          q ∙ ap₂ (λ (x n : ℕ). indexFrom (eqb x) 0 (take n (drop 64 names))) (constant-in .keyed) size
+          ∙ named-index (constantName g) names 64 count (constant-name g named) w (omega arith)
+
+      -- and the name stands behind the zeros
+      name-stands : (program goal : List ℕ)
+          → (isName g ≡ true → (j : ℕ) → j < length g → placedAt program goal (place + j) ≡ drop j g)
+          → placedAt program goal (place + r .zeros) ≡ spell (r .key)
+      name-stands program goal p = p named (r .zeros) (constant-in .few) ∙ constant-in .named ∙ sym name-spelled
 
     pub term-known : k < count → TermIn key place count names places names places (record { cell = 64 + k; count = count })
     term-known l =
@@ -139,11 +158,11 @@ module _ (key place count : ℕ) (names places : List ℕ) (few : count ≤ 64) 
                 after = λ _. sym same;
                 cell = λ _. ap (λ (i : ℕ). 64 + i) (placed g e) ∙ sym (rw same (name-cell g cs (named g e)));
               });
-          keeps = λ program goal _ d. d;
+          keeps = λ program goal g _ _ d. d;
         }
 
     module _ (l : count ≤ k) where
-      grown : (g : List ℕ) → key ≡ keyOf g → constantsAfter (g ∷ []) cs ≡ cs ++ (g ∷ [])
+      grown : (g : List ℕ) → key ≡ keyOf g → constantsAfter (g ∷ []) cs ≡ cs ++ (constantName g ∷ [])
       grown g e = after-new g cs (named g e) (omega (arith, constants-length names count, placed g e))
 
       pub term-full : 64 ≤ count → TermIn key place count names places names places (record { cell = 0; count = count })
@@ -157,38 +176,39 @@ module _ (key place count : ℕ) (names places : List ℕ) (few : count ≤ 64) 
               full = λ _. omega (
                 arith,
                 ap length (grown g e),
-                length-append cs (g ∷ []),
+                length-append cs (constantName g ∷ []),
                 constants-length names count,
               );
               after = λ z. absurd (z refl);
               cell = λ z. absurd (z refl);
             };
-            keeps = λ program goal _ d. d;
+            keeps = λ program goal g _ _ d. d;
           }
 
       pub term-new :
           count < 64
-          → TermIn key place count names places (set names (64 + count) key) (set places (64 + count) place)
+          → TermIn key place count names places (set names (64 + count) (r .key)) (set places (64 + count) (place + r .zeros))
           (record { cell = 64 + count; count = count + 1 })
       term-new m =
           record {
             few = omega arith;
             low = omega arith;
-            sized = length-set places (64 + count) place;
-            outside = outside-set names count key (omega arith) (omega arith);
+            sized = length-set places (64 + count) (place + r .zeros);
+            outside = outside-set names count (r .key) (omega arith) (omega arith);
             means = λ g e t. record {
               full = λ z. absurd (omega arith);
               after = λ _. rw (add-one count)
-                  (constants-set names count key (omega arith)
-                  ∙ ap (λ (f : List ℕ). cs ++ (f ∷ [])) (ap spell e ∙ spell-key g (named g e)) ∙ sym (grown g e));
+                  (constants-set names count (r .key) (omega arith)
+                  ∙ ap (λ (f : List ℕ). cs ++ (f ∷ [])) (name-spelled g e) ∙ sym (grown g e));
               cell = λ _.
-                  sym (rw (grown g e) (name-cell g (cs ++ (g ∷ [])) (named g e)
+                  sym (rw (grown g e) (name-cell g (cs ++ (constantName g ∷ [])) (named g e)
                   ∙ ap (λ (i : ℕ). 64 + i)
-                  (index-last g cs (omega (arith, constants-length names count, placed g e))
+                  (index-last (constantName g) cs (omega (arith, constants-length names count, placed g e))
                   ∙ constants-length names count)));
             };
-            keeps = λ program goal p d.
-                placed-set program goal names places (64 + count) key place a b (omega arith) (p (omega arith)) d;
+            keeps = λ program goal g e p d.
+                placed-set program goal names places (64 + count) (r .key) (place + r .zeros) a b (omega arith)
+                (name-stands g e program goal p) d;
           }
 
 -- the terms of the fields from `from` on, read as far as field i
@@ -312,11 +332,10 @@ module _ (f : Fields) (from base count : ℕ) (names₀ places₀ : List ℕ) wh
           split : drop i fs ≡ g ∷ drop (suc i) fs
           split = drop-cons fs i [] inside
 
-          spelled : (program goal : List ℕ) → Spelled program goal base fs f → 27 < key → placedAt program goal place ≡ spell key
-          spelled program goal s l =
-              let named : isName g ≡ true = name-key g ∙ lt-ltb 27 (keyOf g) (omega (arith, key-is)) in
-              ap (placedAt program goal) stood ∙ s .each i (omega arith) inside named
-              ∙ sym (ap spell key-is ∙ spell-key g named)
+          spelled : (program goal : List ℕ) → Spelled program goal base fs f → isName g ≡ true → (j : ℕ) → j < length g
+              → placedAt program goal (place + j) ≡ drop j g
+          spelled program goal s named j more =
+              ap (λ (at : ℕ). placedAt program goal (at + j)) stood ∙ s .rests i j (omega arith) inside named more
 
           module _ (u : every isTerm (drop from fs) ≡ true) where
             abbrev p : SoFar fs (constantsOf names₀ count) from names cells n i
@@ -384,7 +403,8 @@ module _ (f : Fields) (from base count : ℕ) (names₀ places₀ : List ℕ) wh
         abbrev kept : KeepsPlaces base f names₀ places₀ names′ places′
         kept = record {
           keeps = λ program goal fs h s d.
-              t .keeps program goal (spelled fs h program goal s) (w .keeps .keeps program goal fs h s d);
+              t .keeps program goal (getD fs i []) (key-is fs h) (spelled fs h program goal s)
+              (w .keeps .keeps program goal fs h s d);
         }
 
         pub walk-full : r .cell ≡ 0
@@ -437,6 +457,7 @@ terms-held f t =
       means = λ fs h. t .means fs (record { counted = h .counted; keyed = h .keyed });
       keeps = record {
         keeps = λ program goal fs h s.
-            t .keeps .keeps program goal fs (record { counted = h .counted; keyed = h .keyed }) (record { each = s .each });
+            t .keeps .keeps program goal fs (record { counted = h .counted; keyed = h .keyed })
+            (record { each = s .each; rests = s .rests });
       };
     }

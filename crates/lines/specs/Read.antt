@@ -15,7 +15,8 @@ use lib.Dec.{ltb, eqb}
 use lib.ListN.{length, drop, getD}
 use Rattle.text.specs.Lists.{every, indexOf}
 use Rattle.text.specs.Fields.{isName, isTerm}
-use Rattle.text.specs.Keys.{keyOf, spell}
+use Rattle.text.specs.Constants.{constantName}
+use Rattle.text.specs.Keys.{keyOf}
 use Rattle.text.specs.Splits.{Holds}
 use Rattle.text.specs.declared.fields.Fields.{Fields}
 use Rattle.semantics.specs.Terms as terms
@@ -75,9 +76,9 @@ abbrev pub headFits : Fields → ℕ → HeadRead → Type 0
 headFits f size (Refused x) = 0 < x
 headFits f size (HeadSymbol s) = (2 ≤ f .count) × (f .count ≤ 6) × (2 * s < size)
 
--- the cell of a term field: a constant's number, or 256 more than its letter's
+-- the cell of a term field: a constant's number, by its name, or 256 more than its letter's
 unfoldable pub termCell : List (List ℕ) → List ℕ → ℕ
-termCell constants f = cond (isName f) (firstConstant + indexOf f constants) (254 + keyOf f)
+termCell constants f = cond (isName f) (firstConstant + indexOf (constantName f) constants) (254 + keyOf f)
 
 -- n cells: those of a list, and zeros behind them
 unfoldable pub padded : ℕ → List ℕ → List ℕ
@@ -98,11 +99,15 @@ pub record Outside (names names′ : List ℕ) : Type 0 where
   pub symbols : (n : ℕ) → n < firstConstant → getD names′ n 0 ≡ getD names n 0
   pub rules : (n : ℕ) → firstRule ≤ n → getD names′ n 0 ≡ getD names n 0
 
--- the names among the fields stand in the two texts where the starts say, `base` added
+-- the names among the fields stand in the two texts where the starts say, `base` added, and so does what is left of a name behind
+-- some of its bytes
 pub record Spelled (program goal : List ℕ) (base : ℕ) (fs : List (List ℕ)) (f : Fields) : Type 0 where
   pub each :
       (i : ℕ) → i < 8 → i < length fs → isName (getD fs i []) ≡ true
       → placedAt program goal (base + getD (f .starts) i 0) ≡ getD fs i []
+  pub rests :
+      (i j : ℕ) → i < 8 → i < length fs → isName (getD fs i []) ≡ true → j < length (getD fs i [])
+      → placedAt program goal (base + getD (f .starts) i 0 + j) ≡ drop j (getD fs i [])
 
 -- names that stand where their places say still do so behind the line
 pub record KeepsPlaces (base : ℕ) (f : Fields) (names places names′ places′ : List ℕ) : Type 0 where
@@ -124,8 +129,9 @@ pub record TermIn (key place count : ℕ) (names places names′ places′ : Lis
   pub outside : Outside names names′
   pub means : (g : List ℕ) → key ≡ keyOf g → isTerm g ≡ true → TermMeans g (constantsOf names count) names′ r
   pub keeps :
-      (program goal : List ℕ) → (27 < key → placedAt program goal place ≡ spell key) → Placed program goal names places
-      → Placed program goal names′ places′
+      (program goal g : List ℕ) → key ≡ keyOf g
+      → (isName g ≡ true → (j : ℕ) → j < length g → placedAt program goal (place + j) ≡ drop j g)
+      → Placed program goal names places → Placed program goal names′ places′
 
 -- the term fields of a line, read behind some constants
 pub record TermsMean (gs before : List (List ℕ)) (names′ : List ℕ) (r : TermsRead) : Type 0 where

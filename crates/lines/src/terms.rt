@@ -1,6 +1,7 @@
 // The terms of a line as cells, and its new constants.
 use crate::TermRead;
 use crate::TermsRead;
+use numerals::naming::constant;
 use tables::layout::FIRST_CONSTANT;
 use tables::names::find_key;
 use text::fields::Fields;
@@ -9,9 +10,10 @@ ghost use Prim.Native.Nat.{_+_, _≤_, _<_};
 ghost use lib.ListN.{length};
 ghost use Rattle.lines.specs.Read.{Lent, TermIn, TermsIn};
 
-// The cell of the term with a key that starts at a place. A constant that is new is put behind the others, if there is room.
+// The cell of the term with a key that starts at a place. A constant that is new is put behind the others, if there is room: the
+// key of its name, and where that stands.
 fn read_term(key: u64, place: u16, count: usize, names: &mut [u64], places: &mut [u16]) -> TermRead
-    requires { ⌜ (count ≤ 64) × (length (now names) ≡ 256) × (length (now places) ≡ 256) ⌝ }
+    requires { ⌜ (count ≤ 64) × (length (now names) ≡ 256) × (length (now places) ≡ 256) × (place ≤ 32768) ⌝ }
     ensures { λ r. ⌜ TermIn key place count (now (names .entry)) (now (places .entry)) (now (names .exit))
         (now (places .exit)) r ⌝ }
 {
@@ -22,7 +24,8 @@ fn read_term(key: u64, place: u16, count: usize, names: &mut [u64], places: &mut
         };
     }
     let end = FIRST_CONSTANT + count;
-    let k = find_key(&names[FIRST_CONSTANT..end], key);
+    let c = constant(key);
+    let k = find_key(&names[FIRST_CONSTANT..end], c.key);
     if k < count {
         return TermRead {
             cell: 64 + k as u16,
@@ -35,8 +38,9 @@ fn read_term(key: u64, place: u16, count: usize, names: &mut [u64], places: &mut
             count: count,
         };
     }
-    names[end] = key;
-    places[end] = place;
+    let at = place + c.zeros;
+    names[end] = c.key;
+    places[end] = at;
     TermRead {
         cell: end as u16,
         count: count + 1,

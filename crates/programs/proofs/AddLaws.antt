@@ -16,6 +16,7 @@ use lib.ListN.{length, take, drop, getD, set}
 use lib.Seq.{paste, paste-zero, getD-take}
 use Rattle.text.specs.Lists.{every, indexOf}
 use Rattle.text.specs.Fields.{isTerm}
+use Rattle.text.specs.Constants.{constantName}
 use Rattle.text.specs.Splits.{Holds}
 use Rattle.text.specs.declared.fields.Fields.{Fields}
 use Rattle.text.proofs.Bools.{and-true}
@@ -123,8 +124,8 @@ two-sides cs (x ∷ y ∷ []) cells h t e few = absurd (omega arith)
 two-sides cs (x ∷ y ∷ z ∷ []) cells h t e few =
     let (p, more) = and-true (isTerm y) (isTerm z && true) t in
     let (q, _) = and-true (isTerm z) true more in (
-      ap (λ (l : List ℕ). cellTerm (getD l 0 0)) e ∙ cell-term cs y p (few y),
-      ap (λ (l : List ℕ). cellTerm (getD l 1 0)) e ∙ cell-term cs z q (few z),
+      ap (λ (l : List ℕ). cellTerm (getD l 0 0)) e ∙ cell-term cs y p (few (constantName y)),
+      ap (λ (l : List ℕ). cellTerm (getD l 1 0)) e ∙ cell-term cs z q (few (constantName z)),
     )
 two-sides cs (x ∷ y ∷ z ∷ w ∷ fs) cells h t e few = absurd (omega arith)
 

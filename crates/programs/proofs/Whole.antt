@@ -226,6 +226,7 @@ no-form n fs d = refl
 -- the lines of a text, as far as they are read
 pub record LinesSoFar (text names₀ places₀ names places symbols rules : List ℕ) (at n : ℕ) (s : Stage) : Type 0 where
   pub within : at ≤ length text
+  pub short : length text ≤ 16384
   pub numbered : n ≤ at + 1
   pub sound : Sound rules s
   pub started : Begun s
@@ -233,13 +234,14 @@ pub record LinesSoFar (text names₀ places₀ names places symbols rules : List
   pub left : readLines n (draftOf names symbols rules s) (lines (drop at text)) ≡ readLines 1 blank (lines text)
   pub placed : (goal : List ℕ) → Placed text goal names₀ places₀ → Placed text goal names places
 
-pub lines-start : (text names places symbols rules : List ℕ) → Room names places symbols rules
+pub lines-start : (text names places symbols rules : List ℕ) → Room names places symbols rules → length text ≤ 16384
     → LinesSoFar text names places names places symbols rules 0 1
     (record { section = 0; symbols = 0; rules = 0; constants = 0 })
 unfolding draftOf blank symbolsOf rulesRead constantsOf sectionMeant
-lines-start text names places symbols rules room =
+lines-start text names places symbols rules room short =
     record {
       within = omega arith;
+      short = short;
       numbered = omega arith;
       sound = record {
         few-symbols = omega arith;
@@ -301,7 +303,7 @@ module _ (text names₀ places₀ names places symbols rules : List ℕ) (at n :
         placed-on : (goal : List ℕ) → Placed text goal names₀ places₀ → Placed text goal names′ places′
         placed-on goal d =
             c .kept .keeps .keeps text goal fs (split .holds fine)
-            (spelled-program fs f (split .near) text goal (split .stands fine)) (w .placed goal d)
+            (spelled-program fs f text goal (split .stands fine) (w .short)) (w .placed goal d)
 
         room-on : Room names′ places′ symbols′ rules′
         room-on =
@@ -324,6 +326,7 @@ module _ (text names₀ places₀ names places symbols rules : List ℕ) (at n :
             let after : Sound rules′ next × Begun next = rw e at (c .sound) in
             record {
               within = omega (arith, split .inside fine);
+              short = w .short;
               numbered = omega (arith, w .numbered, split .begun fine);
               sound = after .0;
               started = after .1;

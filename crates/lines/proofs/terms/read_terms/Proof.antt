@@ -41,7 +41,8 @@ cast-place c =
 read-term-requires : tie.Need-read-term-requires Inv-loop μ-loop
 read-term-requires c κs =
     let walk = c .before .before .before .loop .inv in
-    (walk .few, walk .names-size, walk .places-size)
+    let lent = c .before .before .before .before .before .before .before .before .pre .0 in
+    (walk .few, walk .names-size, walk .places-size, omega (arith, lent .near (c .before .before .before .loop .i), lent .low))
 
 returns : tie.Need-returns Inv-loop μ-loop
 returns c =
