@@ -17,7 +17,7 @@ use lib.ListN.{length, take, drop, getD, set, length-take, length-drop, List·ge
 use lib.Seq.{take-suc, getD-take, getD-drop, getD-set-same, getD-set-other}
 use Rattle.text.specs.Lists.{indexFrom, indexOf, sameBytes, tabled}
 use Rattle.text.specs.Fields.{isName}
-use Rattle.text.proofs.Bools.{and-true}
+use Rattle.text.proofs.Laws.{same-is}
 use Rattle.text.specs.Keys.{keyOf, spell, spellFrom, packed, packedFrom}
 use Rattle.syntax.proofs.Known.{same-refl}
 use Rattle.syntax.proofs.Tabled.{map-append}
@@ -43,15 +43,6 @@ packed-spelled (suc fuel) k behind h =
 pub packed-spell : (k : ℕ) → k < 18446744073709551616 → packed (spell k) ≡ k
 unfolding packed packedFrom spell
 packed-spell k h = packed-spelled 8 k [] h
-
--- lists of the same bytes are the same
-pub same-is : (a b : List ℕ) → sameBytes a b ≡ true → a ≡ b
-same-is [] [] e = refl
-same-is [] (y ∷ b) e = absurd (let z : _≡_ {A = ℕ} 0 1 = cc in omega arith)
-same-is (x ∷ a) [] e = absurd (let z : _≡_ {A = ℕ} 0 1 = cc in omega arith)
-same-is (x ∷ a) (y ∷ b) e =
-    let (p, q) = and-true (eqb x y) (sameBytes a b) e in
-    ap₂ (λ (z : ℕ) (l : List ℕ). z ∷ l) (eqb-true x y p) (same-is a b q)
 
 -- a name is the spelling of a key exactly if the key is its own
 pub same-key : (f : List ℕ) (k : ℕ) → isName f ≡ true → k < 18446744073709551616 → eqb (keyOf f) k ≡ sameBytes f (spell k)
