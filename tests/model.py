@@ -4,6 +4,7 @@ derivations. tests/reader.py reads texts for it.
 A program is its kinds (name, number of terms, weight) and rules; a fact is (kind, terms). In a rule and in a goal's text a term
 is a str: a capital letter is a variable, anything else a constant. In a state a constant is a str and a variable a number. A
 state is None where it has failed, or (facts, what the goal variables became, a number above every variable in use).
+A constant keeps its spelling; wherever terms are compared or printed it is taken without leading zeros, if it is made of digits.
 """
 import collections
 
@@ -21,11 +22,21 @@ def is_variable(term):
     return len(term) == 1 and term.isupper()
 
 
+def plain(term):
+    """A term as it is printed: a constant made only of digits without leading zeros, zero as 0; any other as it is."""
+    return str(int(term)) if isinstance(term, str) and term.isdigit() else term
+
+
+def same(s, t):
+    """Whether two terms are equal: constants made only of digits by their value, others by their spelling."""
+    return s == t or plain(s) == plain(t)
+
+
 def match(pattern, terms, bindings):
     """The bindings under which a head becomes a fact, or None: only rule variables are replaced."""
     bindings = dict(bindings)
     for p, t in zip(pattern, terms):
-        if (bindings.setdefault(p, t) if is_variable(p) else p) != t:
+        if not same(bindings.setdefault(p, t) if is_variable(p) else p, t):
             return None
     return bindings
 
@@ -56,7 +67,7 @@ def fire(rule, used, bindings, state):
     left = [(bindings.get(a, a), bindings.get(b, b)) for a, b in rule.equations]
     while left:
         (a, b), left = left[0], left[1:]
-        if a == b:
+        if same(a, b):
             continue
         if isinstance(a, str) and isinstance(b, str):
             return None
@@ -98,7 +109,7 @@ def end_listing(kinds, names, state, firings):
     numbers = {}
 
     def shown(t):
-        return t if isinstance(t, str) else 'U%d' % numbers.setdefault(t, len(numbers) + 1)
+        return plain(t) if isinstance(t, str) else 'U%d' % numbers.setdefault(t, len(numbers) + 1)
     lines = ['END,%d' % firings] + ['A,%s,%s' % (n, shown(t)) for n, t in zip(names, state[1])]
     return '\n'.join(lines + [','.join(['S', kinds[k][0]] + [shown(t) for t in terms]) for k, terms in state[0]]) + '\n'
 
@@ -117,7 +128,7 @@ def renamed(s, t, pairs):
     """The renaming (two dicts) that also makes two terms equal, or None."""
     forth, back = pairs
     if isinstance(s, str) or isinstance(t, str):
-        return pairs if s == t else None
+        return pairs if same(s, t) else None
     if s in forth or t in back:
         return pairs if forth.get(s) == t and back.get(t) == s else None
     return {**forth, s: t}, {**back, t: s}
@@ -137,8 +148,9 @@ def placed(facts, others, pairs):
     (k, terms), rest = facts[0], facts[1:]
     tried = set()
     for i, (m, others_terms) in enumerate(others):
-        if m == k and tuple(others_terms) not in tried:
-            tried.add(tuple(others_terms))
+        met = tuple(map(plain, others_terms))
+        if m == k and met not in tried:
+            tried.add(met)
             more = renamed_all(terms, others_terms, pairs)
             if more is not None and placed(rest, others[:i] + others[i + 1:], more):
                 return True
@@ -179,7 +191,7 @@ def unify(pairs):
         return isinstance(t, str) and not is_variable(t)
     for a, b in pairs:
         a, b = under(a), under(b)
-        if a == b:
+        if same(a, b):
             continue
         if constant(a) and constant(b):
             return None
@@ -242,7 +254,8 @@ def check(kinds, rules, names):
         shown = ['V%d' % (v + 1) for v in range(variables)]
         lines = ['UNJOINED,%s,%s' % (names[i], names[j])]
         lines += ['P,%d,%d' % (h + 1, d) for h, d in enumerate(partners) if d]
-        lines += [','.join(['G', kinds[k][0]] + [t if isinstance(t, str) else shown[t] for t in terms]) for k, terms in facts]
+        lines += [','.join(['G', kinds[k][0]] + [plain(t) if isinstance(t, str) else shown[t] for t in terms])
+                  for k, terms in facts]
         listing = '\n'.join(lines) + '\n' + end_listing(kinds, shown, *one) + end_listing(kinds, shown, *two)
         return listing, (facts, variables, one[0], two[0])
     return 'CONFLUENT,%d\n' % count, None
@@ -255,7 +268,7 @@ def key(state, entered):
     numbers = {}
 
     def small(t):
-        return t if isinstance(t, str) else numbers.setdefault(t, len(numbers))
+        return plain(t) if isinstance(t, str) else numbers.setdefault(t, len(numbers))
     became = tuple(small(t) for t in state[1])
     return (became, tuple((k, tuple(small(t) for t in terms)) for k, terms in state[0])), entered
 

@@ -2,7 +2,8 @@
 programs print of an input, with the run and the check of tests/model.py.
 
 A text is bytes. A program that was read is its kinds (name: number of terms, weight), its constants and its rules, each a dict
-with its name, the number of its R line, and its J, H, B and E lines as lists of fields without their letter.
+with its name, the number of its R line, and its J, H, B and E lines as lists of fields without their letter. Constants that are
+equal (model.same) count once.
 """
 import re
 import model
@@ -32,7 +33,10 @@ def in_range(field, low, high):
 
 def widened(constants, terms):
     """The constants so far with those of a line."""
-    return constants + [t for i, t in enumerate(terms) if NAME.match(t) and t not in constants and t not in terms[:i]]
+    for constant in [term.decode() for term in terms if NAME.match(term)]:
+        if not any(model.same(constant, other) for other in constants):
+            constants = constants + [constant]
+    return constants
 
 
 def kind_line(fields, kinds):
