@@ -1,48 +1,64 @@
--- Laws of a name's key, as the code goes through it: from its last byte on, and without its first ones.
---   unit-fits, unit-next                                         what a 1 in a byte's place is worth stays within the key
---   Fronted, fronted-start, fronted-next, fronted-end            the first byte of a name
---   Unread, unread-start, unread-next, unread-letter, unread-end     whether a name is made only of digits
---   Dropped, dropped-start, dropped-next                         a numeral of which some leading zeros are dropped
---   dropped-one, dropped-led, dropped-all                        no more are to be dropped, in the three ways to tell it
---   dropped-name                                                 then the name of the constant is left
---   own-other, own-led                                           a constant that is its own name
+-- Laws of a constant's key, as the code goes through it from its last byte on.
+--   unit-some, unit-fits, rest-fits, kept-fits, zeros-fit, zeros-next    what the code multiplies and counts is within the key
+--   Seen                               the last bytes of a name, which are digits, and what counts of them
+--   start-letter, seen-start           the last byte: a letter, or a digit
+--   seen-letter, seen-zero, seen-digit one byte more: a letter, a zero, or another digit
+--   seen-all                           all bytes are seen, so that the name of the constant is left
 -- Assumes nothing.
-use mathlib.Core.Path.{_≡_, refl, sym, ap, ap₂, _∙_}
-use mathlib.Core.Bool.{Bool, true, false, _&&_}
-use mathlib.Core.List.{List, [], _∷_, _++_, append-nil}
+use mathlib.Core.Path.{_≡_, refl, sym, ap, _∙_}
+use mathlib.Core.Bool.{true, false}
+use mathlib.Core.List.{List, [], _∷_, _++_}
 use Prim.Native.Nat.{ℕ, suc, _+_, _-_, _*_, _/_, _%_, _^_, _≤_, _<_}
-use native.Mathlib.Nat.{not-suc-le-zero, pow-suc, pow-le-pow-right, mul-le-mul-right, div-mul-le-self}
+use native.Mathlib.Nat.{not-suc-le-zero, pow-suc, pow-le-pow-right, mul-le-mul-left, mul-le-mul-right, div-mul-le-self}
 use native.Mathlib.Omega.{arith}
+use native.Mathlib.Decide.{decLt}
 use borrow.Author.Tests.{le-leb, ne-eqb, eq-eqb}
-use lib.Arith.{digits-div, digits-mod}
-use lib.ListN.{length, take, drop, getD, length-take, length-drop}
-use lib.Seq.{append-snoc, drop-drop}
+use lib.ListN.{length, take, drop, getD}
+use lib.Seq.{append-snoc}
 use Rattle.text.specs.Bytes.{digit, between, isClass}
 use Rattle.text.specs.Lists.{every}
 use Rattle.text.specs.Fields.{isName}
 use Rattle.text.specs.Constants.{isNumeral, constantName}
 use Rattle.text.specs.Keys.{packedFrom, packed, keyOf}
-use Rattle.text.specs.Splits.{isPlain}
 use Rattle.text.proofs.Bools.{and-true, and-false}
-use Rattle.text.proofs.Laws.{every-append, every-implied, last-apart}
-use Rattle.text.proofs.ClassLaws.{name-plain, name-range, is-digit, between-above}
-use Rattle.text.proofs.Keys.{nameByte, name-size, name-bytes, key-of-name, packed-snoc, packed-under, packed-grows}
-use Rattle.text.proofs.ConstantLaws.{leadingZeros, name-dropped, constant-name, other-name}
-use Rattle.numerals.specs.Numerals.{ConstantIn, FrontIn}
+use Rattle.text.proofs.Laws.{every-append, last-apart}
+use Rattle.text.proofs.ClassLaws.{name-range, is-digit, between-above}
+use Rattle.text.proofs.Keys.{nameByte, name-size, name-bytes, key-of-name, packed-append, packed-snoc, packed-grows}
+use Rattle.text.proofs.ConstantLaws.{leadingZeros, zeros-few, name-dropped, constant-name, other-name}
+use Rattle.numerals.specs.Numerals.{ConstantIn}
 
--- what a 1 in the first byte's place is worth stays within the key
-pub unit-fits : (byte unit key : ℕ) → byte * unit ≤ key → 256 ≤ byte → unit * 256 ≤ key
-unit-fits byte unit key h k = omega (arith, h, mul-le-mul-right unit k)
+-- what the code multiplies and counts stays within the key: a 1 in the place of the next byte, what stands in front of it, and
+-- the zeros, of which there are no more than bytes
+pub unit-some : (zeros unit : ℕ) → 256 ^ zeros ≤ unit → 1 ≤ unit * 256
+unit-some zeros unit h = omega (arith, h, pow-le-pow-right {n = 256} (omega arith) {i = 0} {j = zeros} (omega arith))
 
-pub unit-next : (byte unit key : ℕ) → byte * unit ≤ key → byte / 256 * (unit * 256) ≤ key
-unit-next byte unit key h = omega (arith, h, mul-le-mul-right unit (div-mul-le-self byte 256))
+pub unit-fits : (rest unit key : ℕ) → rest * (unit * 256) ≤ key → 0 < rest → unit * 256 ≤ key
+unit-fits rest unit key h k = omega (arith, h, mul-le-mul-right (unit * 256) k)
+
+pub rest-fits : (rest unit key zeros : ℕ) → rest * (unit * 256) ≤ key → 256 ^ zeros ≤ unit → rest ≤ key
+rest-fits rest unit key zeros h k = omega (arith, h, mul-le-mul-left rest (unit-some zeros unit k))
+
+pub kept-fits : (rest unit key : ℕ) → rest * (unit * 256) ≤ key → rest / 256 * 256 * (unit * 256) ≤ key
+kept-fits rest unit key h = omega (arith, h, mul-le-mul-right (unit * 256) (div-mul-le-self rest 256))
+
+pub zeros-fit : (zeros unit key : ℕ) → 256 ^ zeros ≤ unit → unit * 256 ≤ key → key < 18446744073709551616 → zeros + 1 ≤ 7
+zeros-fit zeros unit key h k low = elim (decLt zeros 7) [
+  | yes few ↦ omega (arith, few)
+  | no many ↦
+      let least : 256 ^ 7 ≤ 256 ^ zeros = pow-le-pow-right {n = 256} (omega arith) {i = 7} {j = zeros} (omega (arith, many)) in
+      absurd (omega (arith, least, h, k, low))
+]
+
+pub zeros-next : (zeros unit : ℕ) → 256 ^ zeros ≤ unit → 256 ^ (zeros + 1) ≤ unit * 256
+zeros-next zeros unit h =
+    let next : zeros + 1 ≡ suc zeros = omega arith in
+    rw (next, pow-suc 256 zeros) (omega (arith, h))
 
 -- some bytes of a name and their value: the last byte, and those before it
 record Ended (g : List ℕ) : Type 0 where
   pub front : List ℕ
   pub last : ℕ
   pub is : g ≡ front ++ (last ∷ [])
-  pub size : length g ≡ suc (length front)
   pub named : every nameByte front ≡ true
   pub range : (48 ≤ last) × (last ≤ 122)
   pub rest : packed g / 256 ≡ packed front
@@ -61,7 +77,6 @@ ended b s e =
       front = g;
       last = c;
       is = is;
-      size = omega (arith, length-take (length s) (b ∷ s));
       named = both .0;
       range = range;
       rest = omega (arith, value, range .1);
@@ -73,79 +88,6 @@ packed-one : (b : ℕ) → packed (b ∷ []) ≡ b
 unfolding packed packedFrom
 packed-one b = omega arith
 
--- a name f of whose bytes those behind are passed: those in front have the value `byte`, and a 1 in the place of the last of
--- them is worth `unit`
-pub record Fronted (f : List ℕ) (byte unit : ℕ) : Type 0 where
-  pub front : List ℕ
-  pub behind : List ℕ
-  pub is : f ≡ front ++ behind
-  pub some : 1 ≤ length front
-  pub named : every nameByte front ≡ true
-  pub valued : byte ≡ packed front
-  pub worth : unit ≡ 256 ^ length behind
-
-pub fronted-start : (f : List ℕ) (key : ℕ) → isName f ≡ true → key ≡ keyOf f → Fronted f key 1
-fronted-start f key h e =
-    record {
-      front = f;
-      behind = [];
-      is = sym (append-nil f);
-      some = name-size f h .0;
-      named = name-bytes f h;
-      valued = e ∙ key-of-name f h;
-      worth = refl;
-    }
-
-pub fronted-next : (f : List ℕ) (byte unit : ℕ) → Fronted f byte unit → 256 ≤ byte → Fronted f (byte / 256) (unit * 256)
-fronted-next f byte unit p h = go (p .front) (p .is) (p .some) (p .named) (p .valued)
-  where
-    go : (g : List ℕ) → f ≡ g ++ p .behind → 1 ≤ length g → every nameByte g ≡ true → byte ≡ packed g
-        → Fronted f (byte / 256) (unit * 256)
-    go [] is some named valued = absurd (not-suc-le-zero some)
-    go (b ∷ []) is some named valued =
-        absurd (omega (arith, h, valued, packed-one b, name-range b (and-true (nameByte b) true named .0) .1))
-    go (b ∷ c ∷ s) is some named valued =
-        let l = ended b (c ∷ s) named in
-        record {
-          front = l .front;
-          behind = l .last ∷ p .behind;
-          is = is ∙ ap (λ (t : List ℕ). t ++ p .behind) (l .is) ∙ append-snoc (l .front) (l .last) (p .behind);
-          some = omega (arith, l .size);
-          named = l .named;
-          valued = ap (λ (v : ℕ). v / 256) valued ∙ l .rest;
-          worth = ap (λ (v : ℕ). v * 256) (p .worth) ∙ sym (pow-suc 256 (length (p .behind)));
-        }
-
-pub fronted-end : (f : List ℕ) (byte unit : ℕ) → Fronted f byte unit → byte < 256
-    → FrontIn f (record { byte = byte; unit = unit })
-unfolding packed packedFrom
-fronted-end f byte unit p h = go (p .front) (p .is) (p .some) (p .named) (p .valued)
-  where
-    go : (g : List ℕ) → f ≡ g ++ p .behind → 1 ≤ length g → every nameByte g ≡ true → byte ≡ packed g
-        → FrontIn f (record { byte = byte; unit = unit })
-    go [] is some named valued = absurd (not-suc-le-zero some)
-    go (b ∷ []) is some named valued =
-        record {
-          first = valued ∙ packed-one b ∙ ap (λ (l : List ℕ). getD l 0 0) (sym is);
-          worth = p .worth ∙ ap (λ (n : ℕ). 256 ^ n) (omega (arith, ap length is));
-        }
-    go (b ∷ c ∷ s) is some named valued =
-        let low = name-range b (and-true (nameByte b) (every nameByte (c ∷ s)) named .0) .0 in
-        absurd (omega (arith, h, valued, low, packed-grows ((0 * 256 + b) * 256 + c) s))
-
--- a name f that is a numeral exactly if the bytes that are left, of value `rest`, are digits
-pub record Unread (f : List ℕ) (rest : ℕ) : Type 0 where
-  pub bytes : List ℕ
-  pub named : every nameByte bytes ≡ true
-  pub valued : rest ≡ packed bytes
-  pub same : isNumeral f ≡ every (isClass digit) bytes
-
-pub unread-start : (f : List ℕ) (key : ℕ) → isName f ≡ true → key ≡ keyOf f → Unread f key
-unfolding isNumeral
-unread-start [] key h e = absurd (not-suc-le-zero (name-size [] h .0))
-unread-start (b ∷ s) key h e =
-    record { bytes = b ∷ s; named = name-bytes (b ∷ s) h; valued = e ∙ key-of-name (b ∷ s) h; same = refl }
-
 -- a byte of a name is a digit exactly if it is 57 at most
 low-digit : (b : ℕ) → 48 ≤ b → b ≤ 57 → isClass digit b ≡ true
 unfolding between
@@ -154,61 +96,22 @@ low-digit b h k = is-digit b ∙ rw (le-leb 48 b h, le-leb b 57 k)
 high-letter : (b : ℕ) → 57 < b → isClass digit b ≡ false
 high-letter b h = is-digit b ∙ between-above 48 57 b h
 
--- digits with one more byte behind them
-and-right : (t : Bool) → (t && true) ≡ t
-and-right true = refl
-and-right false = refl
-
-digits-more : (s : List ℕ) (b : ℕ) → isClass digit b ≡ true
-    → every (isClass digit) (s ++ (b ∷ [])) ≡ every (isClass digit) s
-digits-more s b e = every-append (isClass digit) s (b ∷ []) ∙ rw e (and-right (every (isClass digit) s))
-
+-- bytes of which the last is a letter are not all digits
 digits-no-more : (s : List ℕ) (b : ℕ) → isClass digit b ≡ false → every (isClass digit) (s ++ (b ∷ [])) ≡ false
 digits-no-more s b e = every-append (isClass digit) s (b ∷ []) ∙ rw e (and-false (every (isClass digit) s))
 
-module _ (f : List ℕ) (rest : ℕ) (p : Unread f rest) where
-  -- a digit is passed
-  pub unread-next : 0 < rest → rest % 256 ≤ 57 → Unread f (rest / 256)
-  unfolding packed packedFrom
-  unread-next h k = go (p .bytes) (p .named) (p .valued) (p .same)
-    where
-      go : (g : List ℕ) → every nameByte g ≡ true → rest ≡ packed g → isNumeral f ≡ every (isClass digit) g
-          → Unread f (rest / 256)
-      go [] named valued same = absurd (omega (arith, h, valued))
-      go (b ∷ s) named valued same =
-          let l = ended b s named in
-          let last : rest % 256 ≡ l .last = ap (λ (v : ℕ). v % 256) valued ∙ l .byte in
-          let one = low-digit (l .last) (l .range .0) (omega (arith, k, last)) in
-          record {
-            bytes = l .front;
-            named = l .named;
-            valued = ap (λ (v : ℕ). v / 256) valued ∙ l .rest;
-            same = same ∙ ap (every (isClass digit)) (l .is) ∙ digits-more (l .front) (l .last) one;
-          }
+-- what is not made only of digits is no numeral
+numeral-none : (f : List ℕ) → 1 ≤ length f → every (isClass digit) f ≡ false → isNumeral f ≡ false
+unfolding isNumeral
+numeral-none [] h e = absurd (not-suc-le-zero h)
+numeral-none (b ∷ s) h e = e
 
-  -- a letter is met
-  pub unread-letter : 57 < rest % 256 → false ≡ isNumeral f
-  unfolding packed packedFrom
-  unread-letter h = go (p .bytes) (p .named) (p .valued) (p .same)
-    where
-      go : (g : List ℕ) → every nameByte g ≡ true → rest ≡ packed g → isNumeral f ≡ every (isClass digit) g → false ≡ isNumeral f
-      go [] named valued same = absurd (omega (arith, h, valued))
-      go (b ∷ s) named valued same =
-          let l = ended b s named in
-          let last : rest % 256 ≡ l .last = ap (λ (v : ℕ). v % 256) valued ∙ l .byte in
-          let none = high-letter (l .last) (omega (arith, h, last)) in
-          sym (same ∙ ap (every (isClass digit)) (l .is) ∙ digits-no-more (l .front) (l .last) none)
-
-  -- all bytes are passed
-  pub unread-end : rest ≤ 0 → true ≡ isNumeral f
-  unfolding packed packedFrom
-  unread-end h = go (p .bytes) (p .named) (p .valued) (p .same)
-    where
-      go : (g : List ℕ) → every nameByte g ≡ true → rest ≡ packed g → isNumeral f ≡ every (isClass digit) g → true ≡ isNumeral f
-      go [] named valued same = sym same
-      go (b ∷ s) named valued same =
-          let low = name-range b (and-true (nameByte b) (every nameByte s) named .0) .0 in
-          absurd (omega (arith, h, valued, low, packed-grows (0 * 256 + b) s))
+-- a constant that is no numeral is its own name
+own-other : (f : List ℕ) (key : ℕ) → isName f ≡ true → key ≡ keyOf f → isNumeral f ≡ false
+    → ConstantIn f (record { key = key; zeros = 0 })
+own-other f key h e k =
+    let same = other-name f k in
+    record { keyed = e ∙ ap keyOf (sym same); named = sym same; few = name-size f h .0 }
 
 -- the value of bytes that follow others of value v
 packed-from : (v : ℕ) (s : List ℕ) → packedFrom v s ≡ v * 256 ^ length s + packedFrom 0 s
@@ -220,146 +123,154 @@ packed-from v (b ∷ s) =
     let rest : packedFrom (0 * 256 + b) s ≡ (0 * 256 + b) * n + packedFrom 0 s = packed-from (0 * 256 + b) s in
     rw (pow-suc 256 (length s)) (omega (arith, whole, rest))
 
--- the value of some bytes of a name by the first of them
-module _ (b : ℕ) (s : List ℕ) (e : every nameByte (b ∷ s) ≡ true) where
-  packed-first : packed (b ∷ s) ≡ b * 256 ^ length s + packed s
-  unfolding packed packedFrom
-  packed-first = packed-from (0 * 256 + b) s ∙ omega arith
+-- the value of bytes with others behind them
+packed-join : (p q : List ℕ) → packed (p ++ q) ≡ packed p * 256 ^ length q + packed q
+unfolding packed
+packed-join p q = packed-append 0 p q ∙ packed-from (packedFrom 0 p) q
 
-  packed-rest : packed s < 256 ^ length s
-  unfolding packed
-  packed-rest =
-      omega (
-        arith,
-        packed-under 0 1 s (omega arith)
-            (every-implied nameByte isPlain name-plain s (and-true (nameByte b) (every nameByte s) e .1)),
-      )
-
-  first-byte : packed (b ∷ s) / 256 ^ length s ≡ b
-  first-byte = rw packed-first (digits-div b packed-rest)
-
-  without-first : packed (b ∷ s) % 256 ^ length s ≡ packed s
-  without-first = rw packed-first (digits-mod b packed-rest)
-
--- a name f without some zeros in front: the bytes that are left have the value k, and a 1 in the first one's place is worth u
-pub record Dropped (f : List ℕ) (k u zeros : ℕ) : Type 0 where
+-- the last bytes of a name f, which are digits: the bytes in front have the value `rest`, a 1 in the place of the first digit is
+-- worth `unit`, and without the `zeros` that lead them the digits have the value `kept`
+pub record Seen (f : List ℕ) (rest unit kept zeros : ℕ) : Type 0 where
+  pub front : List ℕ
   pub first : ℕ
   pub others : List ℕ
-  pub are : drop zeros f ≡ first ∷ others
-  pub named : every nameByte (first ∷ others) ≡ true
-  pub valued : k ≡ packed (first ∷ others)
-  pub worth : u ≡ 256 ^ length others
-  pub counted : leadingZeros f ≡ zeros + leadingZeros (first ∷ others)
+  pub is : f ≡ front ++ (first ∷ others)
+  pub named : every nameByte front ≡ true
+  pub digits : every (isClass digit) (first ∷ others) ≡ true
+  pub valued : rest ≡ packed front
+  pub worth : unit ≡ 256 ^ length others
+  pub counted : zeros ≡ leadingZeros (first ∷ others)
+  pub left : kept ≡ packed (drop zeros (first ∷ others))
 
-pub dropped-start : (f : List ℕ) (key unit : ℕ) → isName f ≡ true → key ≡ keyOf f → unit ≡ 256 ^ (length f - 1)
-    → Dropped f key unit 0
-dropped-start [] key unit h e w = absurd (not-suc-le-zero (name-size [] h .0))
-dropped-start (b ∷ s) key unit h e w =
-    record {
-      first = b;
-      others = s;
-      are = refl;
-      named = name-bytes (b ∷ s) h;
-      valued = e ∙ key-of-name (b ∷ s) h;
-      worth = w ∙ ap (λ (n : ℕ). 256 ^ n) (omega arith);
-      counted = omega arith;
-    }
+-- the last byte
+module _ (f : List ℕ) (key : ℕ) (h : isName f ≡ true) (e : key ≡ keyOf f) where
+  -- its value
+  whole : key ≡ packed f
+  whole = e ∙ key-of-name f h
 
-module _ (f : List ℕ) (k u zeros : ℕ) (p : Dropped f k u zeros) where
-  -- a zero that is not the last digit is dropped
-  pub dropped-next : 1 < u → k / u ≡ 48 → Dropped f (k % u) (u / 256) (zeros + 1)
-  unfolding leadingZeros
-  dropped-next h e = go (p .others) (p .are) (p .named) (p .valued) (p .worth) (p .counted)
+  pub start-letter : 57 < key % 256 → ConstantIn f (record { key = key; zeros = 0 })
+  start-letter k = own-other f key h e (numeral-none f (name-size f h .0) (go f whole (name-size f h .0) (name-bytes f h)))
     where
-      b : ℕ
-      b = p .first
+      go : (g : List ℕ) → key ≡ packed g → 1 ≤ length g → every nameByte g ≡ true → every (isClass digit) g ≡ false
+      go [] w some named = absurd (not-suc-le-zero some)
+      go (b ∷ s) w some named =
+          let l = ended b s named in
+          let last : key % 256 ≡ l .last = ap (λ (v : ℕ). v % 256) w ∙ l .byte in
+          let none = high-letter (l .last) (omega (arith, k, last)) in
+          ap (every (isClass digit)) (l .is) ∙ digits-no-more (l .front) (l .last) none
 
-      go : (s : List ℕ) → drop zeros f ≡ b ∷ s → every nameByte (b ∷ s) ≡ true → k ≡ packed (b ∷ s) → u ≡ 256 ^ length s
-          → leadingZeros f ≡ zeros + leadingZeros (b ∷ s) → Dropped f (k % u) (u / 256) (zeros + 1)
-      go [] are named valued worth counted = absurd (omega (arith, h, worth))
-      go (c ∷ s) are named valued worth counted =
-          let zero-byte : b ≡ 48 = sym (first-byte b (c ∷ s) named) ∙ ap₂ (λ (x y : ℕ). x / y) (sym valued) (sym worth) ∙ e in
+  pub seen-start : key % 256 ≤ 57 → Seen f (key / 256) 1 (key % 256) 0
+  unfolding leadingZeros
+  seen-start k = go f whole (name-size f h .0) (name-bytes f h) refl
+    where
+      go : (g : List ℕ) → key ≡ packed g → 1 ≤ length g → every nameByte g ≡ true → f ≡ g → Seen f (key / 256) 1 (key % 256) 0
+      go [] w some named same = absurd (not-suc-le-zero some)
+      go (b ∷ s) w some named same =
+          let l = ended b s named in
+          let last : key % 256 ≡ l .last = ap (λ (v : ℕ). v % 256) w ∙ l .byte in
           record {
-            first = c;
-            others = s;
-            are = sym (drop-drop 1 zeros f) ∙ ap (drop 1) are;
-            named = and-true (nameByte b) (every nameByte (c ∷ s)) named .1;
-            valued = ap₂ (λ (x y : ℕ). x % y) valued worth ∙ without-first b (c ∷ s) named;
-            worth = omega (arith, worth, pow-suc 256 (length s));
-            counted = counted ∙ rw (eq-eqb b 48 zero-byte) (omega arith);
+            front = l .front;
+            first = l .last;
+            others = [];
+            is = same ∙ l .is;
+            named = l .named;
+            digits = rw (low-digit (l .last) (l .range .0) (omega (arith, k, last)));
+            valued = ap (λ (v : ℕ). v / 256) w ∙ l .rest;
+            worth = refl;
+            counted = refl;
+            left = last ∙ sym (packed-one (l .last));
           }
 
-  -- the last digit stays
-  pub dropped-one : u ≤ 1 → leadingZeros f ≡ zeros
-  unfolding leadingZeros
-  dropped-one h = go (p .others) (p .worth) (p .counted)
+-- one byte more
+module _ (f : List ℕ) (rest unit kept zeros : ℕ) (p : Seen f rest unit kept zeros) where
+  -- the last byte of those in front
+  before : 0 < rest → Ended (p .front)
+  unfolding packed packedFrom
+  before h = go (p .front) (p .named) (p .valued)
     where
-      go : (s : List ℕ) → u ≡ 256 ^ length s → leadingZeros f ≡ zeros + leadingZeros (p .first ∷ s) → leadingZeros f ≡ zeros
-      go [] worth counted = omega (arith, counted)
-      go (c ∷ s) worth counted =
-          let least : 256 ^ 1 ≤ 256 ^ suc (length s) =
-          pow-le-pow-right {n = 256} (omega arith) {i = 1} {j = suc (length s)} (omega arith) in
-          absurd (omega (arith, h, worth, least))
+      go : (g : List ℕ) → every nameByte g ≡ true → rest ≡ packed g → Ended g
+      go [] named valued = absurd (omega (arith, h, valued))
+      go (b ∷ s) named valued = ended b s named
 
-  -- a digit that is no zero stays
-  pub dropped-led : (k / u ≡ 48 → ⊥) → leadingZeros f ≡ zeros
-  unfolding leadingZeros
-  dropped-led h = go (p .others) (p .named) (p .valued) (p .worth) (p .counted)
+  module _ (some : 0 < rest) where
+    abbrev l : Ended (p .front)
+    l = before some
+
+    last : rest % 256 ≡ l .last
+    last = ap (λ (v : ℕ). v % 256) (p .valued) ∙ l .byte
+
+    -- the name, parted in front of that byte
+    parted : f ≡ l .front ++ (l .last ∷ p .first ∷ p .others)
+    parted =
+        p .is ∙ ap (λ (g : List ℕ). g ++ (p .first ∷ p .others)) (l .is)
+        ∙ append-snoc (l .front) (l .last) (p .first ∷ p .others)
+
+    pub seen-letter : (key : ℕ) → isName f ≡ true → key ≡ keyOf f → 57 < rest % 256
+        → ConstantIn f (record { key = key; zeros = 0 })
+    seen-letter key h e k =
+        let none : every (isClass digit) (l .last ∷ p .first ∷ p .others) ≡ false =
+        rw (high-letter (l .last) (omega (arith, k, last))) in
+        let all : every (isClass digit) f ≡ false =
+        ap (every (isClass digit)) parted ∙ every-append (isClass digit) (l .front) (l .last ∷ p .first ∷ p .others)
+        ∙ rw none (and-false (every (isClass digit) (l .front))) in
+        own-other f key h e (numeral-none f (name-size f h .0) all)
+
+    seen-more : (kept′ zeros′ : ℕ) → rest % 256 ≤ 57 → zeros′ ≡ leadingZeros (l .last ∷ p .first ∷ p .others)
+        → kept′ ≡ packed (drop zeros′ (l .last ∷ p .first ∷ p .others)) → Seen f (rest / 256) (unit * 256) kept′ zeros′
+    seen-more kept′ zeros′ k counted left =
+        record {
+          front = l .front;
+          first = l .last;
+          others = p .first ∷ p .others;
+          is = parted;
+          named = l .named;
+          digits = rw (low-digit (l .last) (l .range .0) (omega (arith, k, last))) (p .digits);
+          valued = ap (λ (v : ℕ). v / 256) (p .valued) ∙ l .rest;
+          worth = ap (λ (v : ℕ). v * 256) (p .worth) ∙ sym (pow-suc 256 (length (p .others)));
+          counted = counted;
+          left = left;
+        }
+
+    pub seen-zero : rest % 256 ≡ 48 → Seen f (rest / 256) (unit * 256) kept (zeros + 1)
+    unfolding leadingZeros
+    seen-zero k =
+        let next : zeros + 1 ≡ suc zeros = omega arith in
+        seen-more kept (zeros + 1) (omega (arith, k))
+        (next ∙ ap suc (p .counted) ∙ sym (rw (eq-eqb (l .last) 48 (sym last ∙ k))))
+        (p .left ∙ ap (λ (z : ℕ). packed (drop z (l .last ∷ p .first ∷ p .others))) (sym next))
+
+    pub seen-digit : (key : ℕ) → isName f ≡ true → key ≡ keyOf f → rest % 256 ≤ 57 → (rest % 256 ≡ 48 → ⊥)
+        → Seen f (rest / 256) (unit * 256) (key - rest / 256 * 256 * (unit * 256)) 0
+    unfolding leadingZeros
+    seen-digit key h e k other =
+        let value : key ≡ packed (l .front) * 256 ^ suc (suc (length (p .others))) + packed (l .last ∷ p .first ∷ p .others) =
+        e ∙ key-of-name f h ∙ ap packed parted ∙ packed-join (l .front) (l .last ∷ p .first ∷ p .others) in
+        let one = pow-suc 256 (suc (length (p .others))) in
+        let two = pow-suc 256 (length (p .others)) in
+        let front : rest / 256 ≡ packed (l .front) = ap (λ (v : ℕ). v / 256) (p .valued) ∙ l .rest in
+        let worth : packed (l .front) * 256 ^ suc (suc (length (p .others))) ≡ rest / 256 * 256 * (unit * 256) =
+        rw (one, two, sym (p .worth), sym front) (omega arith) in
+        seen-more (key - rest / 256 * 256 * (unit * 256)) 0 k
+        (sym (rw (ne-eqb (l .last) 48 (λ z. other (last ∙ z)))))
+        (omega (arith, value, worth))
+
+  -- all bytes are seen
+  pub seen-all : isName f ≡ true → rest ≤ 0 → ConstantIn f (record { key = kept; zeros = zeros })
+  unfolding isNumeral packed packedFrom
+  seen-all h none = go (p .front) (p .is) (p .named) (p .valued)
     where
-      b : ℕ
-      b = p .first
-
-      go : (s : List ℕ) → every nameByte (b ∷ s) ≡ true → k ≡ packed (b ∷ s) → u ≡ 256 ^ length s
-          → leadingZeros f ≡ zeros + leadingZeros (b ∷ s) → leadingZeros f ≡ zeros
-      go [] named valued worth counted = omega (arith, counted)
-      go (c ∷ s) named valued worth counted =
-          let led : b ≡ 48 → ⊥ = λ e. h (ap₂ (λ (x y : ℕ). x / y) valued worth ∙ first-byte b (c ∷ s) named ∙ e) in
-          counted ∙ rw (ne-eqb b 48 led) (omega arith)
-
-  -- behind seven zeros of a name one digit is left
-  pub dropped-all : isName f ≡ true → 7 ≤ zeros → leadingZeros f ≡ zeros
-  unfolding leadingZeros
-  dropped-all n h = go (p .others) (p .are) (p .counted)
-    where
-      go : (s : List ℕ) → drop zeros f ≡ p .first ∷ s → leadingZeros f ≡ zeros + leadingZeros (p .first ∷ s)
-          → leadingZeros f ≡ zeros
-      go [] are counted = omega (arith, counted)
-      go (c ∷ s) are counted =
-          absurd (omega (arith, h, name-size f n .1, length-drop zeros f, ap length are))
-
-  -- where no zero is left to drop, the name is left
-  pub dropped-name : isName f ≡ true → isNumeral f ≡ true → leadingZeros f ≡ zeros
-      → ConstantIn f (record { key = k; zeros = zeros })
-  dropped-name n h e =
-      let named : drop zeros f ≡ constantName f = ap (λ (z : ℕ). drop z f) (sym e) ∙ sym (name-dropped f h) in
-      record {
-        keyed = p .valued ∙ ap packed (sym (p .are) ∙ named) ∙ sym (key-of-name (constantName f) (constant-name f n));
-        named = named;
-        few = omega (arith, length-drop zeros f, ap length (p .are));
-      }
-
--- a constant that is its own name
-own : (f : List ℕ) (key : ℕ) → isName f ≡ true → key ≡ keyOf f → constantName f ≡ f
-    → ConstantIn f (record { key = key; zeros = 0 })
-own f key h e same = record { keyed = e ∙ ap keyOf (sym same); named = sym same; few = name-size f h .0 }
-
--- one that is no numeral
-pub own-other : (f : List ℕ) (key : ℕ) → isName f ≡ true → key ≡ keyOf f → isNumeral f ≡ false
-    → ConstantIn f (record { key = key; zeros = 0 })
-own-other f key h e k = own f key h e (other-name f k)
-
--- where the first byte is no zero, none leads
-none-leading : (f : List ℕ) → (getD f 0 0 ≡ 48 → ⊥) → leadingZeros f ≡ 0
-unfolding leadingZeros
-none-leading [] led = refl
-none-leading (b ∷ []) led = refl
-none-leading (b ∷ c ∷ s) led = rw (ne-eqb b 48 led)
-
--- one whose first byte is no zero
-pub own-led : (f : List ℕ) (key : ℕ) → isName f ≡ true → key ≡ keyOf f → (getD f 0 0 ≡ 48 → ⊥)
-    → ConstantIn f (record { key = key; zeros = 0 })
-own-led f key h e led = own f key h e (go (isNumeral f) refl)
-  where
-    go : (t : Bool) → isNumeral f ≡ t → constantName f ≡ f
-    go true k = name-dropped f k ∙ ap (λ (z : ℕ). drop z f) (none-leading f led)
-    go false k = other-name f k
+      go : (g : List ℕ) → f ≡ g ++ (p .first ∷ p .others) → every nameByte g ≡ true → rest ≡ packed g
+          → ConstantIn f (record { key = kept; zeros = zeros })
+      go [] is named valued =
+          let numeral : isNumeral f ≡ true = ap isNumeral is ∙ p .digits in
+          let zero : zeros ≡ leadingZeros f = p .counted ∙ ap leadingZeros (sym is) in
+          let name : drop zeros f ≡ constantName f = ap (λ (z : ℕ). drop z f) zero ∙ sym (name-dropped f numeral) in
+          record {
+            keyed = p .left ∙ ap (λ (g : List ℕ). packed (drop zeros g)) (sym is) ∙ ap packed name
+                ∙ sym (key-of-name (constantName f) (constant-name f h));
+            named = name;
+            few = omega (arith, p .counted, zeros-few (p .first) (p .others), ap length is);
+          }
+      go (b ∷ s) is named valued =
+          let low = name-range b (and-true (nameByte b) (every nameByte s) named .0) .0 in
+          absurd (omega (arith, none, valued, low, packed-grows (0 * 256 + b) s))
