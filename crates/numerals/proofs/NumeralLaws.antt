@@ -1,28 +1,32 @@
--- Laws of a constant's key, as the code goes through it from its last byte on.
+-- Laws of a constant's key: whether it is a numeral's, by one bit of each byte; and the numeral without its leading zeros, as the
+-- code goes through it from its last digit on.
+--   letterBits, numeral-bits           a name is a numeral exactly if none of its bytes has the bit of letters
+--   own-other                          a constant that is no numeral is its own name
 --   unit-some, unit-fits, rest-fits, kept-fits, zeros-fit, zeros-next    what the code multiplies and counts is within the key
---   Seen                               the last bytes of a name, which are digits, and what counts of them
---   start-letter, seen-start           the last byte: a letter, or a digit
---   seen-letter, seen-zero, seen-digit one byte more: a letter, a zero, or another digit
---   seen-all                           all bytes are seen, so that the name of the constant is left
+--   Seen                               the last bytes of a name, and what counts of them
+--   seen-start, seen-zero, seen-digit  the last digit, and one more in front: a zero, or another
+--   seen-all                           all are seen, so that the name of the constant is left
 -- Assumes nothing.
 use mathlib.Core.Path.{_≡_, refl, sym, ap, _∙_}
-use mathlib.Core.Bool.{true, false}
+use mathlib.Core.Bool.{Bool, true, false, cond, _&&_}
 use mathlib.Core.List.{List, [], _∷_, _++_}
-use Prim.Native.Nat.{ℕ, suc, _+_, _-_, _*_, _/_, _%_, _^_, _≤_, _<_}
+use Prim.Native.Nat.{ℕ, zero, suc, _+_, _-_, _*_, _/_, _%_, _^_, _≤_, _<_}
 use native.Mathlib.Nat.{not-suc-le-zero, pow-suc, pow-le-pow-right, mul-le-mul-left, mul-le-mul-right, div-mul-le-self}
 use native.Mathlib.Omega.{arith}
 use native.Mathlib.Decide.{decLt}
-use borrow.Author.Tests.{le-leb, ne-eqb, eq-eqb}
-use lib.ListN.{length, take, drop, getD}
+use borrow.Author.Tests.{ne-eqb, eq-eqb, eqb-true, eqb-false}
+use lib.Bits.{bitAnd, and-block, and-zero-l, and-zero-r}
+use lib.Dec.{eqb}
+use lib.ListN.{length, take, drop, getD, length-take}
 use lib.Seq.{append-snoc}
-use Rattle.text.specs.Bytes.{digit, between, isClass}
+use Rattle.text.specs.Bytes.{small, capital, digit, comma, lineFeed, other, between, classOf, isClass, isNameClass}
 use Rattle.text.specs.Lists.{every}
 use Rattle.text.specs.Fields.{isName}
 use Rattle.text.specs.Constants.{isNumeral, constantName}
 use Rattle.text.specs.Keys.{packedFrom, packed, keyOf}
-use Rattle.text.proofs.Bools.{and-true, and-false}
+use Rattle.text.proofs.Bools.{never, and-true, and-false}
 use Rattle.text.proofs.Laws.{every-append, last-apart}
-use Rattle.text.proofs.ClassLaws.{name-range, is-digit, between-above}
+use Rattle.text.proofs.ClassLaws.{between-true, name-range, is-digit}
 use Rattle.text.proofs.Keys.{nameByte, name-size, name-bytes, key-of-name, packed-append, packed-snoc, packed-grows}
 use Rattle.text.proofs.ConstantLaws.{leadingZeros, zeros-few, name-dropped, constant-name, other-name}
 use Rattle.numerals.specs.Numerals.{ConstantIn}
@@ -88,26 +92,99 @@ packed-one : (b : ℕ) → packed (b ∷ []) ≡ b
 unfolding packed packedFrom
 packed-one b = omega arith
 
--- a byte of a name is a digit exactly if it is 57 at most
-low-digit : (b : ℕ) → 48 ≤ b → b ≤ 57 → isClass digit b ≡ true
-unfolding between
-low-digit b h k = is-digit b ∙ rw (le-leb 48 b h, le-leb b 57 k)
+-- a byte of a name that is no digit is a small letter
+letter-high : (b : ℕ) → nameByte b ≡ true → isClass digit b ≡ false → 97 ≤ b
+unfolding classOf isNameClass
+letter-high b h k = go (between 97 122 b) (between 65 90 b) (between 48 57 b) (eqb b 44) (eqb b 10) refl (sym (is-digit b) ∙ k) h
+  where
+    go : (s c d m l : Bool) → between 97 122 b ≡ s → d ≡ false
+        → isNameClass (cond s small (cond c capital (cond d digit (cond m comma (cond l lineFeed other))))) ≡ true → 97 ≤ b
+    go true c d m l p q n = between-true 97 122 b p .0
+    go false true d m l p q n = absurd (never (sym n))
+    go false false true m l p q n = absurd (never q)
+    go false false false true l p q n = absurd (never (sym n))
+    go false false false false true p q n = absurd (never (sym n))
+    go false false false false false p q n = absurd (never (sym n))
 
-high-letter : (b : ℕ) → 57 < b → isClass digit b ≡ false
-high-letter b h = is-digit b ∙ between-above 48 57 b h
+-- the bit of letters in each of n bytes
+abbrev pub letterBits : ℕ → ℕ
+letterBits zero = 0
+letterBits (suc n) = letterBits n * 256 + 64
 
--- bytes of which the last is a letter are not all digits
-digits-no-more : (s : List ℕ) (b : ℕ) → isClass digit b ≡ false → every (isClass digit) (s ++ (b ∷ [])) ≡ false
-digits-no-more s b e = every-append (isClass digit) s (b ∷ []) ∙ rw e (and-false (every (isClass digit) s))
-
--- what is not made only of digits is no numeral
-numeral-none : (f : List ℕ) → 1 ≤ length f → every (isClass digit) f ≡ false → isNumeral f ≡ false
+-- a numeral is made only of digits
+numeral-all : (f : List ℕ) → 1 ≤ length f → isNumeral f ≡ every (isClass digit) f
 unfolding isNumeral
-numeral-none [] h e = absurd (not-suc-le-zero h)
-numeral-none (b ∷ s) h e = e
+numeral-all [] h = absurd (not-suc-le-zero h)
+numeral-all (b ∷ s) h = refl
+
+-- `&&` with true
+and-right : (t : Bool) → (t && true) ≡ t
+and-right true = refl
+and-right false = refl
+
+-- in a byte of a name: none in a digit, one in a letter
+bit-digit : (b : ℕ) → b ≤ 57 → bitAnd b 64 ≡ 0
+bit-digit b k =
+    let parts : b ≡ 0 * 2 ^ 6 + b = omega arith in
+    ap (λ (v : ℕ). bitAnd v (1 * 2 ^ 6 + 0)) parts ∙ and-block 6 0 1 b 0 (omega (arith, k)) (omega arith)
+    ∙ ap (λ (v : ℕ). bitAnd 0 1 * 2 ^ 6 + v) (and-zero-r b)
+
+bit-letter : (b : ℕ) → 64 ≤ b → b ≤ 127 → bitAnd b 64 ≡ 64
+bit-letter b h k =
+    let parts : b ≡ 1 * 2 ^ 6 + (b - 64) = omega (arith, h) in
+    ap (λ (v : ℕ). bitAnd v (1 * 2 ^ 6 + 0)) parts ∙ and-block 6 1 1 (b - 64) 0 (omega (arith, h, k)) (omega arith)
+    ∙ ap (λ (v : ℕ). bitAnd 1 1 * 2 ^ 6 + v) (and-zero-r (b - 64))
+
+-- one byte more
+bits-last : (n : ℕ) (g : List ℕ) (c : ℕ) → c < 256
+    → bitAnd (packed (g ++ (c ∷ []))) (letterBits (suc n)) ≡ bitAnd (packed g) (letterBits n) * 256 + bitAnd c 64
+bits-last n g c h =
+    ap (λ (v : ℕ). bitAnd v (letterBits n * 256 + 64)) (packed-snoc g c)
+    ∙ and-block 8 (packed g) (letterBits n) c 64 h (omega arith)
+
+-- a name is a numeral exactly if none of its bytes has the bit
+letters-met : (n : ℕ) (f : List ℕ) → length f ≤ n → every nameByte f ≡ true
+    → eqb (bitAnd (packed f) (letterBits n)) 0 ≡ every (isClass digit) f
+unfolding packed packedFrom
+letters-met zero [] h e = refl
+letters-met zero (b ∷ s) h e = absurd (not-suc-le-zero h)
+letters-met (suc n) [] h e = ap (λ (v : ℕ). eqb v 0) (and-zero-l (letterBits (suc n)))
+letters-met (suc n) (b ∷ s) h e =
+    let g : List ℕ = take (length s) (b ∷ s) in
+    let c : ℕ = getD (b ∷ s) (length s) 0 in
+    let is : b ∷ s ≡ g ++ (c ∷ []) = last-apart b s in
+    let both = and-true (every nameByte g) (every nameByte (c ∷ []))
+    (sym (every-append nameByte g (c ∷ [])) ∙ sym (ap (every nameByte) is) ∙ e) in
+    let one = and-true (nameByte c) true (both .1) .0 in
+    let short : length g ≤ n = omega (arith, h, length-take (length s) (b ∷ s)) in
+    ap (λ (l : List ℕ). eqb (bitAnd (packed l) (letterBits (suc n))) 0) is
+    ∙ ap (λ (v : ℕ). eqb v 0) (bits-last n g c (omega (arith, name-range c one .1)))
+    ∙ last (bitAnd (packed g) (letterBits n)) c (every (isClass digit) g) one (letters-met n g short (both .0))
+    ∙ sym (ap (every (isClass digit)) is ∙ every-append (isClass digit) g (c ∷ []))
+  where
+    last : (v c : ℕ) (t : Bool) → nameByte c ≡ true → eqb v 0 ≡ t
+        → eqb (v * 256 + bitAnd c 64) 0 ≡ (t && (isClass digit c && true))
+    last v c t n q = go (isClass digit c) refl
+      where
+        go : (d : Bool) → isClass digit c ≡ d → eqb (v * 256 + bitAnd c 64) 0 ≡ (t && (d && true))
+        go true k =
+            let none = bit-digit c (between-true 48 57 c (sym (is-digit c) ∙ k) .1) in
+            rw none (more (eqb v 0) refl)
+          where
+            more : (u : Bool) → eqb v 0 ≡ u → eqb (v * 256 + 0) 0 ≡ (t && true)
+            more true z = eq-eqb (v * 256 + 0) 0 (omega (arith, eqb-true v 0 z)) ∙ sym (and-right t ∙ sym q ∙ z)
+            more false z = ne-eqb (v * 256 + 0) 0 (λ w. eqb-false v 0 z (omega (arith, w))) ∙ sym (and-right t ∙ sym q ∙ z)
+        go false k =
+            let some = bit-letter c (omega (arith, letter-high c n k)) (omega (arith, name-range c n .1)) in
+            rw some (ne-eqb (v * 256 + 64) 0 (λ w. omega (arith, w)) ∙ sym (and-false t))
+
+pub numeral-bits : (f : List ℕ) (key : ℕ) → isName f ≡ true → key ≡ keyOf f → eqb (bitAnd key 4629771061636907072) 0 ≡ isNumeral f
+numeral-bits f key h e =
+    ap (λ (v : ℕ). eqb (bitAnd v 4629771061636907072) 0) (e ∙ key-of-name f h)
+    ∙ letters-met 8 f (name-size f h .1) (name-bytes f h) ∙ sym (numeral-all f (name-size f h .0))
 
 -- a constant that is no numeral is its own name
-own-other : (f : List ℕ) (key : ℕ) → isName f ≡ true → key ≡ keyOf f → isNumeral f ≡ false
+pub own-other : (f : List ℕ) (key : ℕ) → isName f ≡ true → key ≡ keyOf f → isNumeral f ≡ false
     → ConstantIn f (record { key = key; zeros = 0 })
 own-other f key h e k =
     let same = other-name f k in
@@ -128,58 +205,39 @@ packed-join : (p q : List ℕ) → packed (p ++ q) ≡ packed p * 256 ^ length q
 unfolding packed
 packed-join p q = packed-append 0 p q ∙ packed-from (packedFrom 0 p) q
 
--- the last bytes of a name f, which are digits: the bytes in front have the value `rest`, a 1 in the place of the first digit is
--- worth `unit`, and without the `zeros` that lead them the digits have the value `kept`
+-- the last bytes of a name f: those in front have the value `rest`, a 1 in the place of the first of them is worth `unit`, and
+-- without the `zeros` that lead them they have the value `kept`
 pub record Seen (f : List ℕ) (rest unit kept zeros : ℕ) : Type 0 where
   pub front : List ℕ
   pub first : ℕ
   pub others : List ℕ
   pub is : f ≡ front ++ (first ∷ others)
   pub named : every nameByte front ≡ true
-  pub digits : every (isClass digit) (first ∷ others) ≡ true
   pub valued : rest ≡ packed front
   pub worth : unit ≡ 256 ^ length others
   pub counted : zeros ≡ leadingZeros (first ∷ others)
   pub left : kept ≡ packed (drop zeros (first ∷ others))
 
--- the last byte
-module _ (f : List ℕ) (key : ℕ) (h : isName f ≡ true) (e : key ≡ keyOf f) where
-  -- its value
-  whole : key ≡ packed f
-  whole = e ∙ key-of-name f h
-
-  pub start-letter : 57 < key % 256 → ConstantIn f (record { key = key; zeros = 0 })
-  start-letter k = own-other f key h e (numeral-none f (name-size f h .0) (go f whole (name-size f h .0) (name-bytes f h)))
-    where
-      go : (g : List ℕ) → key ≡ packed g → 1 ≤ length g → every nameByte g ≡ true → every (isClass digit) g ≡ false
-      go [] w some named = absurd (not-suc-le-zero some)
-      go (b ∷ s) w some named =
-          let l = ended b s named in
-          let last : key % 256 ≡ l .last = ap (λ (v : ℕ). v % 256) w ∙ l .byte in
-          let none = high-letter (l .last) (omega (arith, k, last)) in
-          ap (every (isClass digit)) (l .is) ∙ digits-no-more (l .front) (l .last) none
-
-  pub seen-start : key % 256 ≤ 57 → Seen f (key / 256) 1 (key % 256) 0
-  unfolding leadingZeros
-  seen-start k = go f whole (name-size f h .0) (name-bytes f h) refl
-    where
-      go : (g : List ℕ) → key ≡ packed g → 1 ≤ length g → every nameByte g ≡ true → f ≡ g → Seen f (key / 256) 1 (key % 256) 0
-      go [] w some named same = absurd (not-suc-le-zero some)
-      go (b ∷ s) w some named same =
-          let l = ended b s named in
-          let last : key % 256 ≡ l .last = ap (λ (v : ℕ). v % 256) w ∙ l .byte in
-          record {
-            front = l .front;
-            first = l .last;
-            others = [];
-            is = same ∙ l .is;
-            named = l .named;
-            digits = rw (low-digit (l .last) (l .range .0) (omega (arith, k, last)));
-            valued = ap (λ (v : ℕ). v / 256) w ∙ l .rest;
-            worth = refl;
-            counted = refl;
-            left = last ∙ sym (packed-one (l .last));
-          }
+-- the last digit
+pub seen-start : (f : List ℕ) (key : ℕ) → isName f ≡ true → key ≡ keyOf f → Seen f (key / 256) 1 (key % 256) 0
+unfolding leadingZeros
+seen-start f key h e = go f (e ∙ key-of-name f h) (name-size f h .0) (name-bytes f h) refl
+  where
+    go : (g : List ℕ) → key ≡ packed g → 1 ≤ length g → every nameByte g ≡ true → f ≡ g → Seen f (key / 256) 1 (key % 256) 0
+    go [] w some named same = absurd (not-suc-le-zero some)
+    go (b ∷ s) w some named same =
+        let l = ended b s named in
+        record {
+          front = l .front;
+          first = l .last;
+          others = [];
+          is = same ∙ l .is;
+          named = l .named;
+          valued = ap (λ (v : ℕ). v / 256) w ∙ l .rest;
+          worth = refl;
+          counted = refl;
+          left = ap (λ (v : ℕ). v % 256) w ∙ l .byte ∙ sym (packed-one (l .last));
+        }
 
 -- one byte more
 module _ (f : List ℕ) (rest unit kept zeros : ℕ) (p : Seen f rest unit kept zeros) where
@@ -205,26 +263,15 @@ module _ (f : List ℕ) (rest unit kept zeros : ℕ) (p : Seen f rest unit kept 
         p .is ∙ ap (λ (g : List ℕ). g ++ (p .first ∷ p .others)) (l .is)
         ∙ append-snoc (l .front) (l .last) (p .first ∷ p .others)
 
-    pub seen-letter : (key : ℕ) → isName f ≡ true → key ≡ keyOf f → 57 < rest % 256
-        → ConstantIn f (record { key = key; zeros = 0 })
-    seen-letter key h e k =
-        let none : every (isClass digit) (l .last ∷ p .first ∷ p .others) ≡ false =
-        rw (high-letter (l .last) (omega (arith, k, last))) in
-        let all : every (isClass digit) f ≡ false =
-        ap (every (isClass digit)) parted ∙ every-append (isClass digit) (l .front) (l .last ∷ p .first ∷ p .others)
-        ∙ rw none (and-false (every (isClass digit) (l .front))) in
-        own-other f key h e (numeral-none f (name-size f h .0) all)
-
-    seen-more : (kept′ zeros′ : ℕ) → rest % 256 ≤ 57 → zeros′ ≡ leadingZeros (l .last ∷ p .first ∷ p .others)
+    seen-more : (kept′ zeros′ : ℕ) → zeros′ ≡ leadingZeros (l .last ∷ p .first ∷ p .others)
         → kept′ ≡ packed (drop zeros′ (l .last ∷ p .first ∷ p .others)) → Seen f (rest / 256) (unit * 256) kept′ zeros′
-    seen-more kept′ zeros′ k counted left =
+    seen-more kept′ zeros′ counted left =
         record {
           front = l .front;
           first = l .last;
           others = p .first ∷ p .others;
           is = parted;
           named = l .named;
-          digits = rw (low-digit (l .last) (l .range .0) (omega (arith, k, last))) (p .digits);
           valued = ap (λ (v : ℕ). v / 256) (p .valued) ∙ l .rest;
           worth = ap (λ (v : ℕ). v * 256) (p .worth) ∙ sym (pow-suc 256 (length (p .others)));
           counted = counted;
@@ -235,14 +282,14 @@ module _ (f : List ℕ) (rest unit kept zeros : ℕ) (p : Seen f rest unit kept 
     unfolding leadingZeros
     seen-zero k =
         let next : zeros + 1 ≡ suc zeros = omega arith in
-        seen-more kept (zeros + 1) (omega (arith, k))
+        seen-more kept (zeros + 1)
         (next ∙ ap suc (p .counted) ∙ sym (rw (eq-eqb (l .last) 48 (sym last ∙ k))))
         (p .left ∙ ap (λ (z : ℕ). packed (drop z (l .last ∷ p .first ∷ p .others))) (sym next))
 
-    pub seen-digit : (key : ℕ) → isName f ≡ true → key ≡ keyOf f → rest % 256 ≤ 57 → (rest % 256 ≡ 48 → ⊥)
+    pub seen-digit : (key : ℕ) → isName f ≡ true → key ≡ keyOf f → (rest % 256 ≡ 48 → ⊥)
         → Seen f (rest / 256) (unit * 256) (key - rest / 256 * 256 * (unit * 256)) 0
     unfolding leadingZeros
-    seen-digit key h e k other =
+    seen-digit key h e apart =
         let value : key ≡ packed (l .front) * 256 ^ suc (suc (length (p .others))) + packed (l .last ∷ p .first ∷ p .others) =
         e ∙ key-of-name f h ∙ ap packed parted ∙ packed-join (l .front) (l .last ∷ p .first ∷ p .others) in
         let one = pow-suc 256 (suc (length (p .others))) in
@@ -250,19 +297,18 @@ module _ (f : List ℕ) (rest unit kept zeros : ℕ) (p : Seen f rest unit kept 
         let front : rest / 256 ≡ packed (l .front) = ap (λ (v : ℕ). v / 256) (p .valued) ∙ l .rest in
         let worth : packed (l .front) * 256 ^ suc (suc (length (p .others))) ≡ rest / 256 * 256 * (unit * 256) =
         rw (one, two, sym (p .worth), sym front) (omega arith) in
-        seen-more (key - rest / 256 * 256 * (unit * 256)) 0 k
-        (sym (rw (ne-eqb (l .last) 48 (λ z. other (last ∙ z)))))
+        seen-more (key - rest / 256 * 256 * (unit * 256)) 0
+        (sym (rw (ne-eqb (l .last) 48 (λ z. apart (last ∙ z)))))
         (omega (arith, value, worth))
 
-  -- all bytes are seen
-  pub seen-all : isName f ≡ true → rest ≤ 0 → ConstantIn f (record { key = kept; zeros = zeros })
-  unfolding isNumeral packed packedFrom
-  seen-all h none = go (p .front) (p .is) (p .named) (p .valued)
+  -- all digits are seen
+  pub seen-all : isName f ≡ true → isNumeral f ≡ true → rest ≤ 0 → ConstantIn f (record { key = kept; zeros = zeros })
+  unfolding packed packedFrom
+  seen-all h numeral none = go (p .front) (p .is) (p .named) (p .valued)
     where
       go : (g : List ℕ) → f ≡ g ++ (p .first ∷ p .others) → every nameByte g ≡ true → rest ≡ packed g
           → ConstantIn f (record { key = kept; zeros = zeros })
       go [] is named valued =
-          let numeral : isNumeral f ≡ true = ap isNumeral is ∙ p .digits in
           let zero : zeros ≡ leadingZeros f = p .counted ∙ ap leadingZeros (sym is) in
           let name : drop zeros f ≡ constantName f = ap (λ (z : ℕ). drop z f) zero ∙ sym (name-dropped f numeral) in
           record {

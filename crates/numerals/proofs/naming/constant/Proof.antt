@@ -1,99 +1,22 @@
--- `numerals::naming::constant` meets its contract: its bytes are seen from the last one on, up to a letter or to the first.
+-- `numerals::naming::constant` meets its contract: only a numeral is not always its own name.
 -- Assumes nothing.
 use borrow.Author.Needs.{needs}
-use mathlib.Core.Path.{_≡_}
-use mathlib.Core.Bool.{true}
-use mathlib.Core.List.{List}
-use Prim.Native.Nat.{ℕ, _*_, _^_, _≤_}
+use mathlib.Core.Path.{sym, _∙_}
 use native.Mathlib.Omega.{arith}
-use Rattle.text.specs.Fields.{isName}
-use Rattle.text.specs.Keys.{keyOf}
-use Rattle.numerals.proofs.NumeralLaws.{unit-some, unit-fits, rest-fits, kept-fits, zeros-fit, zeros-next, Seen}
-use Rattle.numerals.proofs.NumeralLaws.{start-letter, seen-start, seen-letter, seen-zero, seen-digit, seen-all}
+use Rattle.numerals.proofs.NumeralLaws.{own-other}
 use Rattle.numerals.proofs.naming.constant.Statement.{statement}
 use Rattle.numerals.proofs.naming.constant.Tie as tie
 
-abbrev Inv-loop : tie.InvT-loop
-Inv-loop key rest₀ unit₀ kept₀ zeros₀ rest unit kept zeros =
-    ((f : List ℕ) → isName f ≡ true → key ≡ keyOf f → Seen f rest unit kept zeros)
-    × (rest * (unit * 256) ≤ key) × (256 ^ zeros ≤ unit) × (zeros ≤ 7)
+returns : tie.Need-returns
+returns c =
+    let numeral = c .before .before .is-numeral in
+    let (named, few) = c .without-zeros .ensures in
+    (λ f h e. named f h (sym (numeral .ensures f h e) ∙ c .before .if1 .taken) e, few)
 
-abbrev μ-loop : tie.MeasureT-loop
-μ-loop key rest₀ unit₀ kept₀ zeros₀ rest unit kept zeros = rest
-
-returns : tie.Need-returns Inv-loop μ-loop
-returns c = (λ f h e. start-letter f _ h e (c .if1 .taken), omega arith)
-
-loop-holds : tie.Need-loop-holds Inv-loop μ-loop
-loop-holds c = (λ f h e. seen-start f _ h e (c .if1 .left), omega arith, omega arith, omega arith)
-
-returns-2 : tie.Need-returns-2 Inv-loop μ-loop
+returns-2 : tie.Need-returns-2
 returns-2 c =
-    let inv = c .before .before .loop .inv in
-    (λ f h e. seen-letter f _ _ _ _ (inv .0 f h e) (c .before .loop-test .taken) _ h e (c .if2 .taken), omega arith)
-
-mul-unit : tie.Need-mul-unit Inv-loop μ-loop
-mul-unit c =
-    let inv = c .before .before .loop .inv in
-    record { fits = omega (arith, unit-fits _ _ _ (inv .1) (c .before .loop-test .taken)) }
-
-add-zeros : tie.Need-add-zeros Inv-loop μ-loop
-add-zeros c = record { fits = omega (arith, c .before .before .before .loop .inv .3) }
-
-loop-again : tie.Need-loop-again Inv-loop μ-loop
-loop-again c =
-    let at-test = c .before .before in
-    let inv = at-test .before .loop .inv in
-    let some = at-test .loop-test .taken in
-    let fits = unit-fits _ _ _ (inv .1) some in (
-      λ f h e. seen-zero f _ _ _ _ (inv .0 f h e) some (c .if3 .taken),
-      omega (arith, kept-fits _ _ _ (inv .1)),
-      zeros-next _ _ (inv .2),
-      zeros-fit _ _ _ (inv .2) fits (omega arith),
-    )
-
-mul-kept : tie.Need-mul-kept Inv-loop μ-loop
-mul-kept c =
-    let inv = c .before .before .before .loop .inv in
-    record { fits = omega (arith, rest-fits _ _ _ _ (inv .1) (inv .2)) }
-
-mul-kept-2 : tie.Need-mul-kept-2 Inv-loop μ-loop
-mul-kept-2 c = record { fits = omega (arith, kept-fits _ _ _ (c .before .before .before .loop .inv .1)) }
-
-sub-kept : tie.Need-sub-kept Inv-loop μ-loop
-sub-kept c = kept-fits _ _ _ (c .before .before .before .loop .inv .1)
-
-loop-again-2 : tie.Need-loop-again-2 Inv-loop μ-loop
-loop-again-2 c =
-    let at-test = c .before .before in
-    let inv = at-test .before .loop .inv in (
-      λ f h e. seen-digit f _ _ _ _ (inv .0 f h e) (at-test .loop-test .taken) _ h e (c .before .if2 .left) (c .if3 .left),
-      omega (arith, kept-fits _ _ _ (inv .1)),
-      unit-some _ _ (inv .2),
-      omega arith,
-    )
-
-returns-3 : tie.Need-returns-3 Inv-loop μ-loop
-returns-3 c =
-    let inv = c .before .loop .inv in
-    (λ f h e. seen-all f _ _ _ _ (inv .0 f h e) h (c .loop-test .left), inv .3)
+    let numeral = c .before .is-numeral in
+    (λ f h e. own-other f _ h e (sym (numeral .ensures f h e) ∙ c .if1 .left), omega arith)
 
 pub constant-spec : {M : Type 1} → statement M
-constant-spec =
-    tie.close
-    (tie.spec
-    Inv-loop
-    μ-loop
-    returns
-    loop-holds
-    returns-2
-    mul-unit
-    add-zeros
-    (λ c. search needs)
-    loop-again
-    mul-kept
-    mul-kept-2
-    sub-kept
-    (λ c. search needs)
-    loop-again-2
-    returns-3)
+constant-spec = tie.close (tie.spec (λ c κs. search needs) (λ c κs. search needs) returns returns-2)
