@@ -8,7 +8,7 @@
 -- Assumes nothing.
 use Prim.Native.Nat.{ℕ, _+_, _*_, _≤_, _<_}
 use mathlib.Core.Bool.{true}
-use mathlib.Core.List.{List}
+use mathlib.Core.List.{List, []}
 use mathlib.Core.Logic.{_⊎_, _↔_}
 use mathlib.Core.Path.{_≡_}
 use lib.ListN.{length, take}
@@ -97,7 +97,7 @@ pub record Demand3Of (s before after : List ℕ) (r : CheckReply) : Type 0 where
       ((p : Reading) × (readProgram s ≡ accepted p) × (length before < length (checkListing p))) ↔ (r ≡ ofProgram 11 0)
   pub untouched : (f : Refusal) → r ≡ Refused f → (f .text ≡ S) × (after ≡ before)
   pub read : (p : Reading) → readProgram s ≡ accepted p → CheckedAs p before after r
-  pub constants : (p : Reading) → readProgram s ≡ accepted p → TextByValue s (p .constants)
+  pub constants : (p : Reading) → readProgram s ≡ accepted p → TextByValue s [] (p .constants)
 
 -- an answer as one number: the length of a pass's listing; 2^31 more than that of an unjoined overlap's; or 2^32 times a
 -- refusal's number, 2^16 times the byte of its letter, and its line
@@ -106,8 +106,8 @@ checkNumber (Refused f) = 4294967296 * f .number + 65536 * nameByte (f .text) + 
 checkNumber (Confluent n) = n
 checkNumber (Unjoined n) = 2147483648 + n
 
--- a number of which all this holds: it is the number of the answer that is read off it (Numbers.antt), and `check` promises of this
--- answer what it promises of its own
+-- a number of which all this holds: it is the number of the answer that is read off it (Numbers.antt), and `check` promises of
+-- this answer what it promises of its own
 pub record CheckReturned (s before after : List ℕ) (r : ℕ) : Type 0 where
   pub number : r ≡ checkNumber (checkRead r)
   pub replied : CheckReplied (checkReply s (length before)) before after (checkRead r)

@@ -63,7 +63,7 @@ pub record Demand3On (s : List ℕ) (r : Reading) : Type 1 where
   pub enough : OneOutcomeByAppearance (r .program) → OneOutcome (r .program)
   pub ordered : StrictTotalOrder (IsOverlapOf (r .program)) Earlier
   pub bounded : Bounded (r .program)
-  pub constants : TextByValue s (r .constants)
+  pub constants : TextByValue s [] (r .constants)
   pub decimals : (n : ℕ) → (isNumber (decimal n) ≡ true) × (valueOf (decimal n) ≡ n)
 
 -- the checks of two texts that read as r and q, in a room that both listings fit: one passes with a number exactly when the other
@@ -78,7 +78,7 @@ PassTogether s t r q =
 -- exactly if they are one, the program's among them, which keep theirs
 pub record Ran (s t : List ℕ) (room : ℕ) (r : Reading) (g : GoalReading) : Type 0 where
   pub goal : isGoalOf (r .program) (g .goal) ≡ true
-  pub constants : TextByValue t (g .constants)
+  pub constants : TextByValue t (r .constants) (g .constants)
   pub numbers : KeepsNumbers (r .constants) (g .constants)
   pub appearance : ByAppearance (g .goal)
   pub end : Final
@@ -91,7 +91,7 @@ pub record Ran (s t : List ℕ) (room : ℕ) (r : Reading) (g : GoalReading) : T
 -- run on bytes is one
 pub record Demand2On (s : List ℕ) (r : Reading) : Type 1 where
   pub program : Demand2 (r .program)
-  pub constants : TextByValue s (r .constants)
+  pub constants : TextByValue s [] (r .constants)
   pub ran :
       (t : List ℕ) (room : ℕ) (g : GoalReading) → readGoal (r .program .symbols) (r .constants) t ≡ accepted g
       → length (runListing r g) ≤ room → Ran s t room r g

@@ -12,7 +12,7 @@ use mathlib.Core.Option.{Option, none, some}
 use mathlib.Core.Path.{_≡_, refl, sym, ap, subst, _∙_}
 use lib.Dec.{leb, ltb}
 use lib.ListN.{length, getD, drop, length-append, List·getD-append}
-use lib.Seq.{getD-append-seam}
+use lib.Seq.{getD-append-seam, getD-append-add}
 use borrow.Author.Tests.{lt-ltb, ltb-true}
 use Rattle.text.specs.Lists.{onward, indexFrom, indexOf, sameBytes, isKnown, withName}
 use Rattle.text.specs.Lines.{Line, lines, lineIsFaulty}
@@ -36,7 +36,7 @@ use Rattle.syntax.specs.Programs.{readLine, readLines, readProgram}
 use Rattle.syntax.specs.Programs.{maxSymbols, maxRules, maxEquations, maxConstants, maxText}
 use Rattle.syntax.specs.Goals.{GoalDraft, GoalReading, maxGoal, maxWeight, lettersAfter, readConstraintOfGoal, isGoalForm}
 use Rattle.syntax.specs.Goals.{readGoalFields, readGoalLine, readGoalLines, readGoal}
-use Rattle.syntax.specs.Claims.{Among, ByValue, termFields, termsIn, TextByValue, KeepsNumbers}
+use Rattle.syntax.specs.Claims.{Among, ByValue, termFields, termsIn, StandsIn, TextByValue, KeepsNumbers}
 use Rattle.syntax.proofs.WellFormed.{Holds, holds-refuseIf, holds-andThen, holds-accepted, holds-constraintLine}
 use Rattle.syntax.proofs.Known.{same-refl, known-front, grown-known, constants-grown}
 use Rattle.syntax.proofs.Tabled.{name-first}
@@ -204,14 +204,74 @@ term-front variable cs more f h k =
 abbrev NamesKnown : List (List ℕ) → List (List ℕ) → Type 0
 NamesKnown gs cs = All (λ f. isName f ≡ true → isKnown (constantName f) cs ≡ true) gs
 
--- constants behind some term fields: tidy if they were, the names of the fields known, those before in front
+-- a constant among fields with others behind them, and in front
+stands-left : (c : List ℕ) (gs hs : List (List ℕ)) → StandsIn c gs → StandsIn c (gs ++ hs)
+stands-left c gs hs s =
+    let at : getD (gs ++ hs) (s .i) [] ≡ getD gs (s .i) [] = List·getD-append gs hs [] (s .i) (s .inside) in
+    record {
+      i = s .i;
+      inside = omega (arith, s .inside, length-append gs hs);
+      name = ap isName at ∙ s .name;
+      same = subst (λ f. SameConstant f c) (sym at) (s .same);
+    }
+
+stands-right : (c : List ℕ) (gs hs : List (List ℕ)) → StandsIn c hs → StandsIn c (gs ++ hs)
+stands-right c gs hs s =
+    let at = getD-append-add gs hs (s .i) [] in
+    record {
+      i = length gs + s .i;
+      inside = omega (arith, s .inside, length-append gs hs);
+      name = ap isName at ∙ s .name;
+      same = subst (λ f. SameConstant f c) (sym at) (s .same);
+    }
+
+-- constants behind some term fields: tidy if they were, the names of the fields known, those before in front, and no others than
+-- those of the fields behind them
 record Grows (before gs after : List (List ℕ)) : Type 0 where
   tidy : Tidy before → Tidy after
   known : NamesKnown gs after
   front : (more : List (List ℕ)) × (after ≡ before ++ more)
+  only : (i : ℕ) → length before ≤ i → i < length after → StandsIn (getD after i []) gs
 
 grows-none : (cs : List (List ℕ)) → Grows cs [] cs
-grows-none cs = record { tidy = λ t. t; known = C.none; front = ([], sym (append-nil cs)) }
+grows-none cs =
+    record { tidy = λ t. t; known = C.none; front = ([], sym (append-nil cs)); only = λ i h k. absurd (omega (arith, h, k)) }
+
+-- a constant that is new behind some fields is one of them
+fields-only : (fs cs : List (List ℕ)) (i : ℕ) → length cs ≤ i → i < length (constantsAfter fs cs)
+    → StandsIn (getD (constantsAfter fs cs) i []) fs
+unfolding constantsAfter withName
+fields-only [] cs i h k = absurd (omega (arith, h, k))
+fields-only (f ∷ fs) cs i h k = go (isName f) (isKnown (constantName f) cs) refl k (λ next. fields-only fs next i)
+  where
+    later : {c : List ℕ} → StandsIn c fs → StandsIn c (f ∷ fs)
+    later {c} s = stands-right c (f ∷ []) fs s
+
+    go : (b t : Bool) → isName f ≡ b
+        → i < length (constantsAfter fs (cond b (cond t cs (cs ++ (constantName f ∷ []))) cs))
+        → ((next : List (List ℕ)) → length next ≤ i → i < length (constantsAfter fs next)
+        → StandsIn (getD (constantsAfter fs next) i []) fs)
+        → StandsIn (getD (constantsAfter fs (cond b (cond t cs (cs ++ (constantName f ∷ []))) cs)) i []) (f ∷ fs)
+    go false t e l again = later (again cs h l)
+    go true true e l again = later (again cs h l)
+    go true false e l again =
+        let next : List (List ℕ) = cs ++ (constantName f ∷ []) in
+        let size : length next ≡ suc (length cs) = length-append cs (constantName f ∷ []) ∙ omega arith in
+        elim (decLt (length cs) i) [
+          | yes more ↦ later (again next (omega (arith, size, more)) l)
+          | no last ↦
+              let (rest, q) = constants-more fs next in
+              let here : i ≡ length cs = omega (arith, h, last) in
+              let is : getD (constantsAfter fs next) i [] ≡ constantName f =
+              ap (λ (l : List (List ℕ)). getD l i []) q ∙ List·getD-append next rest [] i (omega (arith, size, here))
+              ∙ at-last cs (constantName f) i here in
+              record {
+                i = 0;
+                inside = omega arith;
+                name = e;
+                same = subst (λ c. SameConstant f c) (sym is) (same-name f (constantName f) .1 (sym (own-name f)));
+              }
+        ]
 
 grows-fields : (fs cs : List (List ℕ)) → Grows cs fs (constantsAfter fs cs)
 grows-fields fs cs =
@@ -219,16 +279,24 @@ grows-fields fs cs =
       tidy = constants-tidy fs cs;
       known = rw (constants-grown fs cs) (grown-known isName constantName fs cs);
       front = constants-more fs cs;
+      only = fields-only fs cs;
     }
 
 grows-then : {a b c gs hs : List (List ℕ)} → Grows a gs b → Grows b hs c → Grows a (gs ++ hs) c
-grows-then {a} {b} {c} p q =
+grows-then {a} {b} {c} {gs} {hs} p q =
     let (one, e) = p .front in
     let (more, k) = q .front in
     record {
       tidy = λ t. q .tidy (p .tidy t);
       known = all-append (all-mono (λ f h n. rw k (known-front (constantName f) b more (h n))) (p .known)) (q .known);
       front = (one ++ more, k ∙ ap (λ (l : List (List ℕ)). l ++ more) e ∙ append-assoc a one more);
+      only = λ i h l. elim (decLt i (length b)) [
+        | yes low ↦
+            let same : getD c i [] ≡ getD b i [] =
+            ap (λ (d : List (List ℕ)). getD d i []) k ∙ List·getD-append b more [] i low in
+            subst (λ d. StandsIn d (gs ++ hs)) (sym same) (stands-left (getD b i []) gs hs (p .only i h low))
+        | no high ↦ stands-right (getD c i []) gs hs (q .only i (omega (arith, high)) l)
+      ];
     }
 
 -- what holds of an answer, by what else does
@@ -376,23 +444,24 @@ known-at (g ∷ gs) cs (also k all) zero h = k
 known-at (g ∷ gs) cs (also k all) (suc i) h = known-at gs cs all i (omega arith)
 
 grown-by-value : (text : List ℕ) (before after : List (List ℕ)) → Tidy before → Grows before (termsIn (lines text)) after
-    → TextByValue text after
+    → TextByValue text before after
 grown-by-value text before after t p =
     let gs = termsIn (lines text) in
     record {
       all = λ i h n. known-among after (p .tidy t) (getD gs i []) (known-at gs after (p .known) i h n);
+      only = p .only;
       by-value = tidy-by-value after (p .tidy t);
     }
 
 -- the constants of every program that is read
-pub read-by-value : (s : List ℕ) {r : Reading} → readProgram s ≡ accepted r → TextByValue s (r .constants)
+pub read-by-value : (s : List ℕ) {r : Reading} → readProgram s ≡ accepted r → TextByValue s [] (r .constants)
 read-by-value s {r} e = grown-by-value s [] (r .constants) none-tidy (read-grows s e)
 
 -- the constants of every goal that is read; those of its program keep their numbers
 pub goal-by-value :
     (s t : List ℕ) {r : Reading} {g : GoalReading} → readProgram s ≡ accepted r
     → readGoal (r .program .symbols) (r .constants) t ≡ accepted g
-    → TextByValue t (g .constants) × KeepsNumbers (r .constants) (g .constants)
+    → TextByValue t (r .constants) (g .constants) × KeepsNumbers (r .constants) (g .constants)
 goal-by-value s t {r} {g} e k =
     let tidy = read-grows s e .tidy none-tidy in
     let p = goal-grows (r .program .symbols) (r .constants) t k in

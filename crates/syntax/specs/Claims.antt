@@ -2,11 +2,11 @@
 --   Among          a constant is one of a list
 --   ByValue        the constants of a text as read
 --   termFields, termsIn    the term fields of a line and of lines
---   TextByValue    the constants of a text, each of them among those read
+--   StandsIn, TextByValue  the constants of a text: those read, and no others
 --   KeepsNumbers   constants that go on from others
 -- `read-by-value` and `goal-by-value` of proofs/ByValue.antt say that these hold of every program and of every goal that is read.
 -- Assumes nothing.
-use Prim.Native.Nat.{ℕ, _<_}
+use Prim.Native.Nat.{ℕ, _≤_, _<_}
 use mathlib.Core.Bool.{true}
 use mathlib.Core.List.{List, []}
 use mathlib.Core.Logic.{_↔_}
@@ -51,11 +51,21 @@ termFields noForm fs = []
 unfoldable pub termsIn : List Line → List (List ℕ)
 termsIn ls = gather (λ l. termFields (formOf (fieldAt 0 (fields (l .bytes)))) (fields (l .bytes))) ls
 
--- a text as read: each constant among the fields of its lines is among the constants, which are as a text gives them
-pub record TextByValue (text : List ℕ) (constants : List (List ℕ)) : Type 0 where
+-- a constant stands among some fields: it is the i-th
+pub record StandsIn (c : List ℕ) (fs : List (List ℕ)) : Type 0 where
+  pub i : ℕ
+  pub inside : i < length fs
+  pub name : isName (getD fs i []) ≡ true
+  pub same : SameConstant (getD fs i []) c
+
+-- a text as read behind the constants before it: each constant among the fields of its lines is among the constants, and each
+-- that was not there before stands in the text; they are as a text gives them
+pub record TextByValue (text : List ℕ) (before constants : List (List ℕ)) : Type 0 where
   pub all :
       (i : ℕ) → i < length (termsIn (lines text)) → isName (getD (termsIn (lines text)) i []) ≡ true
       → Among (getD (termsIn (lines text)) i []) constants
+  pub only :
+      (i : ℕ) → length before ≤ i → i < length constants → StandsIn (getD constants i []) (termsIn (lines text))
   pub by-value : ByValue constants
 
 -- constants that go on from others: each of those before keeps its number
