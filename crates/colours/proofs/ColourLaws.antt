@@ -4,7 +4,7 @@
 --   give-…            constraints
 --   absorb-…          one round ends
 -- Assumes nothing.
-use Prim.Native.Nat.{ℕ, suc, _+_, _-_, _*_, _/_, _≤_, _<_}
+use Prim.Native.Nat.{ℕ, suc, _+_, _-_, _*_, _%_, _≤_, _<_}
 use native.Mathlib.Nat.{mul-le-mul}
 use native.Mathlib.Omega.{arith}
 use native.Mathlib.Numerals.{add-one}
@@ -27,10 +27,9 @@ use Rattle.colours.specs.Colours.{Spread, Given, Absorbed}
 use Rattle.colours.proofs.RowLaws.{terms-row}
 
 -- the square of 32 bits fits 64
-pub square-small :
-    (t : ℕ) → (t - t / 4294967296 * 4294967296) * (t - t / 4294967296 * 4294967296) ≤ 18446744065119617025
+pub square-small : (t : ℕ) → (t % 4294967296) * (t % 4294967296) ≤ 18446744065119617025
 square-small t =
-    let h : t - t / 4294967296 * 4294967296 ≤ 4294967295 = omega arith in
+    let h : t % 4294967296 ≤ 4294967295 = omega arith in
     mul-le-mul h h
 
 -- at a 0, and behind the last cell, the terms end

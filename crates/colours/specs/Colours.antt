@@ -1,5 +1,5 @@
 -- Colours of terms, and the numbers that are made of them: what a renaming of the variables cannot change.
---   mixed, plus              two numbers as one; the second for sums in any order
+--   carry, mixed, plus       two numbers as one; the last for sums in any order
 --   signed, signature        the colours of a constraint's terms, in their order, as one number
 --   gains, gathered          what a term receives from the constraints that it stands in
 --   refined, rounds          colours made finer by that, once and several times
@@ -9,10 +9,11 @@
 --   Signed, Spread, Given, Absorbed, Recoloured, Summed      what the functions promise
 --   Empty, Ready             what they ask
 -- Assumes nothing.
-use Prim.Native.Nat.{ℕ, zero, suc, _+_, _-_, _*_, _/_, _%_, _^_, _<_, min}
+use Prim.Native.Nat.{ℕ, zero, suc, _+_, _*_, _%_, _^_, _<_, min}
 use mathlib.Core.Bool.{cond}
 use mathlib.Core.List.{List, [], _∷_, map}
 use mathlib.Core.Path.{_≡_}
+use lib.Dec.{ltb}
 use lib.ListN.{length, getD}
 use Rattle.semantics.specs.Terms.{Term, con, var, Constraint, sameTerm}
 use Rattle.tables.specs.Cells.{cellTerm, cellTerms}
@@ -20,14 +21,19 @@ use Rattle.colours.specs.Bounds.{TermsBelow}
 
 -- the lowest 32 bits of a number
 unfoldable pub lowest : ℕ → ℕ
-lowest t = t - t / 4294967296 * 4294967296
+lowest t = t % 4294967296
 
--- one number of two: multiplied, added, squared, and 32 bits of the middle. No law looks inside
+-- what is added to a number t and its square q, by which of them is smaller: lower bits of the sum hear so of upper ones
+unfoldable pub carry : ℕ → ℕ → ℕ
+carry q t = cond (ltb q t) 2246822507 0
+
+-- one number of two, in 32 bits: multiplied and added, then twice the square added to that, and the carry. No law looks inside
 unfoldable pub mixed : ℕ → ℕ → ℕ
-unfolding lowest
+unfolding lowest carry
 mixed s c =
-    let t = s * 2654435761 + c in
-    lowest ((lowest t * lowest t + t / 4294967296) / 65536)
+    let t = lowest (s * 2654435761 + c) in
+    let q = lowest (t * t) in
+    lowest (t + 2 * q + carry q t)
 
 -- a sum in 32 bits
 unfoldable pub plus : ℕ → ℕ → ℕ

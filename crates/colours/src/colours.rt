@@ -8,19 +8,23 @@ ghost use Prim.Native.Nat.{_*_, _≤_, _<_};
 ghost use lib.ListN.{length};
 ghost use Rattle.tables.specs.Cells.{cellTerm, cellTerms, cellConstraints};
 ghost use Rattle.colours.specs.Bounds.{Below, TermsBelow};
-ghost use Rattle.colours.specs.Colours.{mixed, Signed, Spread, Given, Absorbed, Recoloured, Summed};
+ghost use Rattle.colours.specs.Colours.{carry, mixed, Signed, Spread, Given, Absorbed, Recoloured, Summed};
 ghost use Rattle.colours.specs.Colours.{withTerms, refined, rounds, digest, base, Colours, Empty, Ready};
 
-// One number of two, below 2^32 each. It is not linear, so that sums of such numbers tell lists apart.
+// What is added to a number and its square, by which of them is smaller: without it lower bits would never hear of upper ones.
+pub fn carried(q: u32, t: u32) -> u32
+    ensures { λ r. ⌜ r ≡ carry q t ⌝ }
+{
+    if q < t { 2246822507 } else { 0 }
+}
+
+// One number of two, in 32 bits. It is not linear, so that sums of such numbers tell lists apart.
 pub fn mix(s: u32, c: u32) -> u32
     ensures { λ r. ⌜ r ≡ mixed s c ⌝ }
 {
-    let t = s as u64 * 2654435761 + c as u64;
-    let h = t >> 32;
-    let l = t - h * 4294967296;
-    let q = (l * l + h) >> 16;
-    let k = q >> 32;
-    (q - k * 4294967296) as u32
+    let t = ((s as u64 * 2654435761 + c as u64) % 4294967296) as u32;
+    let q = (t as u64 * t as u64 % 4294967296) as u32;
+    ((t as u64 + 2 * q as u64 + carried(q, t) as u64) % 4294967296) as u32
 }
 
 // A symbol's number.

@@ -4,9 +4,8 @@ use crate::search::search;
 use crate::settling::settles;
 use colours::classes::Depth;
 use colours::classes::classify;
-use std::num::wrapping_add_usize;
 ghost use mathlib.Core.Path.{_≡_};
-ghost use Prim.Native.Nat.{_≤_};
+ghost use Prim.Native.Nat.{_+_, _*_, _≤_, min};
 ghost use lib.ListN.{length};
 ghost use Rattle.semantics.specs.Variants.{sameState};
 ghost use Rattle.colours.specs.Ends.{endOf};
@@ -52,10 +51,22 @@ pub fn weigh(
     }
 }
 
+// Nine rounds and a quarter of n constraints more, or up to twice as many: by comparing, since a quarter would be a division. A
+// ring of constraints is told from a longer one by half as many rounds as it has, and there is room for two such rings.
+fn enough(n: usize) -> usize
+    ensures { λ r. ⌜ min n 512 + 36 ≤ 4 * r ⌝ }
+{
+    if n <= 60 {
+        return 24;
+    }
+    if n <= 124 {
+        return 40;
+    }
+    if n <= 252 { 72 } else { 137 }
+}
+
 // The depth of a step: marked constraints, for one round, which tells most of what signatures do not, at a ninth of the cost of
-// nine; signatures after as many rounds as there are constraints; then marked constraints, for nine rounds and for a quarter of
-// the constraints more. A ring of constraints is told from a longer one by half as many rounds as it has, and
-// there is room for two such rings.
+// nine; signatures after as many rounds as there are constraints; then marked constraints, for nine rounds and for enough.
 fn depth_at(step: usize, n: usize) -> Depth {
     if step == 0 {
         return Depth {
@@ -75,11 +86,8 @@ fn depth_at(step: usize, n: usize) -> Depth {
             deep: true,
         };
     }
-    let quarter = n >> 2;
-    Depth {
-        rounds: wrapping_add_usize(quarter, 9),
-        deep: true,
-    }
+    let rounds = enough(n);
+    Depth { rounds, deep: true }
 }
 
 // Whether two states are equal, by finer and finer classes, and by a search at last.

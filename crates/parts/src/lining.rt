@@ -217,22 +217,23 @@ fn try_part(a: &[u16], s: usize, b: &mut [u16], limit: usize, n: usize, links: &
 }
 
 // Lines up the part that begins at s and returns where it ends; s where it cannot be lined up. A part whose first constraint was
-// tried in vain is tried with another one, until a quarter as many constraints were tried as there are.
+// tried in vain is tried with another one, until a quarter as many constraints were tried as there are: each counts four.
 fn line_part(a: &[u16], s: usize, b: &mut [u16], n: usize, links: &mut [u16]) -> usize
     requires { ⌜ (length (now a) ≤ 5 * n) × (length (now b) ≡ 5 * n) × (5 * s + 5 ≤ length (now a)) ⌝ }
     ensures { λ r. ⌜ Reordered (now (b .entry)) (now (b .exit)) × (5 * r ≤ length (now (a .entry))) ⌝ }
 {
     let mut limit = n;
-    let mut left = n >> 2;
+    let mut left = n;
     while s < limit {
         let part = try_part(a, s, b, limit, n, links);
         if s < part.end {
             return part.end;
         }
-        if part.tried >= left {
+        let cost = 4 * part.tried + 4;
+        if left < cost {
             return s;
         }
-        left -= part.tried + 1;
+        left -= cost;
         limit -= 1;
         swap_rows(b, s, limit);
     }

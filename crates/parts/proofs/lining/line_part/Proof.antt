@@ -54,27 +54,38 @@ returns c =
     let made = c .before .before .before .before .before .before in
     (tried made .1, made .try-part .ensures .1)
 
+-- where a try is made, from where it is known to have failed
+abbrev failed : tie.After-struct-known2 Inv-loop μ-loop → tie.After-try-part Inv-loop μ-loop
+failed s = s .before .before .before .before .before .before .before
+
+-- what a try costs fits
+mul-cost : tie.Need-mul-cost Inv-loop μ-loop
+mul-cost c =
+    let start = turn (failed c) .before .before .before .before .before in
+    omega (arith, failed c .try-part .ensures .2, start .pre .1, start .good .1 .1 .0)
+
+add-cost : tie.Need-add-cost Inv-loop μ-loop
+add-cost c =
+    let start = turn (failed c) .before .before .before .before .before in
+    omega (arith, failed c .try-part .ensures .2, start .pre .1, start .good .1 .1 .0)
+
 same-length-3 : tie.Need-same-length-3 Inv-loop μ-loop
-same-length-3 c = tried (c .before .before .before .before .before .before .before .before) .0
+same-length-3 c = tried (failed (c .before)) .0
 
 same-length-4 : tie.Need-same-length-4 Inv-loop μ-loop
-same-length-4 c = tried (c .before .before .before .before .before .before .before .before) .2
+same-length-4 c = tried (failed (c .before)) .2
 
 returns-2 : tie.Need-returns-2 Inv-loop μ-loop
 returns-2 c =
-    let made = c .before .before .before .before .before .before .before .before in
+    let made = failed (c .before) in
     (tried made .1, omega (arith, turn made .before .before .before .before .before .pre .2))
 
--- where a try is made, from where it is known to have failed
-abbrev failed : tie.After-struct-known3 Inv-loop μ-loop → tie.After-try-part Inv-loop μ-loop
-failed s = s .before .before .before .before .before .before .before .before .before
-
 sub-limit : tie.Need-sub-limit Inv-loop μ-loop
-sub-limit c = omega (arith, turn (failed c) .loop-test .taken)
+sub-limit c = omega (arith, turn (failed (c .before)) .loop-test .taken)
 
 swap-rows-requires : tie.Need-swap-rows-requires Inv-loop μ-loop
 swap-rows-requires c κs =
-    let made = failed (c .before) in
+    let made = failed (c .before .before) in
     let at-test = turn made in
     let pre′ = at-test .before .before .before .before .before .pre in (
       omega (arith, at-test .loop-test .taken, at-test .before .loop .inv .0, tried made .0, pre′ .1),
@@ -82,11 +93,11 @@ swap-rows-requires c κs =
     )
 
 loop-less : tie.Need-loop-less Inv-loop μ-loop
-loop-less c = omega (arith, turn (failed (c .before .before .before .before)) .loop-test .taken)
+loop-less c = omega (arith, turn (failed (c .before .before .before .before .before)) .loop-test .taken)
 
 loop-again : tie.Need-loop-again Inv-loop μ-loop
 loop-again c =
-    let made = failed (c .before .before .before .before) in
+    let made = failed (c .before .before .before .before .before) in
     let at-test = turn made in
     let inv = at-test .before .loop .inv in
     let pre′ = at-test .before .before .before .before .before .pre in
@@ -112,10 +123,11 @@ line-part-spec =
     same-length
     same-length-2
     returns
+    mul-cost
+    add-cost
     same-length-3
     same-length-4
     returns-2
-    (λ c. search needs) (λ c. search needs)
     sub-limit
     swap-rows-requires
     loop-less
