@@ -23,17 +23,16 @@ use Rattle.colours.specs.Bounds.{TermsBelow}
 unfoldable pub lowest : ℕ → ℕ
 lowest t = t % 4294967296
 
--- what is added to a number t and its square q, by which of them is smaller: lower bits of the sum hear so of upper ones
-unfoldable pub carry : ℕ → ℕ → ℕ
-carry q t = cond (ltb q t) 2246822507 0
+-- what is added to a number by its highest bit: sums and products alone would never tell lower bits of upper ones
+unfoldable pub carry : ℕ → ℕ
+carry t = cond (ltb t 2147483648) 0 2246822507
 
 -- one number of two, in 32 bits: multiplied and added, then twice the square added to that, and the carry. No law looks inside
 unfoldable pub mixed : ℕ → ℕ → ℕ
 unfolding lowest carry
 mixed s c =
     let t = lowest (s * 2654435761 + c) in
-    let q = lowest (t * t) in
-    lowest (t + 2 * q + carry q t)
+    lowest (t + 2 * lowest (t * t) + carry t)
 
 -- a sum in 32 bits
 unfoldable pub plus : ℕ → ℕ → ℕ

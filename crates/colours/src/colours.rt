@@ -11,11 +11,11 @@ ghost use Rattle.colours.specs.Bounds.{Below, TermsBelow};
 ghost use Rattle.colours.specs.Colours.{carry, mixed, Signed, Spread, Given, Absorbed, Recoloured, Summed};
 ghost use Rattle.colours.specs.Colours.{withTerms, refined, rounds, digest, base, Colours, Empty, Ready};
 
-// What is added to a number and its square, by which of them is smaller: without it lower bits would never hear of upper ones.
-pub fn carried(q: u32, t: u32) -> u32
-    ensures { λ r. ⌜ r ≡ carry q t ⌝ }
+// What is added to a number by its highest bit: sums and products alone would never tell lower bits of upper ones.
+pub fn carried(t: u32) -> u32
+    ensures { λ r. ⌜ r ≡ carry t ⌝ }
 {
-    if q < t { 2246822507 } else { 0 }
+    if t < 2147483648 { 0 } else { 2246822507 }
 }
 
 // One number of two, in 32 bits. It is not linear, so that sums of such numbers tell lists apart.
@@ -24,7 +24,7 @@ pub fn mix(s: u32, c: u32) -> u32
 {
     let t = ((s as u64 * 2654435761 + c as u64) % 4294967296) as u32;
     let q = (t as u64 * t as u64 % 4294967296) as u32;
-    ((t as u64 + 2 * q as u64 + carried(q, t) as u64) % 4294967296) as u32
+    ((t as u64 + 2 * q as u64 + carried(t) as u64) % 4294967296) as u32
 }
 
 // A symbol's number.

@@ -1,7 +1,7 @@
 -- The comparison step by step: what each step says of the answer.
 --   cells-…               two lists of cells
 --   renumbered-same       variables numbered anew
---   numbered-…, compare-…   one step after the other
+--   side-ready, numbered-…, compare-…   one step after the other
 -- Assumes nothing.
 use Prim.Native.Nat.{ℕ, zero, suc, _+_, _*_, _≤_, _<_, max}
 use native.Mathlib.Omega.{arith}
@@ -28,7 +28,7 @@ use Rattle.tables.proofs.CellLaws.{le-or-lt, every-first, every-rest}
 use Rattle.colours.specs.Rows.{rowOf}
 use Rattle.colours.specs.Bounds.{Below}
 use Rattle.colours.specs.Ends.{endOf}
-use Rattle.comparison.specs.Comparing.{Side, Alike, Comparable, BothNumbered}
+use Rattle.comparison.specs.Comparing.{Side, Alike, BothNumbered}
 use Rattle.colours.specs.Classes.{Colourable}
 use Rattle.colours.specs.Numbering.{Renames, Numbering, Renumbered}
 use Rattle.colours.specs.Colours.{digest, clipped}
@@ -153,70 +153,44 @@ module _ (a f b g : List ℕ) (n limit size : ℕ) (p : BothNumbered a f b g n l
         → (x ≡ y → ⊥) → false ≡ sameState (endOf f a) (endOf g b)
     numbered-digest x y ex ey d = rw (← u .same e) (sym (first-differs f a b limit x y (p .ascending) ex ey d))
 
-module _ (a f ca₀ l₀ b g cb₀ r₀ : List ℕ) (p : Comparable a f ca₀ l₀ b g cb₀ r₀) where
-  -- what numbering the second state asks
-  pub compare-second :
-      Below 13596 b × Below 13596 g × (length cb₀ ≡ length b) × (length r₀ ≡ length g) × (length b ≤ 2560) × (length g ≤ 28)
-  compare-second = (
-    p .second .below,
-    p .second .bound-below,
-    p .room-b,
-    p .room-right,
-    omega (arith, p .second .size, p .second .few),
-    p .second .bound-few,
-  )
+-- what numbering a state's variables asks, in room of these sizes
+pub side-ready :
+    (a : List ℕ) (n : ℕ) (f : List ℕ) (u v : ℕ) → Side a n f → u ≡ 5 * n → v ≡ length f
+    → Below 13596 a × Below 13596 f × (u ≡ length a) × (v ≡ length f) × (length a ≤ 2560) × (length f ≤ 28)
+side-ready a n f u v s e k =
+    (s .below, s .bound-below, e ∙ sym (s .size), k, omega (arith, s .size, s .few), s .bound-few)
 
-  -- as many constraints as cells hold
-  pub compare-count : length a ≡ 5 * length (cellConstraints a)
-  compare-count = rw (constraints-length (p .count) a (p .first .size)) (p .first .size)
+-- two states with as many constraints and goal variables, and the two with their variables numbered
+module _ (a : List ℕ) (n : ℕ) (f b : List ℕ) (m : ℕ) (g : List ℕ) (s : Side a n f) (t : Side b m g) (e : n ≡ m)
+    (o : length f ≡ length g) (ca l : List ℕ) (i x : ℕ) (cb r : List ℕ) (j y : ℕ) (lca : length ca ≡ 5 * n)
+    (ll : length l ≡ length f) (lcb : length cb ≡ 5 * n) (lr : length r ≡ length f) (ra : Renumbered a f ca l i x)
+    (rb : Renumbered b g cb r j y) where
+  size-a : length ca ≡ length a
+  size-a = lca ∙ sym (s .size)
 
-  module _ (ca l : List ℕ) (i x : ℕ) (cb r : List ℕ) (j y : ℕ) (lca : length ca ≡ length ca₀) (ll : length l ≡ length l₀)
-      (lcb : length cb ≡ length cb₀) (lr : length r ≡ length r₀) (ra : Renumbered a f ca l i x)
-      (rb : Renumbered b g cb r j y) where
-    -- the numbered states answer for the states
-    pub compare-same : sameState (endOf l ca) (endOf r cb) ≡ sameState (endOf f a) (endOf g b)
-    compare-same =
-        variants-same (endOf f a) (endOf g b) (endOf l ca) (endOf r cb)
-        (renumbered-variant (p .count) a f ca l i x (p .first .size) (lca ∙ p .room-a) (ll ∙ p .room-left) (p .first .low) ra)
-        (renumbered-variant (p .count) b g cb r j y (p .second .size) (lcb ∙ p .room-b) (lr ∙ p .room-right) (p .second .low) rb)
+  size-b : length cb ≡ length b
+  size-b = lcb ∙ (ap (λ k. 5 * k) e ∙ sym (t .size))
 
-    -- what the later steps ask
-    pub compare-ready : (n size : ℕ) → length a ≡ 5 * n → size ≡ max x y → BothNumbered ca l cb r n i size
-    compare-ready n size e m =
-        let same : p .count ≡ n = omega (arith, p .first .size) in
-        let left-room : x ≤ 2844 = omega (arith, ra .most, p .first .size, p .first .few, p .first .bound-few) in
-        let right-room : y ≤ 2844 = omega (arith, rb .most, p .second .size, p .second .few, p .second .bound-few) in
-        record {
-          first = rw same at (renumbered-colourable (p .count) a f ca l i x (p .first .size) (lca ∙ p .room-a) (ll ∙ p .room-left)
-              (p .first .low) ra
-              size (omega arith) (omega arith));
-          second = rw same at (renumbered-colourable (p .count) b g cb r j y (p .second .size) (lcb ∙ p .room-b)
-              (lr ∙ p .room-right) (p .second .low) rb
-              size (omega arith) (omega arith));
-          bounds = ll ∙ (p .room-left ∙ (p .bounds ∙ sym (lr ∙ p .room-right)));
-          few = omega (arith, p .first .few);
-          ascending = ra .ascending;
-          limit-second = j;
-          ascending-second = rb .ascending;
-        }
+  -- the numbered states answer for the states
+  pub compare-answer : (q : Bool) → q ≡ sameState (endOf l ca) (endOf r cb) → q ≡ sameState (endOf f a) (endOf g b)
+  compare-answer q h =
+      h ∙ variants-same (endOf f a) (endOf g b) (endOf l ca) (endOf r cb)
+      (renumbered-variant n a f ca l i x (s .size) size-a ll (s .low) ra)
+      (renumbered-variant m b g cb r j y (t .size) size-b (lr ∙ o) (t .low) rb)
 
-    -- and what they find
-    pub compare-answer : (q : Bool) → q ≡ sameState (endOf l ca) (endOf r cb) → q ≡ sameState (endOf f a) (endOf g b)
-    compare-answer q e = e ∙ compare-same
-
--- two states of the same size, and room for their cells
-pub comparable :
-    (a : List ℕ) (n : ℕ) (f b : List ℕ) (m : ℕ) (g cells-a left cells-b right : List ℕ) → Side a n f → Side b m g → n ≡ m
-    → length f ≡ length g → length cells-a ≡ 5 * n → length left ≡ length f → length cells-b ≡ 5 * n → length right ≡ length f
-    → Comparable a f cells-a left b g cells-b right
-comparable a n f b m g cells-a left cells-b right s t e l ka kl kb kr =
-    record {
-      count = n;
-      first = s;
-      second = rw e t;
-      bounds = l;
-      room-a = ka ∙ sym (s .size);
-      room-left = kl;
-      room-b = kb ∙ (ap (λ k. 5 * k) e ∙ sym (t .size));
-      room-right = kr ∙ l;
-    }
+  -- what the later steps ask
+  pub compare-ready : (size : ℕ) → size ≡ max x y → BothNumbered ca l cb r n i size
+  compare-ready size h =
+      let left-room : x ≤ 2844 = omega (arith, ra .most, s .size, s .few, s .bound-few) in
+      let right-room : y ≤ 2844 = omega (arith, rb .most, t .size, t .few, t .bound-few) in
+      let second′ : Colourable cb r size m =
+      renumbered-colourable m b g cb r j y (t .size) size-b (lr ∙ o) (t .low) rb size (omega arith) (omega arith) in
+      record {
+        first = renumbered-colourable n a f ca l i x (s .size) size-a ll (s .low) ra size (omega arith) (omega arith);
+        second = rw (← e) at second′;
+        bounds = ll ∙ sym lr;
+        few = s .few;
+        ascending = ra .ascending;
+        limit-second = j;
+        ascending-second = rb .ascending;
+      }

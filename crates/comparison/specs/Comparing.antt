@@ -1,7 +1,6 @@
 -- Two final states in cells, and what their comparison asks.
---   Side        one of the two states: its sizes, and room for its variables
---   Alike       what comparing cells promises
---   Comparable  two states of the same size, and room for their cells
+--   Side          one of the two states: its sizes, and room for its variables
+--   Alike         what comparing cells promises
 --   BothNumbered  two states with their variables numbered by first appearance
 -- Assumes nothing.
 use Prim.Native.Nat.{ℕ, _*_, _≤_}
@@ -31,17 +30,6 @@ pub record Side (cells : List ℕ) (n : ℕ) (bound : List ℕ) : Type 0 where
 pub record Alike (r : Bool) (a b : List ℕ) : Type 0 where
   pub same : r ≡ true → a ≡ b
   pub apart : r ≡ false → a ≡ b → ⊥
-
--- two states with as many constraints and goal variables, and room for the cells of each
-pub record Comparable (a f cells-a left b g cells-b right : List ℕ) : Type 0 where
-  pub count : ℕ
-  pub first : Side a count f
-  pub second : Side b count g
-  pub bounds : length f ≡ length g
-  pub room-a : length cells-a ≡ length a
-  pub room-left : length left ≡ length f
-  pub room-b : length cells-b ≡ length b
-  pub room-right : length right ≡ length g
 
 -- two states of n constraints whose cells lie below a size, what the goal variables became being numbered by first appearance,
 -- in the first state up to a limit

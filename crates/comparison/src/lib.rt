@@ -14,32 +14,16 @@ use colours::first::first_digest;
 use colours::numbering::number_state;
 use tables::wide;
 ghost use mathlib.Core.Path.{_≡_};
-ghost use Prim.Native.Nat.{_*_, max};
-ghost use lib.ListN.{length};
+ghost use Prim.Native.Nat.{max};
 ghost use Rattle.semantics.specs.Variants.{sameState};
-ghost use Rattle.tables.specs.Cells.{cellConstraints};
 ghost use Rattle.colours.specs.Ends.{endOf};
-ghost use Rattle.comparison.specs.Comparing.{Side, Comparable, BothNumbered};
+ghost use Rattle.comparison.specs.Comparing.{Side, BothNumbered};
 
 // The larger of two numbers.
 pub fn larger(x: u16, y: u16) -> usize
     ensures { λ r. ⌜ r ≡ max x y ⌝ }
 {
     if x < y { wide(y) } else { wide(x) }
-}
-
-// How many constraints cells hold.
-pub fn count(cells: &[u16]) -> usize
-    requires { ⌜ length (now cells) ≡ 5 * length (cellConstraints (now cells)) ⌝ }
-    ensures { λ r. ⌜ length (now (cells .entry)) ≡ 5 * r ⌝ }
-{
-    let mut n = 0;
-    let mut p = 0;
-    while p < cells.len() {
-        n += 1;
-        p += 5;
-    }
-    n
 }
 
 // Whether two states with their variables numbered are equal. What the goal variables became must be the same then, and the
@@ -68,29 +52,6 @@ pub fn compare_numbered(
     decide(a, left, b, right, n, size)
 }
 
-// Whether two states are equal, in lent room for their cells: the variables are numbered anew by first appearance.
-pub fn compare(
-    a: &[u16],
-    bound_a: &[u16],
-    b: &[u16],
-    bound_b: &[u16],
-    cells_a: &mut [u16],
-    left: &mut [u16],
-    cells_b: &mut [u16],
-    right: &mut [u16],
-) -> bool
-    requires { ⌜ Comparable (now a) (now «bound_a») (now «cells_a») (now left) (now b) (now «bound_b») (now «cells_b»)
-        (now right) ⌝ }
-    ensures { λ r. ⌜ r ≡ sameState (endOf (now («bound_a» .entry)) (now (a .entry)))
-        (endOf (now («bound_b» .entry)) (now (b .entry))) ⌝ }
-{
-    let x = number_state(a, bound_a, cells_a, left);
-    let y = number_state(b, bound_b, cells_b, right);
-    let n = count(a);
-    let size = larger(x.all, y.all);
-    compare_numbered(cells_a, left, cells_b, right, n, x.bound, size)
-}
-
 // Whether two final states are equal: a of n constraints, b of m, and what the goal variables became in each.
 pub fn same_state(
     a: &[u16],
@@ -112,18 +73,16 @@ pub fn same_state(
     }
     let e = 5 * n;
     let k = bound_a.len();
-    let mut cells_a = [0u16; 2560];
-    let mut cells_b = [0u16; 2560];
-    let mut left = [0u16; 28];
-    let mut right = [0u16; 28];
-    compare(
-        a,
-        bound_a,
-        b,
-        bound_b,
-        &mut cells_a[..e],
-        &mut left[..k],
-        &mut cells_b[..e],
-        &mut right[..k],
-    )
+    let mut room_a = [0u16; 2560];
+    let mut room_b = [0u16; 2560];
+    let mut bounds_a = [0u16; 28];
+    let mut bounds_b = [0u16; 28];
+    let cells_a = &mut room_a[..e];
+    let left = &mut bounds_a[..k];
+    let cells_b = &mut room_b[..e];
+    let right = &mut bounds_b[..k];
+    let x = number_state(a, bound_a, cells_a, left);
+    let y = number_state(b, bound_b, cells_b, right);
+    let size = larger(x.all, y.all);
+    compare_numbered(cells_a, left, cells_b, right, n, x.bound, size)
 }

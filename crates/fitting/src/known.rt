@@ -10,8 +10,9 @@ use tables::layout::EQUATIONS_CELL;
 use tables::layout::FIRST_BODY;
 use tables::wide;
 ghost use mathlib.Core.Path.{_≡_};
-ghost use Prim.Native.Nat.{_≤_, _-_};
-ghost use lib.ListN.{set, getD};
+ghost use Prim.Native.Nat.{_≤_, _-_, _*_};
+ghost use lib.ListN.{length, set, getD};
+ghost use Rattle.tables.specs.Layout.{constraintSize};
 ghost use Rattle.tables.specs.Cells.{cellConstraints};
 ghost use Rattle.fitting.specs.Positions.{Row};
 ghost use Rattle.fitting.specs.Known.{loose, prefixOf, hasSymbol, isConcerned, Marked, Forgotten, Remembered};
@@ -100,13 +101,13 @@ pub fn is_concerned(heads: &[u16], last: &[u16], v: usize, whole: usize) -> bool
     false
 }
 
-// Marks the symbols of a body as brought by the last firing, as far as the table goes.
-pub fn mark(body: &[u16], last: &mut [u16], whole: usize)
-    requires { ⌜ whole ≤ 65000 ⌝ }
+// Marks the symbols of a body of n constraints as brought by the last firing, as far as the table goes.
+pub fn mark(body: &[u16], last: &mut [u16], whole: usize, n: usize)
+    requires { ⌜ (length (now body) ≡ constraintSize * n) × (whole ≤ 65000) ⌝ }
     ensures { λ _. ⌜ Marked (now (last .entry)) (cellConstraints (now (body .entry))) whole (now (last .exit)) ⌝ }
 {
     let mut i = 0;
-    while CONSTRAINT_SIZE * i + CONSTRAINT_SIZE <= body.len() {
+    while i < n {
         let symbol = wide(body[CONSTRAINT_SIZE * i]);
         i += 1;
         if symbol < last.len() {
@@ -132,8 +133,9 @@ pub fn remember(row: &[u16], known: &mut [u16], last: &mut [u16], whole: usize)
     ensures { λ _. ⌜ Remembered (now (row .entry)) whole (now (known .entry)) (now (last .entry))
         (now (known .exit)) (now (last .exit)) ⌝ }
 {
-    let d = FIRST_BODY + CONSTRAINT_SIZE * wide(row[BODY_CELL]);
-    mark(&row[FIRST_BODY..d], last, whole);
+    let n = wide(row[BODY_CELL]);
+    let d = FIRST_BODY + CONSTRAINT_SIZE * n;
+    mark(&row[FIRST_BODY..d], last, whole, n);
     if 0 < row[EQUATIONS_CELL] {
         forget(known);
     }

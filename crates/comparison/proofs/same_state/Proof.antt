@@ -1,18 +1,15 @@
--- `same_state` meets its contract: sizes first, then the comparison in room of its own.
+-- `same_state` meets its contract: sizes first, then the comparison with variables numbered, in room of its own.
 -- Assumes nothing.
 use lib.ListN.{length}
 use native.Mathlib.Omega.{arith}
-use Prim.Native.Nat.{_*_}
-use mathlib.Core.Path.{sym}
+use Prim.Native.Nat.{_*_, _≤_}
+use mathlib.Core.Path.{sym, ap, _∙_}
 use Rattle.comparison.proofs.SearchLaws.{count-apart, bound-count-apart}
 use Rattle.colours.proofs.ClassLaws.{zeros-length}
-use Rattle.comparison.proofs.DecideLaws.{comparable}
+use Rattle.comparison.proofs.DecideLaws.{side-ready, compare-ready, compare-answer}
 use borrow.Author.Needs.{needs}
 use Rattle.comparison.proofs.same_state.Statement.{statement}
 use Rattle.comparison.proofs.same_state.Tie as tie
-use Rattle.comparison.proofs.same_state.Reads as reads
-use Rattle.comparison.proofs.same_state.Lts as lts
-use Rattle.comparison.proofs.compare.Reads as compare-reads
 
 returns : tie.Need-returns
 returns c =
@@ -31,62 +28,76 @@ returns-2 c =
     (pre′ .1 .size)
     (if2′ .taken)
 
-mul-e : tie.Need-mul-e
-mul-e c = search needs
+-- where all begins, from where the room is parted
+abbrev start : tie.After-bounds-b → tie.Start
+start s = s .before .before .before .before .before .before .before .before .before .before
 
-array-borrow-prefix-cells-a : tie.Need-array-borrow-prefix-cells-a
-array-borrow-prefix-cells-a c = search needs
+-- where the room is parted, from where each state is numbered
+abbrev parted : tie.After-number-state → tie.After-bounds-b
+parted s = s .before .before .before
 
-slice-aggregate-compare : tie.Need-slice-aggregate-compare
-slice-aggregate-compare c =
-    let args′ = (c .before .before .before .before .before .before .before .args) in
-    let pre′ = (c .before .before .before .before .before .before .before .pre) in
-    sym (zeros-length (5 * args′ .n) 2560 (omega (arith, pre′ .0 .few)))
+abbrev first : tie.After-number-state2 → tie.After-number-state
+first s = s .before .before .before .before .before .before .before
 
-array-borrow-prefix-left : tie.Need-array-borrow-prefix-left
-array-borrow-prefix-left c = search needs
+-- there is room for the cells of n constraints
+few : (s : tie.Start) → 5 * s .args .n ≤ 2560
+few s = omega (arith, s .pre .0 .few)
 
-slice-aggregate-compare-2 : tie.Need-slice-aggregate-compare-2
-slice-aggregate-compare-2 c =
-    let args′ = (c .before .before .before .before .before .before .before .before .args) in
-    let pre′ = (c .before .before .before .before .before .before .before .before .pre) in
-    sym (zeros-length (length (args′ .bound-a .now)) 28 (pre′ .0 .bound-few))
+cells-a : tie.Need-slice-aggregate-cells-a
+cells-a c = sym (zeros-length _ 2560 (few (c .before .before .before .before .before .before .before)))
 
-array-borrow-prefix-cells-b : tie.Need-array-borrow-prefix-cells-b
-array-borrow-prefix-cells-b c = search needs
+left : tie.Need-slice-aggregate-left
+left c = sym (zeros-length _ 28 (c .before .before .before .before .before .before .before .before .pre .0 .bound-few))
 
-slice-aggregate-compare-3 : tie.Need-slice-aggregate-compare-3
-slice-aggregate-compare-3 c =
-    let args′ = (c .before .before .before .before .before .before .before .before .before .args) in
-    let pre′ = (c .before .before .before .before .before .before .before .before .before .pre) in
-    sym (zeros-length (5 * args′ .n) 2560 (omega (arith, pre′ .0 .few)))
+cells-b : tie.Need-slice-aggregate-cells-b
+cells-b c = sym (zeros-length _ 2560 (few (c .before .before .before .before .before .before .before .before .before)))
 
-array-borrow-prefix-right : tie.Need-array-borrow-prefix-right
-array-borrow-prefix-right c = search needs
+right : tie.Need-slice-aggregate-right
+right c = sym (zeros-length _ 28 (start c .pre .0 .bound-few))
 
-slice-aggregate-compare-4 : tie.Need-slice-aggregate-compare-4
-slice-aggregate-compare-4 c =
-    let tested = c .before .before .before .before .before .before in
-    let args′ = tested .before .before .before .before .args in
-    let pre′ = tested .before .before .before .before .pre in
-    sym (zeros-length (length (args′ .bound-a .now)) 28 (pre′ .0 .bound-few))
+number-state-requires : tie.Need-number-state-requires
+number-state-requires c κs =
+    let s = start (c .before .before) in
+    side-ready _ _ _ _ _ (s .pre .0) (zeros-length _ 2560 (few s)) (zeros-length _ 28 (s .pre .0 .bound-few))
 
-compare-requires : tie.Need-compare-requires
-compare-requires c κs =
-    let tested = c .before .before .before .before .before .before in
-    let args′ = tested .before .before .before .before .args in
-    let pre′ = tested .before .before .before .before .pre in
-    let if1′ = (c .before .before .before .before .before .if1) in
-    let if2′ = (c .before .before .before .before .if2) in
-    comparable (args′ .a .now) (args′ .n) (args′ .bound-a .now) (args′ .b .now) _ (args′ .bound-b .now) _ _ _ _ (pre′ .0)
-    (pre′ .1)
-    (if1′ .left) (if2′ .left) (zeros-length (5 * args′ .n) 2560 (omega (arith, pre′ .0 .few)))
-    (zeros-length (length (args′ .bound-a .now)) 28 (pre′ .0 .bound-few)) (zeros-length (5 * args′ .n) 2560 (omega
-    (arith, pre′ .0 .few)))
-    (zeros-length (length (args′ .bound-a .now)) 28 (pre′ .0 .bound-few))
+number-state-requires-2 : tie.Need-number-state-requires-2
+number-state-requires-2 c κs =
+    let at = parted (c .before .before .before .before .before .before) in
+    let s = start at in
+    let same-bounds = at .before .before .before .before .if2 .left in
+    let same-count = at .before .before .before .before .before .if1 .left in
+    side-ready _ _ _ _ _ (s .pre .1) (zeros-length _ 2560 (few s) ∙ ap (λ k. 5 * k) same-count)
+    (zeros-length _ 28 (s .pre .0 .bound-few) ∙ same-bounds)
+
+compare-numbered-requires : tie.Need-compare-numbered-requires
+compare-numbered-requires c κs =
+    let at-larger = c .before .before in
+    let two = at-larger .before .before .before .before .before in
+    let one = first two in
+    let at = parted one in
+    let s = start at in
+    compare-ready _ _ _ _ _ _ (s .pre .0) (s .pre .1) (at .before .before .before .before .before .if1 .left)
+    (at .before .before .before .before .if2 .left) _ _ _ _ _ _ _ _
+    (one .number-state .kept .1 .1 .0 ∙ zeros-length _ 2560 (few s))
+    (one .number-state .kept .1 .1 .1 .0 ∙ zeros-length _ 28 (s .pre .0 .bound-few))
+    (two .number-state2 .kept .1 .1 .0 ∙ zeros-length _ 2560 (few s))
+    (two .number-state2 .kept .1 .1 .1 .0 ∙ zeros-length _ 28 (s .pre .0 .bound-few))
+    (one .number-state .ensures) (two .number-state2 .ensures) _ (at-larger .larger .ensures)
 
 returns-3 : tie.Need-returns-3
-returns-3 c = search needs
+returns-3 c =
+    let answer = c .before .before .before .before in
+    let two = answer .before .before .before .before .before .before .before .before in
+    let one = first two in
+    let at = parted one in
+    let s = start at in
+    compare-answer _ _ _ _ _ _ (s .pre .0) (s .pre .1) (at .before .before .before .before .before .if1 .left)
+    (at .before .before .before .before .if2 .left) _ _ _ _ _ _ _ _
+    (one .number-state .kept .1 .1 .0 ∙ zeros-length _ 2560 (few s))
+    (one .number-state .kept .1 .1 .1 .0 ∙ zeros-length _ 28 (s .pre .0 .bound-few))
+    (two .number-state2 .kept .1 .1 .0 ∙ zeros-length _ 2560 (few s))
+    (two .number-state2 .kept .1 .1 .1 .0 ∙ zeros-length _ 28 (s .pre .0 .bound-few))
+    (one .number-state .ensures) (two .number-state2 .ensures) _ (answer .compare-numbered .ensures)
 
 pub same-state-spec : {M : Type 1} → statement M
 same-state-spec =
@@ -94,14 +105,16 @@ same-state-spec =
     (tie.spec
     returns
     returns-2
-    mul-e
-    array-borrow-prefix-cells-a
-    slice-aggregate-compare
-    array-borrow-prefix-left
-    slice-aggregate-compare-2
-    array-borrow-prefix-cells-b
-    slice-aggregate-compare-3
-    array-borrow-prefix-right
-    slice-aggregate-compare-4
-    compare-requires
+    (λ c. search needs) (λ c. search needs)
+    cells-a
+    (λ c. search needs)
+    left
+    (λ c. search needs)
+    cells-b
+    (λ c. search needs)
+    right
+    number-state-requires
+    number-state-requires-2
+    (λ c κs. search needs)
+    compare-numbered-requires
     returns-3)
