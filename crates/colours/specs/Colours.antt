@@ -27,11 +27,11 @@ lowest t = t % 4294967296
 unfoldable pub carry : ℕ → ℕ
 carry t = cond (ltb t 2147483648) 0 2246822507
 
--- one number of two, in 32 bits: multiplied and added, then twice the square added to that, and the carry. No law looks inside
+-- one number of two, in 32 bits: one added to the other multiplied, to that twice its square, and the carry. No law looks inside
 unfoldable pub mixed : ℕ → ℕ → ℕ
 unfolding lowest carry
 mixed s c =
-    let t = lowest (s * 2654435761 + c) in
+    let t = lowest (s + c * 4097) in
     lowest (t + 2 * lowest (t * t) + carry t)
 
 -- a sum in 32 bits

@@ -22,7 +22,7 @@ pub fn carried(t: u32) -> u32
 pub fn mix(s: u32, c: u32) -> u32
     ensures { λ r. ⌜ r ≡ mixed s c ⌝ }
 {
-    let t = ((s as u64 * 2654435761 + c as u64) % 4294967296) as u32;
+    let t = ((s as u64 + c as u64 * 4097) % 4294967296) as u32;
     let q = (t as u64 * t as u64 % 4294967296) as u32;
     ((t as u64 + 2 * q as u64 + carried(t) as u64) % 4294967296) as u32
 }

@@ -9,7 +9,7 @@ use Rattle.colours.proofs.colours.mix.Statement.{statement}
 use Rattle.colours.proofs.colours.mix.Tie as tie
 
 mul-q : tie.Need-mul-q
-mul-q c = omega (arith, square-small (c .args .s * 2654435761 + c .args .c))
+mul-q c = omega (arith, square-small (c .args .s + c .args .c * 4097))
 
 returns : tie.Need-returns
 unfolding mixed lowest
