@@ -52,7 +52,8 @@ pub fn compare_numbered(
     decide(a, left, b, right, n, size)
 }
 
-// Whether two final states are equal: a of n constraints, b of m, and what the goal variables became in each.
+// Whether two final states are equal: a of n constraints, b of m, and what the goal variables became in each. They are compared
+// with their variables numbered anew by first appearance.
 pub fn same_state(
     a: &[u16],
     n: usize,
