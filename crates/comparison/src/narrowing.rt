@@ -51,8 +51,8 @@ pub fn weigh(
     }
 }
 
-// Nine rounds and a quarter of n constraints more, or up to twice as many: by comparing, since a quarter would be a division. A
-// ring of constraints is told from a longer one by half as many rounds as it has, and there is room for two such rings.
+// Nine rounds and a quarter of n constraints, or some more: by comparing, since a quarter would be a division. A ring of
+// constraints is told from a longer one by half as many rounds as it has, and there is room for two such rings.
 fn enough(n: usize) -> usize
     ensures { λ r. ⌜ min n 512 + 36 ≤ 4 * r ⌝ }
 {
