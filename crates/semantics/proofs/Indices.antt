@@ -1,7 +1,7 @@
 -- Numbers and indices in lists: whether a number stands in one, its first index, and what stands at an index.
 --   le-or-lt, leb-true, leb-false        the order of numbers and its test
 --   indexFrom-…, index-…                 the first index
---   getElem-…, getD-at                   the element at an index
+--   getElem-…, getD-at, getD-past        the element at an index; behind the list the default
 --   pointwise-at, pointwise-get          the elements at one index of two related lists
 --   has-…, Distinct                      a number of a list; lists without repetition
 --   distinct-fresh, fresh-distinct       distinct positions are fresh ones
@@ -117,6 +117,11 @@ pub getD-at : {A : Type 0} (l : List A) (i : ℕ) {a : A} (z : A) → getElem? l
 getD-at [] i z e = none-some refl e
 getD-at (x ∷ l) zero z e = some-equal e
 getD-at (x ∷ l) (suc i) z e = getD-at l i z e
+
+pub getD-past : {A : Type 0} (l : List A) (i : ℕ) (z : A) → length l ≤ i → getD l i z ≡ z
+getD-past [] i z h = refl
+getD-past (x ∷ l) zero z h = absurd (omega arith)
+getD-past (x ∷ l) (suc i) z h = getD-past l i z (omega arith)
 
 -- an element of the first of two lists, and of the second
 pub getElem-left :

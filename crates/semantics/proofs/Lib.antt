@@ -31,6 +31,8 @@ pub mod Search
 pub mod Choosing
 pub mod Precedence
 pub mod Removal
+pub mod Indices
+pub mod Listings
 pub mod Pairs
 pub mod Comparison
 -- Weights, derivations and runs
@@ -39,15 +41,14 @@ pub mod Bound
 pub mod Entering
 pub mod Normal
 pub mod Runs
+pub mod Remaining
 pub mod Vocabulary
 pub mod Reordering
 pub mod LateEntry
 -- Overlaps: pairings, positions, goals, and the verdict
-pub mod Indices
 pub mod Pairings
 pub mod OverlapPositions
 pub mod Partners
-pub mod Listings
 pub mod Enumeration
 pub mod OverlapOrder
 pub mod Verdicts

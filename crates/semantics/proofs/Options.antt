@@ -2,6 +2,7 @@
 --   decide                        a test passes or fails
 --   bind-some, bind-none          what a bind's answer came from
 --   cond-some, cond-none          what the answer of a tested computation came from
+--   chosen, cond-chosen           one of two values, whatever the test
 --   eqb-equal, equal-eqb          the test of numbers, both ways
 --   same-equal, equal-same        the test of terms, both ways
 --   below-isBelow, isBelow-below  the test whether a term is below a number, both ways
@@ -60,6 +61,14 @@ cond-some false p = none-some refl p
 pub cond-some-not {ℓ} : {A : Type ℓ} (b : Bool) {o : Option A} {a : A} → cond b none o ≡ some a → (b ≡ false) × (o ≡ some a)
 cond-some-not true p = none-some refl p
 cond-some-not false p = (refl, p)
+
+-- one of two values by a test, as a call that stays shut: so a law about any test finds which test it is about
+unfoldable pub chosen {ℓ} : {A : Type ℓ} → Bool → A → A → A
+chosen b x y = cond b x y
+
+pub cond-chosen {ℓ} : {A : Type ℓ} (b : Bool) (x y : A) → cond b x y ≡ chosen b x y
+unfolding chosen
+cond-chosen b x y = refl
 
 -- the test of numbers: a passed one says that they are equal, and equal ones pass
 pub eqb-equal : {m n : ℕ} → eqb m n ≡ true → m ≡ n

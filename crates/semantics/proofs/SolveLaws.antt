@@ -7,17 +7,18 @@
 --   solve-within, solve-keeps                a term stays, or becomes one that has what all sides of the equations have
 -- Assumes nothing.
 use Prim.Native.Nat.{ℕ}
-use mathlib.Core.Bool.{true, false, cond}
+use mathlib.Core.Bool.{Bool, true, false, cond}
 use mathlib.Core.List.{List, [], _∷_, map}
 use mathlib.Core.Option.{none, some}
 use mathlib.Core.Path.{_≡_, refl, sym, ap, subst, _∙_}
-use lib.Dec.{leb, eqb}
+use lib.Dec.{eqb}
 use Rattle.semantics.specs.Terms.{Term, con, var, Equation}
 use Rattle.semantics.specs.Solving.{replace, unify, solve}
 use Rattle.semantics.proofs.Configurations.{Or, inl, inr, Member, first, later, Tm, Eqn, Eqv, given, same, flip, chain}
 use Rattle.semantics.proofs.Configurations.{lift, liftEqn}
 use Rattle.semantics.proofs.Configurations as C
-use Rattle.semantics.proofs.Options.{decide, none-some, bind-some, bind-none, cond-some, eqb-equal, equal-eqb}
+use Rattle.semantics.proofs.Options.{decide, none-some, bind-some, bind-none, cond-some, chosen, cond-chosen}
+use Rattle.semantics.proofs.Options.{eqb-equal, equal-eqb}
 use Rattle.semantics.proofs.Lifting.{down, down-lift}
 use Rattle.semantics.proofs.Multisets.{member-map, member-unmap}
 
@@ -72,6 +73,14 @@ replace-unifies x t = record {
     sort u (inl p) = inl p
     sort u (inr q) = inr (inl q)
 
+-- whichever of two variables stays, their equation is solved
+chosen-unifies :
+    (x y : ℕ) (b : Bool) {τ : Term → Term} → chosen b (some (replace y (var x))) (some (replace x (var y))) ≡ some τ
+    → Unifies (var x) (var y) τ
+unfolding chosen
+chosen-unifies x y true p = subst (Unifies (var x) (var y)) (cc) (unifies-flip (replace-unifies y (var x)))
+chosen-unifies x y false p = subst (Unifies (var x) (var y)) (cc) (replace-unifies x (var y))
+
 -- the answer of a unification solves its equation
 pub unify-unifies : (s t : Term) {τ : Term → Term} → unify s t ≡ some τ → Unifies s t τ
 unfolding unify
@@ -83,11 +92,14 @@ unify-unifies (con a) (con b) {τ} p = same-constants (cond-some (eqb a b) p)
         (record { fixes = λ c. refl; joins = ap con (eqb-equal (q .0)); moves = λ u. inl refl })
 unify-unifies (con a) (var y) p = subst (Unifies (con a) (var y)) (cc) (unifies-flip (replace-unifies y (con a)))
 unify-unifies (var x) (con b) p = subst (Unifies (var x) (con b)) (cc) (replace-unifies x (con b))
-unify-unifies (var x) (var y) {τ} p = go (decide (leb x y))
-  where
-    go : Or (leb x y ≡ true) (leb x y ≡ false) → Unifies (var x) (var y) τ
-    go (inl q) = subst (Unifies (var x) (var y)) (cc) (unifies-flip (replace-unifies y (var x)))
-    go (inr q) = subst (Unifies (var x) (var y)) (cc) (replace-unifies x (var y))
+unify-unifies (var x) (var y) p = chosen-unifies x y _ (rw (cond-chosen, unify) at p)
+
+-- and there is an answer
+chosen-answers :
+    {A : Type 0} (x y : ℕ) (b : Bool) → chosen b (some (replace y (var x))) (some (replace x (var y))) ≡ none → A
+unfolding chosen
+chosen-answers x y true p = none-some p refl
+chosen-answers x y false p = none-some p refl
 
 -- a unification has no answer only for two different constants
 pub unify-clash : (s t : Term) → unify s t ≡ none → (a : ℕ) × (b : ℕ) × (s ≡ con a) × (t ≡ con b) × (a ≡ b → ⊥)
@@ -95,11 +107,7 @@ unfolding unify
 unify-clash (con a) (con b) p = (a, b, refl, refl, λ e. none-some (rw (equal-eqb e) at p) refl)
 unify-clash (con a) (var y) p = none-some p refl
 unify-clash (var x) (con b) p = none-some p refl
-unify-clash (var x) (var y) p = go (decide (leb x y))
-  where
-    go : Or (leb x y ≡ true) (leb x y ≡ false) → (a : ℕ) × (b : ℕ) × (var x ≡ con a) × (var y ≡ con b) × (a ≡ b → ⊥)
-    go (inl q) = none-some (rw q at p) refl
-    go (inr q) = none-some (rw q at p) refl
+unify-clash (var x) (var y) p = chosen-answers x y _ (rw (cond-chosen, unify) at p)
 
 -- solving, one equation after the other: from σ the equations lead to τ
 pub data Solves : List Equation → (Term → Term) → (Term → Term) → Type 0 where

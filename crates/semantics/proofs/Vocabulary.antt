@@ -31,6 +31,7 @@ use Rattle.semantics.proofs.MatchedTerms.{matched-all, without-all, pai
 use Rattle.semantics.proofs.SolveLaws.{solve-keeps}
 use Rattle.semantics.proofs.Letters.{every-all, rule-lettered}
 use Rattle.semantics.proofs.Represent.{ScopedState, fireAt-scoped}
+use Rattle.semantics.proofs.Remaining.{solve-lowers, lowered-below}
 use Rattle.semantics.proofs.Normal.{Reach, arrived, fires, normalise-reach}
 
 -- a term whose constant, if it is one, has a property
@@ -46,13 +47,15 @@ pub record RuleOver (P : ℕ → Type 0) (r : Rule) : Type 0 where
   pub body : All (ConstraintOver P) (r .body)
   pub equations : All (λ e. TermOver P (e .left) × TermOver P (e .right)) (r .equations)
 
--- a live state of v goal variables over declared symbols, constants that have a property, and variables below its number
+-- a live state of v goal variables over declared symbols, constants that have a property, and variables below its number; what
+-- each goal variable has become is a constant or a goal variable
 pub record Spoken (symbols : List Symbol) (P : ℕ → Type 0) (v number next : ℕ) (b : List Term) (cs : List Constraint) : Type 0
   where
     pub numbered : next ≡ number
     pub size : length b ≡ v
     pub scoped : Scoped next b cs
     pub bound : All (TermOver P) b
+    pub own : All (TermBelow v) b
     pub constraints : All (ConstraintOver P) cs
     pub declared : All (λ c. isDeclared symbols c ≡ true) cs
 
@@ -137,6 +140,7 @@ module _ (symbols : List Symbol) (P : ℕ → Type 0) (r : Rule) (ps : List ℕ)
             size = rw length-map (s .size);
             scoped = k;
             bound = all-map σ (all-mono keeps (s .bound));
+            own = all-map σ (all-mono (λ t. lowered-below v (solve-lowers solvedFor e t)) (s .own));
             constraints = all-map (mapTerms σ) (all-mono (λ c h. all-map σ (all-mono keeps h)) remaining-over);
             declared = all-map (mapTerms σ) (all-mono (declared-map symbols σ) (remaining-declared (s .declared)));
           }
@@ -216,6 +220,7 @@ entered-spoken p P g w o =
             all-mono (isBelow-below (g .variables)) (every-all (isBelow (g .variables)) (c .terms) (parts c h .1))) all;
       };
       bound = tabled-over P (g .variables);
+      own = tabled-below (g .variables) (g .variables) (omega arith);
       constraints = o;
       declared = all-mono (λ c h. parts c h .0) all;
     }

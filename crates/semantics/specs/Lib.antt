@@ -4,6 +4,7 @@ pub mod Matching
 pub mod Solving
 pub mod Firing
 pub mod Derivations
+pub mod Remaining
 pub mod Strategy
 pub mod Runs
 pub mod Variants
