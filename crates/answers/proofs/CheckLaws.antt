@@ -16,6 +16,7 @@ use Rattle.semantics.specs.Strategy.{Final}
 use Rattle.semantics.specs.Overlaps.{Overlap, overlaps}
 use Rattle.semantics.specs.Verdict.{Verdict, verdict, confluent, unjoined}
 use Rattle.semantics.specs.Claims.{Demand3}
+use Rattle.semantics.proofs.Remaining.{goal-variables-remain}
 use Rattle.semantics.proofs.Demand3.{verdict-exact}
 use Rattle.syntax.specs.Answers.{Answer, refused, accepted}
 use Rattle.syntax.specs.Programs.{Reading, readProgram}
@@ -174,6 +175,7 @@ module _ (s before after : List ℕ) (r : CheckReply) (c : CheckReplied (checkRe
           enough = λ h.
               outcome-claim (p .program) .1 (demand .enough (appearance-claim (p .program) .0 h));
           bounded = demand .bounded;
+          kept = goal-variables-remain (p .program);
           decimals = decimal-exact;
         }
 

@@ -13,6 +13,7 @@ use mathlib.Core.Logic.{_⊎_, _↔_}
 use mathlib.Core.Path.{_≡_}
 use lib.ListN.{length, take}
 use Rattle.text.specs.Fields.{isNumber, valueOf, decimal}
+use Rattle.semantics.specs.Remaining.{GoalVariablesRemain}
 use Rattle.semantics.specs.Strategy.{Final}
 use Rattle.semantics.specs.Overlaps.{Overlap, overlaps}
 use Rattle.semantics.specs.Order.{IsOverlapOf, Earlier, StrictTotalOrder}
@@ -62,8 +63,9 @@ pub record Told (s : List ℕ) (r : CheckReply) : Type 0 where
 -- the number of its overlaps. A fail leaves the earliest overlap of the program that does not join, its goal and two ends of
 -- finished derivations of this goal, which are not equal; so not each goal has one outcome. Where the listing fits, it is left
 -- wherever there is one, and there is at most one, since the order of overlaps is strict and total. For one outcome of all goals
--- it is enough that those as document 01 has them have one. No derivation fires more often than its goal's weight. A number is
--- shown in digits without a leading zero, whose value it is
+-- it is enough that those as document 01 has them have one. No derivation fires more often than its goal's weight. In every
+-- derivation each goal variable has become a constant or the earliest of the goal variables that have become the same. A number
+-- is shown in digits without a leading zero, whose value it is
 pub record CheckedAs (p : Reading) (before after : List ℕ) (r : CheckReply) : Type 0 where
   pub decided : length (checkListing p) ≤ length before → ((n : ℕ) × (r ≡ Confluent n)) ⊎ ((n : ℕ) × (r ≡ Unjoined n))
   pub exact : length (checkListing p) ≤ length before → ((n : ℕ) × (r ≡ Confluent n)) ↔ OneOutcome (p .program)
@@ -80,6 +82,7 @@ pub record CheckedAs (p : Reading) (before after : List ℕ) (r : CheckReply) : 
   pub ordered : StrictTotalOrder (IsOverlapOf (p .program)) Earlier
   pub enough : OneOutcomeByAppearance (p .program) → OneOutcome (p .program)
   pub bounded : Bounded (p .program)
+  pub kept : GoalVariablesRemain (p .program)
   pub decimals : (n : ℕ) → (isNumber (decimal n) ≡ true) × (valueOf (decimal n) ≡ n)
 
 -- a refusal of the program's text

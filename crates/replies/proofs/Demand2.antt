@@ -1,10 +1,11 @@
 -- Demand 2 on bytes: `run-published`, for every text that can be read.
 -- Assumes nothing.
 use Prim.Native.Nat.{ℕ, _≤_}
-use mathlib.Core.List.{List}
+use mathlib.Core.List.{List, []}
 use mathlib.Core.Path.{_≡_}
 use lib.ListN.{length}
 use Rattle.semantics.specs.Strategy.{run}
+use Rattle.semantics.proofs.Remaining.{goal-variables-remain, run-keeps}
 use Rattle.semantics.proofs.Demand2.{derivation-published}
 use Rattle.syntax.specs.Answers.{accepted}
 use Rattle.syntax.specs.Programs.{Reading, readProgram}
@@ -35,6 +36,7 @@ run-published s r e =
     record {
       program = published;
       constants = read-by-value s e;
+      kept = goal-variables-remain (r .program);
       ran =
           λ t room g f l.
           record {
@@ -45,5 +47,6 @@ run-published s r e =
             end = run (r .program) (g .goal);
             reply = run-listed-in s t room r g e f l;
             runs = published .runs .goals (g .goal);
+            kept = run-keeps (r .program) (g .goal) [] (run (r .program) (g .goal)) (published .runs .goals (g .goal));
           };
     }

@@ -14,6 +14,7 @@ use Rattle.semantics.specs.Verdict.{Verdict, verdict, confluent, unjoined}
 use Rattle.semantics.specs.Claims.{Counterexample, Demand3}
 use Rattle.semantics.proofs.Configurations.{Or, inl, inr}
 use Rattle.semantics.proofs.Options.{decide, true-T}
+use Rattle.semantics.proofs.Remaining.{goal-variables-remain}
 use Rattle.semantics.proofs.Demand3.{verdict-exact}
 use Rattle.syntax.specs.Answers.{accepted}
 use Rattle.syntax.specs.Programs.{Reading, readProgram}
@@ -98,6 +99,7 @@ check-exact s r e =
       enough = d .enough;
       ordered = d .ordered;
       bounded = d .bounded;
+      kept = goal-variables-remain (r .program);
       constants = read-by-value s e;
       decimals = decimal-exact;
     }

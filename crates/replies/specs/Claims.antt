@@ -16,6 +16,7 @@ use mathlib.Core.Path.{_≡_}
 use lib.ListN.{length, getD}
 use Rattle.text.specs.Fields.{isNumber, valueOf, decimal}
 use Rattle.semantics.specs.Terms.{isGoalOf}
+use Rattle.semantics.specs.Remaining.{KeepsGoalVariables, GoalVariablesRemain}
 use Rattle.semantics.specs.Strategy.{Final}
 use Rattle.semantics.specs.Runs.{RunsTo}
 use Rattle.semantics.specs.Overlaps.{Overlap, overlaps}
@@ -56,13 +57,15 @@ pub record Checked (s : List ℕ) (room : ℕ) (r : Reading) : Type 1 where
 
 -- demand 3 for a text that reads as r: its check, wherever the listing fits; for one outcome of all goals it is enough that
 -- those whose variables count by first appearance have one; the order of overlaps is strict and total; no derivation fires more
--- often than its goal's weight; two constants of the text have one number exactly if they are one; and a number is shown in
--- digits without a leading zero, whose value it is
+-- often than its goal's weight; in every derivation each goal variable has become a constant or the earliest of the goal
+-- variables that have become the same; two constants of the text have one number exactly if they are one; and a number is shown
+-- in digits without a leading zero, whose value it is
 pub record Demand3On (s : List ℕ) (r : Reading) : Type 1 where
   pub checked : (room : ℕ) → length (checkListing r) ≤ room → Checked s room r
   pub enough : OneOutcomeByAppearance (r .program) → OneOutcome (r .program)
   pub ordered : StrictTotalOrder (IsOverlapOf (r .program)) Earlier
   pub bounded : Bounded (r .program)
+  pub kept : GoalVariablesRemain (r .program)
   pub constants : TextByValue s [] (r .constants)
   pub decimals : (n : ℕ) → (isNumber (decimal n) ≡ true) × (valueOf (decimal n) ≡ n)
 
@@ -74,8 +77,9 @@ PassTogether s t r q =
     → (checkReply s room ≡ verdictReply r (confluent n)) ↔ (checkReply t room ≡ verdictReply q (confluent n))
 
 -- the reply to a goal's text that reads as g, in a room that the listing fits: the listing of an end, and the run of the goal,
--- which is over the program's symbols and counts its variables by first appearance, ends so. Its constants have one number
--- exactly if they are one, the program's among them, which keep theirs
+-- which is over the program's symbols and counts its variables by first appearance, ends so. There each goal variable has become
+-- a constant or the earliest of the goal variables that have become the same. The goal's constants have one number exactly if
+-- they are one, the program's among them, which keep theirs
 pub record Ran (s t : List ℕ) (room : ℕ) (r : Reading) (g : GoalReading) : Type 0 where
   pub goal : isGoalOf (r .program) (g .goal) ≡ true
   pub constants : TextByValue t (r .constants) (g .constants)
@@ -86,12 +90,15 @@ pub record Ran (s t : List ℕ) (room : ℕ) (r : Reading) (g : GoalReading) : T
       runReply s t room
       ≡ listing (endListing (namingOf (r .program .symbols) (g .constants)) (λ x. getD (g .letters) x []) end)
   pub runs : RunsTo (r .program) (g .goal) [] end
+  pub kept : KeepsGoalVariables (end .state)
 
--- demand 2 for a text that reads as r: that of the program, in which constants have one number exactly if they are one; and every
+-- demand 2 for a text that reads as r: that of the program, in which constants have one number exactly if they are one; in every
+-- derivation each goal variable has become a constant or the earliest of the goal variables that have become the same; and every
 -- run on bytes is one
 pub record Demand2On (s : List ℕ) (r : Reading) : Type 1 where
   pub program : Demand2 (r .program)
   pub constants : TextByValue s [] (r .constants)
+  pub kept : GoalVariablesRemain (r .program)
   pub ran :
       (t : List ℕ) (room : ℕ) (g : GoalReading) → readGoal (r .program .symbols) (r .constants) t ≡ accepted g
       → length (runListing r g) ≤ room → Ran s t room r g

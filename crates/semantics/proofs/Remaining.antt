@@ -28,8 +28,8 @@ use Rattle.semantics.specs.Remaining.{Equated, Remains, constant, smalle
 use Rattle.semantics.specs.Remaining as R
 use Rattle.semantics.specs.Strategy.{Final}
 use Rattle.semantics.specs.Runs.{arrivals, RunsTo}
-use Rattle.semantics.proofs.Configurations.{Or, inl, inr, Member, Tm, Eqv, given, same, flip, chain, lift, liftEqn, TermBelow}
-use Rattle.semantics.proofs.Configurations.{All, also}
+use Rattle.semantics.proofs.Configurations.{Or, inl, inr, Member, Tm, Eqv, given, same, flip, chain}
+use Rattle.semantics.proofs.Configurations.{lift, liftEqn, TermBelow, All, also}
 use Rattle.semantics.proofs.Configurations as C
 use Rattle.semantics.proofs.Multisets.{all-mono, all-append, all-map, member-map, member-unmap}
 use Rattle.semantics.proofs.Options.{decide, none-some, bind-some, cond-some, chosen, cond-chosen, true-T, eqb-equal}
@@ -345,7 +345,8 @@ entering-keeps g n d k = go (has n (d .entered)) (getElem? (g .constraints) n)
     go :
         (b : Bool) (o : Option Constraint)
         → KeptState
-        (cond b d (onward o d (λ c. record { state = taken c (d .state); entered = n ∷ d .entered; firings = d .firings })) .state)
+        (cond b d
+        (onward o d (λ c. record { state = taken c (d .state); entered = n ∷ d .entered; firings = d .firings })) .state)
     go true o = k
     go false none = k
     go false (some c) = taken-keeps c (d .state) k
