@@ -88,6 +88,7 @@ static void every_room(const char *what, struct text program, const struct text 
 #define LEQ_HEAD "K,leq,2,1\n"
 #define LEQ_TAIL "R,anti\nH,leq,X,Y\nH,leq,Y,X\nE,X,Y\nR,idem\nH,leq,X,Y\nH,leq,X,Y\nB,leq,X,Y\n"
 #define KEPT "K,lit,1,1\nK,cue,1,2\nK,line,2,1\nR,call\nJ,lit,H\nH,cue,X\nB,line,H,X\n"
+#define NEW "K,p,1,2\nK,q,1,1\nR,one\nH,p,X\nB,q,Y\n"
 
 int main(void)
 {
@@ -96,6 +97,7 @@ int main(void)
     struct text leq = TEXT(LEQ_HEAD "R,refl\nH,leq,X,X\n" LEQ_TAIL), none = TEXT(""), long_text = { many, 16385 };
     struct text goal = TEXT("G,leq,A,B\nG,leq,B,A\nG,leq,A,c\n"), fails = TEXT("G,leq,a,b\nG,leq,b,a\n"), unknown = TEXT("G,p\n");
     struct text cue = TEXT("G,lit,a\nG,cue,B\n"), kept_goal = TEXT("J,lit,a\n"), digits = TEXT("G,lit,007\nG,cue,00\n");
+    struct text letters = TEXT("G,p,B\nG,q,U\nG,p,A\n");
     every_room("a run", leq, &goal);
     every_room("a failed run", leq, &fails);
     every_room("a run, both empty", none, &none);
@@ -107,12 +109,14 @@ int main(void)
     every_room("a run, a kept constraint", TEXT(KEPT), &cue);
     every_room("a run, a goal's J line", TEXT(KEPT), &kept_goal);
     every_room("a run, leading zeros", TEXT(KEPT), &digits);
+    every_room("a run, new variables", TEXT(NEW), &letters);
     every_room("a pass", leq, NULL);
     every_room("a pass, empty", none, NULL);
     every_room("an overlap", TEXT(LEQ_HEAD LEQ_TAIL), NULL);
     every_room("an overlap, one end failed", TEXT("K,p,0,1\nR,one\nH,p\nE,a,b\nR,two\nH,p\n"), NULL);
     every_room("an overlap, kept constraints", TEXT(KEPT), NULL);
     every_room("an overlap, leading zeros", TEXT("K,p,1,2\nK,q,1,1\nR,7\nH,p,07\nB,q,00\nR,07\nH,p,7\n"), NULL);
+    every_room("an overlap, new variables", TEXT(NEW "R,two\nH,p,X\nB,q,X\n"), NULL);
     every_room("a check, no line feed", TEXT("K,p,0,1"), NULL);
     every_room("a check, 16,385 bytes", long_text, NULL);
     every_room("a check, an undeclared symbol", TEXT("K,p,0,1\nR,r\nH,q\n"), NULL);

@@ -2,8 +2,9 @@
 derivations. tests/reader.py reads texts for it.
 
 A program is its kinds (name, number of terms, weight) and rules; a fact is (kind, terms). In a rule and in a goal's text a term
-is a str: a capital letter is a variable, anything else a constant. In a state a constant is a str and a variable a number. A
-state is None where it has failed, or (facts, what the goal variables became, a number above every variable in use).
+is a str: a capital letter is a variable, anything else a constant. In a state a constant is a str and a variable a number: the
+goal's n variables are 0 to n - 1 by first appearance, and new ones have numbers from n on. A state is None where it has failed,
+or (facts, what each goal variable became, a number above every variable in use).
 A constant keeps its spelling; wherever terms are compared or printed it is taken without leading zeros, if it is made of digits.
 """
 import collections
@@ -54,6 +55,18 @@ def places(heads, facts, used=(), bindings={}):
                 yield from places(heads, facts, used + (i,), more)
 
 
+def equated(a, b, variables):
+    """Of two unequal terms that are equated, the one that goes and the one that remains, of a goal with so many variables: a
+    constant remains, then the earlier goal variable, then any goal variable over a new one. Two constants: None."""
+    if isinstance(a, str) and isinstance(b, str):
+        return None
+    if isinstance(a, str) or isinstance(b, str):
+        return (b, a) if isinstance(a, str) else (a, b)
+    if a < variables and b < variables:
+        return max(a, b), min(a, b)
+    return (a, b) if b < variables else (b, a)
+
+
 def fire(rule, used, bindings, state):
     """The state after firing a rule at places. The facts of its kept heads stay where they are."""
     facts, became, last = state
@@ -69,12 +82,13 @@ def fire(rule, used, bindings, state):
         (a, b), left = left[0], left[1:]
         if same(a, b):
             continue
-        if isinstance(a, str) and isinstance(b, str):
+        pair = equated(a, b, len(became))
+        if pair is None:
             return None
-        gone, stays = (a, b) if isinstance(b, str) or not isinstance(a, str) and a > b else (b, a)
+        gone, remains = pair
 
         def put(t):
-            return stays if t == gone else t
+            return remains if t == gone else t
         facts = [(k, [put(t) for t in terms]) for k, terms in facts]
         became, left = [put(t) for t in became], [(put(p), put(q)) for p, q in left]
     return facts, became, last
@@ -104,12 +118,15 @@ def numbered(facts, names=None):
 
 
 def end_listing(kinds, names, state, firings):
+    """An end as it is printed, with the names of the goal's variables. Only a variable that is none of these gets a U number."""
     if state is None:
         return 'FAILED,%d\n' % firings
     numbers = {}
 
     def shown(t):
-        return plain(t) if isinstance(t, str) else 'U%d' % numbers.setdefault(t, len(numbers) + 1)
+        if isinstance(t, str):
+            return plain(t)
+        return names[t] if t < len(names) else 'U%d' % numbers.setdefault(t, len(numbers) + 1)
     lines = ['END,%d' % firings] + ['A,%s,%s' % (n, shown(t)) for n, t in zip(names, state[1])]
     return '\n'.join(lines + [','.join(['S', kinds[k][0]] + [shown(t) for t in terms]) for k, terms in state[0]]) + '\n'
 

@@ -11,21 +11,26 @@
 -- Assumes nothing.
 use Prim.Native.Nat.{ℕ, _+_, _-_, _*_, _≤_, _<_}
 use native.Mathlib.Omega.{arith}
-use mathlib.Core.Bool.{Bool, true, false, cond}
+use mathlib.Core.Bool.{Bool, true, false, cond, _&&_}
 use mathlib.Core.List.{List, [], _∷_, _++_}
 use mathlib.Core.Path.{_≡_, refl, sym, ap, subst, _∙_}
 use lib.Dec.{ltb}
 use lib.ListN.{length, take, drop, length-append, length-take}
 use lib.Seq.{take-at, take-take, length-take-le}
 use Rattle.text.specs.Bytes.{ascii}
+use Rattle.text.specs.Lists.{every}
 use Rattle.text.specs.Fields.{decimal}
+use Rattle.text.proofs.Bools.{and-true}
 use Rattle.text.proofs.Laws.{drop-take, tabled-length}
-use Rattle.semantics.specs.Terms.{Symbol, Rule, Program}
+use Rattle.semantics.specs.Terms.{Constraint, Symbol, Rule, Program, isDeclared, isBelow, isGoalOf}
 use Rattle.semantics.specs.Strategy.{Final as End′}
 use Rattle.semantics.specs.Overlaps.{Overlap}
 use Rattle.semantics.specs.Verdict.{confluent, unjoined, verdict}
 use Rattle.semantics.proofs.Configurations.{All}
 use Rattle.semantics.proofs.Multisets.{all-mono}
+use Rattle.semantics.proofs.Letters.{every-all}
+use Rattle.semantics.proofs.Listings.{all-every}
+use Rattle.semantics.proofs.Demand3.{verdict-exact}
 use Rattle.syntax.specs.Answers.{Answer, refused, accepted}
 use Rattle.syntax.specs.Forms.{firstConstant}
 use Rattle.syntax.specs.Programs.{Reading, readProgram}
@@ -376,6 +381,18 @@ module _ {program places goal bounds one two : List ℕ} {s : Shown} (r : ShowRe
               rw second-bound (end-listable (s .two) (take v (drop v bounds)) two b y second-cut second-shown (u .second-end));
         }
 
+    -- all variables of the overlap's goal are the goal's
+    own-variables : (o : Overlap) (one′ two′ : End′) → verdict (r .ready .p .program) ≡ unjoined o one′ two′
+        → every (λ c. every (isBelow (o .goal .variables)) (c .terms)) (o .goal .constraints) ≡ true
+    unfolding isGoalOf
+    own-variables o one′ two′ e =
+        let ss = r .ready .p .program .symbols in
+        let below : Constraint → Bool = λ c. every (isBelow (o .goal .variables)) (c .terms) in
+        let goal = verdict-exact (r .ready .p .program) (read-wellFormed program (r .ready .first .read)) .shown o one′ two′ .0 e
+        .goal in
+        all-every below (all-mono (λ c h. and-true (isDeclared ss c) (below c) h .1)
+        (every-all (λ c. isDeclared ss c && below c) (o .goal .constraints) goal))
+
     -- the tables hold the overlap of the verdict
     shown-by : (o : Overlap) → ShownIn (r .ready .p .program) (holds (r .ready) .names) (r .rules) goal bounds one two s o
         → ShownBy (nameIn program [] places) (take (5 * s .count) goal) listed o
@@ -388,6 +405,10 @@ module _ {program places goal bounds one two : List ℕ} {s : Shown} (r : ShowRe
               ap (λ q. q .rule .name) (h .second) ∙ same-rule (r .ready) (s .second) (r .unjoined-in .second);
           partners-same = h .partners-same;
           goal-same = ap (λ q. q .constraints) (h .goal-same);
+          goal-own =
+              let same : o .goal .variables ≡ v = ap (λ q. q .variables) (h .goal-same) in
+              subst (λ (n : ℕ). every (λ c. every (isBelow n) (c .terms)) (o .goal .constraints) ≡ true) same
+              (own-variables o _ _ (h .decided));
         }
 
     -- its listing is the reply

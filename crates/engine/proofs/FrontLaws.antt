@@ -11,16 +11,15 @@ use native.Mathlib.Omega.{arith}
 use native.Mathlib.Numerals.{add-one}
 use mathlib.Core.Bool.{Bool, true, false}
 use mathlib.Core.List.{List, [], _∷_, _++_, append-nil}
-use mathlib.Core.Logic.{⊎-elim}
 use mathlib.Core.Path.{_≡_, refl, ap, sym, _∙_}
 use lib.ListN.{length, getD, set, take, drop, length-append, length-drop, drop-of-length-le}
 use lib.Seq.{paste, take-paste, take-suc, take-all, drop-at, length-take-le}
 use Rattle.text.specs.Lists.{has, upTo}
 use Rattle.semantics.specs.Terms.{Constraint}
 use Rattle.semantics.specs.Firing.{without}
-use Rattle.semantics.proofs.Removal.{has-last, has-other}
+use Rattle.semantics.proofs.Appearing.{upTo-has, upTo-lacks}
 use Rattle.tables.specs.Cells.{cellConstraints}
-use Rattle.tables.proofs.CellLaws.{le-or-lt, constraints-length}
+use Rattle.tables.proofs.CellLaws.{constraints-length}
 use Rattle.engine.specs.States.{Equated, Fires, Fired, Skips, Placed}
 use Rattle.engine.proofs.FireLaws.{Moving, moving-next, moving-end}
 use Rattle.fitting.proofs.PartLaws.{drop-constraints, behind, behind-all}
@@ -49,17 +48,6 @@ module _ (s : ℕ) (cells g : List ℕ) (l : s ≤ length cells) where
         length-drop s cells,
       ))
 
--- the numbers below n
-has-below : (q n : ℕ) → q < n → has q (upTo n) ≡ true
-has-below q zero h = absurd (omega arith)
-has-below q (suc n) h =
-    ⊎-elim (λ l. let e : q ≡ n = omega arith in rw e (has-last n (upTo n)))
-    (λ l. has-other q n (upTo n) (λ e. omega arith) ∙ has-below q n l) (le-or-lt n q)
-
-has-above : (q n : ℕ) → n ≤ q → has q (upTo n) ≡ false
-has-above q zero h = refl
-has-above q (suc n) h = has-other q n (upTo n) (λ e. omega arith) ∙ has-above q n (omega arith)
-
 -- no position from p on
 without-free : (p : ℕ) (ps : List ℕ) (cs : List Constraint) → ((q : ℕ) → p ≤ q → has q ps ≡ false) → without p ps cs ≡ cs
 unfolding without
@@ -79,7 +67,7 @@ without-next (suc d) p ps (c ∷ cs) t f l =
 -- the first constraints are removed
 without-front : (n : ℕ) (cs : List Constraint) → n ≤ length cs → without 0 (upTo n) cs ≡ drop n cs
 without-front n cs l =
-    without-next n 0 (upTo n) cs (λ q h. has-below q n (omega arith)) (λ q h. has-above q n (omega arith)) l
+    without-next n 0 (upTo n) cs (λ q h. upTo-has n q (omega arith)) (λ q h. upTo-lacks n q (omega arith)) l
 
 -- the first i positions are 0, 1 and on
 pub record Leading (positions : List ℕ) (i : ℕ) : Type 0 where

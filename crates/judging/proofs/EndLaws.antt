@@ -194,13 +194,19 @@ module _ (rules : List ℕ) (n i j : ℕ) (positions : List ℕ) (m v : ℕ) (go
           bound-within = live-below 13340 (live-next y) y;
         }
 
-    -- its variables can be numbered anew
+    -- its variables can be numbered anew, and what each goal variable became is a constant or a goal variable
     live-numbered : alive ≡ true → Renumberable next b (take (5 * count) c)
+    unfolding alphabet
     live-numbered y =
+        let s = live-spoken y in
+        let size : length b ≡ v = omega (arith, length-map b cellTerm, s .size) in
         record {
-          bound-within = live-below next (omega arith) y;
-          within = live-within next (omega arith) y;
-          few = omega (arith, live-size y, t .few y, live-bound y);
+          own = rw size (all-every (isBelow v) (all-mono (below-isBelow v) (s .own)));
+          rows = record {
+            known = omega (arith, size, s .numbered);
+            within = live-within next (omega arith) y;
+            few = omega (arith, live-size y, t .few y, live-bound y);
+          };
         }
 
     -- an end in cells that is one of the overlap's

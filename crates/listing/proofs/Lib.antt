@@ -2,6 +2,7 @@
 pub mod Opened
 pub mod WriteLaws
 pub mod LineLaws
+pub mod LetterLaws
 pub mod EndLaws
 pub mod SizeLaws
 pub mod NamingLaws

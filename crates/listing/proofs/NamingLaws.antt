@@ -4,27 +4,27 @@
 --   symbol-named, constant-named     the naming of tables whose names stand where the places say
 --   variable-named  the name of a goal variable that has a letter
 -- Assumes nothing.
-use mathlib.Core.Path.{_≡_, refl, sym, ap, ap₂, _∙_}
-use mathlib.Core.Bool.{Bool, true, _&&_}
+use mathlib.Core.Path.{_≡_, refl, sym, ap, ap₂, _∙_, fun-ext}
+use mathlib.Core.Bool.{Bool, true, false, cond, _&&_}
 use mathlib.Core.List.{List, [], _∷_, _++_, map}
 use Prim.Native.Nat.{ℕ, suc, _+_, _-_, _≤_, _<_}
 use native.Mathlib.Omega.{arith}
-use borrow.Author.Tests.{lt-ltb, le-ltb}
+use borrow.Author.Tests.{lt-ltb, le-ltb, ltb-true}
+use lib.Dec.{eqb, ltb}
 use lib.ListN.{length, getD}
 use Rattle.text.specs.Bytes.{ascii}
-use Rattle.text.specs.Lists.{every}
+use Rattle.text.specs.Lists.{every, indexFrom, upTo}
 use Rattle.text.specs.Fields.{decimal}
 use Rattle.semantics.specs.Terms.{Term, con, var, Constraint, Symbol, State, failed, live, noSymbol, symbolAt}
 use Rattle.semantics.specs.Overlaps.{appearingIn, appearing}
-use Rattle.semantics.specs.Verdict.{unjoined}
 use Rattle.text.proofs.Laws.{tabled-at}
 use Rattle.text.proofs.Bools.{and-true}
 use Rattle.syntax.specs.Forms.{firstConstant}
 use Rattle.tables.specs.Layout.{maxNames}
 use Rattle.tables.specs.Rows.{nameOf, symbolOf, symbolsOf, constantsOf, lettersOf}
 use Rattle.tables.specs.Names.{nameIn, Placed}
-use Rattle.listing.specs.Listing.{Naming, lineOf, termShown, constraintShown, constraintLines, unbound, boundLines}
-use Rattle.listing.specs.Listing.{namingOf, variableName, stateListing}
+use Rattle.listing.specs.Listing.{Naming, lineOf, termShown, constraintShown, constraintLines, boundLines}
+use Rattle.listing.specs.Listing.{namingOf, numberedAs, variableName, placeName, unbound, stateListing}
 
 -- whether a term is a variable, or a constant that passes a test
 unfoldable pub usesIn : (ℕ → Bool) → Term → Bool
@@ -78,6 +78,21 @@ module _ (known : ℕ → Bool) (one two : Naming) (same : (n : ℕ) → known n
       (ap₂ (λ (n f : List ℕ). lineOf (ascii "A") (n ∷ f ∷ [])) (k x (omega arith)) (term-named t (both .0)))
       (bounds-named u v (suc x) ts (both .1) (λ i l. k i (omega arith)))
 
+-- names that agree on the goal variables name every variable of an end alike
+place-named : (u v : ℕ → List ℕ) (n i : ℕ) → ((x : ℕ) → x < n → u x ≡ v x) → placeName u n i ≡ placeName v n i
+unfolding placeName
+place-named u v n i names = go (ltb i n) refl
+  where
+    go : (b : Bool) → ltb i n ≡ b
+        → cond b (u i) (numberedAs (ascii "U") (i - n)) ≡ cond b (v i) (numberedAs (ascii "U") (i - n))
+    go true e = names i (ltb-true i n e)
+    go false e = refl
+
+unbound-named : (u v : ℕ → List ℕ) (n : ℕ) (order : List ℕ) → ((x : ℕ) → x < n → u x ≡ v x)
+    → unbound u n order ≡ unbound v n order
+unfolding unbound
+unbound-named u v n order names = fun-ext (λ x. place-named u v n (indexFrom (eqb x) 0 order) names)
+
 -- a state is listed alike
 pub state-named :
     (known : ℕ → Bool) (one two : Naming) (u v : ℕ → List ℕ) (f : ℕ) (s : State) → ((n : ℕ) → known n ≡ true → one n ≡ two n)
@@ -86,10 +101,14 @@ unfolding stateListing usesOnly boundIn
 state-named known one two u v f failed same names h = refl
 state-named known one two u v f (live next bound cs) same names h =
     let both = and-true (every (usesIn known) bound) (every (usesOf known) cs) h in
-    let shown = unbound (appearing (appearingIn [] bound) cs) in
-    ap₂ (λ (b r : List ℕ). lineOf (ascii "END") (decimal f ∷ []) ++ (b ++ r))
+    let n = length bound in
+    let order = appearing (appearingIn (upTo n) bound) cs in
+    let shown = unbound v n order in
+    let alike : unbound u n order ≡ shown = unbound-named u v n order names in
+    rw alike
+    (ap₂ (λ (b r : List ℕ). lineOf (ascii "END") (decimal f ∷ []) ++ (b ++ r))
     (bounds-named known one two same shown u v 0 bound (both .0) (λ i l. names i (omega arith)))
-    (rows-named known one two same shown (ascii "S") cs (both .1))
+    (rows-named known one two same shown (ascii "S") cs (both .1)))
 
 -- the naming of tables whose names stand where the places say is that of the symbols and constants that they hold
 module _ (program goal names places symbols : List ℕ) (s k : ℕ) (placed : Placed program goal names places) where

@@ -1,6 +1,7 @@
 -- How many bytes a listing has at most.
 --   digits-few, decimal-short, number-short, machine-digits     the digits of a number
 --   line-few, rows-few, bounds-few     lines of fields that have at most 8 bytes each
+--   place-short        the name of a variable of an end
 --   cells-few          the lines of constraints in cells
 --   end-few, end-writable     the listing of an end, which can be counted where it fails or has at most 65,000 cells
 --   end-ample          and which fits an ample output
@@ -23,9 +24,9 @@ use Rattle.semantics.proofs.Multisets.{all-map, all-mono}
 use Rattle.tables.specs.Cells.{cellTerm, cellTerms, cellConstraints}
 use Rattle.tables.proofs.CellLaws.{cell-low, cell-high, le-or-lt}
 use Rattle.listing.specs.Listing.{Naming, fieldsBehind, lineOf, termShown, constraintShown, constraintLines}
-use Rattle.listing.specs.Listing.{numberedAs, variableName, boundLines}
+use Rattle.listing.specs.Listing.{numberedAs, variableName, placeName, boundLines}
 use Rattle.listing.specs.Writing.{Writes, ListedAs, ample}
-use Rattle.listing.specs.Ends.{liveBytes, numberedEnd, Writable, maxCells, maxBound, Ample}
+use Rattle.listing.specs.Ends.{placed, liveBytes, numberedEnd, Writable, maxCells, maxBound, Ample}
 use Rattle.listing.specs.declared.End.{End}
 use Rattle.listing.specs.declared.Listed.the-variants.{Written}
 use Rattle.text.proofs.Decimals.{decimal-low, decimal-high}
@@ -140,14 +141,27 @@ variable-short letters x h = go (ltb x (length letters))
     go true = omega arith
     go false = number-short 86 x (omega arith)
 
-module _ (naming : Naming) (names : (n : ℕ) → Short (naming n)) (letter : ℕ) where
+-- the name of a variable of an end
+pub place-short : (variable : ℕ → List ℕ) (n x : ℕ) → (x < n → Short (variable x)) → x < 9999999 → Short (placeName variable n x)
+unfolding placeName ascii
+place-short variable n x own h = go (ltb x n) refl
+  where
+    go : (t : Bool) → ltb x n ≡ t → Short (cond t (variable x) (numberedAs (85 ∷ []) (x - n)))
+    go true e = own (ltb-true x n e)
+    go false e = number-short 85 (x - n) (omega arith)
+
+placed-short : (letters : List ℕ) (n x : ℕ) → x < 65536 → Short (placed letters n x)
+unfolding placed
+placed-short letters n x h = place-short (variableName letters) n x (λ l. variable-short letters x h) (omega arith)
+
+module _ (naming : Naming) (names : (n : ℕ) → Short (naming n)) (letters : List ℕ) (n : ℕ) where
   abbrev shown : ℕ → List ℕ
-  shown = numberedAs (letter ∷ [])
+  shown = placed letters n
 
   term-short : (x : ℕ) → x < 65536 → Short (termShown naming shown (cellTerm x))
   unfolding termShown
   term-short x h =
-      ⊎-elim (λ high. rw (cell-high x high) (number-short letter (x - 256) (omega arith)))
+      ⊎-elim (λ high. rw (cell-high x high) (placed-short letters n (x - 256) (omega arith)))
       (λ low. rw (cell-low x low) (names x)) (le-or-lt 256 x)
 
   terms-short : (l : List ℕ) → All (λ (x : ℕ). x < 65536) l
@@ -189,10 +203,10 @@ module _ (naming : Naming) (names : (n : ℕ) → Short (naming n)) (letters bou
       → length (liveBytes naming letters bound cells f) ≤ 25 + (20 * length bound + 10 * length cells)
   unfolding liveBytes lineOf fieldsBehind ascii
   live-few f h k =
-      let shown = numberedAs (85 ∷ []) in
+      let shown = placed letters (length bound) in
       let bounds = boundLines naming shown (variableName letters) 0 (map cellTerm bound) in
       let rows = constraintLines (83 ∷ []) naming shown (cellConstraints cells) in
-      let terms = all-map cellTerm (all-mono (λ x l. term-short naming names 85 x l) (cells-all bound b)) in
+      let terms = all-map cellTerm (all-mono (λ x l. term-short naming names letters (length bound) x l) (cells-all bound b)) in
       omega (
         arith,
         length-append (decimal f ++ (10 ∷ [])) (bounds ++ rows),
@@ -202,7 +216,7 @@ module _ (naming : Naming) (names : (n : ℕ) → Short (naming n)) (letters bou
         machine-digits f k,
         bounds-few naming shown names (variableName letters) 0 (map cellTerm bound)
             (λ y l. variable-short letters y (omega (arith, length-map bound cellTerm))) terms,
-        cells-few naming names 85 83 cells c,
+        cells-few naming names letters (length bound) 83 cells c,
       )
 
   pub end-few : (e : End) (m n : ℕ) → m < 65536 → (e .alive ≡ true → (length bound ≤ m) × (length cells ≤ n))

@@ -1,4 +1,5 @@
 -- The listing of a final state in cells: what its functions show, ask and promise.
+--   placed           the name of a variable that is numbered by its place
 --   cellShown        a cell as a field
 --   boundLine        a goal variable's line
 --   liveBytes        the first line, the A and the S lines of a state whose variables are numbered
@@ -17,27 +18,31 @@ use Rattle.text.specs.Fields.{decimal}
 use Rattle.tables.specs.Cells.{cellTerm, cellConstraints, stateOf}
 use Rattle.tables.specs.Names.{nameIn}
 use Rattle.tables.specs.Numbers.{Renumberable, Renumbered}
-use Rattle.listing.specs.Listing.{Naming, lineOf, termShown, constraintLines, numberedAs, variableName, boundLines}
+use Rattle.listing.specs.Listing.{Naming, lineOf, termShown, constraintLines, variableName, placeName, boundLines}
 use Rattle.listing.specs.Listing.{endListing}
 use Rattle.listing.specs.Writing.{Countable, ample}
 use Rattle.listing.specs.declared.End.{End}
 
--- a cell as a field, its variable by a letter and its number
-unfoldable pub cellShown : Naming → ℕ → ℕ → List ℕ
-cellShown naming letter x = termShown naming (numberedAs (letter ∷ [])) (cellTerm x)
+-- the name of the variable of a number, where each is its place in the order and the first n are the goal's
+unfoldable pub placed : List ℕ → ℕ → ℕ → List ℕ
+placed letters n = placeName (variableName letters) n
 
--- the line of goal variable i, which became a cell
-unfoldable pub boundLine : Naming → List ℕ → ℕ → ℕ → List ℕ
-boundLine naming letters i x = lineOf (ascii "A") (variableName letters i ∷ cellShown naming 85 x ∷ [])
+-- a cell as a field
+unfoldable pub cellShown : Naming → List ℕ → ℕ → ℕ → List ℕ
+cellShown naming letters n x = termShown naming (placed letters n) (cellTerm x)
 
--- the first line, and the A and S lines, of a state whose variables are numbered by first appearance
+-- the line of goal variable i of n, which became a cell
+unfoldable pub boundLine : Naming → List ℕ → ℕ → ℕ → ℕ → List ℕ
+boundLine naming letters n i x = lineOf (ascii "A") (variableName letters i ∷ cellShown naming letters n x ∷ [])
+
+-- the first line, and the A and S lines, of a state whose variables are numbered
 unfoldable pub liveBytes : Naming → List ℕ → List ℕ → List ℕ → ℕ → List ℕ
 liveBytes naming letters bound cells firings =
     lineOf (ascii "END") (decimal firings ∷ [])
-    ++ (boundLines naming (numberedAs (ascii "U")) (variableName letters) 0 (map cellTerm bound)
-    ++ constraintLines (ascii "S") naming (numberedAs (ascii "U")) (cellConstraints cells))
+    ++ (boundLines naming (placed letters (length bound)) (variableName letters) 0 (map cellTerm bound)
+    ++ constraintLines (ascii "S") naming (placed letters (length bound)) (cellConstraints cells))
 
--- the listing of an end whose variables, if it lives, are numbered by first appearance
+-- the listing of an end whose variables, if it lives, are numbered
 unfoldable pub numberedEnd : Naming → List ℕ → List ℕ → List ℕ → End → List ℕ
 numberedEnd naming letters bound cells e =
     cond (e .alive) (liveBytes naming letters bound cells (e .firings)) (lineOf (ascii "FAILED") (decimal (e .firings) ∷ []))
@@ -48,14 +53,15 @@ endBytes program goal places letters bound cells e =
     endListing (nameIn program goal places) (variableName letters)
     (record { state = stateOf (e .alive) (e .next) bound cells; firings = e .firings })
 
--- what listing a final state asks: an entry for each variable's number, where there is any
+-- what listing a final state asks: where it lives, an entry for each variable's number, and that each goal variable became a
+-- constant or a goal variable
 pub record Listable (alive : Bool) (next : ℕ) (bound cells : List ℕ) : Type 0 where
   pub few : next ≤ 13340
   pub live : alive ≡ true → Renumberable next bound cells
 
--- what numbering its variables promises: where it lives, each is its index in the order of first appearance
-pub record EndNumbered (alive : Bool) (bound cells bound′ cells′ : List ℕ) (count : ℕ) : Type 0 where
-  pub live : alive ≡ true → Renumbered bound cells bound′ cells′ count
+-- what numbering its variables promises, of n goal variables: where it lives, each is its place in the order
+pub record EndNumbered (alive : Bool) (n : ℕ) (cells cells′ : List ℕ) (count : ℕ) : Type 0 where
+  pub live : alive ≡ true → Renumbered n cells cells′ count
 
 -- what writing an end asks: that it can be counted
 pub record Writable (naming : Naming) (letters bound cells : List ℕ) (e : End) : Type 0 where

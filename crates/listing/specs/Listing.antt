@@ -2,6 +2,7 @@
 --   lineOf                  a line from its fields
 --   Naming, namingOf        the name of each symbol and constant
 --   variableName            the name of each goal variable
+--   placeName, unbound      the name of each variable of an end (document 02, W5)
 --   endListing              `END` with its A and S lines, or `FAILED`
 -- Assumes nothing.
 use Prim.Native.Nat.{ℕ, suc, _-_}
@@ -10,7 +11,7 @@ use mathlib.Core.List.{List, [], _∷_, _++_, map}
 use lib.Dec.{ltb, eqb}
 use lib.ListN.{length, getD}
 use Rattle.text.specs.Bytes.{ascii}
-use Rattle.text.specs.Lists.{indexFrom, gather}
+use Rattle.text.specs.Lists.{indexFrom, gather, upTo}
 use Rattle.text.specs.Fields.{decimal}
 use Rattle.semantics.specs.Terms.{Term, con, var, Constraint, Symbol, State, failed, live, symbolAt}
 use Rattle.semantics.specs.Strategy.{Final}
@@ -52,13 +53,18 @@ constraintLines first naming shown cs = gather (λ c. lineOf first (constraintSh
 unfoldable pub numberedAs : List ℕ → ℕ → List ℕ
 numberedAs letter x = letter ++ decimal (suc x)
 
--- an unbound variable of an end: U1, U2 and on, by its index among those that appear
-unfoldable pub unbound : List ℕ → ℕ → List ℕ
-unbound order x = numberedAs (ascii "U") (indexFrom (eqb x) 0 order)
-
 -- a goal variable, from 0: its letter, or V and its number where no letter stands for it, as in an overlap's goal
 unfoldable pub variableName : List ℕ → ℕ → List ℕ
 variableName letters x = cond (ltb x (length letters)) (getD letters x 0 ∷ []) (numberedAs (ascii "V") x)
+
+-- the name of the variable at a place in the order of an end, whose first n are the goal's: these by their own names, the others
+-- as U1, U2 and on
+unfoldable pub placeName : (ℕ → List ℕ) → ℕ → ℕ → List ℕ
+placeName variable n i = cond (ltb i n) (variable i) (numberedAs (ascii "U") (i - n))
+
+-- an unbound variable of an end with n goal variables, by its place in the order
+unfoldable pub unbound : (ℕ → List ℕ) → ℕ → List ℕ → ℕ → List ℕ
+unbound variable n order x = placeName variable n (indexFrom (eqb x) 0 order)
 
 -- a line for each goal variable, the first of these being x: its name and what it became
 unfoldable pub boundLines : Naming → (ℕ → List ℕ) → (ℕ → List ℕ) → ℕ → List Term → List ℕ
@@ -66,11 +72,13 @@ boundLines naming shown variable x [] = []
 boundLines naming shown variable x (t ∷ ts) =
     lineOf (ascii "A") (variable x ∷ termShown naming shown t ∷ []) ++ boundLines naming shown variable (suc x) ts
 
--- an end after f firings: U numbers go by first appearance over its A and S lines
+-- an end after f firings: goal variables are shown by their own names; the others are numbered by first appearance over its A and
+-- S lines
 unfoldable pub stateListing : Naming → (ℕ → List ℕ) → ℕ → State → List ℕ
 stateListing naming variable f failed = lineOf (ascii "FAILED") (decimal f ∷ [])
 stateListing naming variable f (live next bound cs) =
-    let shown = unbound (appearing (appearingIn [] bound) cs) in
+    let n = length bound in
+    let shown = unbound variable n (appearing (appearingIn (upTo n) bound) cs) in
     lineOf (ascii "END") (decimal f ∷ [])
     ++ (boundLines naming shown variable 0 bound ++ constraintLines (ascii "S") naming shown cs)
 

@@ -11,16 +11,15 @@ ghost use Rattle.tables.specs.Names.{nameIn};
 ghost use Rattle.listing.specs.Writing.{Countable, Writes};
 ghost use Rattle.listing.specs.Ends.{liveBytes, numberedEnd, Listable, EndNumbered, Writable};
 
-// The variables of an end that lives are numbered in place, by first appearance. Answers how many there are.
-pub fn number_end(bound: &mut [u16], cells: &mut [u16], end: End) -> usize
+// The variables of an end that lives are numbered in place, behind those of the goal, which stay. Answers how many there are.
+pub fn number_end(bound: &[u16], cells: &mut [u16], end: End) -> usize
     requires { ⌜ Listable (end .alive) (end .next) (now bound) (now cells) ⌝ }
-    ensures { λ r. ⌜ EndNumbered (end .alive) (now (bound .entry)) (now (cells .entry)) (now (bound .exit))
-        (now (cells .exit)) r ⌝ }
+    ensures { λ r. ⌜ EndNumbered (end .alive) (length (now (bound .entry))) (now (cells .entry)) (now (cells .exit)) r ⌝ }
 {
     if !end.alive {
         return 0;
     }
-    renumber(bound, cells, end.next)
+    renumber(bound.len(), cells, end.next)
 }
 
 // The lines of a state whose variables are numbered.
@@ -45,9 +44,9 @@ fn put_live<'a>(
     let at = put_bounds(out, head, program, goal, places, letters, bound);
     let mark = Mark {
         line: b'S',
-        variable: b'U',
+        variables: bound.len(),
     };
-    put_rows(out, at, program, goal, places, mark, cells)
+    put_rows(out, at, program, goal, places, letters, mark, cells)
 }
 
 // The lines of an end whose variables, if it lives, are numbered.

@@ -83,14 +83,14 @@ fn list_numbered<'a>(
     Listed::Written(size)
 }
 
-// The listing of a final state; its variables are numbered in place, by first appearance.
+// The listing of a final state; its variables are numbered in place.
 pub fn list_end<'a>(
     out: &mut [u8],
     program: &'a [u8],
     goal: &'a [u8],
     places: &[u16],
     letters: &[u8],
-    bound: &mut [u16],
+    bound: &[u16],
     cells: &mut [u16],
     end: End,
 ) -> Listed

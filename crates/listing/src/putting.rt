@@ -13,20 +13,19 @@ ghost use mathlib.Core.List.{[], _∷_, _++_, map};
 ghost use mathlib.Core.Path.{_≡_};
 ghost use Prim.Native.Nat.{_<_};
 ghost use lib.ListN.{length};
-ghost use Rattle.text.specs.Bytes.{ascii};
 ghost use Rattle.text.specs.Fields.{decimal};
 ghost use Rattle.tables.specs.Layout.{constraintSize};
 ghost use Rattle.tables.specs.Cells.{cellTerm, cellConstraints, rowConstraint};
 ghost use Rattle.tables.specs.Names.{nameIn};
-ghost use Rattle.listing.specs.Listing.{fieldsBehind, lineOf, constraintShown, constraintLines, numberedAs};
+ghost use Rattle.listing.specs.Listing.{fieldsBehind, lineOf, constraintShown, constraintLines};
 ghost use Rattle.listing.specs.Listing.{variableName, boundLines};
 ghost use Rattle.listing.specs.Writing.{Countable, Writes};
-ghost use Rattle.listing.specs.Ends.{cellShown, boundLine};
+ghost use Rattle.listing.specs.Ends.{placed, cellShown, boundLine};
 
-// The letter that a constraint's line begins with, and the letter that its variables are shown by.
+// The letter that a constraint's line begins with, and how many variables are the goal's.
 pub struct Mark {
     pub line: u8,
-    pub variable: u8,
+    pub variables: usize,
 }
 
 // The first line: a word with its comma, and a number.
@@ -39,26 +38,52 @@ pub fn put_head(out: &mut [u8], word: &[u8], n: usize) -> usize
     put_byte(out, feed, b'\n')
 }
 
-// A cell: a constant by its name, a variable by a letter and its number.
+// A goal variable: its letter, or V and its number.
+pub fn put_variable(out: &mut [u8], at: usize, letters: &[u8], x: usize) -> usize
+    requires { ⌜ Countable at (variableName (now letters) x) × (x < 65536) ⌝ }
+    ensures { λ r. ⌜ Writes (variableName (now (letters .entry)) x) at (now (out .entry)) (now (out .exit)) r ⌝ }
+{
+    if x < letters.len() {
+        return put_byte(out, at, letters[x]);
+    }
+    let digits = put_byte(out, at, b'V');
+    put_decimal(out, digits, x + 1)
+}
+
+// A variable by its place in an end's order: one of the first n, which are the goal's, by its own name, any other by U and its
+// number among the others.
+pub fn put_placed(out: &mut [u8], at: usize, letters: &[u8], n: usize, x: usize) -> usize
+    requires { ⌜ Countable at (placed (now letters) n x) × (x < 65536) ⌝ }
+    ensures { λ r. ⌜ Writes (placed (now (letters .entry)) n x) at (now (out .entry)) (now (out .exit)) r ⌝ }
+{
+    if x < n {
+        return put_variable(out, at, letters, x);
+    }
+    let digits = put_byte(out, at, b'U');
+    put_decimal(out, digits, x - n + 1)
+}
+
+// A cell: a constant by its name, a variable by the name of its place.
 pub fn put_cell<'a>(
     out: &mut [u8],
     at: usize,
     program: &'a [u8],
     goal: &'a [u8],
     places: &[u16],
-    letter: u8,
+    letters: &[u8],
+    n: usize,
     x: u16,
 ) -> usize
-    requires { ⌜ Countable at (cellShown (nameIn (now program) (now goal) (now places)) letter x) ⌝ }
-    ensures { λ r. ⌜ Writes (cellShown (nameIn (now (program .entry)) (now (goal .entry)) (now (places .entry))) letter x)
+    requires { ⌜ Countable at (cellShown (nameIn (now program) (now goal) (now places)) (now letters) n x) ⌝ }
+    ensures { λ r. ⌜ Writes
+        (cellShown (nameIn (now (program .entry)) (now (goal .entry)) (now (places .entry))) (now (letters .entry)) n x)
         at (now (out .entry)) (now (out .exit)) r ⌝ }
 {
     if x < FIRST_VARIABLE {
         let s = name(program, goal, places, wide(x));
         return copy(out, at, s);
     }
-    let digits = put_byte(out, at, letter);
-    put_decimal(out, digits, wide(x - FIRST_VARIABLE) + 1)
+    put_placed(out, at, letters, n, wide(x - FIRST_VARIABLE))
 }
 
 // The fields of cells, each behind its comma, and the line feed.
@@ -68,20 +93,21 @@ pub fn put_fields<'a>(
     program: &'a [u8],
     goal: &'a [u8],
     places: &[u16],
-    letter: u8,
+    letters: &[u8],
+    n: usize,
     cells: &[u16],
 ) -> usize
-    requires { ⌜ Countable at (fieldsBehind (map (cellShown (nameIn (now program) (now goal) (now places)) letter)
-        (now cells))) ⌝ }
+    requires { ⌜ Countable at
+        (fieldsBehind (map (cellShown (nameIn (now program) (now goal) (now places)) (now letters) n) (now cells))) ⌝ }
     ensures { λ r. ⌜ Writes
-        (fieldsBehind (map (cellShown (nameIn (now (program .entry)) (now (goal .entry)) (now (places .entry))) letter)
-        (now (cells .entry)))) at (now (out .entry)) (now (out .exit)) r ⌝ }
+        (fieldsBehind (map (cellShown (nameIn (now (program .entry)) (now (goal .entry)) (now (places .entry)))
+        (now (letters .entry)) n) (now (cells .entry)))) at (now (out .entry)) (now (out .exit)) r ⌝ }
 {
     let mut end = at;
     let mut i = 0;
     while i < cells.len() {
         let field = put_byte(out, end, b',');
-        end = put_cell(out, field, program, goal, places, letter, cells[i]);
+        end = put_cell(out, field, program, goal, places, letters, n, cells[i]);
         i += 1;
     }
     put_byte(out, end, b'\n')
@@ -93,15 +119,17 @@ pub fn put_row<'a>(
     program: &'a [u8],
     goal: &'a [u8],
     places: &[u16],
+    letters: &[u8],
     mark: Mark,
     row: &[u16],
 ) -> usize
     requires { ⌜ (length (now row) ≡ constraintSize)
         × Countable 0 (lineOf (mark .line ∷ []) (constraintShown (nameIn (now program) (now goal) (now places))
-        (numberedAs (mark .variable ∷ [])) (rowConstraint (now row)))) ⌝ }
+        (placed (now letters) (mark .variables)) (rowConstraint (now row)))) ⌝ }
     ensures { λ r. ⌜ Writes
         (lineOf (mark .line ∷ []) (constraintShown (nameIn (now (program .entry)) (now (goal .entry)) (now (places .entry)))
-        (numberedAs (mark .variable ∷ [])) (rowConstraint (now (row .entry))))) 0 (now (out .entry)) (now (out .exit)) r ⌝ }
+        (placed (now (letters .entry)) (mark .variables)) (rowConstraint (now (row .entry))))) 0
+        (now (out .entry)) (now (out .exit)) r ⌝ }
 {
     let comma = put_byte(out, 0, mark.line);
     let start = put_byte(out, comma, b',');
@@ -109,7 +137,16 @@ pub fn put_row<'a>(
     let end = copy(out, start, s);
     let n = used(&row[1..]);
     let e = 1 + n;
-    put_fields(out, end, program, goal, places, mark.variable, &row[1..e])
+    put_fields(
+        out,
+        end,
+        program,
+        goal,
+        places,
+        letters,
+        mark.variables,
+        &row[1..e],
+    )
 }
 
 // A line for each constraint.
@@ -119,14 +156,16 @@ pub fn put_rows<'a>(
     program: &'a [u8],
     goal: &'a [u8],
     places: &[u16],
+    letters: &[u8],
     mark: Mark,
     cells: &[u16],
 ) -> usize
     requires { ⌜ Countable at (constraintLines (mark .line ∷ []) (nameIn (now program) (now goal) (now places))
-        (numberedAs (mark .variable ∷ [])) (cellConstraints (now cells))) ⌝ }
+        (placed (now letters) (mark .variables)) (cellConstraints (now cells))) ⌝ }
     ensures { λ r. ⌜ Writes
         (constraintLines (mark .line ∷ []) (nameIn (now (program .entry)) (now (goal .entry)) (now (places .entry)))
-        (numberedAs (mark .variable ∷ [])) (cellConstraints (now (cells .entry)))) at (now (out .entry)) (now (out .exit)) r ⌝ }
+        (placed (now (letters .entry)) (mark .variables)) (cellConstraints (now (cells .entry)))) at
+        (now (out .entry)) (now (out .exit)) r ⌝ }
 {
     let mut end = at;
     let mut i = 0;
@@ -134,24 +173,19 @@ pub fn put_rows<'a>(
         let a = CONSTRAINT_SIZE * i;
         let e = a + CONSTRAINT_SIZE;
         let from = behind(end, out.len());
-        let size = put_row(&mut out[from..], program, goal, places, mark, &cells[a..e]);
+        let size = put_row(
+            &mut out[from..],
+            program,
+            goal,
+            places,
+            letters,
+            mark,
+            &cells[a..e],
+        );
         end += size;
         i += 1;
     }
     end
-}
-
-// The front of a goal variable's A line: its letter, or V and its number.
-pub fn put_variable(out: &mut [u8], at: usize, letters: &[u8], x: usize) -> usize
-    requires { ⌜ Countable at (ascii "A," ++ variableName (now letters) x) × (x < 65536) ⌝ }
-    ensures { λ r. ⌜ Writes (ascii "A," ++ variableName (now (letters .entry)) x) at (now (out .entry)) (now (out .exit)) r ⌝ }
-{
-    let start = copy(out, at, b"A,");
-    if x < letters.len() {
-        return put_byte(out, start, letters[x]);
-    }
-    let digits = put_byte(out, start, b'V');
-    put_decimal(out, digits, x + 1)
 }
 
 // A goal variable's line: its name and what it became.
@@ -161,17 +195,19 @@ pub fn put_bound<'a>(
     goal: &'a [u8],
     places: &[u16],
     letters: &[u8],
+    n: usize,
     i: usize,
     x: u16,
 ) -> usize
-    requires { ⌜ Countable 0 (boundLine (nameIn (now program) (now goal) (now places)) (now letters) i x) × (i < 65536) ⌝ }
+    requires { ⌜ Countable 0 (boundLine (nameIn (now program) (now goal) (now places)) (now letters) n i x) × (i < 65536) ⌝ }
     ensures { λ r. ⌜ Writes
-        (boundLine (nameIn (now (program .entry)) (now (goal .entry)) (now (places .entry))) (now (letters .entry)) i x)
+        (boundLine (nameIn (now (program .entry)) (now (goal .entry)) (now (places .entry))) (now (letters .entry)) n i x)
         0 (now (out .entry)) (now (out .exit)) r ⌝ }
 {
-    let comma = put_variable(out, 0, letters, i);
+    let start = copy(out, 0, b"A,");
+    let comma = put_variable(out, start, letters, i);
     let field = put_byte(out, comma, b',');
-    let feed = put_cell(out, field, program, goal, places, b'U', x);
+    let feed = put_cell(out, field, program, goal, places, letters, n, x);
     put_byte(out, feed, b'\n')
 }
 
@@ -185,11 +221,13 @@ pub fn put_bounds<'a>(
     letters: &[u8],
     bound: &[u16],
 ) -> usize
-    requires { ⌜ Countable at (boundLines (nameIn (now program) (now goal) (now places)) (numberedAs (ascii "U"))
+    requires { ⌜ Countable at
+        (boundLines (nameIn (now program) (now goal) (now places)) (placed (now letters) (length (now bound)))
         (variableName (now letters)) 0 (map cellTerm (now bound))) × (length (now bound) < 65536) ⌝ }
     ensures { λ r. ⌜ Writes
-        (boundLines (nameIn (now (program .entry)) (now (goal .entry)) (now (places .entry))) (numberedAs (ascii "U"))
-        (variableName (now (letters .entry))) 0 (map cellTerm (now (bound .entry)))) at (now (out .entry)) (now (out .exit)) r ⌝ }
+        (boundLines (nameIn (now (program .entry)) (now (goal .entry)) (now (places .entry)))
+        (placed (now (letters .entry)) (length (now (bound .entry)))) (variableName (now (letters .entry))) 0
+        (map cellTerm (now (bound .entry)))) at (now (out .entry)) (now (out .exit)) r ⌝ }
 {
     let mut end = at;
     let mut i = 0;
@@ -201,6 +239,7 @@ pub fn put_bounds<'a>(
             goal,
             places,
             letters,
+            bound.len(),
             i,
             bound[i],
         );

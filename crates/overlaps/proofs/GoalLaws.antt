@@ -1,5 +1,5 @@
 -- The goal of an overlap, from the heads that are left.
---   goal-renumberable      what numbering their variables asks
+--   goal-numberable        what numbering their variables asks
 --   goal-finished          the goal
 -- Assumes nothing.
 use Prim.Native.Nat.{ℕ, _+_, _*_, _≤_}
@@ -11,9 +11,9 @@ use lib.ListN.{length, take, drop, length-take, length-append}
 use lib.Seq.{length-take-le, take-at}
 use Rattle.text.specs.Lists.{every}
 use Rattle.semantics.specs.Terms.{Constraint, Goal, mapTerms, isBelow}
-use Rattle.semantics.specs.Overlaps.{unjoinedHeads, appearingIn, appearing, numbered, goalOf}
+use Rattle.semantics.specs.Overlaps.{unjoinedHeads, appearing, numbered, goalOf}
 use Rattle.tables.specs.Cells.{cellConstraints, isLow}
-use Rattle.tables.specs.Numbers.{orderOf, isWithin, Renumberable, Renumbered}
+use Rattle.tables.specs.Numbers.{orderOf, isWithin, Numberable, Renumbered}
 use Rattle.tables.proofs.CellLaws.{constraints-length}
 use Rattle.tables.proofs.MapLaws.{low-kept}
 use Rattle.overlaps.specs.Joins.{goalFrom}
@@ -28,10 +28,10 @@ module _ (cells : List ℕ) (m n : ℕ) (partners : List ℕ) (w : Whole cells m
   goal-room = omega (arith, w .size, u .few)
 
   -- what numbering their variables asks
-  pub goal-renumberable : Renumberable 52 [] (take (5 * count) kept)
-  goal-renumberable =
+  pub goal-numberable : Numberable 52 0 (take (5 * count) kept)
+  goal-numberable =
       record {
-        bound-within = refl;
+        known = omega arith;
         within =
             ap (every (isWithin 52)) (u .same)
             ∙ unjoined-within (isWithin 52) m (cellConstraints cells) (take m partners) (w .within);
@@ -42,11 +42,11 @@ module _ (cells : List ℕ) (m n : ℕ) (partners : List ℕ) (w : Whole cells m
 
   -- the goal
   pub goal-finished :
-      (bound front rest : List ℕ) (variables : ℕ) → length front ≡ 5 * count
-      → Renumbered [] (take (5 * count) kept) bound front variables
+      (front rest : List ℕ) (variables : ℕ) → length front ≡ 5 * count
+      → Renumbered 0 (take (5 * count) kept) front variables
       → Finished cells m n partners (front ++ rest) count variables
-  unfolding goalFrom goalOf orderOf appearingIn
-  goal-finished bound front rest variables s r =
+  unfolding goalFrom goalOf orderOf
+  goal-finished front rest variables s r =
       record {
         goal =
             ap goalOf (sym (u .same))
@@ -65,8 +65,8 @@ module _ (cells : List ℕ) (m n : ℕ) (partners : List ℕ) (w : Whole cells m
         low =
             ap (λ l. every isLow (cellConstraints l)) (take-at front rest (5 * count) s)
             ∙ ap (every isLow) (r .same)
-            ∙ low-kept (numbered (orderOf [] (take (5 * count) kept))) (cellConstraints (take (5 * count) kept))
-            ∙ within-low 52 (cellConstraints (take (5 * count) kept)) (goal-renumberable .within);
+            ∙ low-kept (numbered (orderOf 0 (take (5 * count) kept))) (cellConstraints (take (5 * count) kept))
+            ∙ within-low 52 (cellConstraints (take (5 * count) kept)) (goal-numberable .within);
       }
     where
       all : length (cellConstraints cells) ≡ m + n

@@ -84,7 +84,6 @@ pub fn finish(cells: &mut [u16], m: usize, n: usize, partners: [usize; 4]) -> Go
     let count = drop_joined(cells, m, n, partners);
     let e = CONSTRAINT_SIZE * count;
     let mut table = [0; 52];
-    let mut bound = [0; 0];
-    let variables = number(&mut table, &mut bound, &mut cells[..e]);
+    let variables = number(&mut table, 0, &mut cells[..e]);
     Goal { count, variables }
 }

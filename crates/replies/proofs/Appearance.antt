@@ -1,17 +1,16 @@
 -- A goal that is read counts its variables by first appearance: `goal-by-appearance`.
---   has-upTo           a number stands among those below n exactly where it is below n
 --   letter-counts      the letter of a field, behind the letters so far, is the next variable or a known one
 --   terms-count        the terms of a G line
 --   goal-by-appearance every goal that is read (the main law)
 -- Assumes nothing.
-use Prim.Native.Nat.{ℕ, zero, suc, _+_, _<_, _≤_}
+use Prim.Native.Nat.{ℕ, suc, _+_, _<_, _≤_}
 use native.Mathlib.Omega.{arith}
 use mathlib.Core.Bool.{Bool, true, false, cond, not}
 use mathlib.Core.List.{List, [], _∷_, _++_, map, append-assoc}
 use mathlib.Core.Path.{_≡_, refl, sym, ap, _∙_}
 use lib.Dec.{leb, ltb, eqb}
 use lib.ListN.{length, length-append, drop}
-use borrow.Author.Tests.{lt-ltb, le-ltb, ltb-true, ltb-false, eqb-true, eqb-false}
+use borrow.Author.Tests.{ltb-true, ltb-false}
 use Rattle.text.specs.Lists.{has, indexOf, sameBytes, isKnown, withName, upTo}
 use Rattle.text.specs.Lines.{Line, lines, lineIsFaulty}
 use Rattle.text.specs.Fields.{fields, isName}
@@ -19,7 +18,7 @@ use Rattle.text.specs.Constants.{constantName}
 use Rattle.semantics.specs.Terms.{Term, con, var, Constraint, Symbol, weight}
 use Rattle.semantics.specs.Overlaps.{appearingIn, appearing}
 use Rattle.semantics.specs.Claims.{ByAppearance}
-use Rattle.semantics.proofs.Removal.{has-last, has-other}
+use Rattle.semantics.proofs.Appearing.{upTo-has, upTo-lacks}
 use Rattle.syntax.specs.Answers.{accepted}
 use Rattle.syntax.specs.Forms.{formOf, fieldAt, firstConstant, constantsAfter, termOf, constraintOf}
 use Rattle.syntax.specs.Programs.{constraintLine, maxText}
@@ -28,23 +27,6 @@ use Rattle.syntax.specs.Goals.{readGoalFields, readGoalLine, readGoalLines, rea
 use Rattle.syntax.proofs.WellFormed.{Holds, holds-refuseIf, holds-andThen, holds-accepted, holds-constraintLine}
 use Rattle.syntax.proofs.Known.{same-refl, grown-front, letters-grown}
 use Rattle.syntax.proofs.Tabled.{index-first, index-second}
-
--- a number stands among those below n exactly where it is below n
-has-upTo : (n i : ℕ) → has i (upTo n) ≡ ltb i n
-has-upTo zero i = sym (le-ltb i 0 (omega arith))
-has-upTo (suc n) i = go (eqb i n) refl (has-upTo n i)
-  where
-    other : (i ≡ n → ⊥) → (b : Bool) → ltb i n ≡ b → b ≡ ltb i (suc n)
-    other apart true h = sym (lt-ltb i (suc n) (omega (arith, ltb-true i n h)))
-    other apart false h = sym (le-ltb i (suc n) (omega (arith, apart, ltb-false i n h)))
-
-    go : (b : Bool) → eqb i n ≡ b → has i (upTo n) ≡ ltb i n → has i (upTo n ++ (n ∷ [])) ≡ ltb i (suc n)
-    go true e more =
-        let same : i ≡ n = eqb-true i n e in
-        rw same (has-last n (upTo n) ∙ sym (lt-ltb n (suc n) (omega arith)))
-    go false e more =
-        let apart = eqb-false i n e in
-        has-other i n (upTo n) apart ∙ (more ∙ other apart (ltb i n) refl)
 
 -- the letter of a field, behind the letters so far, is the next variable or a known one
 letter-counts :
@@ -61,14 +43,14 @@ letter-counts f letters more x e = go (isKnown f letters) refl e
     go true h k =
         let low : indexOf f letters < length letters = ltb-true (indexOf f letters) (length letters) h in
         let found : x < length letters = omega (arith, low, k, index-first (sameBytes f) 0 letters more (omega (arith, low))) in
-        rw (has-upTo (length letters) x, lt-ltb x (length letters) found)
+        rw (upTo-has (length letters) x found)
     go false h k =
         let high : length letters ≤ indexOf f letters = ltb-false (indexOf f letters) (length letters) h in
         let next : x ≡ length letters =
         k ∙ (ap (indexOf f) (append-assoc letters (f ∷ []) more)
         ∙ (index-second (sameBytes f) 0 letters (f ∷ more) (omega (arith, high)) ∙ rw (same-refl f) (omega arith))) in
         let longer : length (letters ++ (f ∷ [])) ≡ suc (length letters) = length-append letters (f ∷ []) ∙ omega arith in
-        rw (next, has-upTo (length letters) (length letters), le-ltb (length letters) (length letters) (omega arith), longer)
+        rw (next, upTo-lacks (length letters) (length letters) (omega arith), longer)
 
 -- the terms of a G line
 terms-count :

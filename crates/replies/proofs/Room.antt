@@ -17,7 +17,7 @@ use lib.Dec.{ltb, eqb}
 use lib.ListN.{length, length-append, getD}
 use borrow.Author.Tests.{ltb-true, eqb-true}
 use Rattle.text.specs.Bytes.{ascii}
-use Rattle.text.specs.Lists.{has, indexFrom}
+use Rattle.text.specs.Lists.{has, indexFrom, upTo}
 use Rattle.text.specs.Lines.{parted}
 use Rattle.text.specs.Fields.{decimalFrom, decimal}
 use Rattle.semantics.specs.Terms.{Term, con, var, Constraint, Symbol, Rule, Program, Goal, State, failed, live}
@@ -27,6 +27,7 @@ use Rattle.semantics.specs.Overlaps.{appearingIn, appearing}
 use Rattle.semantics.proofs.Configurations.{All, also}
 use Rattle.semantics.proofs.Configurations as C
 use Rattle.text.proofs.Bools.{and-true}
+use Rattle.text.proofs.Laws.{tabled-length}
 use Rattle.semantics.proofs.Multisets.{all-mono, all-of-members}
 use Rattle.semantics.proofs.Normal.{Reach, arrived, fires, normalise-reach}
 use Rattle.semantics.proofs.Weights.{weight-cons, stateWeight, fireAt-lighter}
@@ -39,7 +40,7 @@ use Rattle.syntax.proofs.WellFormed.{read-wellFormed}
 use Rattle.syntax.proofs.Vocabulary.{SymbolSmall, ReadSmall, read-small}
 use Rattle.syntax.proofs.GoalVocabulary.{ReadGoal, goal-small}
 use Rattle.listing.specs.Listing.{fieldsBehind, lineOf, Naming, namingOf, termShown}
-use Rattle.listing.specs.Listing.{constraintLines, unbound, boundLines, stateListing, endListing}
+use Rattle.listing.specs.Listing.{constraintLines, numberedAs, placeName, unbound, boundLines, stateListing, endListing}
 use Rattle.text.proofs.Decimals.{decimal-low, decimal-high}
 use Rattle.listing.proofs.SizeLaws.{Short, decimal-short, number-short, line-few, rows-few, bounds-few}
 use Rattle.replies.specs.Replies.{Text, programText, goalText, Reply, refusal, listing, replyOf, fitted}
@@ -78,10 +79,19 @@ order-few seen [] few = omega arith
 order-few seen (c ∷ cs) (also h few) =
     omega (arith, order-few (appearingIn seen (c .terms)) cs few, terms-few seen (c .terms))
 
--- the U numbers
-unbound-short : (order : List ℕ) (x : ℕ) → length order < 9999 → Short (unbound order x)
-unfolding unbound ascii
-unbound-short order x h = number-short 85 (indexFrom (eqb x) 0 order) (omega (arith, index-few (eqb x) 0 order))
+-- the name of a variable of an end: a goal variable's own, or a U number
+unbound-short :
+    (variable : ℕ → List ℕ) (n : ℕ) (order : List ℕ) (x : ℕ) → ((i : ℕ) → i < n → Short (variable i)) → length order < 9999
+    → Short (unbound variable n order x)
+unfolding unbound placeName ascii
+unbound-short variable n order x short h = go (ltb (indexFrom (eqb x) 0 order) n) refl
+  where
+    i : ℕ
+    i = indexFrom (eqb x) 0 order
+
+    go : (b : Bool) → ltb i n ≡ b → Short (cond b (variable i) (numberedAs (85 ∷ []) (i - n)))
+    go true e = short i (ltb-true i n e)
+    go false e = number-short 85 (i - n) (omega (arith, index-few (eqb x) 0 order))
 
 -- a name by its number, where all are short
 short-at : {l : List (List ℕ)} (i : ℕ) → All Short l → Short (getD l i [])
@@ -117,14 +127,17 @@ shown-short naming shown names variables (var x) = variables x
 end-few :
     (naming : Naming) (variable : ℕ → List ℕ) (f next : ℕ) (bound : List Term) (cs : List Constraint)
     → ((n : ℕ) → Short (naming n)) → ((x : ℕ) → x < length bound → Short (variable x))
-    → All (λ c. length (c .terms) ≤ 4) cs → f < 10000 → length bound + 4 * length cs < 9999
+    → All (λ c. length (c .terms) ≤ 4) cs → f < 10000 → 2 * length bound + 4 * length cs < 9999
     → length (stateListing naming variable f (live next bound cs)) ≤ 13 + (20 * length bound + 47 * length cs)
 unfolding stateListing ascii
 end-few naming variable f next bound cs names short few low room =
-    let order = appearing (appearingIn [] bound) cs in
-    let shown = unbound order in
+    let n = length bound in
+    let goal = upTo n in
+    let order = appearing (appearingIn goal bound) cs in
+    let shown = unbound variable n order in
     let variables : (x : ℕ) → Short (shown x) = λ x.
-    unbound-short order x (omega (arith, order-few (appearingIn [] bound) cs few, terms-few [] bound)) in
+    unbound-short variable n order x short
+    (omega (arith, order-few (appearingIn goal bound) cs few, terms-few goal bound, tabled-length (λ i. i) n)) in
     let head = lineOf (ascii "END") (decimal f ∷ []) in
     let bounds = boundLines naming shown variable 0 bound in
     let rows = constraintLines (ascii "S") naming shown cs in
@@ -212,7 +225,7 @@ run-weighs p g w =
 pub final-few :
     (symbols : List Symbol) (naming : Naming) (variable : ℕ → List ℕ) (f : ℕ) (P : ℕ → Type 0) (v w number : ℕ) (s : State)
     → ((n : ℕ) → Short (naming n)) → ((x : ℕ) → x < v → Short (variable x)) → All SymbolSmall symbols
-    → SpokenState symbols P v number s → stateWeight symbols s + f ≤ w → 1 ≤ w → v + 4 * w < 9999
+    → SpokenState symbols P v number s → stateWeight symbols s + f ≤ w → 1 ≤ w → 2 * v + 4 * w < 9999
     → length (stateListing naming variable f s) ≤ 13 + (20 * v + 47 * w)
 unfolding stateWeight
 final-few symbols naming variable f P v w number failed names short small spoken light some room =

@@ -211,18 +211,24 @@ module _ {program goal places rules letters cells : List ℕ} {z : Sizes} (r : R
         record {
           count-few = λ y. omega (arith, e .ended .few y, room);
           next-few = λ y. let s = lives y in omega (arith, s .numbered, variables, few-variables, few-firings);
-          within = λ y. let s = lives y in record {
-            bound-within = all-every (isBelow (f .next)) (all-mono (below-test (f .next)) (s .scoped .bound));
-            within = rows-within (f .next) (r .p .program .symbols) (cellConstraints (take (5 * f .count) cells′))
-                (omega (arith, few-symbols (r .first), symbols-count (r .first))) (s .declared) (s .scoped .constraints);
-            few = omega (
-              arith,
-              size,
-              few-variables,
-              e .ended .few y,
-              length-take-le (5 * f .count) cells′ (omega (arith, e .ended .few y, room)),
-            );
-          };
+          within = λ y.
+              let s = lives y in
+              let all : length bound′ ≡ r .g .goal .variables = size ∙ sym variables in
+              record {
+                own = rw all (all-every (isBelow (r .g .goal .variables)) (all-mono (below-test (r .g .goal .variables)) (s .own)));
+                rows = record {
+                  known = omega (arith, all, s .numbered);
+                  within = rows-within (f .next) (r .p .program .symbols) (cellConstraints (take (5 * f .count) cells′))
+                      (omega (arith, few-symbols (r .first), symbols-count (r .first))) (s .declared) (s .scoped .constraints);
+                  few = omega (
+                    arith,
+                    size,
+                    few-variables,
+                    e .ended .few y,
+                    length-take-le (5 * f .count) cells′ (omega (arith, e .ended .few y, room)),
+                  );
+                };
+              };
         }
       where
         lives : f .alive ≡ true

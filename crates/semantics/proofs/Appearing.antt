@@ -241,7 +241,7 @@ index-next x (y ∷ l) m h =
     indexFrom-miss (eqb x) 0 (l ++ (x ∷ m)) e ∙ ap suc (index-next x l m f)
 
 -- the numbers below n
-upTo-has : (n i : ℕ) → i < n → has i (upTo n) ≡ true
+pub upTo-has : (n i : ℕ) → i < n → has i (upTo n) ≡ true
 upTo-has zero i l = absurd (omega arith)
 upTo-has (suc n) i l = has-append i (upTo n) (n ∷ []) ∙ go (decLt i n) (upTo-has n i)
   where
@@ -249,7 +249,7 @@ upTo-has (suc n) i l = has-append i (upTo n) (n ∷ []) ∙ go (decLt i n) (upTo
     go (yes h) ih = rw (ih h)
     go (no h) ih = or-right (has i (upTo n)) (has i (n ∷ [])) (let e : i ≡ n = omega arith in rw (e, eqb-same n))
 
-upTo-lacks : (n i : ℕ) → n ≤ i → has i (upTo n) ≡ false
+pub upTo-lacks : (n i : ℕ) → n ≤ i → has i (upTo n) ≡ false
 upTo-lacks zero i l = refl
 upTo-lacks (suc n) i l =
     has-append i (upTo n) (n ∷ [])

@@ -1,7 +1,7 @@
 -- Every variable of a final state appears in the order of its numbers.
 --   varIn                     a constant, or a variable that stands in the order
 --   in-terms                  every term of terms
---   every-grows               what stands in an order stands in a longer one
+--   grows-in, grows           what was seen stays seen
 --   index-in, index-on        and has the same place there
 --   numbered-by, numbered-all    so that a term keeps its number
 -- Assumes nothing.
@@ -63,14 +63,6 @@ pub grows : (cs : List Constraint) (seen : List ℕ) (y : ℕ) → has y seen �
 unfolding appearing
 grows [] seen y h = h
 grows (c ∷ cs) seen y h = grows cs (appearingIn seen (c .terms)) y (grows-in (c .terms) seen y h)
-
-pub every-grows : (ts : List Term) (a b : List ℕ) → ((y : ℕ) → has y a ≡ true → has y b ≡ true) → every (varIn a) ts ≡ true
-    → every (varIn b) ts ≡ true
-every-grows [] a b up h = refl
-every-grows (con c ∷ ts) a b up h = every-grows ts a b up h
-every-grows (var x ∷ ts) a b up h =
-    let parts = and-true (has x a) (every (varIn a) ts) h in
-    both (has x b) (every (varIn b) ts) (up x (parts .0)) (every-grows ts a b up (parts .1))
 
 -- every variable of terms is seen behind them
 pub in-terms : (ts : List Term) (seen : List ℕ) → every (varIn (appearingIn seen ts)) ts ≡ true

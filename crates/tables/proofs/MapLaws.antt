@@ -1,5 +1,5 @@
 -- A loop that stores f of each cell, one store a turn; and maps of cells that are maps of terms.
---   Mapped       the cells after i turns; stored-…: each replaced in place
+--   Mapped       the cells after i turns
 --   Acts         what a map of cells does to terms
 --   acts-…       it does the same to terms, constraints and equations
 -- Assumes nothing.
@@ -55,16 +55,6 @@ module _ (f : ℕ → ℕ) (source start cells : List ℕ) (i : ℕ) (w : Mapped
   pub mapped-end : length source ≤ i → cells ≡ map f source
   mapped-end l =
       w .same ∙ rw (take-all i source l, drop-of-length-le start {i = i} (omega (arith, w .sizes)), append-nil)
-
--- the same where each cell is replaced in place
-module _ (f : ℕ → ℕ) (start cells : List ℕ) (i : ℕ) (w : Mapped f start start cells i) where
-  pub stored-next : (x : ℕ) → i < length cells → x ≡ f (getD cells i 0) → Mapped f start start (set cells i x) (i + 1)
-  stored-next x l e =
-      let within : i < length start = omega (arith, w .size) in
-      mapped-next f start start cells i w x within (e ∙ ap f (mapped-read f start start cells i w within))
-
-  pub stored-end : length cells ≤ i → cells ≡ map f start
-  stored-end l = mapped-end f start start cells i w (omega (arith, w .size))
 
 -- what is not 0 is more
 pos-of : (n : ℕ) → (n ≡ 0 → ⊥) → 1 ≤ n

@@ -2,7 +2,8 @@
 --   used-here, used-step, used-end, used-terms     the cells before the first 0
 --   new-…                 the new cell of a variable, with one more variable seen
 --   numbered-…            one more term: a constant, a variable that has appeared, one that has not
---   Counting, counting-…  a loop over cells, from the variables so far
+--   Reaching, reach-…     the table so far, from which the terms left lead to the whole order
+--   Keeping, keeping-…    the first n variables, which keep their numbers
 --   cell-below, cell-unnumbered, cell-new          a cell under the table
 -- Assumes nothing.
 use mathlib.Core.Path.{_≡_, refl, sym, ap, _∙_, subst}
@@ -11,15 +12,15 @@ use mathlib.Core.List.{List, [], _∷_, _++_, map}
 use Prim.Native.Nat.{ℕ, suc, _+_, _-_, _≤_, _<_}
 use native.Mathlib.Omega.{arith}
 use native.Mathlib.Numerals.{add-one}
-use borrow.Author.Tests.{eq-eqb, ne-eqb, eqb-true, eqb-false, lt-ltb, le-ltb, ltb-true}
+use borrow.Author.Tests.{eq-eqb, ne-eqb, eqb-true, eqb-false, lt-ltb, le-ltb}
 use lib.Dec.{eqb, ltb}
-use lib.ListN.{length, take, drop, getD, set, length-append, drop-of-length-le}
+use lib.ListN.{length, take, drop, getD, set, length-append, length-set, drop-of-length-le}
 use lib.ListN.{List·getD-eq-default}
 use lib.Seq.{drop-cons, getD-set-same, getD-set-other}
-use Rattle.text.specs.Lists.{has, every, indexFrom}
-use Rattle.semantics.specs.Terms.{Term, con, var, isBelow}
+use Rattle.text.specs.Lists.{has, indexFrom, upTo}
+use Rattle.semantics.specs.Terms.{Term, con, var}
 use Rattle.semantics.specs.Overlaps.{appearingIn}
-use Rattle.text.proofs.Bools.{and-true}
+use Rattle.semantics.proofs.Appearing.{upTo-lacks}
 use Rattle.tables.specs.Cells.{cellTerm, cellTerms}
 use Rattle.tables.specs.Numbers.{usedCells, newCell, Numbering, Numbered, renumberedCell}
 use Rattle.tables.proofs.CellLaws.{cell-low, cell-high}
@@ -126,13 +127,13 @@ new-other order y z h = go (has z order) refl
     go false e = new-unseen (order ++ (y ∷ [])) z (same ∙ rw e) ∙ sym (new-unseen order z e)
 
 -- one more term: a constant
-pub numbered-constant : (table : List ℕ) (seen x : ℕ) → x < 256 → Numbered (cellTerm x ∷ []) 1 table table seen seen
+pub numbered-constant : (table : List ℕ) (seen x : ℕ) → x < 256 → Numbered (cellTerm x) table table seen seen
 unfolding appearingIn
 numbered-constant table seen x h = rw (cell-low x h) (record { next = λ order n. n; few = omega arith })
 
 -- a variable that has appeared; y is its number as read
 pub numbered-old : (table : List ℕ) (seen x y : ℕ) → 256 ≤ x → y ≡ x - 256 → (getD table y 0 ≡ 0 → ⊥)
-    → Numbered (cellTerm x ∷ []) 1 table table seen seen
+    → Numbered (cellTerm x) table table seen seen
 unfolding appearingIn
 numbered-old table seen x y h e old =
     rw (cell-high x h, ← e)
@@ -141,34 +142,36 @@ numbered-old table seen x y h e old =
       few = omega arith;
     }
 
--- a variable that has not
-pub numbered-new : (table : List ℕ) (seen x y : ℕ) → 256 ≤ x → y ≡ x - 256 → y < length table → getD table y 0 ≡ 0
-    → Numbered (cellTerm x ∷ []) 1 table (set table y (256 + seen)) seen (seen + 1)
-unfolding appearingIn
-numbered-new table seen x y h e inside new = rw (cell-high x h, ← e) record { next = next; few = omega arith }
+-- a variable that has not appeared is numbered next
+new-variable :
+    (order table : List ℕ) (seen y : ℕ) → y < length table → has y order ≡ false → Numbering order table seen
+    → Numbering (order ++ (y ∷ [])) (set table y (256 + seen)) (seen + 1)
+new-variable order table seen y inside fresh n =
+    record {
+      each = λ z. entry (eqb z y) z refl;
+      counted = omega (arith, n .counted, length-append order (y ∷ []));
+    }
   where
-    fresh : (order : List ℕ) → Numbering order table seen → has y order ≡ false
-    fresh order n = unseen-zero order y (sym (n .each y) ∙ new)
-
-    entry : (order : List ℕ) → Numbering order table seen → (b : Bool) (z : ℕ) → eqb z y ≡ b
-        → getD (set table y (256 + seen)) z 0 ≡ newCell (order ++ (y ∷ [])) z
-    entry order n true z t =
+    entry : (b : Bool) (z : ℕ) → eqb z y ≡ b → getD (set table y (256 + seen)) z 0 ≡ newCell (order ++ (y ∷ [])) z
+    entry true z t =
         let same : z ≡ y = eqb-true z y t in
         rw same
         (getD-set-same table y (256 + seen) 0 inside
-        ∙ ap (λ (k : ℕ). 256 + k) (n .counted) ∙ sym (new-new order y (fresh order n)))
-    entry order n false z t =
+        ∙ ap (λ (k : ℕ). 256 + k) (n .counted) ∙ sym (new-new order y fresh))
+    entry false z t =
         getD-set-other table y z (256 + seen) 0 (eqb-false z y t)
         ∙ n .each z ∙ sym (new-other order y z (eqb-false z y t))
 
+pub numbered-new : (table : List ℕ) (seen x y : ℕ) → 256 ≤ x → y ≡ x - 256 → y < length table → getD table y 0 ≡ 0
+    → Numbered (cellTerm x) table (set table y (256 + seen)) seen (seen + 1)
+unfolding appearingIn
+numbered-new table seen x y h e inside new = rw (cell-high x h, ← e) record { next = next; few = omega arith }
+  where
     next : (order : List ℕ) → Numbering order table seen
         → Numbering (appearingIn order (var y ∷ [])) (set table y (256 + seen)) (seen + 1)
     next order n =
-        rw (fresh order n)
-        record {
-          each = λ z. entry order n (eqb z y) z refl;
-          counted = omega (arith, n .counted, length-append order (y ∷ []));
-        }
+        let fresh : has y order ≡ false = unseen-zero order y (sym (n .each y) ∙ new) in
+        rw fresh (new-variable order table seen y inside fresh n)
 
 -- terms one after the other
 pub appearing-step : (order : List ℕ) (t : Term) (ts : List Term) → appearingIn (appearingIn order (t ∷ [])) ts
@@ -184,7 +187,7 @@ pub record Reaching (whole table : List ℕ) (seen : ℕ) (left : List Term) : T
   pub reaches : appearingIn order left ≡ whole
 
 pub reach-more : {whole table after : List ℕ} {seen count : ℕ} {left : List Term} (t : Term) (rest : List Term)
-    → left ≡ t ∷ rest → Numbered (t ∷ []) 1 table after seen count → Reaching whole table seen left
+    → left ≡ t ∷ rest → Numbered t table after seen count → Reaching whole table seen left
     → Reaching whole after count rest
 reach-more t rest e n r =
     record {
@@ -200,62 +203,29 @@ reach-end {whole} {table} {seen} {left} e r =
     let same : r .order ≡ whole = ap (appearingIn (r .order)) (sym e) ∙ r .reaches in
     subst (λ (o : List ℕ). Numbering o table seen) same (r .numbering)
 
--- after i cells
-pub record Counting (start : List ℕ) (before : ℕ) (cells table : List ℕ) (seen i : ℕ) : Type 0 where
-  pub within : i ≤ length cells
-  pub few : seen ≤ before + i
+-- the table after i of the first n variables: each is itself, and no other has appeared
+pub record Keeping (start : List ℕ) (n : ℕ) (table : List ℕ) (i : ℕ) : Type 0 where
+  pub within : i ≤ n
   pub size : length table ≡ length start
-  pub left : every (isBelow (length start)) (map cellTerm (drop i cells)) ≡ true
-  pub reach :
-      (order : List ℕ) → Numbering order start before
-      → Reaching (appearingIn order (map cellTerm cells)) table seen (map cellTerm (drop i cells))
+  pub numbering : Numbering (upTo i) table i
 
-pub counting-start : (start : List ℕ) (before : ℕ) (cells : List ℕ)
-    → every (isBelow (length start)) (map cellTerm cells) ≡ true → Counting start before cells start before 0
-counting-start start before cells h =
-    record {
-      within = omega arith;
-      few = omega arith;
-      size = refl;
-      left = h;
-      reach = λ order n. record { order = order; numbering = n; reaches = refl };
-    }
+pub keeping-start : (start : List ℕ) (n : ℕ) → Numbering [] start 0 → Keeping start n start 0
+keeping-start start n h = record { within = omega arith; size = refl; numbering = h }
 
-module _ (start : List ℕ) (before : ℕ) (cells table : List ℕ) (seen i : ℕ) (w : Counting start before cells table seen i) where
-  here : i < length cells → map cellTerm (drop i cells) ≡ cellTerm (getD cells i 0) ∷ map cellTerm (drop (suc i) cells)
-  here l = rw (drop-cons cells i 0 l)
-
-  -- the next cell's variable has its entry
-  pub counting-inside : i < length cells → 256 ≤ getD cells i 0 → getD cells i 0 - 256 < length table
-  unfolding isBelow
-  counting-inside l h =
-      let first : isBelow (length start) (cellTerm (getD cells i 0)) ≡ true =
-      and-true (isBelow (length start) (cellTerm (getD cells i 0)))
-      (every (isBelow (length start)) (map cellTerm (drop (suc i) cells))) (rw (here l) at (w .left)) .0 in
-      let low : ltb (getD cells i 0 - 256) (length start) ≡ true = rw (cell-high (getD cells i 0) h) at first in
-      omega (arith, ltb-true (getD cells i 0 - 256) (length start) low, w .size)
-
-  pub counting-next : (after : List ℕ) (count : ℕ) → i < length cells
-      → Numbered (cellTerm (getD cells i 0) ∷ []) 1 table after seen count → length after ≡ length table
-      → Counting start before cells after count (i + 1)
-  counting-next after count l n s =
-      rw (add-one i) (record {
-        within = l;
-        few = omega (arith, n .few, w .few);
-        size = s ∙ w .size;
-        left =
-            and-true (isBelow (length start) (cellTerm (getD cells i 0)))
-            (every (isBelow (length start)) (map cellTerm (drop (suc i) cells))) (rw (here l) at (w .left)) .1;
-        reach = λ order m. reach-more (cellTerm (getD cells i 0)) (map cellTerm (drop (suc i) cells)) (here l) n
-            (w .reach order m);
-      })
-
-  pub counting-end : length cells ≤ i → Numbered (map cellTerm cells) (length cells) start table before seen
-  counting-end l =
+module _ (start : List ℕ) (n : ℕ) (table : List ℕ) (i : ℕ) (w : Keeping start n table i) where
+  pub keeping-next : i < n → n ≤ length start → Keeping start n (set table i (256 + i)) (i + 1)
+  keeping-next l h =
+      let next = new-variable (upTo i) table i i (omega (arith, w .size)) (upTo-lacks i i (omega arith)) (w .numbering) in
       record {
-        next = λ order n. reach-end (rw (drop-of-length-le cells {i = i} l)) (w .reach order n);
-        few = omega (arith, w .few, w .within);
+        within = omega arith;
+        size = length-set table i (256 + i) ∙ w .size;
+        numbering = rw (add-one i) (rw (add-one i) at next);
       }
+
+  pub keeping-end : n ≤ i → Numbering (upTo n) table n
+  keeping-end l =
+      let all : i ≡ n = omega (arith, w .within) in
+      rw all at (w .numbering)
 
 module _ (table : List ℕ) (x : ℕ) where
   -- a cell under the table: a constant, a variable without an entry, and one with its new cell

@@ -1,29 +1,28 @@
 -- The table of new cells gives every variable of a state its place in the order of first appearance.
 --   kept, placed   a cell under the table
---   renumbers      the rewritten cells are the state renumbered
---   rows-asks      what numbering the constraints asks, after the goal variables' cells
+--   renumbers      the rewritten cells are the constraints renumbered
+--   rows-asks      what numbering the constraints asks
 --   zeros          a table of zeros, of which v entries are lent: no variable has appeared
 -- Assumes nothing.
 use mathlib.Core.Path.{_≡_, refl, sym, ap, _∙_}
 use mathlib.Core.Bool.{true}
-use mathlib.Core.List.{List, [], _∷_, map}
+use mathlib.Core.List.{List, [], _∷_}
 use mathlib.Core.Logic.{⊎-elim}
 use Prim.Native.Nat.{ℕ, zero, suc, _+_, _-_, _≤_}
 use native.Mathlib.Omega.{arith}
 use borrow.Author.Tests.{eqb-true, eqb-false}
 use lib.Dec.{eqb}
 use lib.ListN.{length, take, getD}
-use Rattle.text.specs.Lists.{has, every, indexFrom}
+use Rattle.text.specs.Lists.{has, every, indexFrom, upTo}
 use Rattle.semantics.specs.Terms.{var}
-use Rattle.semantics.specs.Overlaps.{appearingIn, appearing, numbered}
+use Rattle.semantics.specs.Overlaps.{numbered}
 use Rattle.text.proofs.Bools.{and-true}
 use Rattle.tables.specs.Cells.{cellTerm, cellConstraints}
-use Rattle.tables.specs.Numbers.{orderOf, newCell, Numbering, Numbered, RowsNumbered, renumberedCell, isWithin}
-use Rattle.tables.specs.Numbers.{Renumberable, Renumbered}
+use Rattle.tables.specs.Numbers.{orderOf, newCell, Numbering, RowsNumbered, renumberedCell, isWithin, Numberable}
+use Rattle.tables.specs.Numbers.{Renumbered}
 use Rattle.tables.proofs.CellLaws.{cell-low, cell-high, le-or-lt, either}
-use Rattle.tables.proofs.MapLaws.{Acts, acts-bound}
 use Rattle.tables.proofs.NumberLaws.{new-seen, cell-below, cell-unnumbered, cell-new}
-use Rattle.tables.proofs.Appearing.{varIn, grows, every-grows, in-terms}
+use Rattle.tables.proofs.Appearing.{varIn}
 
 module _ (order table : List ℕ) (count : ℕ) (n : Numbering order table count) where
   -- a used cell stays used
@@ -49,33 +48,17 @@ module _ (order table : List ℕ) (count : ℕ) (n : Numbering order table count
       rw (← found, cell-high x high) (cell-high (256 + place) (omega arith) ∙ ap var (omega arith)))
       (λ low. rw (← cell-below table x low, cell-low x low)) (le-or-lt 256 x)
 
-  acts : Acts (varIn order) (renumberedCell table) (numbered order)
-  acts = record { low = λ x h. sym (cell-below table x h); used = kept; term = placed }
-
--- the goal variables' cells under the table, and the constraints as they were rewritten, are the state renumbered
-pub renumbers : (bound cells start one two bound′ cells′ : List ℕ) (m seen count : ℕ)
-    → Numbered (map cellTerm bound) m start one 0 seen → RowsNumbered cells cells′ one two seen count
-    → bound′ ≡ map (renumberedCell two) bound → Numbering [] start 0 → Renumbered bound cells bound′ cells′ count
+-- the constraints as they were rewritten, behind the first n variables, are renumbered
+pub renumbers : (n : ℕ) (cells table after cells′ : List ℕ) (count : ℕ) → Numbering (upTo n) table n
+    → RowsNumbered cells cells′ table after n count → Renumbered n cells cells′ count
 unfolding orderOf
-renumbers bound cells start one two bound′ cells′ m seen count first second b none =
-    let first-order = appearingIn [] (map cellTerm bound) in
-    let order = appearing first-order (cellConstraints cells) in
-    let n : Numbering order two count = second .next first-order (first .next [] none) in
-    record {
-      bound-same =
-          ap (map cellTerm) b
-          ∙ acts-bound (varIn order) (renumberedCell two) (numbered order) (acts order two count n) bound
-          (every-grows (map cellTerm bound) first-order order (grows (cellConstraints cells) first-order)
-          (in-terms (map cellTerm bound) []));
-      same = second .same first-order (first .next [] none);
-      counted = n .counted;
-    }
+renumbers n cells table after cells′ count first rows =
+    record { same = rows .same (upTo n) first; counted = rows .next (upTo n) first .counted }
 
--- what numbering the constraints asks, after the goal variables' cells
-pub rows-asks : (v seen : ℕ) (table bound cells : List ℕ) → Renumberable v bound cells → length table ≡ v
-    → seen ≤ 0 + length bound
-    → (every (isWithin (length table)) (cellConstraints cells) ≡ true) × (seen + length cells ≤ 65000)
-rows-asks v seen table bound cells r e h = (rw e (r .within), omega (arith, r .few))
+-- what numbering the constraints asks, in a table of the same size
+pub rows-asks : (v n : ℕ) (table cells : List ℕ) → Numberable v n cells → length table ≡ v
+    → (every (isWithin (length table)) (cellConstraints cells) ≡ true) × (n + length cells ≤ 65000)
+rows-asks v n table cells r e = (rw e (r .within), r .few)
 
 -- a table of zeros, of which v entries are lent: no variable has appeared
 pub zeros : (l : List ℕ) (v : ℕ) → every (eqb 0) l ≡ true → Numbering [] (take v l) 0

@@ -97,7 +97,7 @@ module _ (start : List ℕ) (before : ℕ) (given table row : List ℕ) (seen i 
         let low : ltb (getD row i 0 - 256) (length start) ≡ true = rw (cell-high (getD row i 0) h) at (parts .0) in
         omega (arith, ltb-true (getD row i 0 - 256) (length start) low, w .size)
 
-    module _ (after : List ℕ) (count y : ℕ) (n : Numbered (term ∷ []) 1 table after seen count)
+    module _ (after : List ℕ) (count y : ℕ) (n : Numbered term table after seen count)
         (e : y ≡ renumberedCell after (getD row i 0)) where
       module _ (order : List ℕ) (m : Numbering order start before) where
         -- the order with this term

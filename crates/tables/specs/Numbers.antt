@@ -1,9 +1,11 @@
--- The variables of a state, numbered anew by first appearance, in a lent table.
---   orderOf             the variables of cells, in order of first appearance
+-- The variables of a state, numbered anew in a lent table: those of the goal keep their numbers, the others follow by first
+-- appearance.
+--   orderOf             the goal's variables, and then the others of cells in order of first appearance
 --   Numbering           a table of the variables' new cells that is being filled
---   Numbered            what numbering more terms promises
+--   Numbered            what numbering one more term promises
 --   RowNumbered, RowsNumbered    the same for constraints, which are rewritten
---   Renumberable, Renumbered     what renumbering a state's cells asks and promises
+--   Numberable, Renumbered       what numbering the constraints asks and promises
+--   Renumberable                 what it asks of a whole state
 -- Entry x of the table is the new cell of variable x, and 0 where it has not appeared. Assumes nothing.
 use Prim.Native.Nat.{ℕ, suc, _+_, _-_, _≤_}
 use mathlib.Core.Bool.{Bool, true, cond, _&&_}
@@ -11,7 +13,7 @@ use mathlib.Core.List.{List, [], _∷_, map}
 use mathlib.Core.Path.{_≡_}
 use lib.Dec.{eqb, ltb}
 use lib.ListN.{length, getD}
-use Rattle.text.specs.Lists.{has, every, indexFrom}
+use Rattle.text.specs.Lists.{has, every, indexFrom, upTo}
 use Rattle.semantics.specs.Terms.{Term, Constraint, mapTerms, isBelow}
 use Rattle.semantics.specs.Overlaps.{appearingIn, appearing, numbered}
 use Rattle.tables.specs.Layout.{firstVariable}
@@ -22,9 +24,9 @@ unfoldable pub usedCells : List ℕ → ℕ
 usedCells [] = 0
 usedCells (x ∷ xs) = cond (eqb x 0) 0 (suc (usedCells xs))
 
--- the variables of the goal variables' cells and of the constraints', in order of first appearance
-unfoldable pub orderOf : List ℕ → List ℕ → List ℕ
-orderOf bound cells = appearing (appearingIn [] (map cellTerm bound)) (cellConstraints cells)
+-- the first n variables, which are the goal's, and then the others of the constraints in order of first appearance
+unfoldable pub orderOf : ℕ → List ℕ → List ℕ
+orderOf n cells = appearing (upTo n) (cellConstraints cells)
 
 -- the new cell of variable x among those that have appeared; 0 where it has not
 unfoldable pub newCell : List ℕ → ℕ → ℕ
@@ -35,10 +37,10 @@ pub record Numbering (order table : List ℕ) (count : ℕ) : Type 0 where
   pub each : (x : ℕ) → getD table x 0 ≡ newCell order x
   pub counted : count ≡ length order
 
--- the table after more terms, whatever appeared before them; each adds one variable at most
-pub record Numbered (terms : List Term) (most : ℕ) (before after : List ℕ) (seen count : ℕ) : Type 0 where
-  pub next : (order : List ℕ) → Numbering order before seen → Numbering (appearingIn order terms) after count
-  pub few : count ≤ seen + most
+-- the table after one more term, whatever appeared before it
+pub record Numbered (t : Term) (before after : List ℕ) (seen count : ℕ) : Type 0 where
+  pub next : (order : List ℕ) → Numbering order before seen → Numbering (appearingIn order (t ∷ [])) after count
+  pub few : count ≤ seen + 1
 
 -- the same for the terms of a row, which become their new cells
 pub record RowNumbered (row row′ before after : List ℕ) (seen count : ℕ) : Type 0 where
@@ -65,14 +67,18 @@ renumberedCell table x =
 unfoldable pub isWithin : ℕ → Constraint → Bool
 isWithin v c = isLow c && every (isBelow v) (c .terms)
 
--- what renumbering asks: every variable has an entry in a table of v
-pub record Renumberable (v : ℕ) (bound cells : List ℕ) : Type 0 where
-  pub bound-within : every (isBelow v) (map cellTerm bound) ≡ true
+-- what numbering asks: every variable of the constraints, and each of the first n, has an entry in a table of v
+pub record Numberable (v n : ℕ) (cells : List ℕ) : Type 0 where
+  pub known : n ≤ v
   pub within : every (isWithin v) (cellConstraints cells) ≡ true
-  pub few : length bound + length cells ≤ 65000
+  pub few : n + length cells ≤ 65000
 
--- what it promises: every variable is its index in the order of first appearance
-pub record Renumbered (bound cells bound′ cells′ : List ℕ) (count : ℕ) : Type 0 where
-  pub bound-same : map cellTerm bound′ ≡ map (numbered (orderOf bound cells)) (map cellTerm bound)
-  pub same : cellConstraints cells′ ≡ map (mapTerms (numbered (orderOf bound cells))) (cellConstraints cells)
-  pub counted : count ≡ length (orderOf bound cells)
+-- what it promises: every variable is its place in the order
+pub record Renumbered (n : ℕ) (cells cells′ : List ℕ) (count : ℕ) : Type 0 where
+  pub same : cellConstraints cells′ ≡ map (mapTerms (numbered (orderOf n cells))) (cellConstraints cells)
+  pub counted : count ≡ length (orderOf n cells)
+
+-- what it asks of a state: besides, each goal variable became a constant or a goal variable, so that its cell can stay
+pub record Renumberable (v : ℕ) (bound cells : List ℕ) : Type 0 where
+  pub own : every (isBelow (length bound)) (map cellTerm bound) ≡ true
+  pub rows : Numberable v (length bound) cells

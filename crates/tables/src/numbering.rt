@@ -1,18 +1,19 @@
-// The variables of a state, numbered anew by first appearance: a lent table has the new cell of each.
+// The variables of a state, numbered anew: those of the goal keep their numbers, the others follow by first appearance. A lent
+// table has the new cell of each.
 use crate::layout::CONSTRAINT_SIZE;
 use crate::layout::FIRST_VARIABLE;
 use crate::wide;
-ghost use mathlib.Core.List.{[], _∷_, map};
+ghost use mathlib.Core.List.{[]};
 ghost use mathlib.Core.Bool.{true};
 ghost use mathlib.Core.Path.{_≡_};
 ghost use Prim.Native.Nat.{_+_, _-_, _≤_, _<_};
 ghost use lib.ListN.{length};
-ghost use Rattle.text.specs.Lists.{every};
+ghost use Rattle.text.specs.Lists.{every, upTo};
 ghost use Rattle.semantics.specs.Terms.{isBelow};
 ghost use Rattle.tables.specs.Layout.{firstVariable};
 ghost use Rattle.tables.specs.Cells.{cellTerm, cellTerms, cellConstraints};
 ghost use Rattle.tables.specs.Numbers.{usedCells, Numbering, Numbered, RowNumbered, RowsNumbered, renumberedCell};
-ghost use Rattle.tables.specs.Numbers.{isWithin, Renumberable, Renumbered};
+ghost use Rattle.tables.specs.Numbers.{isWithin, Numberable, Renumbered};
 
 // How many cells stand before the first 0.
 pub fn used(cells: &[u16]) -> usize
@@ -31,7 +32,7 @@ pub fn used(cells: &[u16]) -> usize
 // One more term: a variable that has not appeared gets the next number. Answers how many have appeared.
 fn number_term(table: &mut [u16], seen: usize, x: u16) -> usize
     requires { ⌜ (firstVariable ≤ x → x - firstVariable < length (now table)) × (seen < 65000) ⌝ }
-    ensures { λ r. ⌜ Numbered (cellTerm x ∷ []) 1 (now (table .entry)) (now (table .exit)) seen r ⌝ }
+    ensures { λ r. ⌜ Numbered (cellTerm x) (now (table .entry)) (now (table .exit)) seen r ⌝ }
 {
     if x < FIRST_VARIABLE {
         return seen;
@@ -40,22 +41,6 @@ fn number_term(table: &mut [u16], seen: usize, x: u16) -> usize
     if table[y] == 0 {
         table[y] = FIRST_VARIABLE + seen as u16;
         return seen + 1;
-    }
-    seen
-}
-
-// The terms of cells.
-fn number_terms(table: &mut [u16], before: usize, cells: &[u16]) -> usize
-    requires { ⌜ (every (isBelow (length (now table))) (map cellTerm (now cells)) ≡ true)
-        × (before + length (now cells) ≤ 65000) ⌝ }
-    ensures { λ r. ⌜ Numbered (map cellTerm (now (cells .entry))) (length (now (cells .entry)))
-        (now (table .entry)) (now (table .exit)) before r ⌝ }
-{
-    let mut seen = before;
-    let mut i = 0;
-    while i < cells.len() {
-        seen = number_term(table, seen, cells[i]);
-        i += 1;
     }
     seen
 }
@@ -73,17 +58,6 @@ fn renumbered(table: &[u16], x: u16) -> u16
     }
     let new = table[y];
     if new == 0 { x } else { new }
-}
-
-// All cells under the table.
-fn renumber_all(table: &[u16], cells: &mut [u16])
-    ensures { λ _. ⌜ now (cells .exit) ≡ map (renumberedCell (now (table .entry))) (now (cells .entry)) ⌝ }
-{
-    let mut i = 0;
-    while i < cells.len() {
-        cells[i] = renumbered(table, cells[i]);
-        i += 1;
-    }
 }
 
 // The terms of a constraint, up to the first 0: each becomes its new cell.
@@ -122,26 +96,36 @@ fn number_rows(table: &mut [u16], before: usize, cells: &mut [u16]) -> usize
     seen
 }
 
-// A state's variables, numbered anew: those of the goal variables' cells first, then those of the constraints. Answers how many.
-pub fn number(table: &mut [u16], bound: &mut [u16], cells: &mut [u16]) -> usize
-    requires { ⌜ Numbering [] (now table) 0 × Renumberable (length (now table)) (now bound) (now cells) ⌝ }
-    ensures { λ r. ⌜ Renumbered (now (bound .entry)) (now (cells .entry)) (now (bound .exit)) (now (cells .exit)) r ⌝ }
+// The first n variables keep their numbers.
+fn keep(table: &mut [u16], n: usize)
+    requires { ⌜ Numbering [] (now table) 0 × (n ≤ length (now table)) × (n ≤ 65000) ⌝ }
+    ensures { λ _. ⌜ Numbering (upTo n) (now (table .exit)) n ⌝ }
 {
-    let some = number_terms(table, 0, bound);
-    let seen = number_rows(table, some, cells);
-    renumber_all(table, bound);
-    seen
+    let mut i = 0;
+    while i < n {
+        table[i] = FIRST_VARIABLE + i as u16;
+        i += 1;
+    }
+}
+
+// The variables of constraints, numbered anew behind the first n, which stay. Answers how many there are, those n included.
+pub fn number(table: &mut [u16], n: usize, cells: &mut [u16]) -> usize
+    requires { ⌜ Numbering [] (now table) 0 × Numberable (length (now table)) n (now cells) ⌝ }
+    ensures { λ r. ⌜ Renumbered n (now (cells .entry)) (now (cells .exit)) r ⌝ }
+{
+    keep(table, n);
+    number_rows(table, n, cells)
 }
 
 // The same with a table of its own, for variables below v: most runs make few, and a small table is soon cleared.
-pub fn renumber(bound: &mut [u16], cells: &mut [u16], v: usize) -> usize
-    requires { ⌜ Renumberable v (now bound) (now cells) × (v ≤ 13340) ⌝ }
-    ensures { λ r. ⌜ Renumbered (now (bound .entry)) (now (cells .entry)) (now (bound .exit)) (now (cells .exit)) r ⌝ }
+pub fn renumber(n: usize, cells: &mut [u16], v: usize) -> usize
+    requires { ⌜ Numberable v n (now cells) × (v ≤ 13340) ⌝ }
+    ensures { λ r. ⌜ Renumbered n (now (cells .entry)) (now (cells .exit)) r ⌝ }
 {
     if v <= 256 {
         let mut few = [0; 256];
-        return number(&mut few[..v], bound, cells);
+        return number(&mut few[..v], n, cells);
     }
     let mut table = [0; 13340];
-    number(&mut table[..v], bound, cells)
+    number(&mut table[..v], n, cells)
 }

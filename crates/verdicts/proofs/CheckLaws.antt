@@ -2,23 +2,25 @@
 --   pass-is, pass-count      the line of a pass
 --   rules-…, pair-…, pairs-… the line of an overlap's rules, and a line for each joined pair of heads
 --   front-is, ends-…         the lines in front of the ends, and those of the ends
---   half-…, whole-…          `bounds` while its two parts are numbered
+--   lent-…                   what numbering the second end asks and promises
+--   own-…                    variables of the goal are shown by their own names
 --   overlap-writable         the listing of an overlap can be counted
 --   overlap-listed           it is that of the verdict on the overlap that the tables hold
 --   overlap-named            and the same under namings that agree on what it holds
 -- Assumes nothing.
-use mathlib.Core.Path.{_≡_, refl, sym, ap, ap₂, _∙_, subst, fun-ext}
+use mathlib.Core.Path.{_≡_, refl, sym, ap, ap₂, _∙_, subst}
 use mathlib.Core.Bool.{Bool, true}
-use mathlib.Core.List.{List, [], _∷_, _++_, append-assoc, append-nil}
+use mathlib.Core.List.{List, [], _∷_, _++_, map, append-assoc, append-nil}
 use Prim.Native.Nat.{ℕ, zero, suc, _+_, _-_, _*_, _≤_, _<_, min}
 use native.Mathlib.Omega.{arith}
 use native.Mathlib.Numerals.{add-one}
-use borrow.Author.Tests.{le-ltb}
-use lib.ListN.{length, take, drop, getD, length-append, length-take, length-drop, drop-of-length-le}
-use lib.Seq.{drop-cons, take-at, drop-at, getD-drop, length-take-le}
+use lib.ListN.{length, take, drop, getD, length-append, length-take, drop-of-length-le}
+use lib.Seq.{drop-cons, getD-drop}
 use Rattle.text.specs.Bytes.{ascii}
 use Rattle.text.specs.Lists.{every}
 use Rattle.text.specs.Fields.{decimal}
+use Rattle.text.proofs.Bools.{and-true}
+use Rattle.semantics.specs.Terms.{Term, con, var, Constraint, isBelow}
 use Rattle.semantics.specs.Strategy.{Final}
 use Rattle.semantics.specs.Overlaps.{Overlap}
 use Rattle.semantics.specs.Verdict.{confluent, unjoined}
@@ -27,11 +29,11 @@ use Rattle.semantics.proofs.Configurations as C
 use Rattle.tables.specs.Cells.{cellConstraints}
 use Rattle.tables.specs.Names.{nameIn}
 use Rattle.tables.proofs.NameLaws.{lent-rest}
-use Rattle.listing.specs.Listing.{Naming, fieldsBehind, lineOf, constraintLines, numberedAs, variableName}
-use Rattle.listing.specs.Listing.{stateListing, endListing}
+use Rattle.listing.specs.Listing.{Naming, fieldsBehind, lineOf, termShown, constraintShown, constraintLines, variableName}
+use Rattle.listing.specs.Listing.{placeName, stateListing, endListing}
 use Rattle.verdicts.specs.Verdicts.{pairLines, verdictListing}
 use Rattle.listing.specs.Writing.{Countable, Writes, ListedAs}
-use Rattle.listing.specs.Ends.{numberedEnd, endBytes, Listable, EndNumbered, Writable}
+use Rattle.listing.specs.Ends.{placed, numberedEnd, endBytes, Listable, EndNumbered, Writable}
 use Rattle.verdicts.specs.Checks.{rulesLine, frontBytes, numberedEnds, shownBytes, finalOf, Shaped, OverlapWritable}
 use Rattle.verdicts.specs.Checks.{OverlapListable, ShownBy, OverlapListed}
 use Rattle.listing.specs.declared.Listed.{Listed}
@@ -93,21 +95,14 @@ pub pairs-done : (ds : List ℕ) (i : ℕ) → length ds ≤ i → pairsFrom ds 
 unfolding pairLines
 pairs-done ds i h = rw (drop-of-length-le ds h)
 
--- no letter stands for a variable of an overlap's goal
-unlettered : variableName [] ≡ numberedAs (86 ∷ [])
-unfolding variableName ascii
-unlettered = fun-ext (λ x. rw (le-ltb x 0 (omega arith)))
-
 -- the lines in front of the ends, in pieces
 pub front-is : (naming : Naming) (goal : List ℕ) (s : Shown)
     → frontBytes naming goal s
     ≡ rulesLine naming (s .first) (s .second)
     ++ (pairLines 1 (take (s .heads) (s .partners))
-    ++ constraintLines (71 ∷ []) naming (numberedAs (86 ∷ [])) (cellConstraints goal))
+    ++ constraintLines (71 ∷ []) naming (placed [] (s .variables)) (cellConstraints goal))
 unfolding frontBytes ascii
-front-is naming goal s =
-    ap (λ (shown : ℕ → List ℕ). rulesLine naming (s .first) (s .second) ++ (pairLines 1 (take (s .heads) (s .partners))
-    ++ constraintLines (71 ∷ []) naming shown (cellConstraints goal))) unlettered
+front-is naming goal s = refl
 
 -- the lines of the ends; the second's part of `bounds` as it is lent
 module _ (naming : Naming) (bounds one two : List ℕ) (s : Shown) where
@@ -191,7 +186,7 @@ module _ (naming : Naming) (short : (n : ℕ) → Short (naming n)) where
       let ds = take (s .heads) (s .partners) in
       let size : length ds ≤ 4 = omega (arith, length-take (s .heads) (s .partners), h .heads-few) in
       let pairs = pairLines 1 ds in
-      let rows = constraintLines (71 ∷ []) naming (numberedAs (86 ∷ [])) (cellConstraints goal) in
+      let rows = constraintLines (71 ∷ []) naming (placed [] (s .variables)) (cellConstraints goal) in
       let rules = rulesLine naming (s .first) (s .second) in
       rw (front-is naming goal s)
       (omega (
@@ -200,28 +195,27 @@ module _ (naming : Naming) (short : (n : ℕ) → Short (naming n)) where
         length-append pairs rows,
         rules-few (s .first) (s .second),
         pairs-few 1 ds (few-take 18446744073709551616 (s .heads) (s .partners) d) (omega arith),
-        cells-few naming short 86 71 goal c,
+        cells-few naming short [] (s .variables) 71 goal c,
         size,
       ))
 
   -- the listing of an overlap whose ends are numbered can be counted
-  pub overlap-writable : (goal bounds bounds′ one one′ two two′ : List ℕ) (s : Shown) → OverlapListable goal bounds one two s
-      → length bounds′ ≡ length bounds → length one′ ≡ length one → length two′ ≡ length two
-      → ((i : ℕ) → getD goal i 0 < 65536) → ((i : ℕ) → getD bounds′ i 0 < 65536) → ((i : ℕ) → getD one′ i 0 < 65536)
-      → ((i : ℕ) → getD two′ i 0 < 65536) → ((i : ℕ) → getD (s .partners) i 0 < 18446744073709551616)
-      → s .one .firings < 18446744073709551616 → s .two .firings < 18446744073709551616
-      → OverlapWritable naming goal bounds′ one′ two′ s
+  pub overlap-writable : (goal bounds one one′ two two′ : List ℕ) (s : Shown) → OverlapListable goal bounds one two s
+      → length one′ ≡ length one → length two′ ≡ length two → ((i : ℕ) → getD goal i 0 < 65536)
+      → ((i : ℕ) → getD bounds i 0 < 65536) → ((i : ℕ) → getD one′ i 0 < 65536) → ((i : ℕ) → getD two′ i 0 < 65536)
+      → ((i : ℕ) → getD (s .partners) i 0 < 18446744073709551616) → s .one .firings < 18446744073709551616
+      → s .two .firings < 18446744073709551616 → OverlapWritable naming goal bounds one′ two′ s
   unfolding shownBytes numberedEnds
-  overlap-writable goal bounds bounds′ one one′ two two′ s h b e f cg cb co ct cp ko kt =
+  overlap-writable goal bounds one one′ two two′ s h e f cg cb co ct cp ko kt =
       let v = s .variables in
-      let first = take v bounds′ in
-      let second = drop v bounds′ in
-      let firstCells : Cells first = λ i l. few-take 65536 v bounds′ cb i in
-      let secondCells : Cells second = λ i l. few-drop 65536 v bounds′ cb i in
+      let first = take v bounds in
+      let second = drop v bounds in
+      let firstCells : Cells first = λ i l. few-take 65536 v bounds cb i in
+      let secondCells : Cells second = λ i l. few-drop 65536 v bounds cb i in
       let firstFew : s .one .alive ≡ true → length first + length one′ ≤ 65000 =
-      λ l. omega (arith, h .first-end .live l .few, length-take v bounds′, length-take v bounds, b, e) in
+      λ l. omega (arith, h .first-end .live l .rows .few, e) in
       let secondFew : s .two .alive ≡ true → length second + length two′ ≤ 65000 =
-      λ l. omega (arith, h .second-end .live l .few, length-drop v bounds′, length-drop v bounds, b, f) in
+      λ l. omega (arith, h .second-end .live l .rows .few, f) in
       let a = numberedEnd naming [] first one′ (s .one) in
       let z = numberedEnd naming [] second two′ (s .two) in
       record {
@@ -241,55 +235,44 @@ module _ (naming : Naming) (short : (n : ℕ) → Short (naming n)) where
                         (λ l. (omega (arith, secondFew l), omega (arith, secondFew l))) kt,
                   );
             };
-        within = omega (arith, h .within, b);
+        within = h .within;
         first-end = end-writable naming short [] first one′ firstCells (λ i l. co i) (s .one) firstFew ko;
         second-end = end-writable naming short [] second two′ secondCells (λ i l. ct i) (s .two) secondFew kt;
       }
 
--- `bounds` while the first v of its cells, and then those behind them, are numbered
-module _ (v : ℕ) (b ys : List ℕ) (h : v ≤ length b) (l : length ys ≡ length (take v b)) where
-  abbrev half : List ℕ
-  half = ys ++ drop v b
+-- what numbering the second end asks and promises, of its part of `bounds` as it is lent
+module _ (bounds : List ℕ) (v : ℕ) {alive : Bool} {cells : List ℕ} where
+  pub lent-listable : {next : ℕ} → Listable alive next (drop v bounds) cells → Listable alive next (partFrom v bounds) cells
+  lent-listable {next} h = subst (λ (l : List ℕ). Listable alive next l cells) (sym (lent-rest bounds v)) h
 
-  front-size : length ys ≡ v
-  front-size = l ∙ length-take-le v b h
+  pub lent-numbered : {cells′ : List ℕ} {m : ℕ} → EndNumbered alive (length (partFrom v bounds)) cells cells′ m
+      → EndNumbered alive (length (drop v bounds)) cells cells′ m
+  lent-numbered {cells′} {m} h =
+      subst (λ (l : List ℕ). EndNumbered alive (length l) cells cells′ m) (lent-rest bounds v) h
 
-  -- the cells behind, as they are lent
-  pub half-rest : partFrom v half ≡ drop v b
-  half-rest = lent-rest half v ∙ drop-at ys (drop v b) v front-size
+-- variables of the goal are shown by their own names
+module _ (naming : Naming) (letters : List ℕ) (n : ℕ) where
+  own-term : (t : Term) → isBelow n t ≡ true
+      → termShown naming (placed letters n) t ≡ termShown naming (variableName letters) t
+  unfolding termShown isBelow placed placeName
+  own-term (con c) h = refl
+  own-term (var x) h = rw h
 
-  pub half-listable : {alive : Bool} {next : ℕ} {cells : List ℕ} → Listable alive next (drop v b) cells
-      → Listable alive next (partFrom v half) cells
-  half-listable {alive} {next} {cells} a = subst (λ (r : List ℕ). Listable alive next r cells) (sym half-rest) a
+  own-terms : (ts : List Term) → every (isBelow n) ts ≡ true
+      → map (termShown naming (placed letters n)) ts ≡ map (termShown naming (variableName letters)) ts
+  own-terms [] h = refl
+  own-terms (t ∷ ts) h =
+      let both = and-true (isBelow n t) (every (isBelow n) ts) h in
+      ap₂ (λ (x : List ℕ) (l : List (List ℕ)). x ∷ l) (own-term t (both .0)) (own-terms ts (both .1))
 
-  module _ (zs : List ℕ) (k : length zs ≡ length (partFrom v half)) where
-    whole-is : partBack v half zs ≡ ys ++ zs
-    whole-is =
-        let short : length (drop v half) ≤ length half - v = omega (arith, length-drop v half) in
-        let none : drop (length half - v) (drop v half) ≡ [] = drop-of-length-le (drop v half) short in
-        rw (none, append-nil zs, take-at ys (drop v b) v front-size)
-
-    pub whole-size : length (partBack v half zs) ≡ length b
-    whole-size =
-        rw whole-is (omega (arith, length-append ys zs, front-size, k, ap length half-rest, length-drop v b))
-
-    whole-first : take v (partBack v half zs) ≡ ys
-    whole-first = rw whole-is (take-at ys zs v front-size)
-
-    whole-second : drop v (partBack v half zs) ≡ zs
-    whole-second = rw whole-is (drop-at ys zs v front-size)
-
-    -- what numbering each part has promised, of the whole
-    pub first-numbered : {alive : Bool} {cells cells′ : List ℕ} {m : ℕ} → EndNumbered alive (take v b) cells ys cells′ m
-        → EndNumbered alive (take v b) cells (take v (partBack v half zs)) cells′ m
-    first-numbered {alive} {cells} {cells′} {m} a =
-        subst (λ (r : List ℕ). EndNumbered alive (take v b) cells r cells′ m) (sym whole-first) a
-
-    pub second-numbered : {alive : Bool} {cells cells′ : List ℕ} {m : ℕ} → EndNumbered alive (partFrom v half) cells zs cells′ m
-        → EndNumbered alive (drop v b) cells (drop v (partBack v half zs)) cells′ m
-    second-numbered {alive} {cells} {cells′} {m} a =
-        subst (λ (r : List ℕ). EndNumbered alive (drop v b) cells r cells′ m) (sym whole-second)
-        (subst (λ (r : List ℕ). EndNumbered alive r cells zs cells′ m) half-rest a)
+  own-rows : (first : List ℕ) (cs : List Constraint) → every (λ c. every (isBelow n) (c .terms)) cs ≡ true
+      → constraintLines first naming (placed letters n) cs ≡ constraintLines first naming (variableName letters) cs
+  unfolding constraintLines constraintShown
+  own-rows first [] h = refl
+  own-rows first (c ∷ cs) h =
+      let both = and-true (every (isBelow n) (c .terms)) (every (λ d. every (isBelow n) (d .terms)) cs) h in
+      ap₂ (λ (l : List (List ℕ)) (m : List ℕ). lineOf first (naming (c .symbol) ∷ l) ++ m) (own-terms (c .terms) (both .0))
+      (own-rows first cs (both .1))
 
 -- the listing of an overlap is that of the verdict on the overlap that the tables hold
 verdict-is : (program places goal bounds one two : List ℕ) (s : Shown) (o : Overlap) → ShownBy (nameIn program [] places) goal s o
@@ -303,27 +286,30 @@ verdict-is program places goal bounds one two s o h =
     let naming = nameIn program [] places in
     let rules = lineOf (ascii "UNJOINED") (naming (192 + s .first) ∷ naming (192 + s .second) ∷ []) in
     let pairs = pairLines 1 (take (s .heads) (s .partners)) in
-    let rows = constraintLines (ascii "G") naming (variableName []) (cellConstraints goal) in
+    let cs = cellConstraints goal in
+    let rows = constraintLines (ascii "G") naming (variableName []) cs in
+    let own : every (λ c. every (isBelow (s .variables)) (c .terms)) cs ≡ true =
+    ap (every (λ (c : Constraint). every (isBelow (s .variables)) (c .terms))) (sym (h .goal-same)) ∙ h .goal-own in
     let ends =
     endBytes program [] places [] (take (s .variables) bounds) one (s .one)
     ++ endBytes program [] places [] (drop (s .variables) bounds) two (s .two) in
-    rw (h .first-name, h .second-name, h .partners-same, h .goal-same)
+    rw (h .first-name, h .second-name, h .partners-same, h .goal-same, own-rows naming [] (s .variables) (ascii "G") cs own)
     (append-assoc rules (pairs ++ rows) ends ∙ ap (λ (l : List ℕ). rules ++ l) (append-assoc pairs rows ends))
 
-pub overlap-listed : (program places goal bounds bounds′ one one′ two two′ : List ℕ) (s : Shown) (m n : ℕ)
-    {before after : List ℕ} {reply : Listed}
-    → EndNumbered (s .one .alive) (take (s .variables) bounds) one (take (s .variables) bounds′) one′ m
-    → EndNumbered (s .two .alive) (drop (s .variables) bounds) two (drop (s .variables) bounds′) two′ n
-    → ListedAs (shownBytes (nameIn program [] places) goal bounds′ one′ two′ s) before after reply
+pub overlap-listed : (program places goal bounds one one′ two two′ : List ℕ) (s : Shown) (m n : ℕ)
+    {before after : List ℕ} {reply : Listed} → OverlapListable goal bounds one two s
+    → EndNumbered (s .one .alive) (length (take (s .variables) bounds)) one one′ m
+    → EndNumbered (s .two .alive) (length (drop (s .variables) bounds)) two two′ n
+    → ListedAs (shownBytes (nameIn program [] places) goal bounds one′ two′ s) before after reply
     → OverlapListed program places goal bounds one two s before after reply
 unfolding shownBytes numberedEnds
-overlap-listed program places goal bounds bounds′ one one′ two two′ s m n {before} {after} {reply} a z l =
+overlap-listed program places goal bounds one one′ two two′ s m n {before} {after} {reply} h a z l =
     let v = s .variables in
     let ends =
     ap₂ (λ (x y : List ℕ). frontBytes (nameIn program [] places) goal s ++ (x ++ y))
-    (end-numbered program [] places [] (take v bounds) one (take v bounds′) one′ (s .one) m a)
-    (end-numbered program [] places [] (drop v bounds) two (drop v bounds′) two′ (s .two) n z) in
-    record { listed = λ o h. listed-is (ends ∙ verdict-is program places goal bounds one two s o h) l }
+    (end-numbered program [] places [] (take v bounds) one one′ (s .one) m (h .first-end) a)
+    (end-numbered program [] places [] (drop v bounds) two two′ (s .two) n (h .second-end) z) in
+    record { listed = λ o k. listed-is (ends ∙ verdict-is program places goal bounds one two s o k) l }
 
 -- an unjoined overlap is listed alike
 pub overlap-named :

@@ -7,20 +7,23 @@
 -- The names are in the program's text alone. What the goal's variables became is in `bounds`: for the first end, then for the
 -- second. Assumes nothing.
 use Prim.Native.Nat.{ℕ, _+_, _≤_, _<_}
+use mathlib.Core.Bool.{true}
 use mathlib.Core.List.{List, [], _∷_, _++_}
 use mathlib.Core.Path.{_≡_}
 use lib.ListN.{length, take, drop}
 use Rattle.text.specs.Bytes.{ascii}
+use Rattle.text.specs.Lists.{every}
+use Rattle.semantics.specs.Terms.{isBelow}
 use Rattle.semantics.specs.Strategy.{Final}
 use Rattle.semantics.specs.Overlaps.{Overlap}
 use Rattle.semantics.specs.Verdict.{unjoined}
 use Rattle.tables.specs.Layout.{firstRule}
 use Rattle.tables.specs.Cells.{cellConstraints, stateOf}
 use Rattle.tables.specs.Names.{nameIn}
-use Rattle.listing.specs.Listing.{Naming, lineOf, constraintLines, variableName}
+use Rattle.listing.specs.Listing.{Naming, lineOf, constraintLines}
 use Rattle.verdicts.specs.Verdicts.{pairLines, verdictListing}
 use Rattle.listing.specs.Writing.{Countable, ListedAs}
-use Rattle.listing.specs.Ends.{numberedEnd, Listable, Writable}
+use Rattle.listing.specs.Ends.{placed, numberedEnd, Listable, Writable}
 use Rattle.listing.specs.declared.End.{End}
 use Rattle.listing.specs.declared.Listed.{Listed}
 use Rattle.verdicts.specs.declared.Shown.{Shown}
@@ -30,12 +33,12 @@ unfoldable pub rulesLine : Naming → ℕ → ℕ → List ℕ
 rulesLine naming first second =
     lineOf (ascii "UNJOINED") (naming (firstRule + first) ∷ naming (firstRule + second) ∷ [])
 
--- all lines in front of the ends: the rules, the joined pairs of heads, and the goal
+-- all lines in front of the ends: the rules, the joined pairs of heads, and the goal, whose variables are named as in the ends
 unfoldable pub frontBytes : Naming → List ℕ → Shown → List ℕ
 frontBytes naming goal s =
     rulesLine naming (s .first) (s .second)
     ++ (pairLines 1 (take (s .heads) (s .partners))
-    ++ constraintLines (ascii "G") naming (variableName []) (cellConstraints goal))
+    ++ constraintLines (ascii "G") naming (placed [] (s .variables)) (cellConstraints goal))
 
 -- the lines of both ends, whose variables are numbered
 unfoldable pub numberedEnds : Naming → List ℕ → List ℕ → List ℕ → Shown → List ℕ
@@ -80,12 +83,13 @@ pub record OverlapListable (goal bounds one two : List ℕ) (s : Shown) : Type 0
   pub first-end : Listable (s .one .alive) (s .one .next) (take (s .variables) bounds) one
   pub second-end : Listable (s .two .alive) (s .two .next) (drop (s .variables) bounds) two
 
--- the overlap that the tables hold: its rules' names, its partners and its goal
+-- the overlap that the tables hold: its rules' names, its partners and its goal, all of whose variables are the goal's
 pub record ShownBy (naming : Naming) (goal : List ℕ) (s : Shown) (o : Overlap) : Type 0 where
   pub first-name : o .first .rule .name ≡ naming (firstRule + s .first)
   pub second-name : o .second .rule .name ≡ naming (firstRule + s .second)
   pub partners-same : o .partners ≡ take (s .heads) (s .partners)
   pub goal-same : o .goal .constraints ≡ cellConstraints goal
+  pub goal-own : every (λ c. every (isBelow (s .variables)) (c .terms)) (o .goal .constraints) ≡ true
 
 -- what it promises: the listing of the verdict on the overlap that the tables hold, with the ends that they hold
 pub record OverlapListed (program places goal bounds one two : List ℕ) (s : Shown) (before after : List ℕ) (reply : Listed)

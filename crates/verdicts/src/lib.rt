@@ -120,9 +120,18 @@ pub fn put_front<'a>(
     let pairs = put_pairs(out, first, &partners[..heads]);
     let mark = Mark {
         line: b'G',
-        variable: b'V',
+        variables: shown.variables,
     };
-    put_rows(out, pairs, program, &program[..0], places, mark, goal)
+    put_rows(
+        out,
+        pairs,
+        program,
+        &program[..0],
+        places,
+        &program[..0],
+        mark,
+        goal,
+    )
 }
 
 // The lines of both ends, whose variables are numbered, one behind the other. `bounds` holds what the goal's variables became in
@@ -223,13 +232,13 @@ fn list_shown<'a>(
     Listed::Written(size)
 }
 
-// The listing of an unjoined overlap; the variables of its ends are numbered in place, by first appearance.
+// The listing of an unjoined overlap; the variables of its ends are numbered in place.
 pub fn list_overlap<'a>(
     out: &mut [u8],
     program: &'a [u8],
     places: &[u16],
     goal: &[u16],
-    bounds: &mut [u16],
+    bounds: &[u16],
     one: &mut [u16],
     two: &mut [u16],
     shown: Shown,
@@ -239,7 +248,7 @@ pub fn list_overlap<'a>(
         (now (one .entry)) (now (two .entry)) shown (now (out .entry)) (now (out .exit)) r ⌝ }
 {
     let v = shown.variables;
-    number_end(&mut bounds[..v], one, shown.one);
-    number_end(&mut bounds[v..], two, shown.two);
+    number_end(&bounds[..v], one, shown.one);
+    number_end(&bounds[v..], two, shown.two);
     list_shown(out, program, places, goal, bounds, one, two, shown)
 }

@@ -22,14 +22,14 @@ same-length-2 c = search needs
 same-length-3 : tie.Need-same-length-3
 same-length-3 c = search needs
 
-same-length-4 : tie.Need-same-length-4
-same-length-4 c = search needs
-
 returns : tie.Need-returns
 returns c =
-    let at-lent = c .before .before .before .before .before .before .before in
+    let at-lent = c .before .before .before .before .before in
     let at-list = at-lent .before .before .before in
     overlap-short (at-list .list-overlap .ensures) (c .enum-told .given .1)
+
+same-length-4 : tie.Need-same-length-4
+same-length-4 c = search needs
 
 same-length-5 : tie.Need-same-length-5
 same-length-5 c = search needs
@@ -37,16 +37,10 @@ same-length-5 c = search needs
 same-length-6 : tie.Need-same-length-6
 same-length-6 c = search needs
 
-same-length-7 : tie.Need-same-length-7
-same-length-7 c = search needs
-
-same-length-8 : tie.Need-same-length-8
-same-length-8 c = search needs
-
 returns-2 : tie.Need-returns-2
 returns-2 c =
     let n′ = c .before .n .given in
-    let at-lent = c .before .before .before .before .before .before .before .before in
+    let at-lent = c .before .before .before .before .before .before in
     let at-list = at-lent .before .before .before in
     overlap-written (at-list .list-overlap .ensures) (n′ .0 .0) (n′ .1)
 
@@ -60,10 +54,8 @@ fail-spec =
     same-length
     same-length-2
     same-length-3
-    same-length-4
     returns
+    same-length-4
     same-length-5
     same-length-6
-    same-length-7
-    same-length-8
     returns-2)

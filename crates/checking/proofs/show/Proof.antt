@@ -14,7 +14,7 @@ add-w c = search needs
 
 returns : tie.Need-returns
 returns c =
-    let at-fail = c .before .before .before .before .before .before .before .before in
+    let at-fail = c .before .before .before .before .before .before in
     let at-end = at-fail .before .before .before .before .before .before in
     let at-cells = at-end .before .before .before in
     let at-one = at-cells .before in
@@ -46,9 +46,6 @@ slice-aggregate-fail c =
     let shown = start .pre .unjoined-in in
     front-length _ _ (omega (arith, shown .count-few, shown .heads-few, start .pre .goal-size))
 
-slice-relend-prefix-fail : tie.Need-slice-relend-prefix-fail
-slice-relend-prefix-fail c = search needs
-
 slice-aggregate-fail-2 : tie.Need-slice-aggregate-fail-2
 slice-aggregate-fail-2 c =
     let at-cells = c .before .before .before .before .before in
@@ -56,8 +53,8 @@ slice-aggregate-fail-2 c =
     let start = at-one .before .before .before .before .before .before .before .before .before in
     front-length _ _ (omega (arith, start .pre .unjoined-in .variables-few, start .pre .bounds-size))
 
-slice-relend-prefix-fail-2 : tie.Need-slice-relend-prefix-fail-2
-slice-relend-prefix-fail-2 c =
+slice-relend-prefix-fail : tie.Need-slice-relend-prefix-fail
+slice-relend-prefix-fail c =
     let at-cells = c .before .before .before .before .before in
     let at-one = at-cells .before in
     let start = at-one .before .before .before .before .before .before .before .before .before in
@@ -70,8 +67,8 @@ slice-aggregate-fail-3 c =
     let start = at-one .before .before .before .before .before .before .before .before .before in
     front-length _ _ (listed-within (start .pre .unjoined-in .first-end) (at-one .listed-cells .ensures))
 
-slice-relend-prefix-fail-3 : tie.Need-slice-relend-prefix-fail-3
-slice-relend-prefix-fail-3 c =
+slice-relend-prefix-fail-2 : tie.Need-slice-relend-prefix-fail-2
+slice-relend-prefix-fail-2 c =
     let at-cells = c .before .before .before .before .before .before in
     let at-one = at-cells .before in
     let start = at-one .before .before .before .before .before .before .before .before .before in
@@ -102,9 +99,6 @@ same-length-2 c = search needs
 same-length-3 : tie.Need-same-length-3
 same-length-3 c = search needs
 
-same-length-4 : tie.Need-same-length-4
-same-length-4 c = search needs
-
 pub show-spec : {M : Type 1} → statement M
 show-spec =
     tie.close
@@ -116,15 +110,13 @@ show-spec =
     end-shown-requires
     end-shown-requires-2
     slice-aggregate-fail
-    slice-relend-prefix-fail
     slice-aggregate-fail-2
-    slice-relend-prefix-fail-2
+    slice-relend-prefix-fail
     slice-aggregate-fail-3
-    slice-relend-prefix-fail-3
+    slice-relend-prefix-fail-2
     slice-aggregate-fail-4
     fail-requires
     same-length
     same-length-2
     same-length-3
-    same-length-4
     returns)

@@ -17,13 +17,13 @@ wide-requires c κs = search needs
 
 slice-relend-prefix-list : tie.Need-slice-relend-prefix-list
 slice-relend-prefix-list c =
-    let at-if = c .before .before .before in
+    let at-if = c .before .before in
     let start = at-if .before .before .before .before .before .before .before .before in
     start .pre .count-few (at-if .if1 .taken)
 
 slice-aggregate-list : tie.Need-slice-aggregate-list
 slice-aggregate-list c =
-    let at-if = c .before .before .before .before in
+    let at-if = c .before .before .before in
     let start = at-if .before .before .before .before .before .before .before .before in
     sym (length-take-le _ _ (start .pre .count-few (at-if .if1 .taken)))
 
@@ -36,23 +36,17 @@ same-length c = search needs
 same-length-2 : tie.Need-same-length-2
 same-length-2 c = search needs
 
-same-length-3 : tie.Need-same-length-3
-same-length-3 c = search needs
-
 returns : tie.Need-returns
 returns c = search (replied-is, lives-listed)
 
 list-requires-2 : tie.Need-list-requires-2
 list-requires-2 c κs = failed-listable
 
+same-length-3 : tie.Need-same-length-3
+same-length-3 c = search needs
+
 same-length-4 : tie.Need-same-length-4
 same-length-4 c = search needs
-
-same-length-5 : tie.Need-same-length-5
-same-length-5 c = search needs
-
-same-length-6 : tie.Need-same-length-6
-same-length-6 c = search needs
 
 returns-2 : tie.Need-returns-2
 returns-2 c = search (replied-is, failed-listed)
@@ -68,10 +62,8 @@ list-final-spec =
     list-requires
     same-length
     same-length-2
-    same-length-3
     returns
     list-requires-2
+    same-length-3
     same-length-4
-    same-length-5
-    same-length-6
     returns-2)

@@ -21,8 +21,8 @@ derive-requires c κs =
     let start = c .before .before .before .before .before .before .before .before .before in
     front-starts (start .pre) _ refl
 
-array-borrow-prefix-bound-2 : tie.Need-array-borrow-prefix-bound-2
-array-borrow-prefix-bound-2 c =
+array-share-prefix-bound : tie.Need-array-share-prefix-bound
+array-share-prefix-bound c =
     let at-derive = c .before .before .before in
     let at-bound = at-derive .before .before in
     let start = at-bound .before .before .before .before .before .before .before .before in
@@ -51,7 +51,7 @@ same-length-2 c = search needs
 
 returns : tie.Need-returns
 returns c =
-    let at-list = c .before .before .before .before .before in
+    let at-list = c .before .before .before .before in
     let at-derive = at-list .before .before .before .before .before .before .before in
     let at-bound = at-derive .before .before in
     let start = at-bound .before .before .before .before .before .before .before .before in
@@ -64,7 +64,7 @@ run-read-spec =
     array-borrow-prefix-bound
     slice-aggregate-derive
     derive-requires
-    array-borrow-prefix-bound-2
+    array-share-prefix-bound
     slice-aggregate-list-final
     list-final-requires
     same-length

@@ -40,24 +40,18 @@ put-pairs-requires c κs =
     let all = count-is (front-is _ _ _) (start .pre .0) in
     count-first _ (count-next all (at-put-rules .put-rules .ensures))
 
-slice-aggregate-put-rows : tie.Need-slice-aggregate-put-rows
-slice-aggregate-put-rows c = search needs
-
 put-rows-requires : tie.Need-put-rows-requires
 put-rows-requires c κs =
-    let at-put-pairs = c .before .before .before .before in
+    let at-put-pairs = c .before .before .before .before .before in
     let at-put-rules = at-put-pairs .before .before .before .before .before .before in
     let start = at-put-rules .before .before .before .before .before .before in
     let all = count-is (front-is _ _ _) (start .pre .0) in
     count-next (count-next all (at-put-rules .put-rules .ensures)) (at-put-pairs .put-pairs .ensures)
 
-same-length : tie.Need-same-length
-same-length c = search needs
-
 returns : tie.Need-returns
 returns c =
     let at-put-rows = c .before .before in
-    let at-put-pairs = at-put-rows .before .before .before .before .before in
+    let at-put-pairs = at-put-rows .before .before .before .before .before .before in
     let at-put-rules = at-put-pairs .before .before .before .before .before .before in
     let rules = at-put-rules .put-rules in
     let pairs = at-put-pairs .put-pairs in
@@ -72,7 +66,8 @@ put-front-spec =
     array-share-prefix-partners
     slice-aggregate-put-pairs
     put-pairs-requires
-    slice-aggregate-put-rows
+    (λ c. search needs)
+    (λ c. search needs)
     put-rows-requires
-    same-length
+    (λ c. search needs)
     returns)

@@ -10,9 +10,9 @@ returns c = end-failed (not-true _ (c .if1 .taken))
 
 renumber-requires : tie.Need-renumber-requires
 renumber-requires c κs =
-    let at-if1 = c .before .before in
+    let at-if1 = c .before in
     let start = at-if1 .before .before .before .before in
-    (start .pre .live (not-false _ (at-if1 .if1 .left)), start .pre .few)
+    (start .pre .live (not-false _ (at-if1 .if1 .left)) .rows, start .pre .few)
 
 pub number-end-spec : {M : Type 1} → statement M
-number-end-spec = tie.close (tie.spec returns renumber-requires (λ c. search needs) (λ c. search needs) (λ c. search needs))
+number-end-spec = tie.close (tie.spec returns renumber-requires (λ c. search needs) (λ c. search needs))

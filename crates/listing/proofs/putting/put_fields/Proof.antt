@@ -13,12 +13,12 @@ use Rattle.listing.proofs.putting.put_fields.Statement.{statement}
 use Rattle.listing.proofs.putting.put_fields.Tie as tie
 
 abbrev Inv-loop : tie.InvT-loop
-Inv-loop out₀ at program goal places letter cells end₀ i₀ out end i =
-    let field = cellShown (nameIn program goal places) letter in
+Inv-loop out₀ at program goal places letters n cells end₀ i₀ out end i =
+    let field = cellShown (nameIn program goal places) letters n in
     (i ≤ length cells) × Writing (fieldsBehind (map field cells)) at out₀ out end (fieldsFrom field cells i)
 
 abbrev μ-loop : tie.MeasureT-loop
-μ-loop out₀ at program goal places letter cells end₀ i₀ out end i = length cells - i
+μ-loop out₀ at program goal places letters n cells end₀ i₀ out end i = length cells - i
 
 loop-holds : tie.Need-loop-holds Inv-loop μ-loop
 loop-holds c = (omega arith, writing-start _ _ _)
@@ -32,7 +32,7 @@ put-cell-requires c κs =
     let at-test = at-byte .before .before in
     let at-loop = at-test .before in
     field-count _ _ _ (at-loop .loop .inv .1) (at-test .loop-test .taken)
-    (at-loop .before .before .before .before .before .before .pre) (at-byte .put-byte .ensures)
+    (at-loop .before .before .before .before .before .before .before .pre) (at-byte .put-byte .ensures)
 
 loop-again : tie.Need-loop-again Inv-loop μ-loop
 loop-again c = (omega arith, search fields-next)
@@ -41,11 +41,14 @@ put-byte-requires-2 : tie.Need-put-byte-requires-2 Inv-loop μ-loop
 put-byte-requires-2 c κs =
     let at-test = c .before in
     let at-loop = at-test .before in
-    let start = at-loop .before .before .before .before .before .before in
+    let start = at-loop .before .before .before .before .before .before .before in
     feed-count _ _ _ (at-loop .loop .inv .1) (at-test .loop-test .left) (start .pre)
 
 returns : tie.Need-returns Inv-loop μ-loop
-returns c = search fields-wrote
+returns c =
+    let at-byte = c .before .before in
+    let at-test = at-byte .before .before in
+    fields-wrote _ _ _ (at-test .before .loop .inv .1) (at-test .loop-test .left) (at-byte .put-byte2 .ensures)
 
 pub put-fields-spec : {M : Type 1} → statement M
 put-fields-spec =

@@ -25,7 +25,7 @@ part-put-fields-end c =
     let at-wide = at-name .before in
     let at-byte2 = at-wide .before .before .before .before in
     let at-byte = at-byte2 .before .before .before .before in
-    let start = at-byte .before .before .before .before .before .before .before in
+    let start = at-byte .before .before .before .before .before .before .before .before in
     used-within _ (start .args .row .now) (start .pre .0) (at-used .used .ensures .1)
 
 put-fields-requires : tie.Need-put-fields-requires
@@ -36,8 +36,8 @@ put-fields-requires c κs =
     let at-wide = at-name .before in
     let at-byte2 = at-wide .before .before .before .before in
     let at-byte = at-byte2 .before .before .before .before in
-    let start = at-byte .before .before .before .before .before .before .before in
-    line-fields _ _ _ _ _ _ (start .pre .1) (at-wide .wide .ensures .0) (at-name .name .ensures) (at-byte .put-byte .ensures)
+    let start = at-byte .before .before .before .before .before .before .before .before in
+    line-fields _ _ _ _ _ _ _ (start .pre .1) (at-wide .wide .ensures .0) (at-name .name .ensures) (at-byte .put-byte .ensures)
     (at-byte2 .put-byte2 .ensures) (at-copy .copy .ensures) (at-used .used .ensures .0)
 
 returns : tie.Need-returns
@@ -49,8 +49,8 @@ returns c =
     let at-wide = at-name .before in
     let at-byte2 = at-wide .before .before .before .before in
     let at-byte = at-byte2 .before .before .before .before in
-    let start = at-byte .before .before .before .before .before .before .before in
-    line-wrote _ _ _ _ _ _ (at-wide .wide .ensures .0) (at-name .name .ensures) (at-byte .put-byte .ensures)
+    let start = at-byte .before .before .before .before .before .before .before .before in
+    line-wrote _ _ _ _ _ _ _ (at-wide .wide .ensures .0) (at-name .name .ensures) (at-byte .put-byte .ensures)
     (at-byte2 .put-byte2 .ensures) (at-copy .copy .ensures) (at-used .used .ensures .0) (at-fields .put-fields .ensures)
     (at-byte .put-byte .kept .0) (at-byte2 .put-byte2 .kept .0) (at-copy .copy .kept .0)
 

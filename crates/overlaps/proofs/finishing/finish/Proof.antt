@@ -5,7 +5,7 @@ use mathlib.Core.Path.{refl, sym, _∙_}
 use lib.ListN.{replicate}
 use lib.Seq.{length-take-le}
 use Rattle.tables.proofs.Renumbering.{zeros}
-use Rattle.overlaps.proofs.GoalLaws.{goal-room, goal-renumberable, goal-finished}
+use Rattle.overlaps.proofs.GoalLaws.{goal-room, goal-numberable, goal-finished}
 use borrow.Author.Needs.{needs}
 use Rattle.overlaps.proofs.finishing.finish.Statement.{statement}
 use Rattle.overlaps.proofs.finishing.finish.Tie as tie
@@ -21,25 +21,22 @@ mul-e c = search needs
 slice-aggregate-number : tie.Need-slice-aggregate-number
 slice-aggregate-number c = search needs
 
-slice-aggregate-number-2 : tie.Need-slice-aggregate-number-2
-slice-aggregate-number-2 c = search needs
-
 slice-relend-prefix-number : tie.Need-slice-relend-prefix-number
 slice-relend-prefix-number c = search needs
 
-slice-aggregate-number-3 : tie.Need-slice-aggregate-number-3
-slice-aggregate-number-3 c =
-    let dropped = c .before .before .before .before .before in
+slice-aggregate-number-2 : tie.Need-slice-aggregate-number-2
+slice-aggregate-number-2 c =
+    let dropped = c .before .before .before .before in
     let start = dropped .before .before .before in
     sym (length-take-le (5 * dropped .drop-joined .result) (dropped .drop-joined .last .0)
     (goal-room _ _ _ _ (start .pre) _ _ (dropped .drop-joined .ensures) (dropped .drop-joined .kept .0)))
 
 number-requires : tie.Need-number-requires
 number-requires c κs =
-    let dropped = c .before .before .before .before .before in
+    let dropped = c .before .before .before .before in
     let start = dropped .before .before .before in (
       zeros (replicate 52 0) 52 refl,
-      goal-renumberable _ _ _ _ (start .pre) _ _ (dropped .drop-joined .ensures) (dropped .drop-joined .kept .0),
+      goal-numberable _ _ _ _ (start .pre) _ _ (dropped .drop-joined .ensures) (dropped .drop-joined .kept .0),
     )
 
 same-length : tie.Need-same-length
@@ -47,12 +44,12 @@ same-length c = search needs
 
 returns : tie.Need-returns
 returns c =
-    let at-number = c .before .before .before .before in
+    let at-number = c .before .before .before in
     let numbered = at-number .number in
-    let dropped = at-number .before .before .before .before .before .before in
+    let dropped = at-number .before .before .before .before .before in
     let start = dropped .before .before .before in
     let room = goal-room _ _ _ _ (start .pre) _ _ (dropped .drop-joined .ensures) (dropped .drop-joined .kept .0) in
-    goal-finished _ _ _ _ (start .pre) _ _ (dropped .drop-joined .ensures) (dropped .drop-joined .kept .0) _ _ _ _
+    goal-finished _ _ _ _ (start .pre) _ _ (dropped .drop-joined .ensures) (dropped .drop-joined .kept .0) _ _ _
     (numbered .kept .1 .1 .0 ∙ length-take-le (5 * dropped .drop-joined .result) (dropped .drop-joined .last .0) room)
     (numbered .ensures)
 
@@ -63,9 +60,8 @@ finish-spec =
     drop-joined-requires
     mul-e
     slice-aggregate-number
-    slice-aggregate-number-2
     slice-relend-prefix-number
-    slice-aggregate-number-3
+    slice-aggregate-number-2
     number-requires
     same-length
     returns)

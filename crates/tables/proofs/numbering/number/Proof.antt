@@ -6,10 +6,9 @@ use Rattle.tables.proofs.numbering.number.Tie as tie
 
 number-rows-requires : tie.Need-number-rows-requires
 number-rows-requires c κs =
-    let at-terms = c .before .before .before .before in
-    let start = at-terms .before .before .before .before .before .before in
-    rows-asks _ _ (at-terms .number-terms .last .0) _ _ (start .pre .1) (at-terms .number-terms .kept .0)
-    (at-terms .number-terms .ensures .few)
+    let at-keep = c .before .before .before .before in
+    let start = at-keep .before .before .before .before in
+    rows-asks _ _ (at-keep .keep .last .0) _ (start .pre .1) (at-keep .keep .kept .0)
 
 returns : tie.Need-returns
 returns c = search renumbers
@@ -20,5 +19,5 @@ number-spec =
     (tie.spec
     (λ c κs. search needs)
     number-rows-requires
-    (λ c κs. search needs) (λ c. search needs) (λ c. search needs) (λ c. search needs)
+    (λ c. search needs) (λ c. search needs)
     returns)

@@ -1,0 +1,36 @@
+-- `tables::numbering::keep` meets its contract: each variable passed is itself. Assumes nothing.
+use borrow.Author.Needs.{needs}
+use Prim.Native.Nat.{_-_}
+use Rattle.tables.proofs.NumberLaws.{Keeping, keeping-start, keeping-next, keeping-end}
+use Rattle.tables.proofs.numbering.keep.Statement.{statement}
+use Rattle.tables.proofs.numbering.keep.Tie as tie
+
+abbrev Inv-loop : tie.InvT-loop
+Inv-loop table₀ n i₀ table i = Keeping table₀ n table i
+
+abbrev μ-loop : tie.MeasureT-loop
+μ-loop table₀ n i₀ table i = n - i
+
+loop-holds : tie.Need-loop-holds Inv-loop μ-loop
+loop-holds c = search keeping-start
+
+loop-again : tie.Need-loop-again Inv-loop μ-loop
+loop-again c = search keeping-next
+
+same-length : tie.Need-same-length Inv-loop μ-loop
+same-length c = c .before .loop .inv .size
+
+returns : tie.Need-returns Inv-loop μ-loop
+returns c = search keeping-end
+
+pub keep-spec : {M : Type 1} → statement M
+keep-spec =
+    tie.close
+    (tie.spec
+    Inv-loop
+    μ-loop
+    loop-holds
+    (λ c. search needs) (λ c. search needs) (λ c. search needs) (λ c. search needs) (λ c. search needs) (λ c. search needs)
+    loop-again
+    same-length
+    returns)
