@@ -1,6 +1,6 @@
 -- How an end shows its variables: those of the goal by their own names, the others numbered (document 02, W5).
---   own-name        a variable of the goal is shown by its own name
---   other-name      any other that appears is shown as U and its number among the others
+--   own-letter        a variable of the goal is shown by its own name
+--   other-number      any other that appears is shown as U and its number among the others
 --   own-place, other-place     the places behind this: a goal variable is its own place, and the others stand behind the goal's
 --   own-order       terms over the goal's variables add none to the order
 --   own-numbers     and keep their numbers, where each goal variable is its own place
@@ -69,18 +69,18 @@ module _ (n : ℕ) (bound : List Term) (cs : List Constraint) where
       absurd (omega (arith, same))) (le-or-lt n i)
 
 -- a goal variable is shown by its own name
-pub own-name : (variable : ℕ → List ℕ) (n : ℕ) (bound : List Term) (cs : List Constraint) (x : ℕ) → x < n
+pub own-letter : (variable : ℕ → List ℕ) (n : ℕ) (bound : List Term) (cs : List Constraint) (x : ℕ) → x < n
     → unbound variable n (appearing (appearingIn (upTo n) bound) cs) x ≡ variable x
 unfolding unbound placeName
-own-name variable n bound cs x h = rw (own-place n bound cs x h, lt-ltb x n h)
+own-letter variable n bound cs x h = rw (own-place n bound cs x h, lt-ltb x n h)
 
 -- any other that appears is shown as U and its number, which counts those behind the goal's
-pub other-name : (variable : ℕ → List ℕ) (n : ℕ) (bound : List Term) (cs : List Constraint) (x : ℕ) → n ≤ x
+pub other-number : (variable : ℕ → List ℕ) (n : ℕ) (bound : List Term) (cs : List Constraint) (x : ℕ) → n ≤ x
     → has x (appearing (appearingIn (upTo n) bound) cs) ≡ true
     → (k : ℕ) × (k + n ≡ indexFrom (eqb x) 0 (appearing (appearingIn (upTo n) bound) cs))
     × (unbound variable n (appearing (appearingIn (upTo n) bound) cs) x ≡ numberedAs (ascii "U") k)
 unfolding unbound placeName
-other-name variable n bound cs x h seen =
+other-number variable n bound cs x h seen =
     let i = indexFrom (eqb x) 0 (orderIn n bound cs) in
     let behind = other-place n bound cs x h seen in
     (i - n, omega (arith, behind), rw (le-ltb i n behind))

@@ -4,13 +4,12 @@
 -- Assumes nothing.
 use Prim.Native.Nat.{ℕ, _+_, _*_, _≤_}
 use native.Mathlib.Omega.{arith}
-use mathlib.Core.Bool.{true}
 use mathlib.Core.List.{List, [], _++_, map}
-use mathlib.Core.Path.{_≡_, refl, sym, ap, _∙_}
-use lib.ListN.{length, take, drop, length-take, length-append}
+use mathlib.Core.Path.{_≡_, sym, ap, _∙_}
+use lib.ListN.{length, take, drop, length-append}
 use lib.Seq.{length-take-le, take-at}
 use Rattle.text.specs.Lists.{every}
-use Rattle.semantics.specs.Terms.{Constraint, Goal, mapTerms, isBelow}
+use Rattle.semantics.specs.Terms.{Constraint, mapTerms}
 use Rattle.semantics.specs.Overlaps.{unjoinedHeads, appearing, numbered, goalOf}
 use Rattle.tables.specs.Cells.{cellConstraints, isLow}
 use Rattle.tables.specs.Numbers.{orderOf, isWithin, Numberable, Renumbered}

@@ -1,25 +1,29 @@
 -- The terms that a match pairs: they have what all terms of a state have, and are equated when the rule fires.
 --   matched-all, without-all        what all constraints have, those at positions and those at others have
 --   zipped-all, paired-all          and their terms that are paired with a head's
+--   assigned-all, instance-all      so what a match assigns has it, and a term of the rule as the state has it
 --   paired-zipped, zipped-equal     a pair of a head and its constraint is one of the equations between them
 -- Assumes nothing.
-use Prim.Native.Nat.{ℕ, zero, suc, _≤_}
+use Prim.Native.Nat.{ℕ, zero, suc, _+_, _≤_}
 use mathlib.Core.Bool.{Bool, true, false, cond}
 use mathlib.Core.List.{List, [], _∷_, _++_, map}
-use mathlib.Core.Path.{refl, subst}
+use mathlib.Core.Option.{Option, none, some}
+use mathlib.Core.Path.{_≡_, refl, subst}
 use native.Mathlib.Omega.{arith}
-use Rattle.text.specs.Lists.{has}
+use Rattle.text.specs.Lists.{onward, has}
 use Rattle.semantics.specs.Terms.{Term, Constraint}
 use Rattle.semantics.specs.Terms as T
-use Rattle.semantics.specs.Firing.{without}
+use Rattle.semantics.specs.Matching.{Assignment, unassigned, matchAt}
+use Rattle.semantics.specs.Firing.{without, instance}
 use Rattle.semantics.specs.Variants.{Pointwise, empty, each}
-use Rattle.semantics.proofs.Configurations.{Member, first, later, Tm, equal, flat, lift, liftAtom, TermBelow, All, also}
+use Rattle.semantics.proofs.Configurations.{Or, inl, inr, Member, first, later, Tm, equal, flat, lift, liftAtom, TermBelow, All, also}
 use Rattle.semantics.proofs.Configurations as C
 use Rattle.semantics.proofs.Multisets.{pointwise-mono, pointwise-map}
 use Rattle.semantics.proofs.Atoms.{eqn}
 use Rattle.semantics.proofs.Options.{none-some}
 use Rattle.semantics.proofs.PositionLaws.{Stands}
 use Rattle.semantics.proofs.MatchLaws.{ConstraintRel, Zipped, front, behind, zipped-left, Paired, inFirst, inRest}
+use Rattle.semantics.proofs.MatchLaws.{matchAt-sound}
 
 -- all terms of a constraint are below n
 abbrev pub ConstraintBelow : ℕ → Constraint → Type 0
@@ -70,6 +74,32 @@ zipped-all (behind z) (also a more) = zipped-all z more
 pub paired-all : {P : Term → Type 0} {s t : Term} {hs M : List Constraint} → Paired s t hs M → All (λ c. All P (c .terms)) M → P t
 paired-all (inFirst z) (also a more) = zipped-all z a
 paired-all (inRest z) (also a more) = paired-all z more
+
+-- so what a match assigns has what all terms of the state have
+pub assigned-all :
+    {P : Term → Type 0} (hs : List Constraint) (ps : List ℕ) {cs : List Constraint} {θ : Assignment}
+    → matchAt hs ps cs [] unassigned ≡ some θ → All (λ c. All P (c .terms)) cs → (y : ℕ) (u : Term) → θ y ≡ some u → P u
+unfolding unassigned
+assigned-all {P} hs ps {cs} fits all y u f =
+    let m = matchAt-sound hs ps cs [] unassigned fits in
+    go (m .matched) (matched-all all (m .stand)) (m .heads .from y u f)
+  where
+    go : (M : List Constraint) → All (λ c. All P (c .terms)) M → Or (none ≡ some u) (Paired (T.var y) u hs M) → P u
+    go M a (inl p) = none-some refl p
+    go M a (inr p) = paired-all p a
+
+-- and so does a term of the rule as the state has it, where new variables and the term itself, if it is a constant, have it
+pub instance-all :
+    {P : Term → Type 0} (hs : List Constraint) (ps : List ℕ) {cs : List Constraint} {θ : Assignment} (next : ℕ)
+    → matchAt hs ps cs [] unassigned ≡ some θ → All (λ c. All P (c .terms)) cs → ((y : ℕ) → P (T.var (next + y))) → (t : Term)
+    → ((c : ℕ) → t ≡ T.con c → P (T.con c)) → P (instance next θ t)
+unfolding instance
+instance-all hs ps next fits all new (T.con c) h = h c refl
+instance-all {P} hs ps {θ = θ} next fits all new (T.var y) h = go (θ y) refl
+  where
+    go : (o : Option Term) → θ y ≡ o → P (onward o (T.var (next + y)) (λ t. t))
+    go none f = new y
+    go (some u) f = assigned-all hs ps fits all y u f
 
 -- what stands in a pair stands so in the lists of all terms
 pub zipped-map :

@@ -4,6 +4,7 @@
 --   solve-lowers                so the solution of equations lowers
 --   equated-eqv, eqv-equated    `Equated` is the equivalence of the configurations
 --   solve-remains               what the solution of equations puts for a variable is what remains of it
+--   goal-remains                so a goal variable remains over a new one and over a later one
 --   Standing, Kept              a goal variable that stands in a state is itself there; a firing and an entry keep that
 --   goal-variables-remain       so what goal variables become, in every derivation, is a constant or the earliest of them
 --   run-keeps                   also at the end of a run
@@ -35,8 +36,7 @@ use Rattle.semantics.proofs.Multisets.{all-mono, all-append, all-map, m
 use Rattle.semantics.proofs.Options.{decide, none-some, bind-some, cond-some, chosen, cond-chosen, true-T, eqb-equal}
 use Rattle.semantics.proofs.Lifting.{down, down-lift}
 use Rattle.semantics.proofs.SolveLaws.{Solution, solve-solution, solution-equal, solution-again, solve-keeps}
-use Rattle.semantics.proofs.MatchLaws.{Paired, matchAt-sound}
-use Rattle.semantics.proofs.MatchedTerms.{matched-all, without-all, paired-all}
+use Rattle.semantics.proofs.MatchedTerms.{without-all, instance-all}
 use Rattle.semantics.proofs.Indices.{le-or-lt, getElem-map, getElem-unmap, getElem-below, getElem-at, getD-at, getD-past}
 use Rattle.semantics.proofs.Listings.{at-member, member-at}
 use Rattle.semantics.proofs.Entering.{tabled-length, tabled-entry}
@@ -170,6 +170,19 @@ solve-remains es {σ} p x = go (σ (var x)) refl
         (λ z r. lowered-le (subst (Lowered (var z)) (joined (var z) r ∙ e) (solve-lowers es p (var z))))
         (λ c r. con-var (sym (s .fixes c) ∙ joined (con c) r ∙ e))
 
+-- so, in a goal of n variables, whatever is equated with a goal variable becomes a constant or a goal variable that is not later
+pub goal-remains :
+    (es : List Equation) {σ : Term → Term} → solve es (λ t. t) ≡ some σ → (n x y z : ℕ) → x < n → Equated es (var y) (var x)
+    → σ (var y) ≡ var z → (z ≤ x) × (z < n)
+goal-remains es {σ} p n x y z h r e = go (σ (var y)) (solve-remains es p y) e
+  where
+    go : (t : Term) → Remains es y t → t ≡ var z → (z ≤ x) × (z < n)
+    go (con c) (constant q) k = con-var k
+    go (var w) (smallest q least other) k =
+        let l = least x r in
+        let same : w ≡ z = cc in
+        (omega (arith, l), omega (arith, l))
+
 -- a term that may stand in a state: where it is a goal variable, this is still itself
 abbrev Standing : List Term → Term → Type 0
 Standing bound (con c) = Unit {0}
@@ -237,28 +250,10 @@ settle-keeps es next bound cs sides k = go (solve es (λ t. t)) refl
 
 module _ (r : Rule) (ps : List ℕ) (θ : Assignment) (next : ℕ) (bound : List Term) (cs : List Constraint)
     (fits : matchAt (r .heads) ps cs [] unassigned ≡ some θ) (k : Kept next bound cs) where
-  -- what is assigned stands in the state
-  assigned-stands : (y : ℕ) (u : Term) → θ y ≡ some u → Standing bound u
-  unfolding unassigned
-  assigned-stands y u f =
-      let m = matchAt-sound (r .heads) ps cs [] unassigned fits in
-      go (m .matched) (matched-all (k .constraints) (m .stand)) (m .heads .from y u f)
-    where
-      go :
-          (M : List Constraint) → All (λ c. All (Standing bound) (c .terms)) M
-          → Or (none ≡ some u) (Paired (var y) u (r .heads) M) → Standing bound u
-      go M a (inl p) = none-some refl p
-      go M a (inr p) = paired-all p a
-
   -- a term of the rule may stand in the state: a new variable is none of the goal's
   instance-stands : (t : Term) → Standing bound (instance next θ t)
-  unfolding instance
-  instance-stands (con c) = tt
-  instance-stands (var y) = go (θ y) refl
-    where
-      go : (o : Option Term) → θ y ≡ o → Standing bound (onward o (var (next + y)) (λ t. t))
-      go none f = λ below. absurd (omega (arith, k .numbered))
-      go (some u) f = assigned-stands y u f
+  instance-stands t =
+      instance-all (r .heads) ps next fits (k .constraints) (λ y below. absurd (omega (arith, k .numbered))) t (λ c e. tt)
 
   -- the same for the terms of a constraint, for the body, and for the sides of equations
   instances-stand : (ts : List Term) → All (Standing bound) (map (instance next θ) ts)

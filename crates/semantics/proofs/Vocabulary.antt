@@ -21,13 +21,12 @@ use Rattle.semantics.specs.Solving.{solve}
 use Rattle.semantics.specs.Firing.{without, instance, settle, fired, fireAt}
 use Rattle.semantics.specs.Strategy.{Final, goalState, normalise, run}
 use Rattle.semantics.specs.Overlaps.{sideEnd}
-use Rattle.semantics.proofs.Configurations.{Or, inl, inr, Member, TermBelow, All, also, Scoped}
+use Rattle.semantics.proofs.Configurations.{Member, TermBelow, All, also, Scoped}
 use Rattle.semantics.proofs.Configurations as C
 use Rattle.text.proofs.Bools.{and-true}
 use Rattle.semantics.proofs.Options.{none-some, bind-some, isBelow-below}
 use Rattle.semantics.proofs.Multisets.{all-member, all-mono, all-append, all-map, member-unmap}
-use Rattle.semantics.proofs.MatchLaws.{Paired, matchAt-sound}
-use Rattle.semantics.proofs.MatchedTerms.{matched-all, without-all, paired-all}
+use Rattle.semantics.proofs.MatchedTerms.{without-all, instance-all}
 use Rattle.semantics.proofs.SolveLaws.{solve-keeps}
 use Rattle.semantics.proofs.Letters.{every-all, rule-lettered}
 use Rattle.semantics.proofs.Represent.{ScopedState, fireAt-scoped}
@@ -74,27 +73,10 @@ declared-map symbols f c h = rw length-map h
 module _ (symbols : List Symbol) (P : ℕ → Type 0) (r : Rule) (ps : List ℕ) (θ : Assignment) (next : ℕ) (b : List Term)
     (cs : List Constraint) (over : RuleOver P r) (body : All (λ c. isDeclared symbols c ≡ true) (r .body))
     (fits : matchAt (r .heads) ps cs [] unassigned ≡ some θ) (constraints : All (ConstraintOver P) cs) where
-  -- what is assigned stands in the state
-  assigned-over : (y : ℕ) (u : Term) → θ y ≡ some u → TermOver P u
-  unfolding unassigned
-  assigned-over y u f =
-      let m = matchAt-sound (r .heads) ps cs [] unassigned fits in
-      go (m .matched) (matched-all constraints (m .stand)) (m .heads .from y u f)
-    where
-      go :
-          (M : List Constraint) → All (ConstraintOver P) M → Or (none ≡ some u) (Paired (var y) u (r .heads) M) → TermOver P u
-      go M a (inl p) = none-some refl p
-      go M a (inr p) = paired-all p a
-
   -- a term of the rule, in the state
   instance-over : (t : Term) → TermOver P t → TermOver P (instance next θ t)
-  unfolding instance
-  instance-over (con c) h = h
-  instance-over (var y) h = go (θ y) refl
-    where
-      go : (o : Option Term) → θ y ≡ o → TermOver P (onward o (var (next + y)) (λ t. t))
-      go none f = tt
-      go (some u) f = assigned-over y u f
+  instance-over t h =
+      instance-all (r .heads) ps next fits constraints (λ y. tt) t (λ c e. subst (TermOver P) e h)
 
   -- the equations of the rule, as they are solved
   abbrev solvedFor : List Equation
