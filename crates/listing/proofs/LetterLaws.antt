@@ -6,42 +6,26 @@
 --   own-numbers     and keep their numbers, where each goal variable is its own place
 -- Assumes nothing.
 use mathlib.Core.Path.{_≡_, refl, sym, ap, ap₂, _∙_}
-use mathlib.Core.Bool.{Bool, true, false}
-use mathlib.Core.List.{List, [], _∷_, _++_, map}
+use mathlib.Core.Bool.{true}
+use mathlib.Core.List.{List, [], _∷_, map}
 use mathlib.Core.Logic.{⊎-elim}
 use mathlib.Core.Option.{some}
-use Prim.Native.Nat.{ℕ, zero, suc, _+_, _-_, _≤_, _<_}
+use Prim.Native.Nat.{ℕ, _+_, _-_, _≤_, _<_}
 use native.Mathlib.Omega.{arith}
-use borrow.Author.Tests.{eqb-true, eqb-false, ltb-true, lt-ltb, le-ltb}
+use borrow.Author.Tests.{ltb-true, lt-ltb, le-ltb}
 use lib.Dec.{eqb, ltb}
 use lib.ListN.{getElem?}
 use Rattle.text.specs.Bytes.{ascii}
 use Rattle.text.specs.Lists.{has, every, indexFrom, upTo}
-use Rattle.text.proofs.Laws.{tabled-length}
 use Rattle.text.proofs.Bools.{and-true}
 use Rattle.semantics.specs.Terms.{Term, con, var, Constraint, isBelow}
 use Rattle.semantics.specs.Overlaps.{appearingIn, appearing, numbered}
-use Rattle.semantics.proofs.Appearing.{upTo-has, upTo-lacks}
+use Rattle.semantics.proofs.Appearing.{upTo-has}
 use Rattle.semantics.proofs.Indices.{index-stands, some-equal}
 use Rattle.tables.proofs.CellLaws.{le-or-lt}
-use Rattle.tables.proofs.NumberLaws.{index-kept, index-new}
+use Rattle.tables.proofs.NumberLaws.{first-place}
 use Rattle.tables.proofs.Appearing.{grows-in, grows, index-in, index-on}
 use Rattle.listing.specs.Listing.{numberedAs, placeName, unbound}
-
--- each of the first n is its own place
-first-place : (n x : ℕ) → x < n → indexFrom (eqb x) 0 (upTo n) ≡ x
-first-place zero x h = absurd (omega arith)
-first-place (suc n) x h = go (eqb x n) refl (first-place n x)
-  where
-    go :
-        (b : Bool) → eqb x n ≡ b → (x < n → indexFrom (eqb x) 0 (upTo n) ≡ x)
-        → indexFrom (eqb x) 0 (upTo n ++ (n ∷ [])) ≡ x
-    go true e more =
-        let same : x ≡ n = eqb-true x n e in
-        rw same (index-new n 0 (upTo n) (upTo-lacks n n (omega arith)) ∙ omega (arith, tabled-length (λ (i : ℕ). i) n))
-    go false e more =
-        let below : x < n = omega (arith, eqb-false x n e) in
-        index-kept x n 0 (upTo n) (upTo-has n x below) ∙ more below
 
 -- the order of an end with n goal variables
 module _ (n : ℕ) (bound : List Term) (cs : List Constraint) where

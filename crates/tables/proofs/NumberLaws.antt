@@ -3,27 +3,29 @@
 --   new-…                 the new cell of a variable, with one more variable seen
 --   numbered-…            one more term: a constant, a variable that has appeared, one that has not
 --   Reaching, reach-…     the table so far, from which the terms left lead to the whole order
---   Keeping, keeping-…    the first n variables, which keep their numbers
+--   first-place           each of the first n variables is its own place among them
+--   Keeping, keeping-…    the first n variables keep their numbers
 --   cell-below, cell-unnumbered, cell-new          a cell under the table
 -- Assumes nothing.
 use mathlib.Core.Path.{_≡_, refl, sym, ap, _∙_, subst}
 use mathlib.Core.Bool.{Bool, true, false, cond, _||_}
 use mathlib.Core.List.{List, [], _∷_, _++_, map}
-use Prim.Native.Nat.{ℕ, suc, _+_, _-_, _≤_, _<_}
+use mathlib.Core.Logic.{⊎-elim}
+use Prim.Native.Nat.{ℕ, zero, suc, _+_, _-_, _≤_, _<_}
 use native.Mathlib.Omega.{arith}
-use native.Mathlib.Numerals.{add-one}
 use borrow.Author.Tests.{eq-eqb, ne-eqb, eqb-true, eqb-false, lt-ltb, le-ltb}
 use lib.Dec.{eqb}
 use lib.ListN.{length, take, drop, getD, set, length-append, length-set, drop-of-length-le}
 use lib.ListN.{List·getD-eq-default}
 use lib.Seq.{drop-cons, getD-set-same, getD-set-other}
 use Rattle.text.specs.Lists.{has, indexFrom, upTo}
+use Rattle.text.proofs.Laws.{tabled-length}
 use Rattle.semantics.specs.Terms.{Term, con, var}
 use Rattle.semantics.specs.Overlaps.{appearingIn}
-use Rattle.semantics.proofs.Appearing.{upTo-lacks}
+use Rattle.semantics.proofs.Appearing.{upTo-has, upTo-lacks}
 use Rattle.tables.specs.Cells.{cellTerm, cellTerms}
 use Rattle.tables.specs.Numbers.{usedCells, newCell, Numbering, Numbered, renumberedCell}
-use Rattle.tables.proofs.CellLaws.{cell-low, cell-high}
+use Rattle.tables.proofs.CellLaws.{cell-low, cell-high, le-or-lt}
 
 module _ (l : List ℕ) (i : ℕ) where
   -- how many cells stand before the first 0, one cell on
@@ -142,36 +144,34 @@ numbered-old table seen x y h e old =
       few = omega arith;
     }
 
--- a variable that has not appeared is numbered next
-new-variable :
-    (order table : List ℕ) (seen y : ℕ) → y < length table → has y order ≡ false → Numbering order table seen
-    → Numbering (order ++ (y ∷ [])) (set table y (256 + seen)) (seen + 1)
-new-variable order table seen y inside fresh n =
-    record {
-      each = λ z. entry (eqb z y) z refl;
-      counted = omega (arith, n .counted, length-append order (y ∷ []));
-    }
-  where
-    entry : (b : Bool) (z : ℕ) → eqb z y ≡ b → getD (set table y (256 + seen)) z 0 ≡ newCell (order ++ (y ∷ [])) z
-    entry true z t =
-        let same : z ≡ y = eqb-true z y t in
-        rw same
-        (getD-set-same table y (256 + seen) 0 inside
-        ∙ ap (λ (k : ℕ). 256 + k) (n .counted) ∙ sym (new-new order y fresh))
-    entry false z t =
-        getD-set-other table y z (256 + seen) 0 (eqb-false z y t)
-        ∙ n .each z ∙ sym (new-other order y z (eqb-false z y t))
-
+-- a variable that has not
 pub numbered-new : (table : List ℕ) (seen x y : ℕ) → 256 ≤ x → y ≡ x - 256 → y < length table → getD table y 0 ≡ 0
     → Numbered (cellTerm x) table (set table y (256 + seen)) seen (seen + 1)
 unfolding appearingIn
 numbered-new table seen x y h e inside new = rw (cell-high x h, ← e) record { next = next; few = omega arith }
   where
+    fresh : (order : List ℕ) → Numbering order table seen → has y order ≡ false
+    fresh order n = unseen-zero order y (sym (n .each y) ∙ new)
+
+    entry : (order : List ℕ) → Numbering order table seen → (b : Bool) (z : ℕ) → eqb z y ≡ b
+        → getD (set table y (256 + seen)) z 0 ≡ newCell (order ++ (y ∷ [])) z
+    entry order n true z t =
+        let same : z ≡ y = eqb-true z y t in
+        rw same
+        (getD-set-same table y (256 + seen) 0 inside
+        ∙ ap (λ (k : ℕ). 256 + k) (n .counted) ∙ sym (new-new order y (fresh order n)))
+    entry order n false z t =
+        getD-set-other table y z (256 + seen) 0 (eqb-false z y t)
+        ∙ n .each z ∙ sym (new-other order y z (eqb-false z y t))
+
     next : (order : List ℕ) → Numbering order table seen
         → Numbering (appearingIn order (var y ∷ [])) (set table y (256 + seen)) (seen + 1)
     next order n =
-        let fresh : has y order ≡ false = unseen-zero order y (sym (n .each y) ∙ new) in
-        rw fresh (new-variable order table seen y inside fresh n)
+        rw (fresh order n)
+        record {
+          each = λ z. entry order n (eqb z y) z refl;
+          counted = omega (arith, n .counted, length-append order (y ∷ []));
+        }
 
 -- terms one after the other
 pub appearing-step : (order : List ℕ) (t : Term) (ts : List Term) → appearingIn (appearingIn order (t ∷ [])) ts
@@ -203,29 +203,63 @@ reach-end {whole} {table} {seen} {left} e r =
     let same : r .order ≡ whole = ap (appearingIn (r .order)) (sym e) ∙ r .reaches in
     subst (λ (o : List ℕ). Numbering o table seen) same (r .numbering)
 
--- the table after i of the first n variables: each is itself, and no other has appeared
+-- each of the first n is its own place among them
+pub first-place : (n x : ℕ) → x < n → indexFrom (eqb x) 0 (upTo n) ≡ x
+first-place zero x h = absurd (omega arith)
+first-place (suc n) x h = go (eqb x n) refl (first-place n x)
+  where
+    go :
+        (b : Bool) → eqb x n ≡ b → (x < n → indexFrom (eqb x) 0 (upTo n) ≡ x)
+        → indexFrom (eqb x) 0 (upTo n ++ (n ∷ [])) ≡ x
+    go true e more =
+        let same : x ≡ n = eqb-true x n e in
+        rw same (index-new n 0 (upTo n) (upTo-lacks n n (omega arith)) ∙ omega (arith, tabled-length (λ (i : ℕ). i) n))
+    go false e more =
+        let below : x < n = omega (arith, eqb-false x n e) in
+        index-kept x n 0 (upTo n) (upTo-has n x below) ∙ more below
+
+-- the table while the first n variables get their own cells, from the last on: those from i on have theirs, none behind has one
 pub record Keeping (start : List ℕ) (n : ℕ) (table : List ℕ) (i : ℕ) : Type 0 where
   pub within : i ≤ n
   pub size : length table ≡ length start
-  pub numbering : Numbering (upTo i) table i
+  pub own : (x : ℕ) → i ≤ x → x < n → getD table x 0 ≡ 256 + x
+  pub behind : (x : ℕ) → n ≤ x → getD table x 0 ≡ 0
 
-pub keeping-start : (start : List ℕ) (n : ℕ) → Numbering [] start 0 → Keeping start n start 0
-keeping-start start n h = record { within = omega arith; size = refl; numbering = h }
+pub keeping-start : (start : List ℕ) (n : ℕ) → Numbering [] start 0 → Keeping start n start n
+keeping-start start n h =
+    record {
+      within = omega arith;
+      size = refl;
+      own = λ x l k. absurd (omega arith);
+      behind = λ x l. h .each x ∙ new-unseen [] x refl;
+    }
 
 module _ (start : List ℕ) (n : ℕ) (table : List ℕ) (i : ℕ) (w : Keeping start n table i) where
-  pub keeping-next : i < n → n ≤ length start → Keeping start n (set table i (256 + i)) (i + 1)
-  keeping-next l h =
-      let next = new-variable (upTo i) table i i (omega (arith, w .size)) (upTo-lacks i i (omega arith)) (w .numbering) in
+  pub keeping-next : (j : ℕ) → j ≡ i - 1 → 0 < i → n ≤ length start → Keeping start n (set table j (256 + j)) j
+  keeping-next j e l h =
       record {
-        within = omega arith;
-        size = length-set table i (256 + i) ∙ w .size;
-        numbering = rw (add-one i) (rw (add-one i) at next);
+        within = omega (arith, w .within);
+        size = length-set table j (256 + j) ∙ w .size;
+        own = λ x k m. mine x k m (eqb x j) refl;
+        behind = λ x k. getD-set-other table j x (256 + j) 0 (λ q. omega (arith, q, w .within)) ∙ w .behind x k;
       }
+    where
+      mine : (x : ℕ) → j ≤ x → x < n → (b : Bool) → eqb x j ≡ b → getD (set table j (256 + j)) x 0 ≡ 256 + x
+      mine x k m true q =
+          let same : x ≡ j = eqb-true x j q in
+          rw same (getD-set-same table j (256 + j) 0 (omega (arith, w .within, w .size)))
+      mine x k m false q =
+          let apart = eqb-false x j q in
+          getD-set-other table j x (256 + j) 0 apart ∙ w .own x (omega (arith, apart)) m
 
-  pub keeping-end : n ≤ i → Numbering (upTo n) table n
+  pub keeping-end : i ≤ 0 → Numbering (upTo n) table n
   keeping-end l =
-      let all : i ≡ n = omega (arith, w .within) in
-      rw all at (w .numbering)
+      record {
+        each = λ x. ⊎-elim (λ high. w .behind x high ∙ sym (new-unseen (upTo n) x (upTo-lacks n x high)))
+            (λ low. w .own x (omega arith) low
+            ∙ sym (new-seen (upTo n) x (upTo-has n x low) ∙ ap (λ (k : ℕ). 256 + k) (first-place n x low))) (le-or-lt n x);
+        counted = sym (tabled-length (λ (k : ℕ). k) n);
+      }
 
 module _ (table : List ℕ) (x : ℕ) where
   -- a cell under the table: a constant, a variable without an entry, and one with its new cell

@@ -101,10 +101,10 @@ fn keep(table: &mut [u16], n: usize)
     requires { ⌜ Numbering [] (now table) 0 × (n ≤ length (now table)) × (n ≤ 65000) ⌝ }
     ensures { λ _. ⌜ Numbering (upTo n) (now (table .exit)) n ⌝ }
 {
-    let mut i = 0;
-    while i < n {
+    let mut i = n;
+    while 0 < i {
+        i -= 1;
         table[i] = FIRST_VARIABLE + i as u16;
-        i += 1;
     }
 }
 
