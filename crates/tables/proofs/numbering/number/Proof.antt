@@ -11,7 +11,10 @@ number-rows-requires c κs =
     rows-asks _ _ (at-keep .keep .last .0) _ (start .pre .1) (at-keep .keep .kept .0)
 
 returns : tie.Need-returns
-returns c = search renumbers
+returns c =
+    let at-rows = c .before .before .before .before in
+    let at-keep = at-rows .before .before .before .before .before in
+    renumbers _ _ _ _ _ _ (at-keep .keep .ensures) (at-rows .number-rows .ensures)
 
 pub number-spec : {M : Type 1} → statement M
 number-spec =
