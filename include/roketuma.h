@@ -4,8 +4,8 @@
    In every call any bytes of any length may be handed in. Each pointer must be valid for its length, and not null; the output
    must overlap no text. A call uses no heap and keeps nothing between calls.
 
-   A call returns one number, of which the functions below take the parts. It is the length of the listing, which is then in the
-   front of the output, the bytes behind it being as they were; or a refusal, with document 01's number (1 to 11), the text ('S'
+   A call returns one number, of which the functions below take the parts. It is the length of the listing, or of its pages, which
+   is then in the front of the output, the bytes behind it being as they were; or a refusal, with document 01's number (1 to 11), the text ('S'
    for the program's, 'G' for the goal's) and the line counted from 1 (0 where no line is meant), every byte of the output being
    as it was. */
 #ifndef ROKETUMA_H
@@ -27,6 +27,13 @@ extern "C" {
    2^32 * number + 2^16 * text + line. */
 uint64_t roketuma_check(const uint8_t *program, size_t program_len, uint8_t *output, size_t output_len);
 
+/* Checks the program, and lays its listing out on pages of 40 columns and 60 lines, 2,460 bytes each: line 1 of a page has the
+   listing's first field and the page's number, line 2 is blank, and a line of more than 40 bytes continues on the next behind two
+   spaces. No listing of a check takes more than 17 pages. Number 11 is answered where the pages do not fit the output.
+
+   Returns what roketuma_check does, with the length of the pages. */
+uint64_t roketuma_pages(const uint8_t *program, size_t program_len, uint8_t *output, size_t output_len);
+
 /* Runs the goal over the program. Returns the length of the listing, below 2^31, or a refusal as above. */
 uint64_t roketuma_run(const uint8_t *program, size_t program_len, const uint8_t *goal, size_t goal_len,
                       uint8_t *output, size_t output_len);
@@ -35,8 +42,9 @@ uint64_t roketuma_run(const uint8_t *program, size_t program_len, const uint8_t 
    to 10, that a run of them returns. Nothing is lent to write into. */
 uint64_t roketuma_read(const uint8_t *program, size_t program_len, const uint8_t *goal, size_t goal_len);
 
-/* Room for every listing. */
+/* Room for every listing, and for the pages of every listing of a check. */
 #define ROKETUMA_ROOM 32768
+#define ROKETUMA_PAGES_ROOM 41820
 
 /* Whether a text was refused. */
 static inline bool roketuma_is_refusal(uint64_t r)
@@ -93,7 +101,7 @@ static inline const char *roketuma_words(unsigned number)
     case 8: return "the rule has no H line";
     case 9: return "the H lines of the rule do not weigh more than its B lines";
     case 10: return "the goal weighs more than 512";
-    case 11: return "the lent output is shorter than the listing";
+    case 11: return "the lent output is shorter than the listing, or than its pages";
     default: return "no refusal";
     }
 }

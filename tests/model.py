@@ -174,12 +174,18 @@ def placed(facts, others, pairs):
     return False
 
 
+def shape(facts):
+    """What no renaming changes: each fact with, for a variable, how often it stands in all facts."""
+    often = collections.Counter(t for _, terms in facts for t in terms)
+    return collections.Counter((k, tuple(plain(t) if isinstance(t, str) else often[t] for t in terms)) for k, terms in facts)
+
+
 def equal(one, two):
     """Whether two states are equal."""
     if one is None or two is None:
         return one is two
     pairs = renamed_all(one[1], two[1], ({}, {}))
-    return pairs is not None and len(one[0]) == len(two[0]) and placed(one[0], two[0], pairs)
+    return pairs is not None and shape(one[0]) == shape(two[0]) and placed(one[0], two[0], pairs)
 
 
 def pairings(m, n):
@@ -317,3 +323,16 @@ def outcomes(rules, facts, variables, limit):
         if not fits and len(entered) == len(facts) and not any(equal(state, e) for e in ends):
             ends.append(state)
     return ends
+
+
+def pages(listing):
+    """The pages of a listing (document 02, W6): 40 columns and 60 lines each."""
+    rows = []
+    for line in listing.split('\n')[:-1]:
+        rows.append(line[:40])
+        rows += ['  ' + line[i:i + 38] for i in range(40, len(line), 38)]
+    first, out = listing.split('\n')[0].split(',')[0], ''
+    for number, i in enumerate(range(0, len(rows), 58), 1):
+        page = [first.ljust(36) + '%4d' % number, ''] + rows[i:i + 58]
+        out += ''.join(l.ljust(40) + '\n' for l in page + [''] * (60 - len(page)))
+    return out

@@ -168,3 +168,9 @@ def answer(text, with_goal):
     if not with_goal:
         return model.check(kinds, rules, names)[0].encode()
     return model.run(kinds, rules, [fact(read[1], line.split(b',')[1:]) for line in behind.split(b'\n')[:-1]]).encode()
+
+
+def paged(text):
+    """The pages of a program's text, or the line of its refusal."""
+    said = answer(text, False)
+    return said if said.startswith(b'REFUSED') else model.pages(said.decode()).encode()

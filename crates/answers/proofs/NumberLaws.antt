@@ -3,10 +3,10 @@
 --   run-read, check-read         so is every answer of a run, and of a check
 --   run-number-decodes           the number of `roketuma_run` (the main law for runs)
 --   check-answer-decodes         the number of an answer of a check decodes to it (the main law for checks)
---   returned-…                   the numbers that the exports return, answer by answer
---   overlap-few                  an unjoined overlap's listing has less than 2^31 bytes
+--   check-returned, laid-returned     the number that an export returns: of a check, and of one in any layout
+--   returned-…                   the numbers that `roketuma_run` returns, answer by answer
 --   run-number-one, check-number-one   one number, one answer
---   check-few                    an answer of a check lists less than 2^31 bytes
+--   check-few, answer-few        an answer of a check lists less than 2^31 bytes, in any layout whose replies do
 -- Assumes nothing.
 use Prim.Native.Nat.{ℕ, _+_, _-_, _*_, _/_, _%_, _≤_, _<_}
 use native.Mathlib.Omega.{arith}
@@ -16,6 +16,7 @@ use lib.ListN.{length, drop}
 use lib.Seq.{length-take-le, take-at}
 use borrow.Author.Tests.{lt-ltb, le-ltb}
 use Rattle.replies.specs.Replies.{Text, programText, goalText, Reply, refusal, listing, runReply, checkReply, outputAfter}
+use Rattle.replies.specs.Replies.{Layout, plain, laidReply}
 use Rattle.replies.proofs.LineNumbers.{Within, run-within, check-within}
 use Rattle.answers.specs.Answers.{textMeant, letterOf, replyMeant, answerOf, nameByte, answerNumber}
 use Rattle.answers.specs.Answers.{Replied, Returned}
@@ -99,59 +100,75 @@ check-read (Unjoined n) after few h =
     let back : 2147483648 + n - 2147483648 ≡ n = omega arith in
     rw (le-ltb (2147483648 + n) 2147483648 (omega arith), lt-ltb (2147483648 + n) 4294967296 (omega (arith, low)), back)
 
+-- the number of an answer, by its form
+pub number-refused :
+    {r : CheckReply} {f : Refusal} {n : ℕ} → r ≡ Refused f
+    → n ≡ 4294967296 * f .number + 65536 * nameByte (f .text) + f .line → n ≡ checkNumber r
+unfolding checkNumber
+number-refused e h = h ∙ ap checkNumber (sym e)
+
+pub number-passed : {r : CheckReply} {n : ℕ} → r ≡ Confluent n → n ≡ checkNumber r
+unfolding checkNumber
+number-passed e = ap checkNumber (sym e)
+
+pub number-failed : {r : CheckReply} {n : ℕ} → r ≡ Unjoined n → 2147483648 + n ≡ checkNumber r
+unfolding checkNumber
+number-failed e = ap checkNumber (sym e)
+
+-- the bytes of an unjoined overlap's listing, where those of the answer are few
+pub failed-few : {r : CheckReply} {n : ℕ} → r ≡ Unjoined n → listedBytes r < 2147483648 → n < 2147483648
+unfolding listedBytes
+failed-few e h = omega (arith, h, ap listedBytes e)
+
+-- the number of an answer whose reply is within the bounds decodes to it
+pub answer-decodes :
+    {reply : Reply} {before after : List ℕ} {r : CheckReply} → Within reply → CheckReplied reply before after r
+    → checkRead (checkNumber r) ≡ r
+answer-decodes {after = after} {r} within c = check-read r after (subst Within (sym (c .meant)) within) (c .counted)
+
 -- the number of an answer of a check decodes to it
 pub check-answer-decodes :
     (s before after : List ℕ) (r : CheckReply) → CheckReplied (checkReply s (length before)) before after r
     → checkRead (checkNumber r) ≡ r
-check-answer-decodes s before after r c =
-    check-read r after (subst Within (sym (c .meant)) (check-within s (length before))) (c .counted)
+check-answer-decodes s before after r c = answer-decodes (check-within s (length before)) c
 
--- an answer of a check lists less than 2^31 bytes
-pub check-few :
-    (s : List ℕ) {before after : List ℕ} {r : CheckReply} → CheckReplied (checkReply s (length before)) before after r
+-- an answer whose reply is within the bounds lists less than 2^31 bytes
+pub answer-few :
+    {reply : Reply} {before after : List ℕ} {r : CheckReply} → Within reply → CheckReplied reply before after r
     → listedBytes r < 2147483648
 unfolding checkMeant listedBytes
-check-few s {before} {after} {r} c =
-    go r (subst Within (sym (c .meant)) (check-within s (length before))) (c .counted)
+answer-few {after = after} {r} within c = go r (subst Within (sym (c .meant)) within) (c .counted)
   where
     go : (q : CheckReply) → Within (checkMeant q after) → listedBytes q ≤ length after → listedBytes q < 2147483648
     go (Refused f) w h = omega arith
     go (Confluent n) w h = omega (arith, length-take-le n after h)
     go (Unjoined n) w h = omega (arith, length-take-le n after h)
 
--- the number of an answer of a check, for which holds what `check` promises
-check-returned :
-    (s : List ℕ) {before after : List ℕ} {a : CheckReply} {n : ℕ}
-    → CheckReplied (checkReply s (length before)) before after a × Demand3Of s before after a → n ≡ checkNumber a
-    → CheckReturned s before after n
-check-returned s {before} {after} {a} {n} (c, d) e =
-    let same : checkRead n ≡ a = ap checkRead e ∙ check-answer-decodes s before after a c in
+pub check-few :
+    (s : List ℕ) {before after : List ℕ} {r : CheckReply} → CheckReplied (checkReply s (length before)) before after r
+    → listedBytes r < 2147483648
+check-few s {before} c = answer-few (check-within s (length before)) c
+
+-- the number of an answer, of which holds what is promised of the answer
+pub laid-returned :
+    (layout : Layout) (s : List ℕ) {before after : List ℕ} {a : CheckReply} {n : ℕ}
+    → Within (laidReply layout s (length before)) → CheckReplied (laidReply layout s (length before)) before after a
+    → Demand3Of layout s before after a → n ≡ checkNumber a → CheckReturned layout s before after n
+laid-returned layout s {before} {after} {a} {n} within c d e =
+    let same : checkRead n ≡ a = ap checkRead e ∙ answer-decodes within c in
     record {
       number = e ∙ ap checkNumber (sym same);
-      replied = subst (CheckReplied (checkReply s (length before)) before after) (sym same) c;
-      demand = subst (Demand3Of s before after) (sym same) d;
+      replied = subst (CheckReplied (laidReply layout s (length before)) before after) (sym same) c;
+      demand = subst (Demand3Of layout s before after) (sym same) d;
     }
 
--- so it is returned: a refusal's, that of a pass, and that of an unjoined overlap
-module _ (s : List ℕ) {before after : List ℕ} {a : CheckReply}
-    (checked : CheckReplied (checkReply s (length before)) before after a × Demand3Of s before after a) where
-  pub returned-refusal : {f : Refusal} {n : ℕ} → a ≡ Refused f → n ≡ 4294967296 * f .number + 65536 * nameByte (f .text) + f .line
-      → CheckReturned s before after n
-  unfolding checkNumber
-  returned-refusal e h = check-returned s checked (h ∙ ap checkNumber (sym e))
-
-  pub returned-pass : {n : ℕ} → a ≡ Confluent n → CheckReturned s before after n
-  unfolding checkNumber
-  returned-pass e = check-returned s checked (ap checkNumber (sym e))
-
-  pub returned-overlap : {n : ℕ} → a ≡ Unjoined n → CheckReturned s before after (2147483648 + n)
-  unfolding checkNumber
-  returned-overlap e = check-returned s checked (ap checkNumber (sym e))
-
-  -- the bytes of an unjoined overlap's listing are few
-  pub overlap-few : {n : ℕ} → a ≡ Unjoined n → n < 2147483648
-  unfolding listedBytes
-  overlap-few e = omega (arith, check-few s (checked .0), ap listedBytes e)
+-- so the number of an answer of `check` is returned
+pub check-returned :
+    (s : List ℕ) {before after : List ℕ} {a : CheckReply} {n : ℕ}
+    → CheckReplied (checkReply s (length before)) before after a × Demand3Of plain s before after a → n ≡ checkNumber a
+    → CheckReturned plain s before after n
+unfolding checkReply laidReply plain
+check-returned s {before} (c, d) e = laid-returned plain s (check-within s (length before)) c d e
 
 -- the number of an answer of a run: a refusal's, and that of a listing
 module _ {reply : Reply} {before after : List ℕ} {a : RunReply} (r : Replied reply before after a) where

@@ -1,10 +1,11 @@
--- What `check` and its C export promise: the reply with every byte of the output, and demand 3 of this answer and these bytes.
+-- What `check` and `pages` and their C exports promise: the reply with every byte of the output, and demand 3 of this answer and
+-- these bytes, in the layout of each: a listing as it is, or in pages.
 --   checkMeant, listedBytes     an answer, with the output afterwards, as a reply; how many bytes it lists
 --   CheckReplied                the reply, and every byte of the output afterwards
 --   Told                        an answer's kind is that of the program's verdict
 --   CheckedAs                   demand 3 of the answer to a text that can be read
 --   Demand3Of                   demand 3 of the answer to any text, and of the bytes that it leaves
---   checkNumber, CheckReturned  an answer as one number, and what the C export promises
+--   checkNumber, CheckReturned  an answer as one number, and what the C exports promise
 -- Assumes nothing.
 use Prim.Native.Nat.{ℕ, _+_, _*_, _≤_, _<_}
 use mathlib.Core.Bool.{true}
@@ -22,7 +23,7 @@ use Rattle.semantics.specs.Claims.{Bounded}
 use Rattle.syntax.specs.Answers.{refused, accepted}
 use Rattle.syntax.specs.Programs.{Reading, readProgram}
 use Rattle.syntax.specs.Claims.{TextByValue}
-use Rattle.replies.specs.Replies.{Reply, refusal, listing, checkListing, checkReply, outputAfter}
+use Rattle.replies.specs.Replies.{Reply, refusal, listing, checkListing, Layout, laidReply, outputAfter}
 use Rattle.replies.specs.Claims.{verdictReply}
 use Rattle.answers.specs.declared.TextName.the-variants.{S}
 use Rattle.answers.specs.declared.Refusal.{Refusal}
@@ -58,7 +59,7 @@ pub record Told (s : List ℕ) (r : CheckReply) : Type 0 where
       (p : Reading) → readProgram s ≡ accepted p → (n : ℕ) → r ≡ Unjoined n
       → (o : Overlap) × (one : Final) × (two : Final) × (verdict (p .program) ≡ unjoined o one two)
 
--- demand 3 of the answer to a text that reads as p. Where the listing fits, the program is passed or failed, and it is passed
+-- demand 3 of the answer to a text that reads as p, with the listing in a layout. Where what is laid down fits, the program is passed or failed, and it is passed
 -- exactly when each goal over its symbols, of any length, has one outcome over all lists of events. A pass leaves the line with
 -- the number of its overlaps. A fail leaves the earliest overlap of the program that does not join, its goal and two ends of
 -- finished derivations of this goal, which are not equal; so not each goal has one outcome. Where the listing fits, it is left
@@ -66,19 +67,19 @@ pub record Told (s : List ℕ) (r : CheckReply) : Type 0 where
 -- it is enough that those as document 01 has them have one. No derivation fires more often than its goal's weight. In every
 -- derivation each goal variable has become a constant or the earliest of the goal variables that have become the same. A number
 -- is shown in digits without a leading zero, whose value it is
-pub record CheckedAs (p : Reading) (before after : List ℕ) (r : CheckReply) : Type 0 where
-  pub decided : length (checkListing p) ≤ length before → ((n : ℕ) × (r ≡ Confluent n)) ⊎ ((n : ℕ) × (r ≡ Unjoined n))
-  pub exact : length (checkListing p) ≤ length before → ((n : ℕ) × (r ≡ Confluent n)) ↔ OneOutcome (p .program)
+pub record CheckedAs (layout : Layout) (p : Reading) (before after : List ℕ) (r : CheckReply) : Type 0 where
+  pub decided : length (layout .laid (checkListing p)) ≤ length before → ((n : ℕ) × (r ≡ Confluent n)) ⊎ ((n : ℕ) × (r ≡ Unjoined n))
+  pub exact : length (layout .laid (checkListing p)) ≤ length before → ((n : ℕ) × (r ≡ Confluent n)) ↔ OneOutcome (p .program)
   pub passed :
       (n : ℕ) → r ≡ Confluent n
-      → (listing (take n after) ≡ verdictReply p (confluent (length (overlaps (p .program))))) × OneOutcome (p .program)
+      → (listing (layout .held (take n after)) ≡ verdictReply p (confluent (length (overlaps (p .program))))) × OneOutcome (p .program)
   pub failed :
       (n : ℕ) → r ≡ Unjoined n
-      → (o : Overlap) × (one : Final) × (two : Final) × (listing (take n after) ≡ verdictReply p (unjoined o one two))
+      → (o : Overlap) × (one : Final) × (two : Final) × (listing (layout .held (take n after)) ≡ verdictReply p (unjoined o one two))
       × Counterexample (p .program) o one two × (OneOutcome (p .program) → ⊥)
   pub earliest :
-      (o : Overlap) (one two : Final) → length (checkListing p) ≤ length before → Counterexample (p .program) o one two
-      → (n : ℕ) × (r ≡ Unjoined n) × (listing (take n after) ≡ verdictReply p (unjoined o one two))
+      (o : Overlap) (one two : Final) → length (layout .laid (checkListing p)) ≤ length before → Counterexample (p .program) o one two
+      → (n : ℕ) × (r ≡ Unjoined n) × (listing (layout .held (take n after)) ≡ verdictReply p (unjoined o one two))
   pub ordered : StrictTotalOrder (IsOverlapOf (p .program)) Earlier
   pub enough : OneOutcomeByAppearance (p .program) → OneOutcome (p .program)
   pub bounded : Bounded (p .program)
@@ -93,13 +94,13 @@ ofProgram number line = Refused (record { number = number; text = S; line = line
 -- refused under it, with its line, and no other is; number 11 is the answer exactly where the text reads and the listing does
 -- not fit; a refusal names the program's text and leaves the output untouched; and every text that reads is checked, as a program
 -- in which two constants have one number exactly if they are one
-pub record Demand3Of (s before after : List ℕ) (r : CheckReply) : Type 0 where
+pub record Demand3Of (layout : Layout) (s before after : List ℕ) (r : CheckReply) : Type 0 where
   pub numbers : (number line : ℕ) → readProgram s ≡ refused number line → (1 ≤ number) × (number ≤ 9)
   pub turned : (number line : ℕ) → number < 11 → (readProgram s ≡ refused number line) ↔ (r ≡ ofProgram number line)
   pub eleven :
-      ((p : Reading) × (readProgram s ≡ accepted p) × (length before < length (checkListing p))) ↔ (r ≡ ofProgram 11 0)
+      ((p : Reading) × (readProgram s ≡ accepted p) × (length before < length (layout .laid (checkListing p)))) ↔ (r ≡ ofProgram 11 0)
   pub untouched : (f : Refusal) → r ≡ Refused f → (f .text ≡ S) × (after ≡ before)
-  pub read : (p : Reading) → readProgram s ≡ accepted p → CheckedAs p before after r
+  pub read : (p : Reading) → readProgram s ≡ accepted p → CheckedAs layout p before after r
   pub constants : (p : Reading) → readProgram s ≡ accepted p → TextByValue s [] (p .constants)
 
 -- an answer as one number: the length of a pass's listing; 2^31 more than that of an unjoined overlap's; or 2^32 times a
@@ -111,7 +112,7 @@ checkNumber (Unjoined n) = 2147483648 + n
 
 -- a number of which all this holds: it is the number of the answer that is read off it (Numbers.antt), and `check` promises of
 -- this answer what it promises of its own
-pub record CheckReturned (s before after : List ℕ) (r : ℕ) : Type 0 where
+pub record CheckReturned (layout : Layout) (s before after : List ℕ) (r : ℕ) : Type 0 where
   pub number : r ≡ checkNumber (checkRead r)
-  pub replied : CheckReplied (checkReply s (length before)) before after (checkRead r)
-  pub demand : Demand3Of s before after (checkRead r)
+  pub replied : CheckReplied (laidReply layout s (length before)) before after (checkRead r)
+  pub demand : Demand3Of layout s before after (checkRead r)

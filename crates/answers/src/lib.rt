@@ -1,8 +1,9 @@
-// What the public functions answer. What an answer means and promises is in specs/; the functions are in the crates running, checking
-// and roketuma.
+// What the public functions answer. What an answer means and promises is in specs/; the functions are in the crates running, checking,
+// paging and roketuma.
 mod numbers;
 mod refusals;
 
+pub use numbers::check_number;
 pub use numbers::refusal_number;
 pub use refusals::put_refusal;
 

@@ -60,7 +60,7 @@ use Rattle.listing.specs.declared.Listed.{Listed}
 use Rattle.listing.specs.declared.Listed.the-variants.{TooShort, Written}
 use Rattle.verdicts.specs.declared.Shown.{Shown as Listing}
 use Rattle.verdicts.proofs.CheckLaws.{pass-listed, overlap-named}
-use Rattle.replies.specs.Replies.{programText, refusal, listing, replyOf, fitted, checkListing, checkReply, outputAfter}
+use Rattle.replies.specs.Replies.{programText, refusal, listing, replyOf, fitted, checkListing, checkReply, plain, outputAfter}
 use Rattle.replies.proofs.ShortNames.{Termed, TermedProgram, program-termed, reads-accepted}
 use Rattle.answers.specs.Answers.{textMeant}
 use Rattle.inputs.specs.Inputs.{programTable, isKnown, GoalReady}
@@ -75,10 +75,10 @@ use Rattle.inputs.proofs.KnownLaws.{rows-known, state-known, known-some, known-
 use Rattle.inputs.proofs.ProgramLaws.{few-symbols, symbols-count}
 use Rattle.checking.proofs.CheckableLaws.{few-rules, checkable, held}
 use Rattle.inputs.proofs.OverlapVocabulary.{Shows, overlap-shows}
-use Rattle.answers.proofs.CheckLaws.{demand-of}
+use Rattle.answers.proofs.CheckLaws.{demand-plain}
 
 -- a listing that does not fit
-check-short :
+pub check-short :
     {bytes before after : List ℕ} {reply : Listed} → ListedAs bytes before after reply → reply ≡ TooShort
     → CheckReplied (fitted programText (length before) bytes) before after (Refused (record { number = 11; text = S; line = 0 }))
 unfolding fitted listedIn listedOver outputAfter checkMeant listedBytes textMeant
@@ -115,29 +115,29 @@ written {bytes} {before} {after} {reply} n r meant counted l e =
           output = o;
         }
 
-check-passed :
+pub check-passed :
     {bytes before after : List ℕ} {reply : Listed} (n : ℕ) → ListedAs bytes before after reply → reply ≡ Written n
     → CheckReplied (fitted programText (length before) bytes) before after (Confluent n)
 unfolding checkMeant listedBytes
 check-passed n l e = written n (Confluent n) refl refl l e
 
-check-failed :
+pub check-failed :
     {bytes before after : List ℕ} {reply : Listed} (n : ℕ) → ListedAs bytes before after reply → reply ≡ Written n
     → CheckReplied (fitted programText (length before) bytes) before after (Unjoined n)
 unfolding checkMeant listedBytes
 check-failed n l e = written n (Unjoined n) refl refl l e
 
 -- what an answer is not
-refused-no-fail : {f : Refusal} → NoFail (Refused f)
+pub refused-no-fail : {f : Refusal} → NoFail (Refused f)
 refused-no-fail n e = absurd (let z : _≡_ {A = ℕ} 0 1 = cc in omega arith)
 
-refused-no-pass : {f : Refusal} → NoPass (Refused f)
+pub refused-no-pass : {f : Refusal} → NoPass (Refused f)
 refused-no-pass n e = absurd (let z : _≡_ {A = ℕ} 0 1 = cc in omega arith)
 
-pass-no-fail : {m : ℕ} → NoFail (Confluent m)
+pub pass-no-fail : {m : ℕ} → NoFail (Confluent m)
 pass-no-fail n e = absurd (let z : _≡_ {A = ℕ} 0 1 = cc in omega arith)
 
-fail-no-pass : {m : ℕ} → NoPass (Unjoined m)
+pub fail-no-pass : {m : ℕ} → NoPass (Unjoined m)
 fail-no-pass n e = absurd (let z : _≡_ {A = ℕ} 0 1 = cc in omega arith)
 
 -- a pass that is listed, and number 11
@@ -470,6 +470,6 @@ check-ready {program} {names} {places} {symbols} {rules} {c} r =
 -- demand 3 of such an answer, and of the bytes that it leaves
 pub checked-demand :
     {program before after : List ℕ} {r : CheckReply} → Checked program before after r
-    → CheckReplied (checkReply program (length before)) before after r × Demand3Of program before after r
+    → CheckReplied (checkReply program (length before)) before after r × Demand3Of plain program before after r
 checked-demand {program} {before} {after} {r} c =
-    (c .replied, demand-of program before after r (c .replied) (c .told))
+    (c .replied, demand-plain program before after r (c .replied) (c .told))

@@ -21,7 +21,7 @@ ghost use Prim.Native.Nat.{_*_, _≤_};
 ghost use lib.ListN.{length};
 ghost use Rattle.tables.specs.Layout.{constraintSize};
 ghost use Rattle.verdicts.specs.Checks.{OverlapListable};
-ghost use Rattle.replies.specs.Replies.{checkReply};
+ghost use Rattle.replies.specs.Replies.{checkReply, plain};
 ghost use Rattle.answers.specs.Promises.{CheckReplied, Demand3Of};
 ghost use Rattle.checking.specs.Checking.{listedCells, endShown, CheckReady, ShowReady};
 ghost use Rattle.checking.specs.Checking.{PassReplied, OverlapReplied, Checked};
@@ -173,7 +173,7 @@ fn check_read<'a>(
 pub fn check<'a>(program: &'a [u8], output: &mut [u8]) -> CheckReply
     ensures { λ r. ⌜ CheckReplied (checkReply (now (program .entry)) (length (now (output .entry))))
         (now (output .entry)) (now (output .exit)) r
-        × Demand3Of (now (program .entry)) (now (output .entry)) (now (output .exit)) r ⌝ }
+        × Demand3Of plain (now (program .entry)) (now (output .entry)) (now (output .exit)) r ⌝ }
 {
     let mut names = [0; 256];
     let mut places = [0; 256];

@@ -1,7 +1,7 @@
 -- How many bytes a listing has at most.
 --   digits-few, decimal-short, number-short, machine-digits     the digits of a number
 --   line-few, rows-few, bounds-few     lines of fields that have at most 8 bytes each
---   place-short        the name of a variable of an end
+--   place-all        the name of a variable of an end
 --   cells-few          the lines of constraints in cells
 --   end-few, end-writable     the listing of an end, which can be counted where it fails or has at most 65,000 cells
 --   end-ample          and which fits an ample output
@@ -37,12 +37,12 @@ abbrev pub Short : List ℕ → Type 0
 Short f = length f ≤ 8
 
 -- ten to some power
-tens : ℕ → ℕ
+unfoldable pub tens : ℕ → ℕ
 tens zero = 1
 tens (suc k) = 10 * tens k
 
 -- a number below ten to the power k + 1 has at most k + 1 digits
-digits-few : (k n : ℕ) → n < tens (suc k) → length (decimal n) ≤ suc k
+pub digits-few : (k n : ℕ) → n < tens (suc k) → length (decimal n) ≤ suc k
 unfolding tens
 digits-few zero n h = rw (decimal-low n h) (omega arith)
 digits-few (suc k) n h = go (ltb n 10) refl (digits-few k (n / 10))
@@ -141,18 +141,21 @@ variable-short letters x h = go (ltb x (length letters))
     go true = omega arith
     go false = number-short 86 x (omega arith)
 
--- the name of a variable of an end
-pub place-short : (variable : ℕ → List ℕ) (n x : ℕ) → (x < n → Short (variable x)) → x < 9999999 → Short (placeName variable n x)
+-- what holds of the name of a variable of an end: of a goal variable's own, and of every U number
+pub place-all :
+    (P : List ℕ → Type 0) (variable : ℕ → List ℕ) (n x : ℕ) → (x < n → P (variable x))
+    → ((i : ℕ) → i ≤ x → P (numberedAs (85 ∷ []) i)) → P (placeName variable n x)
 unfolding placeName ascii
-place-short variable n x own h = go (ltb x n) refl
+place-all P variable n x own other = go (ltb x n) refl
   where
-    go : (t : Bool) → ltb x n ≡ t → Short (cond t (variable x) (numberedAs (85 ∷ []) (x - n)))
+    go : (t : Bool) → ltb x n ≡ t → P (cond t (variable x) (numberedAs (85 ∷ []) (x - n)))
     go true e = own (ltb-true x n e)
-    go false e = number-short 85 (x - n) (omega arith)
+    go false e = other (x - n) (omega arith)
 
 placed-short : (letters : List ℕ) (n x : ℕ) → x < 65536 → Short (placed letters n x)
 unfolding placed
-placed-short letters n x h = place-short (variableName letters) n x (λ l. variable-short letters x h) (omega arith)
+placed-short letters n x h =
+    place-all Short (variableName letters) n x (λ l. variable-short letters x h) (λ i k. number-short 85 i (omega arith))
 
 module _ (naming : Naming) (names : (n : ℕ) → Short (naming n)) (letters : List ℕ) (n : ℕ) where
   abbrev shown : ℕ → List ℕ

@@ -1,9 +1,13 @@
 // `rehearsal`: prints the reply to each input that an argument names, behind a line with its name.
 // An input whose name begins with r is a program and a goal, as `sheetrun` gets them; any other is a program, as `sheetcheck` gets
-// it. Then it puts each of the 256 bytes at each place of a program and of a goal, and prints the number that each meets.
+// it, and where its name begins with p the pages of its check are printed. Then it puts each of the 256 bytes at each place of a program and of a goal, and prints the number that each meets.
 mod sweep;
 
+use roketuma::CheckReply;
+use roketuma::Refusal;
+use roketuma::pages;
 use roketuma::put_check;
+use roketuma::put_refusal;
 use roketuma::put_run;
 use sweep::swept;
 ghost use Rattle.answers.specs.Answers.{Printed};
@@ -19,15 +23,41 @@ fn put_answer(input: &[u8], with_goal: bool, out: &mut [u8; 32768]) -> usize
     put_check(input, out)
 }
 
-// Writes what is printed on an input.
-fn answer(input: &[u8], with_goal: bool) {
+// Writes the line of a refusal.
+fn print_refusal(refusal: Refusal) {
+    let mut line = [0u8; 32768];
+    let text = refusal.text;
+    let n = put_refusal(&mut line, refusal.number, text, refusal.line);
+    io::write_all(1, &line[..n]);
+}
+
+// Writes the pages of the check of a program.
+fn print_pages(program: &[u8]) {
+    let mut out = [0u8; 41820];
+    match pages(program, &mut out) {
+        CheckReply::Refused(refusal) => print_refusal(refusal),
+        CheckReply::Confluent(n) => {
+            io::write_all(1, &out[..n]);
+        }
+        CheckReply::Unjoined(n) => {
+            io::write_all(1, &out[..n]);
+        }
+    }
+}
+
+// Writes what is printed on an input of a kind.
+fn answer(input: &[u8], kind: u8) {
+    if kind == b'p' {
+        print_pages(input);
+        return;
+    }
     let mut out = [0u8; 32768];
-    let n = put_answer(input, with_goal, &mut out);
+    let n = put_answer(input, kind == b'r', &mut out);
     io::write_all(1, &out[..n]);
 }
 
 // The reply to the input of a file.
-fn rehearse(path: &[u8], with_goal: bool) {
+fn rehearse(path: &[u8], kind: u8) {
     let fd = os::open_read(path);
     if fd < 0 {
         os::fail(path);
@@ -36,7 +66,7 @@ fn rehearse(path: &[u8], with_goal: bool) {
     let mut input = [0u8; 40000];
     let n = io::read_full(fd, &mut input);
     libc::close(fd);
-    answer(&input[..n], with_goal)
+    answer(&input[..n], kind)
 }
 
 // The reply to the input that argument i names.
@@ -49,7 +79,7 @@ fn rehearse_argument(i: usize) {
     io::write_all(1, &path[..length]);
     io::write_all(1, b"\n");
     let first = path[0];
-    rehearse(&path[..length], first == b'r')
+    rehearse(&path[..length], first)
 }
 
 // The digit of a text swept, printed.

@@ -1,34 +1,41 @@
 -- Every listing of a check fits the room that the programs lend: `check-fits`. So `sheetcheck` never prints number 11:
 -- `check-never-eleven`.
 --   overlaps-few                  a program as read has at most 640,000 overlaps
---   GoalFew, overlap-few          the goal of an overlap: at most 8 constraints, 32 variables and a weight of 248
+--   GoalFew, overlap-few          the goal of an overlap: at most 7 constraints, 28 variables and a weight of 217
+--   OverlapFew, listed-few        all that is counted of an overlap
 --   side-few, pairs-few           the bytes of the end of a side, and of the P lines
---   check-few, check-fits         the listing of a check has at most 25,101 bytes, and fits
+--   check-holds                   what holds of the listing of a pass and of an overlap holds of that of a check
+--   check-few, check-fits         the listing of a check has at most 21,980 bytes, and fits
 --   check-answered                texts that read get their listing; any other reply has a number of at most 10
 -- Assumes nothing.
 use Prim.Native.Nat.{ℕ, zero, suc, _+_, _*_, _≤_, _<_}
 use native.Mathlib.Nat.{mul-suc, mul-le-mul}
 use native.Mathlib.Omega.{arith}
-use mathlib.Core.Bool.{Bool, true, false, cond}
+use mathlib.Core.Bool.{Bool, true, false, cond, not}
 use mathlib.Core.List.{List, [], _∷_, _++_, map}
 use mathlib.Core.Option.{Option, none, some}
-use mathlib.Core.Path.{_≡_, refl, sym, ap, subst}
+use mathlib.Core.Path.{_≡_, refl, sym, ap, subst, _∙_}
+use lib.Dec.{eqb}
 use lib.ListN.{length, length-append, length-map, getD, getElem?}
 use borrow.Author.Tests.{le-ltb}
 use Rattle.text.specs.Bytes.{ascii}
-use Rattle.text.specs.Lists.{onward, has, gather, answers, upTo}
+use Rattle.text.specs.Lists.{onward, every, has, gather, answers, upTo}
 use Rattle.text.specs.Fields.{decimal}
+use Rattle.text.proofs.Bools.{and-true, or-true}
 use Rattle.text.proofs.Laws.{tabled-length}
 use Rattle.semantics.specs.Terms.{Term, con, var, Constraint, Symbol, Rule, Program, Goal, weight, mapTerms, isDeclared}
 use Rattle.semantics.specs.Terms.{isGoalOf, isWellFormed}
-use Rattle.semantics.specs.Strategy.{goalState}
-use Rattle.semantics.specs.Overlaps.{partnerLists, isPairing, pairings, apart, Numbered, Overlap, overlapOf, numberedFrom}
-use Rattle.semantics.specs.Overlaps.{overlapsOf, overlapsAmong, overlaps, sideEnd, firstEnd, secondEnd}
+use Rattle.semantics.specs.Strategy.{Final, goalState}
+use Rattle.semantics.specs.Overlaps.{partnerLists, isOneToOne, isPairing, pairings, apart, Numbered, Overlap, overlapOf}
+use Rattle.semantics.specs.Overlaps.{numberedFrom, overlapsOf, overlapsAmong, overlaps, sideEnd, firstEnd, secondEnd}
 use Rattle.semantics.specs.Verdict.{Verdict, confluent, unjoined, verdict}
-use Rattle.semantics.proofs.Configurations.{TermBelow, All, also}
+use Rattle.semantics.proofs.Configurations.{Member, TermBelow, All, also}
 use Rattle.semantics.proofs.Configurations as C
 use Rattle.semantics.proofs.Multisets.{all-member, all-mono, all-of-members}
 use Rattle.semantics.proofs.MatchedTerms.{ConstraintBelow}
+use Rattle.semantics.proofs.Options.{true-false}
+use Rattle.semantics.proofs.Bools.{eqb-same}
+use Rattle.semantics.proofs.Indices.{not-true}
 use Rattle.semantics.proofs.Normal.{arrived}
 use Rattle.semantics.proofs.Weights.{weight-cons, weight-nil, stateWeight}
 use Rattle.semantics.proofs.Listings.{at-member}
@@ -36,7 +43,7 @@ use Rattle.semantics.proofs.Pairings.{leftover}
 use Rattle.semantics.proofs.Enumeration.{Listed, overlap-parts, overlaps-member, pairings-member}
 use Rattle.semantics.proofs.OverlapGoals.{secondHeads, goalTerm, goalFirst, goalSecond, goal-constraints, listed-goal}
 use Rattle.semantics.proofs.OverlapGoals.{listed-appearance}
-use Rattle.semantics.proofs.Vocabulary.{reached-spoken, side-reach, side-spoken}
+use Rattle.semantics.proofs.Vocabulary.{SpokenState, reached-spoken, side-reach, side-spoken}
 use Rattle.semantics.proofs.Verdicts.{verdict-confluent, verdict-unjoined}
 use Rattle.syntax.specs.Answers.{Answer, refused, accepted}
 use Rattle.syntax.specs.Programs.{Reading, readProgram}
@@ -155,6 +162,33 @@ leftover-few n (x ∷ l) ds = go (has n ds) (leftover-few (suc n) l ds)
     go true h = omega arith
     go false h = omega arith
 
+-- and fewer where one of their numbers joins them
+leftover-fewer :
+    {A : Type 0} (n m : ℕ) (l : List A) (ds : List ℕ) → has m ds ≡ true → n ≤ m → m < n + length l
+    → length (leftover n l ds) < length l
+leftover-fewer n m [] ds h low high = absurd (omega arith)
+leftover-fewer n m (x ∷ l) ds h low high =
+    go (has n ds) refl (leftover-few (suc n) l ds) (λ k. leftover-fewer (suc n) m l ds h k (omega arith))
+  where
+    go :
+        (b : Bool) → has n ds ≡ b → length (leftover (suc n) l ds) ≤ length l
+        → (suc n ≤ m → length (leftover (suc n) l ds) < length l)
+        → length (cond b (leftover (suc n) l ds) (x ∷ leftover (suc n) l ds)) < suc (length l)
+    go true e few again = omega arith
+    go false e few again =
+        let other : m ≡ n → ⊥ = λ q. true-false (subst (λ i. has i ds ≡ true) q h) e in
+        omega (arith, again (omega (arith, other)))
+
+-- partners that are not all 0 have one within the second rule's heads
+partner-found :
+    (n : ℕ) (ds : List ℕ) → every (eqb 0) ds ≡ false → All (λ d. d ≤ n) ds
+    → (m : ℕ) × (has m ds ≡ true) × (1 ≤ m) × (m ≤ n)
+partner-found n [] h all = true-false refl h
+partner-found n (zero ∷ ds) h (also low all) =
+    let (m, found, least, most) = partner-found n ds h all in
+    (m, rw found (or-true (eqb m 0)), least, most)
+partner-found n (suc d ∷ ds) h (also low all) = (suc d, rw (eqb-same (suc d)) refl, omega arith, low)
+
 -- declared constraints weigh at most 31 each
 constraints-light :
     (symbols : List Symbol) (cs : List Constraint) → All SymbolSmall symbols → All (λ c. isDeclared symbols c ≡ true) cs
@@ -163,11 +197,11 @@ constraints-light symbols [] small declared = omega (arith, weight-nil symbols)
 constraints-light symbols (c ∷ cs) small (also h declared) =
     omega (arith, weight-cons symbols c cs, declared-small symbols small c h .light, constraints-light symbols cs small declared)
 
--- a goal of at most 8 constraints
+-- a goal of at most 7 constraints
 pub record GoalFew (symbols : List Symbol) (g : Goal) : Type 0 where
-  pub few : length (g .constraints) ≤ 8
-  pub few-variables : g .variables ≤ 32
-  pub light : weight symbols (g .constraints) ≤ 248
+  pub few : length (g .constraints) ≤ 7
+  pub few-variables : g .variables ≤ 28
+  pub light : weight symbols (g .constraints) ≤ 217
   pub declared : All (λ c. isDeclared symbols c ≡ true) (g .constraints)
   pub below : All (ConstraintBelow (g .variables)) (g .constraints)
 
@@ -177,12 +211,19 @@ pub record Few (p : Program) : Type 0 where
   pub symbols : All SymbolSmall (p .symbols)
   pub heads : All (λ r. length (r .heads) ≤ 4) (p .rules)
 
--- the constraints of an overlap's goal
-constraints-eight : (p : Program) {o : Overlap} → Few p → Listed p o → length (o .goal .constraints) ≤ 8
-constraints-eight p {o} few l =
+-- the constraints of an overlap's goal: at least one head of the second rule is joined with one of the first
+constraints-seven : (p : Program) {o : Overlap} → Few p → Listed p o → length (o .goal .constraints) ≤ 7
+unfolding isPairing
+constraints-seven p {o} few l =
+    let paired = pairings-member _ _ (o .partners) (l .paired) in
+    let some-joined = and-true (isOneToOne (o .partners)) (not (every (eqb 0) (o .partners))) (paired .pairs) .1 in
+    let (m, found, least, most) =
+    partner-found _ (o .partners) (not-true (every (eqb 0) (o .partners)) some-joined) (paired .within) in
     let parts = overlap-parts (o .first) (o .second) (o .partners) (l .made) in
     let first = all-member (few .heads) (at-member (p .rules) (o .first .number) (l .firstRule)) in
     let second = all-member (few .heads) (at-member (p .rules) (o .second .number) (l .secondRule)) in
+    let count : length (goalSecond parts) ≡ length (o .second .rule .heads) =
+    length-map (secondHeads (o .second)) (mapTerms (goalTerm parts)) ∙ length-map (o .second .rule .heads) (mapTerms apart) in
     omega (
       arith,
       first,
@@ -190,9 +231,8 @@ constraints-eight p {o} few l =
       ap length (goal-constraints parts),
       length-append (goalFirst parts) (leftover 1 (goalSecond parts) (o .partners)),
       length-map (o .first .rule .heads) (mapTerms (goalTerm parts)),
-      leftover-few 1 (goalSecond parts) (o .partners),
-      length-map (secondHeads (o .second)) (mapTerms (goalTerm parts)),
-      length-map (o .second .rule .heads) (mapTerms apart),
+      leftover-fewer 1 m (goalSecond parts) (o .partners) found least (omega (arith, most, count)),
+      count,
     )
 
 pub overlap-few : (p : Program) {o : Overlap} → Few p → Listed p o → GoalFew (p .symbols) (o .goal)
@@ -202,46 +242,89 @@ overlap-few p {o} few l =
     let spoken = reached-spoken p AnyConstant (o .goal) (few .formed) goal (rules-any (p .rules))
     (constraints-any (o .goal .constraints)) arrived in
     let declared : All (λ c. isDeclared (p .symbols) c ≡ true) (o .goal .constraints) = spoken .declared in
-    let eight = constraints-eight p few l in
+    let seven = constraints-seven p few l in
     let appear = order-few [] (o .goal .constraints) (all-mono (declared-few (p .symbols) (few .symbols)) declared) in
     record {
-      few = eight;
+      few = seven;
       few-variables = omega (
         arith,
-        eight,
+        seven,
         appear,
         ap length (listed-appearance p l),
         tabled-length (λ i. i) (o .goal .variables),
       );
-      light = omega (arith, eight, constraints-light (p .symbols) (o .goal .constraints) (few .symbols) declared);
+      light = omega (arith, seven, constraints-light (p .symbols) (o .goal .constraints) (few .symbols) declared);
       declared = declared;
       below = spoken .scoped .constraints;
     }
 
 -- the name of a goal variable without a letter
-goal-variable-short : (x : ℕ) → x < 9999999 → Short (variableName [] x)
+pub goal-variable-short : (x : ℕ) → x < 9999999 → Short (variableName [] x)
 unfolding variableName ascii
 goal-variable-short x h = rw (le-ltb x 0 (omega arith)) (number-short 86 x h)
 
--- the bytes of the end of a side of an overlap
-side-few :
-    (p : Program) (naming : Naming) (g : Goal) (k : ℕ) (r : Rule) (ps : List ℕ) → Few p → ((n : ℕ) → Short (naming n))
-    → isGoalOf p g ≡ true → GoalFew (p .symbols) g → getElem? (p .rules) k ≡ some r
-    → length (endListing naming (variableName []) (sideEnd p g r ps)) ≤ 12309
-unfolding endListing goalState stateWeight
-side-few p naming g k r ps few names goal small e =
+-- the end of a side of such a goal: over its symbols and variables, and within its weight
+pub record SideFew (p : Program) (g : Goal) (e : Final) : Type 0 where
+  pub number : ℕ
+  pub spoken : SpokenState (p .symbols) AnyConstant (g .variables) number (e .state)
+  pub light : stateWeight (p .symbols) (e .state) + e .firings ≤ 217
+
+side-light :
+    (p : Program) (g : Goal) (k : ℕ) (r : Rule) (ps : List ℕ) → Few p → isGoalOf p g ≡ true → GoalFew (p .symbols) g
+    → getElem? (p .rules) k ≡ some r → SideFew p g (sideEnd p g r ps)
+unfolding goalState stateWeight
+side-light p g k r ps few goal small e =
     let end = sideEnd p g r ps in
-    let spoken = side-spoken p AnyConstant g k r ps (few .formed) goal (rules-any (p .rules))
-    (constraints-any (g .constraints)) e in
     let weighs : stateWeight (p .symbols) (end .state) + end .firings ≤ weight (p .symbols) (g .constraints) =
     reach-weighs p (few .formed) (side-reach p g k r ps e) in
+    record {
+      number = _;
+      spoken = side-spoken p AnyConstant g k r ps (few .formed) goal (rules-any (p .rules)) (constraints-any (g .constraints)) e;
+      light = omega (arith, weighs, small .light);
+    }
+
+-- an overlap of two rules of such a program
+pub record OverlapFew (p : Program) (o : Overlap) : Type 0 where
+  pub firstRule : Member (o .first .rule) (p .rules)
+  pub secondRule : Member (o .second .rule) (p .rules)
+  pub few-partners : length (o .partners) ≤ 4
+  pub low-partners : All (λ d. d ≤ 4) (o .partners)
+  pub goal : GoalFew (p .symbols) (o .goal)
+  pub one : SideFew p (o .goal) (firstEnd p o)
+  pub two : SideFew p (o .goal) (secondEnd p o)
+
+listed-few : (p : Program) {o : Overlap} → Few p → Listed p o → OverlapFew p o
+unfolding firstEnd secondEnd
+listed-few p {o} few l =
+    let i = at-member (p .rules) (o .first .number) (l .firstRule) in
+    let j = at-member (p .rules) (o .second .number) (l .secondRule) in
+    let paired = pairings-member _ _ (o .partners) (l .paired) in
+    let small = overlap-few p few l in
+    let goal = listed-goal p (few .formed) l in
+    let most = all-member (few .heads) j in
+    record {
+      firstRule = i;
+      secondRule = j;
+      few-partners = omega (arith, paired .long, all-member (few .heads) i);
+      low-partners = all-mono (λ d h. omega (arith, h, most)) (paired .within);
+      goal = small;
+      one = side-light p (o .goal) (o .first .number) (o .first .rule) _ few goal small (l .firstRule);
+      two = side-light p (o .goal) (o .second .number) (o .second .rule) _ few goal small (l .secondRule);
+    }
+
+-- the bytes of the end of a side of an overlap
+side-few :
+    (p : Program) (naming : Naming) (g : Goal) (end : Final) → All SymbolSmall (p .symbols) → ((n : ℕ) → Short (naming n))
+    → GoalFew (p .symbols) g → SideFew p g end → length (endListing naming (variableName []) end) ≤ 10772
+unfolding endListing
+side-few p naming g end symbols names small side =
     let low = small .few-variables in
     omega (
       arith,
       low,
-      final-few (p .symbols) naming (variableName []) (end .firings) AnyConstant (g .variables) 248 _ (end .state) names
-          (λ x h. goal-variable-short x (omega (arith, low))) (few .symbols) spoken (omega (arith, weighs, small .light))
-          (omega arith) (omega (arith, low)),
+      final-few (p .symbols) naming (variableName []) (end .firings) AnyConstant (g .variables) 217 _ (end .state) names
+          (λ x h. goal-variable-short x (omega (arith, low))) symbols (side .spoken) (side .light) (omega arith)
+          (omega (arith, low)),
     )
 
 -- the bytes of the P lines
@@ -260,14 +343,14 @@ pairs-few n (suc d ∷ ds) h (also low all) =
 
 -- the G lines
 module _ (naming : Naming) (names : (n : ℕ) → Short (naming n)) where
-  term-short : (v : ℕ) → v ≤ 32 → (t : Term) → TermBelow v t → Short (termShown naming (variableName []) t)
+  term-short : (v : ℕ) → v ≤ 28 → (t : Term) → TermBelow v t → Short (termShown naming (variableName []) t)
   unfolding termShown
   term-short v low (con c) h = names c
   term-short v low (var x) h = goal-variable-short x (omega arith)
 
   goal-few :
       (symbols : List Symbol) (g : Goal) → All SymbolSmall symbols → GoalFew symbols g
-      → length (constraintLines (ascii "G") naming (variableName []) (g .constraints)) ≤ 376
+      → length (constraintLines (ascii "G") naming (variableName []) (g .constraints)) ≤ 329
   unfolding ascii
   goal-few symbols g small few =
       let short : All (ShortRow naming (variableName []) names) (g .constraints) =
@@ -279,58 +362,50 @@ module _ (naming : Naming) (names : (n : ℕ) → Short (naming n)) where
 
   -- the listing of an overlap that does not join
   unjoined-few :
-      (p : Program) {o : Overlap} → Few p → All (λ r. Short (r .name)) (p .rules) → Listed p o
-      → length (verdictListing naming (unjoined o (firstEnd p o) (secondEnd p o))) ≤ 25101
-  unfolding verdictListing firstEnd secondEnd ascii
-  unjoined-few p {o} few short l =
-      let i = at-member (p .rules) (o .first .number) (l .firstRule) in
-      let j = at-member (p .rules) (o .second .number) (l .secondRule) in
-      let paired = pairings-member _ _ (o .partners) (l .paired) in
-      let small = overlap-few p few l in
-      let goal = listed-goal p (few .formed) l in
+      (p : Program) (o : Overlap) → All SymbolSmall (p .symbols) → All (λ r. Short (r .name)) (p .rules) → OverlapFew p o
+      → length (verdictListing naming (unjoined o (firstEnd p o) (secondEnd p o))) ≤ 21980
+  unfolding verdictListing ascii
+  unjoined-few p o symbols short few =
       let first = o .first .rule .name ∷ o .second .rule .name ∷ [] in
       let head = lineOf (ascii "UNJOINED") first in
       let pairs = pairLines 1 (o .partners) in
       let rows = constraintLines (ascii "G") naming (variableName []) (o .goal .constraints) in
       let one = endListing naming (variableName []) (firstEnd p o) in
       let two = endListing naming (variableName []) (secondEnd p o) in
-      let four : length (o .partners) ≤ 4 = omega (arith, paired .long, all-member (few .heads) i) in
-      let low : All (λ d. d ≤ 4) (o .partners) =
-      let most = all-member (few .heads) j in all-mono (λ d h. omega (arith, h, most)) (paired .within) in
-      let few-one : length one ≤ 12309 =
-      side-few p naming (o .goal) (o .first .number) (o .first .rule) _ few names goal small (l .firstRule) in
-      let few-two : length two ≤ 12309 =
-      side-few p naming (o .goal) (o .second .number) (o .second .rule) _ few names goal small (l .secondRule) in
+      let named : All Short first =
+      also (all-member short (few .firstRule)) (also (all-member short (few .secondRule)) C.none) in
       omega (
         arith,
-        four,
-        few-one,
-        few-two,
+        few .few-partners,
         length-append head (pairs ++ (rows ++ (one ++ two))),
         length-append pairs (rows ++ (one ++ two)),
         length-append rows (one ++ two),
         length-append one two,
-        line-few (ascii "UNJOINED") first (also (all-member short i) (also (all-member short j) C.none)),
-        pairs-few 1 (o .partners) (omega (arith, four)) low,
-        goal-few (p .symbols) (o .goal) (few .symbols) small,
+        line-few (ascii "UNJOINED") first named,
+        pairs-few 1 (o .partners) (omega (arith, few .few-partners)) (few .low-partners),
+        goal-few (p .symbols) (o .goal) symbols (few .goal),
+        side-few p naming (o .goal) (firstEnd p o) symbols names (few .goal) (few .one),
+        side-few p naming (o .goal) (secondEnd p o) symbols names (few .goal) (few .two),
       )
 
   -- the listing of a pass
-  pass-few : (n : ℕ) → n ≤ 640000 → length (verdictListing naming (confluent n)) ≤ 25101
+  pass-few : (n : ℕ) → n ≤ 640000 → length (verdictListing naming (confluent n)) ≤ 21980
   unfolding verdictListing ascii
   pass-few n h =
       omega (arith, line-few (ascii "CONFLUENT") (decimal n ∷ []) (also (decimal-short n (omega arith)) C.none))
 
--- the listing of a check has at most 27 + 80 + 376 + 2 · (13 + 32 · 20 + 248 · 47) bytes
-pub check-few : (program : List ℕ) (p : Reading) → readProgram program ≡ accepted p → length (checkListing p) ≤ 25101
+-- what holds of the listing of a pass, and of every overlap that does not join, holds of the listing of a check
+pub check-holds :
+    (P : List ℕ → Type 0) (program : List ℕ) (p : Reading) → readProgram program ≡ accepted p
+    → ((n : ℕ) → n ≤ 640000 → P (verdictListing (namingOf (p .program .symbols) (p .constants)) (confluent n)))
+    → ((o : Overlap) → OverlapFew (p .program) o
+    → P (verdictListing (namingOf (p .program .symbols) (p .constants))
+    (unjoined o (firstEnd (p .program) o) (secondEnd (p .program) o)))) → P (checkListing p)
 unfolding checkListing
-check-few program p reads = go (verdict (p .program)) refl
+check-holds P program p reads pass fail = go (verdict (p .program)) refl
   where
     small : ReadSmall p
     small = read-small program reads
-
-    short : ShortProgram p
-    short = reads-accepted 9 ShortProgram (readProgram program) (program-short program) reads
 
     heads : All (λ r. length (r .heads) ≤ 4) (p .program .rules)
     heads = all-mono (λ r h. h .heads-few) (small .rules)
@@ -338,20 +413,24 @@ check-few program p reads = go (verdict (p .program)) refl
     few : Few (p .program)
     few = record { formed = read-wellFormed program reads; symbols = small .symbols; heads = heads }
 
-    names : (n : ℕ) → Short (namingOf (p .program .symbols) (p .constants) n)
-    names = naming-short (p .program .symbols) (p .constants) (short .symbols) (short .constants)
-
-    go :
-        (v : Verdict) → verdict (p .program) ≡ v
-        → length (verdictListing (namingOf (p .program .symbols) (p .constants)) v) ≤ 25101
+    go : (v : Verdict) → verdict (p .program) ≡ v → P (verdictListing (namingOf (p .program .symbols) (p .constants)) v)
     go (confluent n) e =
         let counted : n ≡ length (overlaps (p .program)) = verdict-confluent (p .program) e .1 in
-        pass-few (namingOf (p .program .symbols) (p .constants)) names n
-        (omega (arith, counted, overlaps-few (p .program) (small .few-rules) heads))
+        pass n (omega (arith, counted, overlaps-few (p .program) (small .few-rules) heads))
     go (unjoined o one two) e =
         let (first, a, b) = verdict-unjoined (p .program) e in
         let l = overlaps-member (p .program) (at-member (overlaps (p .program)) (first .number) (first .listed)) in
-        rw (a, b) (unjoined-few (namingOf (p .program .symbols) (p .constants)) names (p .program) few (short .rules) l)
+        rw (a, b) (fail o (listed-few (p .program) few l))
+
+-- the listing of a check has at most 27 + 80 + 329 + 2 · (13 + 28 · 20 + 217 · 47) bytes
+pub check-few : (program : List ℕ) (p : Reading) → readProgram program ≡ accepted p → length (checkListing p) ≤ 21980
+check-few program p reads =
+    let small : ReadSmall p = read-small program reads in
+    let short : ShortProgram p = reads-accepted 9 ShortProgram (readProgram program) (program-short program) reads in
+    let naming = namingOf (p .program .symbols) (p .constants) in
+    let names = naming-short (p .program .symbols) (p .constants) (short .symbols) (short .constants) in
+    check-holds (λ bytes. length bytes ≤ 21980) program p reads (λ n h. pass-few naming names n h)
+    (λ o few. unjoined-few naming names (p .program) o (small .symbols) (short .rules) few)
 
 -- so it fits the room that the programs lend
 pub check-fits : (program : List ℕ) (p : Reading) → readProgram program ≡ accepted p → length (checkListing p) ≤ ample

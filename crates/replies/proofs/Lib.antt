@@ -12,5 +12,8 @@ pub mod Elements
 pub mod ShortNames
 pub mod Room
 pub mod CheckRoom
+pub mod PlainLines
+pub mod CheckRows
+pub mod PagedChecks
 pub mod Sheetcheck
 pub mod LineNumbers

@@ -1,9 +1,10 @@
 -- What of a reply has to fit into the number that a C export returns: a refusal's line is one of the text's, at most 16,384,
--- and a listing has at most 25,101 bytes.
+-- and a listing has less than 2^31 bytes.
 --   program-number                a refusal of a program's text is by a number from 1 to 9
 --   program-line, goal-line       a refusal's line
 --   Within                        a refusal by a number from 1 to 11 at a line below 2^16, or a listing of less than 2^31 bytes
 --   run-within, check-within      so is every reply, for an output of any room
+--   laid-within                   and every reply of a check in a layout that lays down so few bytes
 -- Assumes nothing.
 use Prim.Native.Nat.{ℕ, _≤_, _<_}
 use native.Mathlib.Omega.{arith}
@@ -17,7 +18,7 @@ use Rattle.syntax.specs.Answers.{Answer, refused, accepted}
 use Rattle.syntax.specs.Programs.{Reading, readProgram}
 use Rattle.syntax.specs.Goals.{GoalReading, readGoal}
 use Rattle.replies.specs.Replies.{Text, programText, goalText, Reply, refusal, listing, replyOf, fitted, runListing}
-use Rattle.replies.specs.Replies.{checkListing, runReply, checkReply}
+use Rattle.replies.specs.Replies.{checkListing, runReply, checkReply, Layout, plain, laidReply}
 use Rattle.replies.proofs.ShortNames.{Turned, ShortProgram, ShortGoal, program-short, goal-short, reads-refused}
 use Rattle.replies.proofs.Room.{run-few}
 use Rattle.replies.proofs.CheckRoom.{check-few}
@@ -55,7 +56,7 @@ turned-within :
     (m number : ℕ) (text : Text) (line : ℕ) → m ≤ 10 → Turned m number line → Within (refusal number text line)
 turned-within m number text line few h = (h .least, omega (arith, h .most), omega (arith, h .within))
 
-fitted-within : (text : Text) (room : ℕ) (bytes : List ℕ) → length bytes ≤ 25101 → Within (fitted text room bytes)
+fitted-within : (text : Text) (room : ℕ) (bytes : List ℕ) → length bytes < 2147483648 → Within (fitted text room bytes)
 unfolding fitted
 fitted-within text room bytes h = go (ltb room (length bytes))
   where
@@ -83,13 +84,21 @@ run-within program goal room = go (readProgram program) refl
     go (refused n l) k = turned-within 9 n programText l (omega arith) (program-turned program k)
     go (accepted p) k = goals p k (readGoal (p .program .symbols) (p .constants) goal) refl
 
--- every reply of a check
-pub check-within : (program : List ℕ) (room : ℕ) → Within (checkReply program room)
-unfolding checkReply replyOf
-check-within program room = go (readProgram program) refl
+-- every reply of a check in a layout that lays down less than 2^31 bytes
+pub laid-within :
+    (layout : Layout) (program : List ℕ) (room : ℕ)
+    → ((p : Reading) → readProgram program ≡ accepted p → length (layout .laid (checkListing p)) < 2147483648)
+    → Within (laidReply layout program room)
+unfolding laidReply replyOf
+laid-within layout program room few = go (readProgram program) refl
   where
     go :
         (a : Answer Reading) → readProgram program ≡ a
-        → Within (replyOf programText a (λ p. fitted programText room (checkListing p)))
+        → Within (replyOf programText a (λ p. fitted programText room (layout .laid (checkListing p))))
     go (refused n l) k = turned-within 9 n programText l (omega arith) (program-turned program k)
-    go (accepted p) k = fitted-within programText room (checkListing p) (check-few program p k)
+    go (accepted p) k = fitted-within programText room (layout .laid (checkListing p)) (few p k)
+
+-- every reply of a check
+pub check-within : (program : List ℕ) (room : ℕ) → Within (checkReply program room)
+unfolding checkReply laidReply plain
+check-within program room = laid-within plain program room (λ p k. omega (arith, check-few program p k))

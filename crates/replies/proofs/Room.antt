@@ -1,6 +1,7 @@
 -- Every listing of a run fits the room that the programs lend: `run-fits`. So `sheetrun` never prints number 11: `never-eleven`.
---   order-few                     how many variables appear
---   naming-short                  every name of a reading has at most 8 bytes
+--   order-few, end-order-few      how many variables appear; in an end
+--   unbound-all, shown-all        what holds of the name of a variable of an end, and of a term as shown
+--   naming-all, naming-short      what holds of every name of a reading; it has at most 8 bytes
 --   end-few, final-few            the bytes of an end, by the counts of its lines; by its goal variables and its weight
 --   run-weighs                    firings and the weight of the end are within the goal's weight
 --   run-few, run-fits             the listing of a run has at most 24,597 bytes, and fits
@@ -42,7 +43,7 @@ use Rattle.syntax.proofs.GoalVocabulary.{ReadGoal, goal-small}
 use Rattle.listing.specs.Listing.{fieldsBehind, lineOf, Naming, namingOf, termShown}
 use Rattle.listing.specs.Listing.{constraintLines, numberedAs, placeName, unbound, boundLines, stateListing, endListing}
 use Rattle.text.proofs.Decimals.{decimal-low, decimal-high}
-use Rattle.listing.proofs.SizeLaws.{Short, decimal-short, number-short, line-few, rows-few, bounds-few}
+use Rattle.listing.proofs.SizeLaws.{Short, decimal-short, number-short, place-all, line-few, rows-few, bounds-few}
 use Rattle.replies.specs.Replies.{Text, programText, goalText, Reply, refusal, listing, replyOf, fitted}
 use Rattle.replies.specs.Replies.{runListing, runReply, printed, ample, sheetrun}
 use Rattle.replies.proofs.Elements.{all-at}
@@ -79,49 +80,61 @@ order-few seen [] few = omega arith
 order-few seen (c ∷ cs) (also h few) =
     omega (arith, order-few (appearingIn seen (c .terms)) cs few, terms-few seen (c .terms))
 
--- the name of a variable of an end: a goal variable's own, or a U number
-unbound-short :
-    (variable : ℕ → List ℕ) (n : ℕ) (order : List ℕ) (x : ℕ) → ((i : ℕ) → i < n → Short (variable i)) → length order < 9999
-    → Short (unbound variable n order x)
-unfolding unbound placeName ascii
-unbound-short variable n order x short h = go (ltb (indexFrom (eqb x) 0 order) n) refl
-  where
-    i : ℕ
-    i = indexFrom (eqb x) 0 order
+-- the variables that appear in an end
+pub end-order-few :
+    (bound : List Term) (cs : List Constraint) → All (λ c. length (c .terms) ≤ 4) cs
+    → length (appearing (appearingIn (upTo (length bound)) bound) cs) ≤ 2 * length bound + 4 * length cs
+end-order-few bound cs few =
+    let goal = upTo (length bound) in
+    omega (arith, order-few (appearingIn goal bound) cs few, terms-few goal bound, tabled-length (λ i. i) (length bound))
 
-    go : (b : Bool) → ltb i n ≡ b → Short (cond b (variable i) (numberedAs (85 ∷ []) (i - n)))
-    go true e = short i (ltb-true i n e)
-    go false e = number-short 85 (i - n) (omega (arith, index-few (eqb x) 0 order))
+-- what holds of all names, by their numbers
+module _ (P : List ℕ → Type 0) where
+  -- of the name of a variable of an end: a goal variable's own, or a U number
+  pub unbound-all :
+      (variable : ℕ → List ℕ) (n : ℕ) (order : List ℕ) (x : ℕ) → ((i : ℕ) → i < n → P (variable i))
+      → ((i : ℕ) → i ≤ length order → P (numberedAs (85 ∷ []) i)) → P (unbound variable n order x)
+  unfolding unbound
+  unbound-all variable n order x own other =
+      let i = indexFrom (eqb x) 0 order in
+      let few = index-few (eqb x) 0 order in
+      place-all P variable n i (own i) (λ j h. other j (omega (arith, h, few)))
 
--- a name by its number, where all are short
-short-at : {l : List (List ℕ)} (i : ℕ) → All Short l → Short (getD l i [])
-short-at i C.none = omega arith
-short-at zero (also h all) = h
-short-at (suc i) (also h all) = short-at i all
+  -- of a name by its number, where all have it, and the empty name
+  name-at : {l : List (List ℕ)} (i : ℕ) → P [] → All P l → P (getD l i [])
+  name-at i h C.none = h
+  name-at zero h (also k all) = k
+  name-at (suc i) h (also k all) = name-at i h all
 
-symbol-short : {l : List Symbol} (i : ℕ) → All (λ s. Short (s .name)) l → Short (symbolAt l i .name)
-unfolding symbolAt noSymbol
-symbol-short i C.none = omega arith
-symbol-short zero (also h all) = h
-symbol-short (suc i) (also h all) = symbol-short i all
+  symbol-at : {l : List Symbol} (i : ℕ) → P [] → All (λ s. P (s .name)) l → P (symbolAt l i .name)
+  unfolding symbolAt noSymbol
+  symbol-at i h C.none = h
+  symbol-at zero h (also k all) = k
+  symbol-at (suc i) h (also k all) = symbol-at i h all
+
+  -- of every name that a naming has of such symbols and constants
+  pub naming-all :
+      (symbols : List Symbol) (constants : List (List ℕ)) → P [] → All (λ s. P (s .name)) symbols → All P constants → (n : ℕ)
+      → P (namingOf symbols constants n)
+  unfolding namingOf
+  naming-all symbols constants h named all n = go (ltb n firstConstant)
+    where
+      go : (b : Bool) → P (cond b (symbolAt symbols n .name) (getD constants (n - firstConstant) []))
+      go true = symbol-at n h named
+      go false = name-at (n - firstConstant) h all
+
+  -- of a term, where all names and variables as shown have it
+  pub shown-all : (naming : Naming) (shown : ℕ → List ℕ) → ((n : ℕ) → P (naming n)) → ((x : ℕ) → P (shown x)) → (t : Term)
+      → P (termShown naming shown t)
+  unfolding termShown
+  shown-all naming shown names variables (con c) = names c
+  shown-all naming shown names variables (var x) = variables x
 
 -- every name that a naming has of short symbols and constants
 pub naming-short :
     (symbols : List Symbol) (constants : List (List ℕ)) → All (λ s. Short (s .name)) symbols → All Short constants → (n : ℕ)
     → Short (namingOf symbols constants n)
-unfolding namingOf
-naming-short symbols constants short all n = go (ltb n firstConstant)
-  where
-    go : (b : Bool) → Short (cond b (symbolAt symbols n .name) (getD constants (n - firstConstant) []))
-    go true = symbol-short n short
-    go false = short-at (n - firstConstant) all
-
--- a term, where all names and variables are shown short
-shown-short : (naming : Naming) (shown : ℕ → List ℕ) → ((n : ℕ) → Short (naming n)) → ((x : ℕ) → Short (shown x)) → (t : Term)
-    → Short (termShown naming shown t)
-unfolding termShown
-shown-short naming shown names variables (con c) = names c
-shown-short naming shown names variables (var x) = variables x
+naming-short symbols constants short all n = naming-all Short symbols constants (omega arith) short all n
 
 -- the bytes of an end, by the counts of its lines
 end-few :
@@ -136,13 +149,12 @@ end-few naming variable f next bound cs names short few low room =
     let order = appearing (appearingIn goal bound) cs in
     let shown = unbound variable n order in
     let variables : (x : ℕ) → Short (shown x) = λ x.
-    unbound-short variable n order x short
-    (omega (arith, order-few (appearingIn goal bound) cs few, terms-few goal bound, tabled-length (λ i. i) n)) in
+    unbound-all Short variable n order x short (λ i h. number-short 85 i (omega (arith, end-order-few bound cs few))) in
     let head = lineOf (ascii "END") (decimal f ∷ []) in
     let bounds = boundLines naming shown variable 0 bound in
     let rows = constraintLines (ascii "S") naming shown cs in
     let terms : (ts : List Term) → All (λ t. Short (termShown naming shown t)) ts = λ ts.
-    all-of-members ts (λ t _. shown-short naming shown names variables t) in
+    all-of-members ts (λ t _. shown-all Short naming shown names variables t) in
     omega (
       arith,
       length-append head (bounds ++ rows),
@@ -180,7 +192,7 @@ declared-few symbols small c h =
     )
 
 -- each weighs at least 1
-constraints-few :
+pub constraints-few :
     (symbols : List Symbol) (cs : List Constraint) → All SymbolSmall symbols → All (λ c. isDeclared symbols c ≡ true) cs
     → length cs ≤ weight symbols cs
 constraints-few symbols [] small declared = omega arith
@@ -263,7 +275,7 @@ run-few program goal p g reads reads-goal =
       arith,
       final-few symbols (namingOf symbols (g .constants)) (λ x. getD (g .letters) x []) (run (p .program) (g .goal) .firings)
           AnyConstant (g .goal .variables) 512 _ (run (p .program) (g .goal) .state) names
-          (λ x _. short-at x (short-goal .letters)) (small .symbols) spoken
+          (λ x _. name-at Short x (omega arith) (short-goal .letters)) (small .symbols) spoken
           (omega (arith, run-weighs (p .program) (g .goal) formed, of-goal .light)) (omega arith) (omega arith),
     )
 

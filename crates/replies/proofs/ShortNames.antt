@@ -52,7 +52,7 @@ variable-short [] h = omega arith
 variable-short (b ∷ []) h = omega arith
 variable-short (b ∷ c ∷ s) h = absurd (let z : _≡_ {A = ℕ} 0 1 = cc in omega arith)
 
-term-short : (f : List ℕ) → isTerm f ≡ true → Short f
+pub term-short : (f : List ℕ) → isTerm f ≡ true → Short f
 unfolding isTerm
 term-short f h = go (isName f) refl h
   where

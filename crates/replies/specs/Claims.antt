@@ -5,15 +5,19 @@
 --   PassTogether      two texts that can be read are passed together
 --   Demand2On         demand 2 for a text that can be read
 --   Sheetchecked      what `sheetcheck` prints of such a text
--- `check-exact` of proofs/Demand3.antt, `run-published` of proofs/Demand2.antt, `sheetcheck-exact` of proofs/Sheetcheck.antt and
--- `check-rewritten` of proofs/Rewritten.antt say that these hold of every such text.
+--   PagedOn           the pages of the check of such a text (document 02, W6)
+-- `check-exact` of proofs/Demand3.antt, `run-published` of proofs/Demand2.antt, `sheetcheck-exact` of proofs/Sheetcheck.antt,
+-- `check-rewritten` of proofs/Rewritten.antt and `pages-shaped` of proofs/PagedChecks.antt say that these hold of every such text.
 -- Assumes nothing.
-use Prim.Native.Nat.{ℕ, _≤_}
-use mathlib.Core.Bool.{true}
+use Prim.Native.Nat.{ℕ, _*_, _≤_}
+use mathlib.Core.Bool.{true, _&&_}
 use mathlib.Core.List.{List, []}
 use mathlib.Core.Logic.{_↔_}
 use mathlib.Core.Path.{_≡_}
+use lib.Dec.{eqb}
 use lib.ListN.{length, getD}
+use Rattle.text.specs.Lists.{every}
+use Rattle.text.specs.Lines.{Line, lines}
 use Rattle.text.specs.Fields.{isNumber, valueOf, decimal}
 use Rattle.semantics.specs.Terms.{isGoalOf}
 use Rattle.semantics.specs.Remaining.{KeepsGoalVariables, GoalVariablesRemain}
@@ -30,6 +34,7 @@ use Rattle.syntax.specs.Goals.{GoalReading, readGoal}
 use Rattle.syntax.specs.Claims.{TextByValue, KeepsNumbers}
 use Rattle.listing.specs.Listing.{namingOf, endListing}
 use Rattle.verdicts.specs.Verdicts.{verdictListing}
+use Rattle.pages.specs.Pages.{pagesOf, pageCount, pageSize, maxPages, readBack}
 use Rattle.replies.specs.Replies.{Reply, listing, runListing, checkListing, runReply, checkReply, printed}
 use Rattle.replies.specs.Replies.{sheetcheck}
 
@@ -112,3 +117,12 @@ pub data Sheetchecked (input : List ℕ) (r : Reading) : Type 1 where
   failed :
       (o : Overlap) (one two : Final) → sheetcheck input ≡ printed (verdictReply r (unjoined o one two))
       → Counterexample (r .program) o one two → (OneOutcome (r .program) → ⊥) → Sheetchecked input r
+
+-- the pages of the check of a text that reads as r: its listing can be read back from them; they are at most 17, of 2,460 bytes
+-- each, in 60 lines of 40 bytes and a line feed
+pub record PagedOn (r : Reading) : Type 0 where
+  pub back : readBack (pagesOf (checkListing r)) ≡ checkListing r
+  pub few : pageCount (checkListing r) ≤ maxPages
+  pub sized : length (pagesOf (checkListing r)) ≡ pageSize * pageCount (checkListing r)
+  pub sixty : length (lines (pagesOf (checkListing r))) ≡ 60 * pageCount (checkListing r)
+  pub forty : every (λ (l : Line). eqb (length (l .bytes)) 40 && l .ended) (lines (pagesOf (checkListing r))) ≡ true

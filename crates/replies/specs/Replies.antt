@@ -1,7 +1,8 @@
--- The two replies, from bytes to bytes, and what the lent output holds afterwards.
+-- The replies, from bytes to bytes, and what the lent output holds afterwards.
 --   Reply              a refusal (number, text, line) or a listing
 --   runReply           the run of a goal over a program, for an output of some room
 --   checkReply         the check of a program
+--   Layout, laidReply  how an output holds a listing: as it is, or in pages; the check in a layout
 --   outputAfter        every byte of the lent output
 --   printed            what the two programs print
 -- Assumes nothing.
@@ -21,6 +22,7 @@ use Rattle.syntax.specs.Programs.{Reading, readProgram}
 use Rattle.syntax.specs.Goals.{GoalReading, readGoal}
 use Rattle.listing.specs.Listing.{lineOf, namingOf, endListing}
 use Rattle.verdicts.specs.Verdicts.{verdictListing}
+use Rattle.pages.specs.Pages.{pagesOf, readBack}
 unfoldable pub use Rattle.listing.specs.Writing.{ample}
 
 -- the text that a refusal names: S for a program's (document 01: the sheet's), G for a goal's
@@ -59,6 +61,24 @@ runReply program goal room =
 -- the reply of the check
 unfoldable pub checkReply : List ℕ → ℕ → Reply
 checkReply program room = replyOf programText (readProgram program) (λ p. fitted programText room (checkListing p))
+
+-- how an output holds a listing: the bytes laid down for it, and the listing that bytes hold
+pub record Layout : Type 0 where
+  pub laid : List ℕ → List ℕ
+  pub held : List ℕ → List ℕ
+
+-- a listing as it is
+unfoldable pub plain : Layout
+plain = record { laid = λ bytes. bytes; held = λ bytes. bytes }
+
+-- a listing in pages (document 02, W6)
+unfoldable pub paged : Layout
+paged = record { laid = pagesOf; held = readBack }
+
+-- the reply of the check with its listing in a layout; number 11 measures what is laid down. It is `checkReply` for `plain`
+unfoldable pub laidReply : Layout → List ℕ → ℕ → Reply
+laidReply layout program room =
+    replyOf programText (readProgram program) (λ p. fitted programText room (layout .laid (checkListing p)))
 
 -- the lent output afterwards: untouched under a refusal; the listing, and then the old bytes, otherwise
 unfoldable pub outputAfter : Reply → List ℕ → List ℕ

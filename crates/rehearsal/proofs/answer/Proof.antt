@@ -13,5 +13,11 @@ slice-aggregate-write-all c = printed-front _ (c .before .put-answer .ensures)
 pub answer-spec : {M : Type 1} → statement M
 answer-spec =
     tie.close
-    (tie.spec (λ c κs. search needs) array-share-prefix-out slice-aggregate-write-all (λ c κs. search needs)
+    (tie.spec
+    (λ c κs. search needs)
+    (λ c. search needs)
+    (λ c κs. search needs)
+    array-share-prefix-out
+    slice-aggregate-write-all
+    (λ c κs. search needs)
     (λ c. search needs))

@@ -6,6 +6,13 @@ use Rattle.verdicts.proofs.CheckLaws.{shown-is}
 use Rattle.verdicts.proofs.put_overlap.Statement.{statement}
 use Rattle.verdicts.proofs.put_overlap.Tie as tie
 
+returns : tie.Need-returns
+returns c =
+    let at-put-ends = c .before .before in
+    let at-put-front = at-put-ends .before .before .before .before in
+    let front = at-put-front .put-front in
+    wrote-is (sym (shown-is _ _ _ _ _ _)) (wrote-then (front .ensures) (at-put-ends .put-ends .ensures) (front .kept .0))
+
 put-front-requires : tie.Need-put-front-requires
 put-front-requires c κs =
     let start = c .before .before .before .before .before .before .before .before in
@@ -26,13 +33,6 @@ put-ends-requires c κs =
 
 same-length : tie.Need-same-length
 same-length c = search needs
-
-returns : tie.Need-returns
-returns c =
-    let at-put-ends = c .before .before in
-    let at-put-front = at-put-ends .before .before .before .before in
-    let front = at-put-front .put-front in
-    wrote-is (sym (shown-is _ _ _ _ _ _)) (wrote-then (front .ensures) (at-put-ends .put-ends .ensures) (front .kept .0))
 
 pub put-overlap-spec : {M : Type 1} → statement M
 put-overlap-spec =

@@ -20,6 +20,18 @@ loop-holds : tie.Need-loop-holds Inv-loop μ-loop
 loop-holds c =
     (omega arith, writing-start _ _ _)
 
+loop-again : tie.Need-loop-again Inv-loop μ-loop
+loop-again c =
+    let at-put-pair = c .before .before in
+    let at-behind = at-put-pair .before .before .before in
+    let at-loop-test = at-behind .before in
+    let at-loop = at-loop-test .before in
+    let line = at-put-pair .put-pair in (
+      omega arith,
+      writing-line _ _ (pairs-here _ _ (at-loop-test .loop-test .taken)) (at-loop .loop .inv .1) (at-behind .behind .ensures)
+          (line .ensures) (line .kept .0),
+    )
+
 put-pair-requires : tie.Need-put-pair-requires Inv-loop μ-loop
 put-pair-requires c κs =
     let at-loop-test = c .before .before .before in
@@ -37,18 +49,6 @@ add-end c =
     writing-room _ (pairs-here _ _ (at-loop-test .loop-test .taken)) (start .pre) (at-loop .loop .inv .1)
     (at-put-pair .put-pair .ensures) in
     omega (arith, room)
-
-loop-again : tie.Need-loop-again Inv-loop μ-loop
-loop-again c =
-    let at-put-pair = c .before .before in
-    let at-behind = at-put-pair .before .before .before in
-    let at-loop-test = at-behind .before in
-    let at-loop = at-loop-test .before in
-    let line = at-put-pair .put-pair in (
-      omega arith,
-      writing-line _ _ (pairs-here _ _ (at-loop-test .loop-test .taken)) (at-loop .loop .inv .1) (at-behind .behind .ensures)
-          (line .ensures) (line .kept .0),
-    )
 
 returns : tie.Need-returns Inv-loop μ-loop
 returns c = writing-end (c .before .loop .inv .1) (pairs-done _ _ (c .loop-test .left))

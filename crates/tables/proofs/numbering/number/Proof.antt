@@ -14,7 +14,8 @@ returns : tie.Need-returns
 returns c =
     let at-rows = c .before .before .before .before in
     let at-keep = at-rows .before .before .before .before .before in
-    renumbers _ _ _ _ _ _ (at-keep .keep .ensures) (at-rows .number-rows .ensures)
+    let start = at-keep .before .before .before .before in
+    renumbers (start .args .n) _ _ _ _ _ (at-keep .keep .ensures) (at-rows .number-rows .ensures)
 
 pub number-spec : {M : Type 1} → statement M
 number-spec =

@@ -1,0 +1,3 @@
+-- The definitions of this crate, in reading order. Assumes nothing.
+pub mod Pages
+pub mod Places

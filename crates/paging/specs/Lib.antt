@@ -1,0 +1,2 @@
+-- What the stages of paging promise. Assumes nothing.
+pub mod Paging
