@@ -138,7 +138,8 @@ module _ (layout : Layout) (s before after : List ℕ) (r : CheckReply)
       → listing (layout .held (take n after)) ≡ verdictReply p v
   unfolding verdictReply checkListing
   listed-verdict back p e n h v k =
-      let left = fitted-is programText (length before) (layout .laid (checkListing p)) (take n after) (sym (read-reply p e) ∙ h) in
+      let left =
+      fitted-is programText (length before) (layout .laid (checkListing p)) (take n after) (sym (read-reply p e) ∙ h) in
       let same : take n after ≡ layout .laid (checkListing p) = cc in
       ap (λ (l : List ℕ). listing (layout .held l)) same ∙ ap listing (back p e) ∙ ap (verdictReply p) k
 
@@ -151,7 +152,8 @@ module _ (layout : Layout) (s before after : List ℕ) (r : CheckReply)
         let (o, a, b, v) = told .fail p e n h in
         verdict-one (demand .exact .1 (outcome-claim (p .program) .0 one) .1) v
 
-    decided : length (layout .laid (checkListing p)) ≤ length before → ((n : ℕ) × (r ≡ Confluent n)) ⊎ ((n : ℕ) × (r ≡ Unjoined n))
+    decided :
+        length (layout .laid (checkListing p)) ≤ length before → ((n : ℕ) × (r ≡ Confluent n)) ⊎ ((n : ℕ) × (r ≡ Unjoined n))
     decided fits =
         listing-answer (layout .laid (checkListing p)) after r
         (c .meant ∙ (read-reply p e ∙ fitted-listed programText (length before) (layout .laid (checkListing p)) fits))
@@ -161,7 +163,8 @@ module _ (layout : Layout) (s before after : List ℕ) (r : CheckReply)
 
     -- where the listing fits, the earliest unjoined overlap is left
     earliest :
-        (o : Overlap) (one two : Final) → length (layout .laid (checkListing p)) ≤ length before → Counterexample (p .program) o one two
+        (o : Overlap) (one two : Final) → length (layout .laid (checkListing p)) ≤ length before
+        → Counterexample (p .program) o one two
         → (n : ℕ) × (r ≡ Unjoined n) × (listing (layout .held (take n after)) ≡ verdictReply p (unjoined o one two))
     unfolding checkMeant
     earliest o one two fits x =
@@ -231,7 +234,8 @@ module _ (layout : Layout) (s before after : List ℕ) (r : CheckReply)
       named G k = absurd (let z : _≡_ {A = ℕ} 0 1 = cc in omega arith)
 
   -- the reply of a refusal of the program's text
-  of-program : (number line : ℕ) → r ≡ ofProgram number line → laidReply layout s (length before) ≡ refusal number programText line
+  of-program :
+      (number line : ℕ) → r ≡ ofProgram number line → laidReply layout s (length before) ≡ refusal number programText line
   unfolding ofProgram checkMeant textMeant
   of-program number line h = meant-by (ofProgram number line) h
 
@@ -252,7 +256,8 @@ module _ (layout : Layout) (s before after : List ℕ) (r : CheckReply)
 
   -- number 11
   eleven-short :
-      r ≡ ofProgram 11 0 → (p : Reading) × (readProgram s ≡ accepted p) × (length before < length (layout .laid (checkListing p)))
+      r ≡ ofProgram 11 0
+      → (p : Reading) × (readProgram s ≡ accepted p) × (length before < length (layout .laid (checkListing p)))
   eleven-short h = go (readProgram s) refl
     where
       go :

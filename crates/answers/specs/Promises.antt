@@ -33,7 +33,7 @@ use Rattle.answers.specs.Answers.{textMeant, nameByte}
 use Rattle.answers.specs.Numbers.{checkRead}
 use Rattle.answers.specs.Outcomes.{OneOutcome, OneOutcomeByAppearance, Counterexample}
 
--- an answer as a reply: a refusal's number, text and line; or the listing that the output holds
+-- an answer as a reply: a refusal's number, text and line; or what the output holds: a listing, or its pages
 unfoldable pub checkMeant : CheckReply → List ℕ → Reply
 checkMeant (Refused f) output = refusal (f .number) (textMeant (f .text)) (f .line)
 checkMeant (Confluent n) output = listing (take n output)
@@ -59,26 +59,30 @@ pub record Told (s : List ℕ) (r : CheckReply) : Type 0 where
       (p : Reading) → readProgram s ≡ accepted p → (n : ℕ) → r ≡ Unjoined n
       → (o : Overlap) × (one : Final) × (two : Final) × (verdict (p .program) ≡ unjoined o one two)
 
--- demand 3 of the answer to a text that reads as p, with the listing in a layout. Where what is laid down fits, the program is passed or failed, and it is passed
--- exactly when each goal over its symbols, of any length, has one outcome over all lists of events. A pass leaves the line with
--- the number of its overlaps. A fail leaves the earliest overlap of the program that does not join, its goal and two ends of
--- finished derivations of this goal, which are not equal; so not each goal has one outcome. Where the listing fits, it is left
--- wherever there is one, and there is at most one, since the order of overlaps is strict and total. For one outcome of all goals
--- it is enough that those as document 01 has them have one. No derivation fires more often than its goal's weight. In every
--- derivation each goal variable has become a constant or the earliest of the goal variables that have become the same. A number
--- is shown in digits without a leading zero, whose value it is
+-- demand 3 of the answer to a text that reads as p, with the listing in a layout. Where what is laid down fits, the program is
+-- passed or failed, and it is passed exactly when each goal over its symbols, of any length, has one outcome over all lists of
+-- events. What is left holds the listing. That of a pass is the line with the number of its overlaps. That of a fail has the
+-- earliest overlap of the program that does not join, its goal and two ends of finished derivations of this goal, which are not
+-- equal; so not each goal has one outcome. Where it fits, it is left wherever there is one, and there is at most one, since the
+-- order of overlaps is strict and total. For one outcome of all goals it is enough that those as document 01 has them have one.
+-- No derivation fires more often than its goal's weight. In every derivation each goal variable has become a constant or the
+-- earliest of the goal variables that have become the same. A number is shown in digits without a leading zero, whose value it is
 pub record CheckedAs (layout : Layout) (p : Reading) (before after : List ℕ) (r : CheckReply) : Type 0 where
-  pub decided : length (layout .laid (checkListing p)) ≤ length before → ((n : ℕ) × (r ≡ Confluent n)) ⊎ ((n : ℕ) × (r ≡ Unjoined n))
+  pub decided :
+      length (layout .laid (checkListing p)) ≤ length before → ((n : ℕ) × (r ≡ Confluent n)) ⊎ ((n : ℕ) × (r ≡ Unjoined n))
   pub exact : length (layout .laid (checkListing p)) ≤ length before → ((n : ℕ) × (r ≡ Confluent n)) ↔ OneOutcome (p .program)
   pub passed :
       (n : ℕ) → r ≡ Confluent n
-      → (listing (layout .held (take n after)) ≡ verdictReply p (confluent (length (overlaps (p .program))))) × OneOutcome (p .program)
+      → (listing (layout .held (take n after)) ≡ verdictReply p (confluent (length (overlaps (p .program)))))
+      × OneOutcome (p .program)
   pub failed :
       (n : ℕ) → r ≡ Unjoined n
-      → (o : Overlap) × (one : Final) × (two : Final) × (listing (layout .held (take n after)) ≡ verdictReply p (unjoined o one two))
+      → (o : Overlap) × (one : Final) × (two : Final)
+      × (listing (layout .held (take n after)) ≡ verdictReply p (unjoined o one two))
       × Counterexample (p .program) o one two × (OneOutcome (p .program) → ⊥)
   pub earliest :
-      (o : Overlap) (one two : Final) → length (layout .laid (checkListing p)) ≤ length before → Counterexample (p .program) o one two
+      (o : Overlap) (one two : Final) → length (layout .laid (checkListing p)) ≤ length before
+      → Counterexample (p .program) o one two
       → (n : ℕ) × (r ≡ Unjoined n) × (listing (layout .held (take n after)) ≡ verdictReply p (unjoined o one two))
   pub ordered : StrictTotalOrder (IsOverlapOf (p .program)) Earlier
   pub enough : OneOutcomeByAppearance (p .program) → OneOutcome (p .program)
@@ -91,27 +95,28 @@ unfoldable pub ofProgram : ℕ → ℕ → CheckReply
 ofProgram number line = Refused (record { number = number; text = S; line = line })
 
 -- demand 3 of the answer to any text s, and of the bytes that it leaves: a text that meets one of document 01's numbers 1 to 9 is
--- refused under it, with its line, and no other is; number 11 is the answer exactly where the text reads and the listing does
--- not fit; a refusal names the program's text and leaves the output untouched; and every text that reads is checked, as a program
--- in which two constants have one number exactly if they are one
+-- refused under it, with its line, and no other is; number 11 is the answer exactly where the text reads and what is laid down
+-- for its listing does not fit; a refusal names the program's text and leaves the output untouched; and every text that reads is
+-- checked, as a program in which two constants have one number exactly if they are one
 pub record Demand3Of (layout : Layout) (s before after : List ℕ) (r : CheckReply) : Type 0 where
   pub numbers : (number line : ℕ) → readProgram s ≡ refused number line → (1 ≤ number) × (number ≤ 9)
   pub turned : (number line : ℕ) → number < 11 → (readProgram s ≡ refused number line) ↔ (r ≡ ofProgram number line)
   pub eleven :
-      ((p : Reading) × (readProgram s ≡ accepted p) × (length before < length (layout .laid (checkListing p)))) ↔ (r ≡ ofProgram 11 0)
+      ((p : Reading) × (readProgram s ≡ accepted p) × (length before < length (layout .laid (checkListing p))))
+      ↔ (r ≡ ofProgram 11 0)
   pub untouched : (f : Refusal) → r ≡ Refused f → (f .text ≡ S) × (after ≡ before)
   pub read : (p : Reading) → readProgram s ≡ accepted p → CheckedAs layout p before after r
   pub constants : (p : Reading) → readProgram s ≡ accepted p → TextByValue s [] (p .constants)
 
--- an answer as one number: the length of a pass's listing; 2^31 more than that of an unjoined overlap's; or 2^32 times a
--- refusal's number, 2^16 times the byte of its letter, and its line
+-- an answer as one number: the length of a pass's listing, or of its pages; 2^31 more than that of an unjoined overlap's; or
+-- 2^32 times a refusal's number, 2^16 times the byte of its letter, and its line
 unfoldable pub checkNumber : CheckReply → ℕ
 checkNumber (Refused f) = 4294967296 * f .number + 65536 * nameByte (f .text) + f .line
 checkNumber (Confluent n) = n
 checkNumber (Unjoined n) = 2147483648 + n
 
--- a number of which all this holds: it is the number of the answer that is read off it (Numbers.antt), and `check` promises of
--- this answer what it promises of its own
+-- a number of which all this holds: it is the number of the answer that is read off it (Numbers.antt), and of this answer holds
+-- what `check`, or `pages`, promises of its own
 pub record CheckReturned (layout : Layout) (s before after : List ℕ) (r : ℕ) : Type 0 where
   pub number : r ≡ checkNumber (checkRead r)
   pub replied : CheckReplied (laidReply layout s (length before)) before after (checkRead r)

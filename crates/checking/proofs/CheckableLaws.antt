@@ -6,13 +6,14 @@
 use Prim.Native.Nat.{ℕ, zero, suc, _≤_, _<_}
 use native.Mathlib.Omega.{arith}
 use mathlib.Core.Bool.{true, _&&_}
-use mathlib.Core.List.{List, [], _∷_}
-use mathlib.Core.Path.{_≡_, refl, ap, subst, _∙_}
+use mathlib.Core.List.{List}
+use mathlib.Core.Path.{_≡_, ap, subst, _∙_}
 use lib.Dec.{ltb, eqb}
 use lib.ListN.{length}
 use borrow.Author.Tests.{lt-ltb, ltb-true}
 use Rattle.text.specs.Lists.{every}
 use Rattle.text.proofs.Bools.{and-true}
+use Rattle.text.proofs.ListLaws.{every-weaker}
 use Rattle.text.proofs.Laws.{tabled-length}
 use Rattle.semantics.specs.Terms.{Constraint, Equation, Symbol, Rule, Program, noSymbol, symbolAt, weight, alphabet}
 use Rattle.semantics.specs.Terms.{removedHeads, isBelow, isDeclared, isOfRule, isRuleOf, isWellFormed}
@@ -39,13 +40,6 @@ of-rule-low symbols few c h =
     let below : c .symbol < length symbols = ltb-true (c .symbol) (length symbols) (and-true known counted declared .0) in
     lt-ltb (c .symbol) 256 (omega (arith, below))
 
-all-low : (symbols : List Symbol) → length symbols ≤ 32 → (cs : List Constraint) → every (isOfRule symbols) cs ≡ true
-    → every isLow cs ≡ true
-all-low symbols few [] h = refl
-all-low symbols few (c ∷ cs) h =
-    let both = and-true (isOfRule symbols c) (every (isOfRule symbols) cs) h in
-    rw (of-rule-low symbols few c (both .0), all-low symbols few cs (both .1))
-
 -- the heads of a rule
 heads-low : (symbols : List Symbol) → length symbols ≤ 32 → (r : Rule) → isRuleOf symbols r ≡ true → every isLow (r .heads) ≡ true
 unfolding isRuleOf
@@ -55,7 +49,8 @@ heads-low symbols few r h =
     let equations = every (λ (e : Equation). isBelow alphabet (e .left) && isBelow alphabet (e .right)) (r .equations) in
     let light = ltb (weight symbols (r .body)) (weight symbols (removedHeads r)) in
     let three = and-true (heads && body && equations) light h .0 in
-    all-low symbols few (r .heads) (and-true heads body (and-true (heads && body) equations three .0) .0)
+    every-weaker (isOfRule symbols) isLow (r .heads) (of-rule-low symbols few)
+    (and-true heads body (and-true (heads && body) equations three .0) .0)
 
 -- a symbol's weight, or that of a number that no symbol has
 symbol-light : {symbols : List Symbol} → All SymbolSmall symbols → (k : ℕ) → symbolAt symbols k .weight ≤ 31

@@ -3,17 +3,18 @@
 --   renumbered-same       variables numbered anew
 --   side-ready, numbered-…, compare-…   one step after the other
 -- Assumes nothing.
-use Prim.Native.Nat.{ℕ, zero, suc, _+_, _*_, _≤_, _<_, max}
+use Prim.Native.Nat.{ℕ, suc, _+_, _*_, _≤_, _<_, max}
 use native.Mathlib.Omega.{arith}
 use native.Mathlib.Numerals.{add-one}
 use mathlib.Core.Bool.{Bool, true, false}
-use mathlib.Core.List.{List, [], _∷_}
+use mathlib.Core.List.{List, []}
 use mathlib.Core.Logic.{_⊎_, inl, inr, ⊎-elim}
 use mathlib.Core.Path.{_≡_, refl, sym, ap, _∙_}
 use lib.ListN.{length, getD}
 use lib.Seq.{ext-getD}
 use borrow.Author.Tests.{ltb-true}
 use Rattle.text.specs.Lists.{every}
+use Rattle.text.proofs.ListLaws.{every-at}
 use Rattle.semantics.specs.Terms.{Constraint, State}
 use Rattle.semantics.specs.Variants.{OneToOne, empty}
 use Rattle.semantics.specs.Variants.{each, ConstraintVariant, Variant, sameState}
@@ -24,7 +25,7 @@ use Rattle.semantics.proofs.Comparison.{sameState-complete}
 use Rattle.tables.specs.Cells.{cellTerm, cellConstraints}
 use Rattle.tables.specs.Cells.{isLow}
 use Rattle.tables.proofs.CellLaws.{constraints-length}
-use Rattle.tables.proofs.CellLaws.{le-or-lt, every-first, every-rest}
+use Rattle.tables.proofs.CellLaws.{le-or-lt}
 use Rattle.colours.specs.Rows.{rowOf}
 use Rattle.colours.specs.Bounds.{Below}
 use Rattle.colours.specs.Ends.{endOf}
@@ -70,12 +71,6 @@ variants-same s t s′ t′ v w =
     same-iff s t s′ t′
     (λ x. variant-trans s′ s t′ (variant-sym s s′ v) (variant-trans s t t′ x w))
     (λ x. variant-trans s s′ t v (variant-trans s′ t′ t x (variant-sym t t′ w)))
-
--- what all elements pass, each does
-every-at : {A : Type 0} (t : A → Bool) (l : List A) (i : ℕ) (z : A) → every t l ≡ true → i < length l → t (getD l i z) ≡ true
-every-at t [] i z e h = absurd (omega arith)
-every-at t (x ∷ l) zero z e h = every-first t x l e
-every-at t (x ∷ l) (suc i) z e h = every-at t l i z (every-rest t x l e) (omega arith)
 
 -- the symbols of a state lie below the variables
 low-symbol :

@@ -12,6 +12,7 @@ use mathlib.Core.Option.{Option, none, some}
 use mathlib.Core.Path.{_≡_, refl, ap, _∙_}
 use lib.ListN.{length, getD, take, length-append, length-map}
 use Rattle.text.specs.Lists.{every}
+use Rattle.text.proofs.ListLaws.{every-both}
 use Rattle.semantics.specs.Terms.{Term, Constraint, live, mapTerms, mapSides, removedHeads}
 use Rattle.semantics.specs.Matching.{unassigned, matchAt}
 use Rattle.semantics.specs.Solving.{solve}
@@ -23,7 +24,7 @@ use Rattle.fitting.specs.Positions.{Row}
 use Rattle.engine.specs.States.{Fired}
 use Rattle.engine.specs.Runs.{weightBy, storeOf}
 use Rattle.tables.proofs.MapLaws.{low-kept}
-use Rattle.engine.proofs.RuleLaws.{removedAt, every-append, low-without, low-body}
+use Rattle.engine.proofs.RuleLaws.{removedAt, low-without, low-body}
 use Rattle.engine.proofs.SolveLaws.{map-none}
 use Rattle.engine.proofs.WeightLaws.{weight-append, weight-map, match-removed}
 
@@ -115,7 +116,7 @@ module _ (row ps b : List ℕ) (next : ℕ) (bound cells : List ℕ) (m : ℕ) (
   unfolding before
   fired-low given low y =
       rw (after y .same) (low-kept (after y .solution) before
-      ∙ every-append isLow (without 0 (removedAt row ps) (storeOf cells m))
+      ∙ every-both isLow (without 0 (removedAt row ps) (storeOf cells m))
       (map (mapTerms (instance next (assigned b))) (ruleOfRow [] row .body))
       (low-without 0 (removedAt row ps) (storeOf cells m) low)
       (low-kept (instance next (assigned b)) (ruleOfRow [] row .body) ∙ low-body (ruleOfRow [] row .body) (given .body)))

@@ -6,7 +6,7 @@
 --   goal-runnable, goal-starts   a goal of weight at most 512 can be run
 --   goal-runs       the end of its derivation is `run`'s (the main law)
 -- Assumes nothing.
-use Prim.Native.Nat.{ℕ, zero, suc, _+_, _*_, _≤_, _<_, max}
+use Prim.Native.Nat.{ℕ, _+_, _*_, _≤_, _<_, max}
 use native.Mathlib.Omega.{arith}
 use mathlib.Core.Bool.{Bool, true, _&&_}
 use mathlib.Core.List.{List, [], _∷_, map}
@@ -41,6 +41,7 @@ use Rattle.tables.specs.Rows.{symbolOf, symbolsOf, ruleOfRow, ruleOf, rulesOf, 
 use Rattle.fitting.specs.Positions.{isLettered, isSide, Row, Table}
 use Rattle.engine.specs.Runs.{weightBy, Lowers, storeOf, Runnable, Startable, Ended}
 use Rattle.text.proofs.Bools.{and-true}
+use Rattle.text.proofs.ListLaws.{every-at, every-weaker, every-drop, every-together}
 use Rattle.fitting.proofs.ChooseLaws.{length-tabled, getD-tabled}
 use Rattle.semantics.proofs.Indices.{getElem-at, getD-at}
 use Rattle.semantics.proofs.Weights.{rule-lowers}
@@ -67,36 +68,6 @@ pub record AsRead (names symbols : List ℕ) (s : ℕ) (rules : List ℕ) (n : �
   pub used :
       (i : ℕ) → i < n
       → every (λ (e : Equation). isUsed (e .left) && isUsed (e .right)) (ruleOfRow [] (rowOf rules i) .equations) ≡ true
-
--- an element of a list, all of which pass a test
-every-at : {A : Type 0} (t : A → Bool) (l : List A) (i : ℕ) (d : A) → every t l ≡ true → i < length l → t (getD l i d) ≡ true
-every-at t [] i d h k = absurd (omega arith)
-every-at t (x ∷ l) zero d h k = and-true (t x) (every t l) h .0
-every-at t (x ∷ l) (suc i) d h k = every-at t l i d (and-true (t x) (every t l) h .1) (omega arith)
-
--- a weaker test
-every-weaker : {A : Type 0} (t u : A → Bool) (l : List A) → ((x : A) → t x ≡ true → u x ≡ true) → every t l ≡ true
-    → every u l ≡ true
-every-weaker t u [] f h = refl
-every-weaker t u (x ∷ l) f h =
-    rw (f x (and-true (t x) (every t l) h .0), every-weaker t u l f (and-true (t x) (every t l) h .1))
-
--- the later elements
-every-drop : {A : Type 0} (t : A → Bool) (k : ℕ) (l : List A) → every t l ≡ true → every t (drop k l) ≡ true
-every-drop t zero l h = h
-every-drop t (suc k) [] h = refl
-every-drop t (suc k) (x ∷ l) h = every-drop t k l (and-true (t x) (every t l) h .1)
-
--- two tests, one after the other
-every-both :
-    {A : Type 0} (t u v : A → Bool) (l : List A) → ((x : A) → t x ≡ true → u x ≡ true → v x ≡ true)
-    → every t l ≡ true → every u l ≡ true → every v l ≡ true
-every-both t u v [] f h k = refl
-every-both t u v (x ∷ l) f h k =
-    rw (
-      f x (and-true (t x) (every t l) h .0) (and-true (u x) (every u l) k .0),
-      every-both t u v l f (and-true (t x) (every t l) h .1) (and-true (u x) (every u l) k .1),
-    )
 
 -- a letter or a constant other than 0
 side-of : (t : Term) → isBelow alphabet t ≡ true → isUsed t ≡ true → isSide t ≡ true
@@ -230,7 +201,7 @@ module _ (names symbols : List ℕ) (s : ℕ) (rules : List ℕ) (n : ℕ) (r : 
           body-few = r .body-few i l;
           heads = every-weaker ofRule isLettered hs (λ c h. of-rule c h .1) (parts .0);
           body = every-weaker ofRule (λ (c : Constraint). isLow c && isLettered c) bs of-body (parts .1);
-          equations = every-both below (λ (e : Equation). isUsed (e .left) && isUsed (e .right))
+          equations = every-together below (λ (e : Equation). isUsed (e .left) && isUsed (e .right))
               (λ (e : Equation). isSide (e .left) && isSide (e .right)) es of-equations (parts .2) (r .used i l);
         }
 

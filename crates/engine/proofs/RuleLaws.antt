@@ -23,6 +23,7 @@ use Rattle.engine.specs.Cells.{instanceCell}
 use Rattle.fitting.specs.Positions.{isLettered, isSide, Row}
 use Rattle.engine.specs.States.{Solvable, Solved, Removed, Appended, Equated, SolvedRule, Fires, Fired}
 use Rattle.text.proofs.Bools.{and-true}
+use Rattle.text.proofs.ListLaws.{every-both, every-weaker}
 use Rattle.tables.proofs.CellLaws.{le-or-lt, cell-low}
 use Rattle.tables.proofs.MapLaws.{low-kept, acts-constraints, acts-equations, acts-used}
 use Rattle.fitting.proofs.PartLaws.{behind, behind-all}
@@ -62,16 +63,12 @@ sides-used n (a ∷ b ∷ l) k h =
 sides-below :
     (l : List Equation) → every sided l ≡ true → every (λ (e : Equation). isBelow alphabet (e .left) && isBelow alphabet
     (e .right)) l ≡ true
-sides-below [] h = refl
-sides-below (e ∷ l) h =
-    let two : (isSide (e .left) && isSide (e .right)) ≡ true = and-true (isSide (e .left) && isSide (e .right))
-    (every sided l) h .0 in
-    let both : (isSide (e .left) ≡ true) × (isSide (e .right) ≡ true) = and-true (isSide (e .left)) (isSide (e .right)) two in
-    rw (
-      side-below (e .left) (both .0),
-      side-below (e .right) (both .1),
-      sides-below l (and-true (isSide (e .left) && isSide (e .right)) (every sided l) h .1),
-    )
+sides-below l h = every-weaker sided (λ (e : Equation). isBelow alphabet (e .left) && isBelow alphabet (e .right)) l low h
+  where
+    low : (e : Equation) → sided e ≡ true → (isBelow alphabet (e .left) && isBelow alphabet (e .right)) ≡ true
+    low e two =
+        let (left, right) = and-true (isSide (e .left)) (isSide (e .right)) two in
+        rw (side-below (e .left) left, side-below (e .right) right)
 
 -- a body stands behind the constraints
 pub body-appended :
@@ -180,14 +177,7 @@ module _ (row bindings : List ℕ) (next : ℕ) (cells : List ℕ) (w : ℕ) (q 
         → SolvedRule r row bindings next bound cells b c
     rule-solved r bound b c s = record { same = λ after. rw (part, decoded) at (s .same after) }
 
--- constraints with low symbols, one list behind the other
-pub every-append :
-    {A : Type 0} (t : A → Bool) (l m : List A) → every t l ≡ true → every t m ≡ true → every t (l ++ m) ≡ true
-every-append t [] m h k = k
-every-append t (x ∷ l) m h k =
-    rw (and-true (t x) (every t l) h .0, every-append t l m (and-true (t x) (every t l) h .1) k)
-
--- those that stay
+-- constraints with low symbols: those that stay
 pub low-without : (p : ℕ) (ps : List ℕ) (cs : List Constraint) → every isLow cs ≡ true → every isLow (without p ps cs) ≡ true
 unfolding without
 low-without p ps [] h = refl
@@ -203,14 +193,8 @@ low-without p ps (c ∷ cs) h =
 
 -- a body's symbols
 pub low-body : (cs : List Constraint) → every (λ (c : Constraint). isLow c && isLettered c) cs ≡ true → every isLow cs ≡ true
-low-body [] h = refl
-low-body (c ∷ cs) h =
-    let both : (isLow c && isLettered c) ≡ true =
-    and-true (isLow c && isLettered c) (every (λ (c : Constraint). isLow c && isLettered c) cs) h .0 in
-    rw (
-      and-true (isLow c) (isLettered c) both .0,
-      low-body cs (and-true (isLow c && isLettered c) (every (λ (c : Constraint). isLow c && isLettered c) cs) h .1),
-    )
+low-body cs h =
+    every-weaker (λ (c : Constraint). isLow c && isLettered c) isLow cs (λ c both. and-true (isLow c) (isLettered c) both .0) h
 
 -- the positions whose constraints a firing removes: those behind the kept heads'
 abbrev pub removedAt : List ℕ → List ℕ → List ℕ
@@ -250,7 +234,7 @@ module _ (row bindings : List ℕ) (next : ℕ) (cells : List ℕ) (k : ℕ) (q 
           given = q .given;
           bindings-size = q .bindings-size;
           room = q .room;
-          low = rw (appended .same) (every-append isLow (cellConstraints (take (5 * k) cells))
+          low = rw (appended .same) (every-both isLow (cellConstraints (take (5 * k) cells))
               (map (mapTerms (instance next (assigned bindings))) (ruleOfRow [] row .body)) (q .low)
               (low-kept (instance next (assigned bindings)) (ruleOfRow [] row .body) ∙ low-body (ruleOfRow [] row .body)
               (q .given .body)));

@@ -2,11 +2,11 @@
 --   laid-one       a rule's heads, with a number added to its variables
 --   laid-both      the heads of both rules, the second renamed apart
 -- Assumes nothing.
-use Prim.Native.Nat.{ℕ, zero, suc, _+_, _-_, _*_, _≤_, _<_}
+use Prim.Native.Nat.{ℕ, zero, suc, _+_, _-_, _*_, _≤_}
 use native.Mathlib.Omega.{arith}
-use mathlib.Core.Bool.{Bool, true, false, _&&_}
-use mathlib.Core.List.{List, [], _∷_, _++_, map, append-nil}
-use mathlib.Core.Path.{_≡_, refl, sym, ap, fun-ext, _∙_}
+use mathlib.Core.Bool.{true, _&&_}
+use mathlib.Core.List.{List, [], _++_, map, append-nil}
+use mathlib.Core.Path.{_≡_, refl, ap, fun-ext, _∙_}
 use lib.ListN.{length, take, drop, getD, replicate, length-append, drop-of-length-le}
 use lib.Seq.{take-at, drop-at}
 use Rattle.text.specs.Lists.{every}
@@ -14,7 +14,7 @@ use Rattle.semantics.specs.Terms.{Term, con, var, Constraint, mapTerms, isBelow
 use Rattle.semantics.specs.Matching.{unassigned}
 use Rattle.semantics.specs.Firing.{instance}
 use Rattle.semantics.specs.Overlaps.{apart}
-use Rattle.text.proofs.Bools.{and-true}
+use Rattle.text.proofs.ListLaws.{every-together}
 use Rattle.tables.specs.Cells.{cellConstraints, isLow}
 use Rattle.tables.specs.Rows.{ruleOfRow}
 use Rattle.tables.proofs.MapLaws.{acts-constraints}
@@ -40,11 +40,9 @@ both-tests :
     (cs : List Constraint) → every isLow cs ≡ true → every isLettered cs ≡ true
     → every (λ c. isLow c && every (isBelow alphabet) (c .terms)) cs ≡ true
 unfolding isLettered
-both-tests [] l h = refl
-both-tests (c ∷ cs) l h =
-    let (a, b) = and-true (isLow c) (every isLow cs) l in
-    let (d, e) = and-true (every (isBelow alphabet) (c .terms)) (every isLettered cs) h in
-    rw (a, d) (both-tests cs b e)
+both-tests cs l h =
+    every-together isLow isLettered (λ c. isLow c && every (isBelow alphabet) (c .terms)) cs
+    (λ c low letters. rw (low, letters)) l h
 
 -- a rule's heads, with a number added to its variables; w is how many there are, as read
 pub laid-one :

@@ -4,12 +4,12 @@
 --   node-next, node-cut      the next head joined, or not
 --   node-whole               what making the goal asks
 -- Assumes nothing.
-use Prim.Native.Nat.{ℕ, suc, _+_, _*_, _≤_, _<_}
+use Prim.Native.Nat.{ℕ, _+_, _*_, _≤_, _<_}
 use native.Mathlib.Omega.{arith}
-use mathlib.Core.Bool.{Bool, true, false, _&&_}
+use mathlib.Core.Bool.{Bool, true, false}
 use mathlib.Core.List.{List, [], _∷_, _++_, map}
 use mathlib.Core.Option.{none, some}
-use mathlib.Core.Path.{_≡_, refl, sym, ap, subst, _∙_}
+use mathlib.Core.Path.{_≡_, refl, sym, ap, _∙_}
 use lib.ListN.{length, take, drop, getD, length-map, length-drop}
 use lib.Seq.{length-take-le}
 use borrow.Author.Tests.{lt-ltb, ltb-true}
@@ -17,12 +17,12 @@ use Rattle.text.specs.Lists.{every}
 use Rattle.semantics.specs.Terms.{Term, con, var, Constraint, mapTerms, isBelow, alphabet}
 use Rattle.semantics.specs.Overlaps.{apart}
 use Rattle.text.proofs.Bools.{and-true}
+use Rattle.text.proofs.ListLaws.{every-both, every-map}
 use Rattle.tables.specs.Cells.{cellConstraints, isLow}
 use Rattle.tables.specs.Rows.{ruleOfRow}
 use Rattle.tables.specs.Numbers.{isWithin}
 use Rattle.tables.proofs.CellLaws.{constraints-length}
 use Rattle.fitting.specs.Positions.{isLettered}
-use Rattle.engine.proofs.RuleLaws.{every-append}
 use Rattle.overlaps.specs.Joins.{joinNext, paired}
 use Rattle.overlaps.specs.Cells.{joinedOf, Partner, RuleRow, RulePair, headsOf}
 use Rattle.overlaps.specs.Overlapped.{Node, Whole}
@@ -50,13 +50,7 @@ heads-within σ f [] l h = refl
 heads-within σ f (c ∷ cs) l h =
     let (a, b) = and-true (isLow c) (every isLow cs) l in
     let (d, e) = and-true (every (isBelow alphabet) (c .terms)) (every isLettered cs) h in
-    rw (a, terms (c .terms) d) (heads-within σ f cs b e)
-  where
-    terms : (ts : List Term) → every (isBelow alphabet) ts ≡ true → every (isBelow 52) (map σ ts) ≡ true
-    terms [] k = refl
-    terms (t ∷ ts) k =
-        let (a, b) = and-true (isBelow alphabet t) (every (isBelow alphabet) ts) k in
-        rw (f t a) (terms ts b)
+    rw (a, every-map (isBelow alphabet) (isBelow 52) σ (c .terms) f d) (heads-within σ f cs b e)
 
 first-within :
     (cs : List Constraint) → every isLow cs ≡ true → every isLettered cs ≡ true → every (isWithin 52) cs ≡ true
@@ -86,7 +80,7 @@ node-start first second start cells r s e =
       size = omega (arith, r .size);
       within =
           ap (every (isWithin 52)) e
-          ∙ every-append (isWithin 52) hs gs (first-within hs (r .first-row .low) (r .first-row .given .heads))
+          ∙ every-both (isWithin 52) hs gs (first-within hs (r .first-row .low) (r .first-row .given .heads))
           (heads-within apart high-letter (ruleOfRow [] second .heads) (r .second-row .low) (r .second-row .given .heads));
       first-few = omega (arith, r .first-row .given .heads-few);
       second-few = omega (arith, r .second-row .given .heads-few);

@@ -4,7 +4,7 @@
 --   rest-repeat, rest-clash              a partner chosen twice, and heads that do not unify, leave none
 --   one-none, one-new, one-lost          partners one to one, with one more
 -- Assumes nothing.
-use Prim.Native.Nat.{ℕ, zero, suc, _+_, _≤_, _<_}
+use Prim.Native.Nat.{ℕ, suc, _+_, _≤_, _<_}
 use native.Mathlib.Omega.{arith}
 use mathlib.Core.Bool.{Bool, true, false, cond, not, _&&_, _||_}
 use mathlib.Core.List.{List, [], _∷_, _++_, map, append-assoc, append-nil}
@@ -13,8 +13,9 @@ use mathlib.Core.Path.{_≡_, refl, sym, ap, fun-ext, _∙_}
 use lib.Dec.{eqb}
 use lib.ListN.{length, drop, drop-of-length-le}
 use lib.Seq.{drop-cons}
-use Rattle.text.specs.Lists.{onward, bind, has, answers, gather, tabled, upTo}
+use Rattle.text.specs.Lists.{onward, bind, has, answers, gather, upTo}
 use Rattle.text.proofs.Laws.{tabled-length, tabled-at}
+use Rattle.text.proofs.ListLaws.{answers-append, answers-map}
 use Rattle.semantics.specs.Terms.{mapTerms}
 use Rattle.semantics.specs.Overlaps.{partnerLists, isOneToOne, isPairing, pairings, apart}
 use Rattle.semantics.specs.Overlaps.{Numbered, Overlap, overlapOf, overlapsOf}
@@ -26,23 +27,7 @@ use Rattle.overlaps.specs.Joins.{allJoined, goalFrom}
 use Rattle.overlaps.specs.Rests.{rest, restFrom}
 use Rattle.overlaps.proofs.JoinLaws.{joined-cut, overlap-joined}
 
--- the answers over two lists, over a list's image, over gathered lists and over answers
-answers-append :
-    {A B : Type 0} (f : A → Option B) (k l : List A) → answers f (k ++ l) ≡ answers f k ++ answers f l
-answers-append f [] l = refl
-answers-append {A} {B} f (a ∷ k) l = rw (answers-append f k l) (go (f a))
-  where
-    go : (o : Option B)
-        → onward o (answers f k ++ answers f l) (λ y. y ∷ (answers f k ++ answers f l))
-        ≡ onward o (answers f k) (λ y. y ∷ answers f k) ++ answers f l
-    go none = refl
-    go (some b) = refl
-
-answers-map :
-    {A B C : Type 0} (f : B → Option C) (g : A → B) (l : List A) → answers f (map g l) ≡ answers (λ a. f (g a)) l
-answers-map f g [] = refl
-answers-map f g (a ∷ l) = rw (answers-map f g l)
-
+-- the answers over gathered lists and over answers
 answers-gather :
     {A B C : Type 0} (f : B → Option C) (g : A → List B) (l : List A)
     → answers f (gather g l) ≡ gather (λ a. answers f (g a)) l

@@ -7,7 +7,7 @@
 -- Assumes nothing.
 use Prim.Native.Nat.{ℕ, zero, suc, _+_, _-_, _*_, _≤_, _<_}
 use native.Mathlib.Omega.{arith}
-use mathlib.Core.Bool.{Bool, true, false, cond, _&&_}
+use mathlib.Core.Bool.{Bool, true, false, cond}
 use mathlib.Core.List.{List, [], _∷_, _++_, map}
 use mathlib.Core.Option.{some}
 use mathlib.Core.Path.{_≡_, refl, sym, ap, subst, _∙_}
@@ -21,43 +21,23 @@ use Rattle.semantics.specs.Overlaps.{equateTerms, equate, unjoinedHeads, appear
 use Rattle.semantics.proofs.Configurations.{Or, inl, inr, Member}
 use Rattle.semantics.proofs.Options.{decide, true-false, none-some, bind-some, cond-some, cond-some-not, eqb-equal, equal-eqb}
 use Rattle.text.proofs.Bools.{and-true}
+use Rattle.text.proofs.ListLaws.{every-both, every-take, every-drop, every-weaker, every-map}
 use Rattle.semantics.proofs.Bools.{or-cases, or-right}
 use Rattle.semantics.proofs.Multisets.{member-cons, member-nil}
 use Rattle.semantics.proofs.Indices.{some-equal}
 use Rattle.semantics.proofs.SolveLaws.{solve-keeps}
+use Rattle.semantics.proofs.Weights.{every-at}
 use Rattle.tables.specs.Cells.{cellTerm, cellTerms, cellConstraints, isLow}
 use Rattle.tables.specs.Numbers.{isWithin}
 use Rattle.tables.proofs.CellLaws.{constraints-length}
-use Rattle.engine.proofs.RuleLaws.{every-append}
 use Rattle.overlaps.specs.Joins.{joined, joinNext}
 use Rattle.overlaps.specs.Overlapped.{Whole, Finished, Partners}
-
--- a test that all elements pass: one of them, the first ones, the others
-element-passes :
-    {A : Type 0} (p : A → Bool) (l : List A) (k : ℕ) {a : A} → every p l ≡ true → getElem? l k ≡ some a → p a ≡ true
-element-passes p [] k h e = none-some refl e
-element-passes p (b ∷ l) zero h e = subst (λ x. p x ≡ true) (some-equal e) (and-true (p b) (every p l) h .0)
-element-passes p (b ∷ l) (suc k) h e = element-passes p l k (and-true (p b) (every p l) h .1) e
-
-take-passes : {A : Type 0} (p : A → Bool) (k : ℕ) (l : List A) → every p l ≡ true → every p (take k l) ≡ true
-take-passes p zero l h = refl
-take-passes p (suc k) [] h = refl
-take-passes p (suc k) (a ∷ l) h =
-    let (b, c) = and-true (p a) (every p l) h in
-    rw b (take-passes p k l c)
-
-drop-passes : {A : Type 0} (p : A → Bool) (k : ℕ) (l : List A) → every p l ≡ true → every p (drop k l) ≡ true
-drop-passes p zero l h = h
-drop-passes p (suc k) [] h = refl
-drop-passes p (suc k) (a ∷ l) h = drop-passes p k l (and-true (p a) (every p l) h .1)
 
 -- symbols that lie below the variables
 pub within-low : (v : ℕ) (cs : List Constraint) → every (isWithin v) cs ≡ true → every isLow cs ≡ true
 unfolding isWithin
-within-low v [] h = refl
-within-low v (c ∷ cs) h =
-    let (a, b) = and-true (isLow c && every (isBelow v) (c .terms)) (every (isWithin v) cs) h in
-    rw (and-true (isLow c) (every (isBelow v) (c .terms)) a .0) (within-low v cs b)
+within-low v cs h =
+    every-weaker (isWithin v) isLow cs (λ c both. and-true (isLow c) (every (isBelow v) (c .terms)) both .0) h
 
 -- the sides of equations between terms that pass a test pass it
 sides-pass :
@@ -83,17 +63,12 @@ map-within :
     (v : ℕ) (σ : Term → Term) → ((t : Term) → isBelow v t ≡ true → isBelow v (σ t) ≡ true) → (cs : List Constraint)
     → every (isWithin v) cs ≡ true → every (isWithin v) (map (mapTerms σ) cs) ≡ true
 unfolding isWithin isLow mapTerms
-map-within v σ f [] h = refl
-map-within v σ f (c ∷ cs) h =
-    let (a, b) = and-true (isLow c && every (isBelow v) (c .terms)) (every (isWithin v) cs) h in
-    let (d, e) = and-true (isLow c) (every (isBelow v) (c .terms)) a in
-    rw (d, terms (c .terms) e) (map-within v σ f cs b)
+map-within v σ f cs h = every-map (isWithin v) (isWithin v) (mapTerms σ) cs one h
   where
-    terms : (ts : List Term) → every (isBelow v) ts ≡ true → every (isBelow v) (map σ ts) ≡ true
-    terms [] k = refl
-    terms (t ∷ ts) k =
-        let (a, b) = and-true (isBelow v t) (every (isBelow v) ts) k in
-        rw (f t a) (terms ts b)
+    one : (c : Constraint) → isWithin v c ≡ true → isWithin v (mapTerms σ c) ≡ true
+    one c both =
+        let (low, terms) = and-true (isLow c) (every (isBelow v) (c .terms)) both in
+        rw (low, every-map (isBelow v) (isBelow v) σ (c .terms) f terms)
 
 -- two of the constraints joined
 joined-within :
@@ -119,7 +94,7 @@ next-within v m ds (suc d) cs cs′ w e =
     let f = cond-some-not (has (suc d) ds) e .1 in
     let (h, a, b) = bind-some (getElem? cs (length ds)) (λ h. bind (getElem? cs (m + d)) (λ g. joined h g cs)) f in
     let (g, k, j) = bind-some (getElem? cs (m + d)) (λ g. joined h g cs) b in
-    joined-within v h g cs cs′ (element-passes (isWithin v) cs (length ds) w a) (element-passes (isWithin v) cs (m + d) w k) w j
+    joined-within v h g cs cs′ (every-at (isWithin v) cs (length ds) h w a) (every-at (isWithin v) cs (m + d) g w k) w j
 
 -- the goal's heads
 unjoined-passes :
@@ -140,8 +115,8 @@ pub unjoined-within :
     (p : Constraint → Bool) (m : ℕ) (cs : List Constraint) (ds : List ℕ) → every p cs ≡ true
     → every p (take m cs ++ unjoinedHeads 1 (drop m cs) ds) ≡ true
 unjoined-within p m cs ds h =
-    every-append p (take m cs) (unjoinedHeads 1 (drop m cs) ds) (take-passes p m cs h)
-    (unjoined-passes p 1 (drop m cs) ds (drop-passes p m cs h))
+    every-both p (take m cs) (unjoinedHeads 1 (drop m cs) ds) (every-take p m cs h)
+    (unjoined-passes p 1 (drop m cs) ds (every-drop p m cs h))
 
 -- terms bring at most one variable each
 terms-few : (seen : List ℕ) (ts : List Term) → length (appearingIn seen ts) ≤ length seen + length ts

@@ -14,9 +14,9 @@ use mathlib.Core.Path.{_≡_, refl, sym, ap, ap₂, _∙_}
 use lib.ListN.{length, length-append}
 use Rattle.text.specs.Lists.{every, gather}
 use Rattle.text.proofs.Bools.{and-true}
+use Rattle.text.proofs.ListLaws.{every-both, gather-append}
 use Rattle.pages.specs.Pages.{filled, pageLine, rowLines, aligned, headLine, pageOf, pagesFrom}
-use Rattle.pages.proofs.Lined.{ended, gather-append}
-use Rattle.pages.proofs.TestLaws.{every-both}
+use Rattle.pages.proofs.Lined.{ended}
 
 -- rows, with empty ones behind them, n in all
 unfoldable pub padded : ℕ → List (List ℕ) → List (List ℕ)

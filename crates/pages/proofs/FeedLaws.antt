@@ -15,9 +15,10 @@ use Rattle.text.specs.Lists.{every}
 use Rattle.text.specs.Lines.{Line, lines}
 use Rattle.text.specs.Fields.{decimalFrom, decimal}
 use Rattle.text.specs.Keys.{wordLength, word}
+use Rattle.text.proofs.ListLaws.{every-both, every-take, every-drop, every-map, every-gather}
 use Rattle.pages.specs.Pages.{spaces, filled, pieces, indented, rowsOf, rows, aligned, pagesOf}
 use Rattle.pages.proofs.Lined.{isPlainLine, Lined}
-use Rattle.pages.proofs.TestLaws.{every-both, every-take, every-drop, every-map, every-gather, every-pieces}
+use Rattle.pages.proofs.PieceLaws.{every-pieces}
 use Rattle.pages.proofs.LineLaws.{feedless, whole, lines-ended, plain-feedless, rows-are}
 use Rattle.pages.proofs.Contents.{headOf, contentsFrom, pages-contents, contents-all, page-lines}
 

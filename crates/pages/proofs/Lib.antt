@@ -1,7 +1,6 @@
 -- The laws of this crate: of its definitions, and then of the writer. Assumes nothing.
 pub mod Lined
 pub mod PieceLaws
-pub mod TestLaws
 pub mod LineLaws
 pub mod Contents
 pub mod FeedLaws

@@ -14,8 +14,8 @@ use lib.ListN.{length}
 use Rattle.text.specs.Lists.{every, gather}
 use Rattle.text.specs.Lines.{Line, inFirstLine, lines}
 use Rattle.text.proofs.Bools.{and-true}
+use Rattle.text.proofs.ListLaws.{every-weaker, gather-map}
 use Rattle.pages.specs.Pages.{rowsOf, rows}
-use Rattle.pages.proofs.TestLaws.{every-weaker, gather-map}
 use Rattle.pages.proofs.Lined.{isMark, isPlainLine, ended, Lined}
 
 -- whether a byte is no line feed, and whether bytes hold none

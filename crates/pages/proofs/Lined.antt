@@ -6,12 +6,13 @@
 use Prim.Native.Nat.{ℕ, _+_, _≤_}
 use native.Mathlib.Omega.{arith}
 use mathlib.Core.Bool.{Bool, true, not, _&&_}
-use mathlib.Core.List.{List, [], _∷_, _++_, append-nil, append-assoc}
-use mathlib.Core.Path.{_≡_, refl, sym, ap, _∙_}
+use mathlib.Core.List.{List, [], _∷_, _++_, append-nil}
+use mathlib.Core.Path.{_≡_, refl, ap, _∙_}
 use lib.Dec.{eqb}
 use lib.ListN.{length, length-append}
 use Rattle.text.specs.Lists.{every, gather}
 use Rattle.text.proofs.Laws.{every-append}
+use Rattle.text.proofs.ListLaws.{gather-append}
 use Rattle.pages.specs.Pages.{rowsOf}
 
 -- a byte that is neither a space nor a line feed
@@ -32,12 +33,6 @@ pub record Lined (listing : List ℕ) (k : ℕ) : Type 0 where
   pub cut : gather ended parts ≡ listing
   pub plain : every isPlainLine parts ≡ true
   pub few : length (gather rowsOf parts) ≤ k
-
--- elements of lists one behind the other
-pub gather-append : {A B : Type 0} (f : A → List B) (a b : List A) → gather f (a ++ b) ≡ gather f a ++ gather f b
-gather-append f [] b = refl
-gather-append f (x ∷ a) b =
-    ap (λ (l : List _). f x ++ l) (gather-append f a b) ∙ sym (append-assoc (f x) (gather f a) (gather f b))
 
 pub lined-none : Lined [] 0
 lined-none = record { parts = []; cut = refl; plain = refl; few = omega arith }

@@ -12,7 +12,7 @@
 use mathlib.Core.Path.{_≡_, refl, ap, _∙_}
 use mathlib.Core.Bool.{Bool, true, false}
 use mathlib.Core.List.{List, [], _∷_, _++_}
-use Prim.Native.Nat.{ℕ, zero, suc, _+_, _-_, _*_, _/_, _≤_, _<_}
+use Prim.Native.Nat.{ℕ, suc, _+_, _-_, _*_, _/_, _≤_, _<_, min}
 use native.Mathlib.Decide.{decLt}
 use native.Mathlib.Nat.{not-suc-le-zero}
 use native.Mathlib.Numerals.{add-one}
@@ -25,8 +25,9 @@ use Rattle.text.specs.Splits.{part}
 use Rattle.text.proofs.Decimals.{decimal-low, decimal-high}
 use Rattle.listing.specs.Writing.{Countable, Writes, ListedAs}
 use Rattle.listing.specs.declared.Listed.the-variants.{Written}
-use Rattle.listing.proofs.WriteLaws.{wrote-none, wrote-then, wrote-is, count-is, count-first, count-next}
-use Rattle.listing.proofs.WriteLaws.{Writing, writing-start, writing-count, writing-next, writing-end}
+use Rattle.listing.proofs.WriteLaws.{wrote-none, wrote-then, wrote-is, partFrom, partBack, wrote-behind, size-behind}
+use Rattle.listing.proofs.WriteLaws.{count-front, count-first, count-next}
+use Rattle.listing.proofs.WriteLaws.{Writing, writing-start, writing-first, writing-room, writing-next, writing-line, writing-end}
 use Rattle.listing.proofs.EndLaws.{listed-written}
 use Rattle.pages.specs.Pages.{spaces, filled, pageLine, pieces, rowLines, aligned, headLine, pageOf, pagesFrom, pagesOf}
 use Rattle.pages.specs.Pages.{pageSize, maxPages}
@@ -51,18 +52,14 @@ unfolding spaces
 fill-end {end = end} to w h = writing-end w (ap spaces (let z : to - end ≡ 0 = omega arith in z))
 
 -- what stands before a row's bytes
-pub indent-put : {inside : Bool} {at end : ℕ} {o p : List ℕ} → inside ≡ true → Writes (32 ∷ 32 ∷ []) at o p end
-    → Writes (indent inside) at o p end
+pub indent-put : {inside : Bool} {end : ℕ} {o p : List ℕ} → inside ≡ true → Writes (32 ∷ 32 ∷ []) 0 o p end
+    → Writes (indent inside) 0 o p end
 unfolding indent
 indent-put e w = rw e w
 
-pub indent-count : {inside : Bool} {at : ℕ} → inside ≡ true → Countable at (indent inside) → Countable at (32 ∷ 32 ∷ [])
+pub indent-none : {inside : Bool} (o : List ℕ) → inside ≡ false → Writes (indent inside) 0 o o 0
 unfolding indent
-indent-count {inside} {at} e c = count-is (ap indent e) c
-
-pub indent-none : {inside : Bool} (at : ℕ) (o : List ℕ) → inside ≡ false → Writes (indent inside) at o o at
-unfolding indent
-indent-none at o e = rw e (wrote-none o at)
+indent-none o e = rw e (wrote-none o 0)
 
 -- how many spaces stand before a number
 digit-one : (n : ℕ) → n < 10 → length (decimal n) ≡ 1
@@ -129,55 +126,46 @@ unfolding filled
 filled-long n bytes =
     omega (arith, length-append bytes (spaces (n - length bytes)), spaces-size (n - length bytes))
 
-module _ (n : ℕ) {bytes o p : List ℕ} {at end : ℕ} (w : Writes bytes at o p end) where
-  filled-wrote : {q : List ℕ} {more : ℕ} → Writes (spaces ((at + n) - end)) end p q more → length p ≡ length o
-      → Writes (filled n bytes) at o q more
-  unfolding filled
-  filled-wrote v k =
-      let same : (at + n) - end ≡ n - length bytes = omega (arith, w .counted) in
-      wrote-then w (wrote-is (ap spaces same) v) k
+filled-wrote : (n : ℕ) {bytes o p q : List ℕ} {end more : ℕ} → Writes bytes 0 o p end
+    → Writes (spaces (n - end)) end p q more → length p ≡ length o → Writes (filled n bytes) 0 o q more
+unfolding filled
+filled-wrote n {bytes} {end = end} w v k =
+    let same : n - end ≡ n - length bytes = omega (arith, w .counted) in
+    wrote-then w (wrote-is (ap spaces same) v) k
 
 -- a line of a page: what it leaves to count
-module _ (bytes : List ℕ) {at : ℕ} (c : Countable at (pageLine bytes)) where
-  pub line-bytes : Countable at bytes
+module _ (bytes : List ℕ) (c : Countable 0 (pageLine bytes)) where
+  pub line-bytes : Countable 0 bytes
   unfolding pageLine filled
   line-bytes = count-first _ (count-first _ c)
 
-  pub line-room : at + 40 < 18446744073709551616
-  unfolding pageLine
-  line-room = omega (arith, c .few, filled-long 40 bytes, length-append (filled 40 bytes) (10 ∷ []))
-
-  pub line-feed : {o p q : List ℕ} {end feed : ℕ} → Writes bytes at o p end → Writes (spaces ((at + 40) - end)) end p q feed
+  pub line-feed : {o p q : List ℕ} {end feed : ℕ} → Writes bytes 0 o p end → Writes (spaces (40 - end)) end p q feed
       → length p ≡ length o → Countable feed (10 ∷ [])
   unfolding pageLine
   line-feed w v k = count-next c (filled-wrote 40 w v k)
 
 -- and what it adds, if it is filled up to 40 columns
-pub line-wrote : (to : ℕ) {bytes o p q r : List ℕ} {at end feed last : ℕ} → Writes bytes at o p end
-    → Writes (spaces (to - end)) end p q feed → to ≡ at + 40 → Writes (10 ∷ []) feed q r last → length p ≡ length o
-    → length q ≡ length p → Writes (pageLine bytes) at o r last
+pub line-wrote : (to : ℕ) {bytes o p q r : List ℕ} {end feed last : ℕ} → Writes bytes 0 o p end
+    → Writes (spaces (to - end)) end p q feed → to ≡ 40 → Writes (10 ∷ []) feed q r last → length p ≡ length o
+    → length q ≡ length p → Writes (pageLine bytes) 0 o r last
 unfolding pageLine
 line-wrote to {end = end} w v e u k l =
     wrote-then (filled-wrote 40 w (wrote-is (ap (λ (n : ℕ). spaces (n - end)) e) v) k) u (l ∙ k)
 
 -- line 1 of a page: a field, filled up to 36 columns, and the page's number
-module _ (first : List ℕ) (n : ℕ) {at : ℕ} (c : Countable at (headLine first n)) where
-  pub head-field : Countable at first
+module _ (first : List ℕ) (n : ℕ) (c : Countable 0 (headLine first n)) where
+  pub head-field : Countable 0 first
   unfolding headLine filled
   head-field = count-first _ (count-first _ (line-bytes _ c))
 
-  pub head-room : at + 40 < 18446744073709551616
-  unfolding headLine
-  head-room = line-room _ c
-
-  pub head-number : {o p q : List ℕ} {field start : ℕ} → Writes first at o p field
-      → Writes (spaces ((at + 36) - field)) field p q start → length p ≡ length o → Countable start (aligned n)
+  pub head-number : {o p q : List ℕ} {field start : ℕ} → Writes first 0 o p field
+      → Writes (spaces (36 - field)) field p q start → length p ≡ length o → Countable start (aligned n)
   unfolding headLine
   head-number w v k = count-next (line-bytes _ c) (filled-wrote 36 w v k)
 
-pub head-wrote : (n : ℕ) {first o p q r : List ℕ} {at field start digits : ℕ} → Writes first at o p field
-    → Writes (spaces ((at + 36) - field)) field p q start → Writes (aligned n) start q r digits → length p ≡ length o
-    → length q ≡ length p → Writes (filled 36 first ++ aligned n) at o r digits
+pub head-wrote : (n : ℕ) {first o p q r : List ℕ} {field start digits : ℕ} → Writes first 0 o p field
+    → Writes (spaces (36 - field)) field p q start → Writes (aligned n) start q r digits → length p ≡ length o
+    → length q ≡ length p → Writes (filled 36 first ++ aligned n) 0 o r digits
 head-wrote n w v u k l = wrote-then (filled-wrote 36 w v k) u (l ∙ k)
 
 -- the line of the row at a place; behind the listing's end it is blank
@@ -244,18 +232,24 @@ module _ {s o p : List ℕ} {start from end at i : ℕ} {continued inside : Bool
       let step : 58 - i ≡ suc (58 - (i + 1)) = omega arith in
       rw step (row-line (w .within) next (58 - (i + 1)))
 
-  -- the next line can be counted
-  pub rowing-count : i < 58 → Countable from (rowLines 58 (rowsFrom continued (drop start s)))
-      → Countable end (pageLine (indent inside ++ part s at (r .end)))
-  rowing-count h c = count-first _ (count-is (rowing-line h) (writing-count c (w .writing)))
+  -- the next line can be counted, and so can the place behind it
+  module _ (h : i < 58) (c : Countable from (rowLines 58 (rowsFrom continued (drop start s)))) where
+    pub rowing-count : Countable 0 (pageLine (indent inside ++ part s at (r .end)))
+    rowing-count = count-front (writing-first _ (rowing-line h) c (w .writing))
 
-  -- and is one more
-  pub rowing-next : {q : List ℕ} {more : ℕ} → i < 58 → Writes (pageLine (indent inside ++ part s at (r .end))) end p q more
-      → length q ≡ length p → Rowing s start continued from o q more (r .next) (r .inside) (i + 1)
-  rowing-next h v k =
+    pub rowing-room : {x y : List ℕ} {size : ℕ} → Writes (pageLine (indent inside ++ part s at (r .end))) 0 x y size
+        → end + size < 18446744073709551616
+    rowing-room v = writing-room _ (rowing-line h) c (w .writing) v
+
+  -- and it is one more
+  pub rowing-next : {line : List ℕ} {size : ℕ} (begin : ℕ) → i < 58 → begin ≡ min end (length p)
+      → Writes (pageLine (indent inside ++ part s at (r .end))) 0 (partFrom begin p) line size
+      → length line ≡ length (partFrom begin p)
+      → Rowing s start continued from o (partBack begin p line) (end + size) (r .next) (r .inside) (i + 1)
+  rowing-next begin h b v k =
       record {
         few = omega arith;
-        writing = writing-next _ (rowing-line h) (w .writing) v k;
+        writing = writing-line begin _ (rowing-line h) (w .writing) b v k;
         left = row-behind (w .within) next ∙ ap (drop 1) (w .left) ∙ drop-drop 1 i (rowsFrom continued (drop start s));
         begun = omega (arith, w .begun, next .begun, next .ended);
         within = next .within;
@@ -283,29 +277,36 @@ rowing-end {s} {start = start} {at = at} {i = i} {continued = continued} {inside
     }
 
 -- a page: its first line, a blank one, and lines with rows
-module _ (first : List ℕ) (number : ℕ) (rs : List (List ℕ)) {from : ℕ} (c : Countable from (pageOf first number rs)) where
-  pub page-head : Countable from (headLine first number)
+module _ (first : List ℕ) (number : ℕ) (rs : List (List ℕ)) (c : Countable 0 (pageOf first number rs)) where
+  pub page-head : Countable 0 (headLine first number)
   unfolding pageOf
   page-head = count-first _ c
 
-  module _ {o p : List ℕ} {blank : ℕ} (w : Writes (headLine first number) from o p blank) where
-    pub page-blank : Countable blank (pageLine (indent false ++ []))
+  module _ {o p : List ℕ} {blank : ℕ} (w : Writes (headLine first number) 0 o p blank) where
+    pub page-blank : Countable 0 (pageLine (indent false ++ []))
     unfolding pageOf indent
-    page-blank = count-first _ (count-next c w)
+    page-blank = count-front (count-first _ (count-next c w))
 
-    pub page-rows : {q : List ℕ} {start : ℕ} → Writes (pageLine (indent false ++ [])) blank p q start
-        → Countable start (rowLines 58 rs)
+    pub page-rows : {x y : List ℕ} {size : ℕ} → Writes (pageLine (indent false ++ [])) 0 x y size
+        → Countable (blank + size) (rowLines 58 rs)
     unfolding pageOf indent
-    page-rows v = count-next (count-next c w) v
+    page-rows v =
+        record { few = omega (arith, count-next c w .few, v .counted, length-append (pageLine []) (rowLines 58 rs)) }
 
-pub page-put : (first : List ℕ) (number : ℕ) {s o p q r : List ℕ} {from blank start at : ℕ} {inside : Bool} {place : Place}
-    → Writes (headLine first number) from o p blank → Writes (pageLine (indent false ++ [])) blank p q start
-    → RowsPut (rowLines 58 (rowsFrom inside (drop at s))) s at inside start q r place → length p ≡ length o
-    → length q ≡ length p → RowsPut (pageOf first number (rowsFrom inside (drop at s))) s at inside from o r place
+    pub page-room : {x y : List ℕ} {size : ℕ} → Writes (pageLine (indent false ++ [])) 0 x y size
+        → blank + size < 18446744073709551616
+    page-room v = omega (arith, page-rows v .few)
+
+pub page-put : (first : List ℕ) (number from : ℕ) {s o p line r : List ℕ} {blank size at : ℕ} {inside : Bool} {place : Place}
+    → Writes (headLine first number) 0 o p blank → from ≡ min blank (length p)
+    → Writes (pageLine (indent false ++ [])) 0 (partFrom from p) line size
+    → RowsPut (rowLines 58 (rowsFrom inside (drop at s))) s at inside (blank + size) (partBack from p line) r place
+    → length p ≡ length o → length line ≡ length (partFrom from p)
+    → RowsPut (pageOf first number (rowsFrom inside (drop at s))) s at inside 0 o r place
 unfolding pageOf indent
-page-put first number w v u k l =
+page-put first number from {p = p} {line = line} w b v u k l =
     record {
-      wrote = wrote-then w (wrote-then v (u .wrote) l) k;
+      wrote = wrote-then w (wrote-then (wrote-behind from b v) (u .wrote) (size-behind from p line l)) k;
       left = u .left;
       within = u .within;
       ahead = u .ahead;
@@ -355,21 +356,29 @@ module _ {s o p first : List ℕ} {end at number : ℕ} {inside : Bool} (w : Pag
       ++ pagesFrom (word s 0) (suc number) (pieces 58 (drop 58 (rowsFrom inside (drop at s))))
   paging-page = rw f (page-cons (word s 0) number (rowsFrom inside (drop at s)) (rows-left inside s at h))
 
-  -- the next page can be counted
-  pub paging-count : Countable 0 (pagesOf s) → Countable end (pageOf first number (rowsFrom inside (drop at s)))
-  paging-count c = count-first _ (count-is paging-page (writing-count c (w .writing)))
+  paging-first : Countable 0 (pagesOf s) → Countable end (pageOf first number (rowsFrom inside (drop at s)))
+  paging-first c = writing-first _ paging-page c (w .writing)
 
-  -- and so can its number
-  pub paging-number : Countable 0 (pagesOf s) → number + 1 < 18446744073709551616
-  paging-number c = omega (arith, w .few, paging-count c .few, page-long first number (rowsFrom inside (drop at s)))
+  -- the next page can be counted, and so can its number and the place behind it
+  module _ (c : Countable 0 (pagesOf s)) where
+    pub paging-count : Countable 0 (pageOf first number (rowsFrom inside (drop at s)))
+    paging-count = count-front (paging-first c)
+
+    pub paging-number : number + 1 < 18446744073709551616
+    paging-number = omega (arith, w .few, paging-first c .few, page-long first number (rowsFrom inside (drop at s)))
+
+    pub paging-room : {x y : List ℕ} {size : ℕ} → Writes (pageOf first number (rowsFrom inside (drop at s))) 0 x y size
+        → end + size < 18446744073709551616
+    paging-room v = writing-room _ paging-page c (w .writing) v
 
   -- and it is one more
-  pub paging-next : {q : List ℕ} {place : Place}
-      → RowsPut (pageOf first number (rowsFrom inside (drop at s))) s at inside end p q place → length q ≡ length p
-      → Paging s o q (place .end) (place .at) (place .inside) (number + 1)
-  paging-next {q} {place} v k =
+  pub paging-next : {page : List ℕ} {place : Place} (from : ℕ) → from ≡ min end (length p)
+      → RowsPut (pageOf first number (rowsFrom inside (drop at s))) s at inside 0 (partFrom from p) page place
+      → length page ≡ length (partFrom from p)
+      → Paging s o (partBack from p page) (end + place .end) (place .at) (place .inside) (number + 1)
+  paging-next from b v k =
       record {
-        writing = rw (add-one number, v .left) (writing-next _ paging-page (w .writing) (v .wrote) k);
+        writing = rw (add-one number, v .left) (writing-line from _ paging-page (w .writing) b (v .wrote) k);
         within = v .within;
         few = omega (arith, w .few, v .wrote .counted, page-long first number (rowsFrom inside (drop at s)));
       }

@@ -2,14 +2,17 @@
 --   pieces-cons       the first piece, and those behind it
 --   pieces-joined     the pieces one behind the other are the list
 --   pieces-few        how many they are
+--   every-pieces      a test of all elements of the pieces
 --   rowLines-take     the lines of a page show only as many rows as there are lines
 -- Assumes nothing.
 use Prim.Native.Nat.{ℕ, zero, suc, _*_, _≤_, _<_}
 use native.Mathlib.Omega.{arith}
+use mathlib.Core.Bool.{Bool, true}
 use mathlib.Core.List.{List, [], _∷_, _++_}
 use mathlib.Core.Path.{_≡_, refl, ap, _∙_}
 use lib.ListN.{length, take, drop, length-drop, take-append-drop}
-use Rattle.text.specs.Lists.{gather}
+use Rattle.text.specs.Lists.{every, gather}
+use Rattle.text.proofs.ListLaws.{every-take, every-drop}
 use Rattle.pages.specs.Pages.{pageLine, piecesFrom, pieces, rowLines}
 
 -- any fuel that is not below the length is enough
@@ -55,6 +58,14 @@ few-from (suc k) n (suc m) (x ∷ l) h =
 -- how many pieces of n elements there are at most
 pub pieces-few : {A : Type 0} (n m : ℕ) (l : List A) → 0 < n → length l ≤ n * m → length (pieces n l) ≤ m
 pieces-few n m l p h = few-from (length l) n m l h
+
+-- a test of all elements of the pieces
+pub every-pieces : {A : Type 0} (t : A → Bool) (k n : ℕ) (l : List A) → every t l ≡ true
+    → every (every t) (piecesFrom k n l) ≡ true
+every-pieces t zero n l h = refl
+every-pieces t (suc k) n [] h = refl
+every-pieces t (suc k) n (x ∷ l) h =
+    rw (every-take t n (x ∷ l) h, every-pieces t k n (drop n (x ∷ l)) (every-drop t n (x ∷ l) h))
 
 -- n lines of a page show only the first n rows
 pub rowLines-take : (n : ℕ) (rs : List (List ℕ)) → rowLines n (take n rs) ≡ rowLines n rs

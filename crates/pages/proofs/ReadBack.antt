@@ -17,11 +17,11 @@ use Rattle.text.specs.Lists.{every, gather, answers}
 use Rattle.text.specs.Lines.{Line}
 use Rattle.text.specs.Keys.{word}
 use Rattle.text.proofs.Bools.{never, and-true}
+use Rattle.text.proofs.ListLaws.{every-take, every-drop, every-gather, answers-append, answers-map}
 use Rattle.pages.specs.Pages.{spaces, filled, piecesFrom, pieces, indented, rowsOf, rows, pagesOf}
 use Rattle.pages.specs.Pages.{unlessPadding, unfilled, unlessBlank, rowsOn, behindRow, joined, readBack}
 use Rattle.pages.proofs.Lined.{isMark, isPlainLine, ended, Lined}
 use Rattle.pages.proofs.PieceLaws.{pieces-cons, pieces-joined}
-use Rattle.pages.proofs.TestLaws.{every-take, every-drop, every-gather, answers-append, answers-map}
 use Rattle.pages.proofs.LineLaws.{plain-marks, rows-are}
 use Rattle.pages.proofs.Contents.{padded, contents, contentsFrom, page-size}
 use Rattle.pages.proofs.FeedLaws.{shown, pages-lines}

@@ -16,12 +16,12 @@ use Rattle.text.specs.Lines.{Line, lines}
 use Rattle.text.specs.Fields.{decimal}
 use Rattle.text.specs.Keys.{word}
 use Rattle.text.proofs.Bools.{and-true}
+use Rattle.text.proofs.ListLaws.{every-always, every-map, every-gather}
 use Rattle.listing.proofs.SizeLaws.{tens, digits-few}
 use Rattle.pages.specs.Pages.{spaces, filled, pageLine, piecesFrom, pieces, indented, rowsOf, rows, aligned}
 use Rattle.pages.specs.Pages.{pagesOf, pageCount, pageSize}
 use Rattle.pages.proofs.Lined.{Lined}
-use Rattle.pages.proofs.PieceLaws.{pieces-few}
-use Rattle.pages.proofs.TestLaws.{every-always, every-map, every-gather, every-pieces}
+use Rattle.pages.proofs.PieceLaws.{pieces-few, every-pieces}
 use Rattle.pages.proofs.Contents.{headOf, pages-contents, contents-size, contents-all}
 use Rattle.pages.proofs.FeedLaws.{shown, contentsOf, pages-lines}
 

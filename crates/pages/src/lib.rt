@@ -3,6 +3,7 @@ mod page;
 mod rows;
 
 use listing::Listed;
+use listing::writing::behind;
 use page::put_page;
 use text::fields::word_at;
 ghost use Prim.Native.Nat.{_*_, _≤_};
@@ -38,8 +39,9 @@ fn put_pages(out: &mut [u8], listing: &[u8]) -> usize
     let mut inside = false;
     let mut number = 1;
     while at < listing.len() {
-        let place = put_page(out, end, first, number, listing, at, inside);
-        end = place.end;
+        let from = behind(end, out.len());
+        let place = put_page(&mut out[from..], first, number, listing, at, inside);
+        end += place.end;
         at = place.at;
         inside = place.inside;
         number += 1;

@@ -1,6 +1,7 @@
 // The lines of a page: its first line, a blank one, and 58 with rows of a listing.
 use crate::Place;
 use crate::rows::next_row;
+use listing::writing::behind;
 use listing::writing::copy;
 use listing::writing::put_byte;
 use listing::writing::put_decimal;
@@ -24,25 +25,24 @@ fn fill(out: &mut [u8], from: usize, to: usize) -> usize
     end
 }
 
-// The two spaces in front of bytes that continue a line.
-fn put_indent(out: &mut [u8], at: usize, inside: bool) -> usize
-    requires { ⌜ Countable at (indent «inside») ⌝ }
-    ensures { λ r. ⌜ Writes (indent «inside») at (now (out .entry)) (now (out .exit)) r ⌝ }
+// The two spaces in front of bytes that continue a line, at the front of an output.
+fn put_indent(out: &mut [u8], inside: bool) -> usize
+    ensures { λ r. ⌜ Writes (indent «inside») 0 (now (out .entry)) (now (out .exit)) r ⌝ }
 {
     if inside {
-        return copy(out, at, b"  ");
+        return copy(out, 0, b"  ");
     }
-    at
+    0
 }
 
-// A line of a page with a row's bytes.
-fn put_row(out: &mut [u8], at: usize, inside: bool, bytes: &[u8]) -> usize
-    requires { ⌜ Countable at (pageLine (indent «inside» ++ now bytes)) ⌝ }
-    ensures { λ r. ⌜ Writes (pageLine (indent «inside» ++ now (bytes .entry))) at (now (out .entry)) (now (out .exit)) r ⌝ }
+// A line of a page with a row's bytes, into the front of an output.
+fn put_row(out: &mut [u8], inside: bool, bytes: &[u8]) -> usize
+    requires { ⌜ Countable 0 (pageLine (indent «inside» ++ now bytes)) ⌝ }
+    ensures { λ r. ⌜ Writes (pageLine (indent «inside» ++ now (bytes .entry))) 0 (now (out .entry)) (now (out .exit)) r ⌝ }
 {
-    let start = put_indent(out, at, inside);
+    let start = put_indent(out, inside);
     let end = copy(out, start, bytes);
-    let feed = fill(out, end, at + 40);
+    let feed = fill(out, end, 40);
     put_byte(out, feed, b'\n')
 }
 
@@ -71,15 +71,15 @@ fn put_aligned(out: &mut [u8], at: usize, n: usize) -> usize
     put_decimal(out, digits, n)
 }
 
-// Line 1 of a page: a field at the left and the page's number in the last 4 columns.
-fn put_first(out: &mut [u8], at: usize, first: &[u8], number: usize) -> usize
-    requires { ⌜ Countable at (headLine (now first) number) ⌝ }
-    ensures { λ r. ⌜ Writes (headLine (now (first .entry)) number) at (now (out .entry)) (now (out .exit)) r ⌝ }
+// Line 1 of a page, into the front of an output: a field at the left and the page's number in the last 4 columns.
+fn put_first(out: &mut [u8], first: &[u8], number: usize) -> usize
+    requires { ⌜ Countable 0 (headLine (now first) number) ⌝ }
+    ensures { λ r. ⌜ Writes (headLine (now (first .entry)) number) 0 (now (out .entry)) (now (out .exit)) r ⌝ }
 {
-    let field = copy(out, at, first);
-    let start = fill(out, field, at + 36);
+    let field = copy(out, 0, first);
+    let start = fill(out, field, 36);
     let digits = put_aligned(out, start, number);
-    let feed = fill(out, digits, at + 40);
+    let feed = fill(out, digits, 40);
     put_byte(out, feed, b'\n')
 }
 
@@ -97,7 +97,9 @@ fn put_rows(out: &mut [u8], from: usize, listing: &[u8], start: usize, continued
     while i < 58 {
         let row = next_row(listing, at, inside);
         let e = row.end;
-        end = put_row(out, end, inside, &listing[at..e]);
+        let begin = behind(end, out.len());
+        let size = put_row(&mut out[begin..], inside, &listing[at..e]);
+        end += size;
         at = row.next;
         inside = row.inside;
         i += 1;
@@ -105,22 +107,22 @@ fn put_rows(out: &mut [u8], from: usize, listing: &[u8], start: usize, continued
     Place { end, at, inside }
 }
 
-// A page with the rows of a listing from a place on.
+// A page with the rows of a listing from a place on, into the front of an output.
 pub fn put_page(
     out: &mut [u8],
-    from: usize,
     first: &[u8],
     number: usize,
     listing: &[u8],
     at: usize,
     inside: bool,
 ) -> Place
-    requires { ⌜ Countable from (pageOf (now first) number (rowsFrom «inside» (drop at (now listing))))
+    requires { ⌜ Countable 0 (pageOf (now first) number (rowsFrom «inside» (drop at (now listing))))
         × (at ≤ length (now listing)) ⌝ }
     ensures { λ r. ⌜ RowsPut (pageOf (now (first .entry)) number (rowsFrom «inside» (drop at (now (listing .entry)))))
-        (now (listing .entry)) at «inside» from (now (out .entry)) (now (out .exit)) r ⌝ }
+        (now (listing .entry)) at «inside» 0 (now (out .entry)) (now (out .exit)) r ⌝ }
 {
-    let blank = put_first(out, from, first, number);
-    let rows = put_row(out, blank, false, &listing[..0]);
-    put_rows(out, rows, listing, at, inside)
+    let blank = put_first(out, first, number);
+    let from = behind(blank, out.len());
+    let size = put_row(&mut out[from..], false, &listing[..0]);
+    put_rows(out, blank + size, listing, at, inside)
 }

@@ -31,7 +31,6 @@ use Rattle.answers.specs.Answers.{textMeant}
 use Rattle.answers.specs.Promises.{checkMeant, listedBytes, CheckReplied, Told, Demand3Of, checkNumber, CheckReturned}
 use Rattle.answers.proofs.CheckLaws.{ReadsBack, demand-of, told-of}
 use Rattle.answers.proofs.NumberLaws.{answer-few, laid-returned}
-use Rattle.checking.specs.Checking.{NoPass, NoFail}
 use Rattle.checking.proofs.CheckingLaws.{check-short, check-passed, check-failed, refused-no-fail, refused-no-pass}
 use Rattle.checking.proofs.CheckingLaws.{pass-no-fail, fail-no-pass}
 use Rattle.paging.specs.Paging.{PagesReplied}
@@ -85,7 +84,8 @@ module _ {bytes before after : List ℕ} {reply : Listed} (l : ListedAs (pagesOf
   lay-short passes e =
       record { replied = check-short l e; no-fail = λ _. refused-no-fail; no-pass = λ _. refused-no-pass }
 
-  pub lay-passed : {passes : Bool} → passes ≡ true → (n : ℕ) → reply ≡ Written n → PagesReplied passes bytes before after (Confluent n)
+  pub lay-passed : {passes : Bool} → passes ≡ true → (n : ℕ) → reply ≡ Written n
+      → PagesReplied passes bytes before after (Confluent n)
   lay-passed {passes} is n e =
       record {
         replied = check-passed n l e;
@@ -93,7 +93,8 @@ module _ {bytes before after : List ℕ} {reply : Listed} (l : ListedAs (pagesOf
         no-pass = λ h. absurd (let z : _≡_ {A = ℕ} 0 1 = cc in omega arith);
       }
 
-  pub lay-failed : {passes : Bool} → passes ≡ false → (n : ℕ) → reply ≡ Written n → PagesReplied passes bytes before after (Unjoined n)
+  pub lay-failed : {passes : Bool} → passes ≡ false → (n : ℕ) → reply ≡ Written n
+      → PagesReplied passes bytes before after (Unjoined n)
   lay-failed {passes} is n e =
       record {
         replied = check-failed n l e;

@@ -1,6 +1,7 @@
 // `rehearsal`: prints the reply to each input that an argument names, behind a line with its name.
 // An input whose name begins with r is a program and a goal, as `sheetrun` gets them; any other is a program, as `sheetcheck` gets
-// it, and where its name begins with p the pages of its check are printed. Then it puts each of the 256 bytes at each place of a program and of a goal, and prints the number that each meets.
+// it, and where the name begins with p the pages of its check are printed. Then it puts each of the 256 bytes at each place of a
+// program and of a goal, and prints the number that each meets.
 mod sweep;
 
 use roketuma::CheckReply;

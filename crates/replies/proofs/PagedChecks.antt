@@ -5,7 +5,6 @@
 --   pages-shaped    all that is claimed of them: each has 60 lines of 40 columns too
 -- Assumes nothing.
 use Prim.Native.Nat.{ℕ, _*_, _≤_}
-use native.Mathlib.Nat.{mul-le-mul}
 use native.Mathlib.Omega.{arith}
 use mathlib.Core.List.{List}
 use mathlib.Core.Path.{_≡_}

@@ -4,7 +4,7 @@
 --   lined-more                                    more rows are as good a bound
 --   line-lined                                    the rows of a line of fields: the first takes 40 bytes, the others 38 each
 -- Assumes nothing.
-use Prim.Native.Nat.{ℕ, zero, suc, _+_, _*_, _≤_, _<_}
+use Prim.Native.Nat.{ℕ, suc, _+_, _*_, _≤_, _<_}
 use native.Mathlib.Omega.{arith}
 use mathlib.Core.Bool.{Bool, true, false, not, _||_}
 use mathlib.Core.List.{List, [], _∷_, _++_, append-assoc}
@@ -16,7 +16,8 @@ use Rattle.text.specs.Bytes.{capital, digit, between, classOf, isClass, isNameC
 use Rattle.text.specs.Lists.{every}
 use Rattle.text.specs.Fields.{isName, isVariable, isTerm, isNumber, decimal}
 use Rattle.text.proofs.Bools.{never, and-true}
-use Rattle.text.proofs.Laws.{every-append, every-implied}
+use Rattle.text.proofs.Laws.{every-append}
+use Rattle.text.proofs.ListLaws.{every-weaker}
 use Rattle.text.proofs.ClassLaws.{between-true, name-range, is-capital, is-digit}
 use Rattle.text.proofs.Decimals.{decimal-exact}
 use Rattle.semantics.proofs.Configurations.{All, also}
@@ -59,7 +60,7 @@ term-marked f h = go (isName f) refl h
 
     go : (b : Bool) → isName f ≡ b → (b || isVariable f) ≡ true → every isMark f ≡ true
     go true e k =
-        every-implied (λ b. isNameClass (classOf b)) isMark name-mark f
+        every-weaker (λ b. isNameClass (classOf b)) isMark f name-mark
         (and-true (between 1 8 (length f)) (every (λ b. isNameClass (classOf b)) f) e .1)
     go false e k = letter f k
 
@@ -68,7 +69,7 @@ unfolding isNumber
 number-marked [] h = refl
 number-marked (b ∷ []) h = rw (digit-mark b h) refl
 number-marked (b ∷ c ∷ s) h =
-    every-implied (isClass digit) isMark digit-mark (b ∷ c ∷ s)
+    every-weaker (isClass digit) isMark (b ∷ c ∷ s) digit-mark
     (and-true (not (eqb b 48)) (every (isClass digit) (b ∷ c ∷ s)) h .1)
 
 -- so they are fields; and a variable by its letter and number is plain

@@ -41,7 +41,7 @@ use Rattle.syntax.proofs.WellFormed.{read-wellFormed}
 use Rattle.syntax.proofs.Vocabulary.{SymbolSmall, ReadSmall, read-small}
 use Rattle.syntax.proofs.GoalVocabulary.{ReadGoal, goal-small}
 use Rattle.listing.specs.Listing.{fieldsBehind, lineOf, Naming, namingOf, termShown}
-use Rattle.listing.specs.Listing.{constraintLines, numberedAs, placeName, unbound, boundLines, stateListing, endListing}
+use Rattle.listing.specs.Listing.{constraintLines, numberedAs, unbound, boundLines, stateListing, endListing}
 use Rattle.text.proofs.Decimals.{decimal-low, decimal-high}
 use Rattle.listing.proofs.SizeLaws.{Short, decimal-short, number-short, place-all, line-few, rows-few, bounds-few}
 use Rattle.replies.specs.Replies.{Text, programText, goalText, Reply, refusal, listing, replyOf, fitted}

@@ -7,7 +7,8 @@
 --   Sheetchecked      what `sheetcheck` prints of such a text
 --   PagedOn           the pages of the check of such a text (document 02, W6)
 -- `check-exact` of proofs/Demand3.antt, `run-published` of proofs/Demand2.antt, `sheetcheck-exact` of proofs/Sheetcheck.antt,
--- `check-rewritten` of proofs/Rewritten.antt and `pages-shaped` of proofs/PagedChecks.antt say that these hold of every such text.
+-- `check-rewritten` of proofs/Rewritten.antt and `pages-shaped` of proofs/PagedChecks.antt say that these hold of every such
+-- text.
 -- Assumes nothing.
 use Prim.Native.Nat.{ℕ, _*_, _≤_}
 use mathlib.Core.Bool.{true, _&&_}

@@ -29,7 +29,7 @@ unfoldable pub use Rattle.listing.specs.Writing.{ample}
 pub data Text : Type 0 where
   programText goalText : Text
 
--- a reply: a refusal by document 01's number, with its text and the line, from 1, or 0; or a listing
+-- a reply: a refusal by document 01's number, with its text and the line, from 1, or 0; or a listing, or its pages
 pub data Reply : Type 0 where
   refusal : ℕ → Text → ℕ → Reply
   listing : List ℕ → Reply

@@ -2,7 +2,6 @@
 --   followAll-append           events one behind the other
 --   tabled-entry               an entry of a table
 --   constraint-itself          before any firing each constraint would enter as it is
---   every-last                 a test of a list with one more behind it
 --   every-below, every-upTo    a test of all numbers below n
 --   enters                     the events by which the first constraints of a goal enter, in order
 --   arrivedAt                  how far they lead
@@ -25,6 +24,7 @@ use Rattle.semantics.specs.Derivations.{allEntered}
 use Rattle.semantics.specs.Strategy.{goalState}
 use Rattle.semantics.proofs.Options.{apart-eqb}
 use Rattle.text.proofs.Bools.{and-true}
+use Rattle.text.proofs.ListLaws.{every-both}
 use Rattle.semantics.proofs.Bools.{eqb-same, or-right}
 
 -- events one behind the other
@@ -124,17 +124,11 @@ enters-first p g (suc n) l =
     rw (map-append enter (upTo n) (n ∷ []), followAll-append p g (enters n) (enter n ∷ []) (start g))
     (rw (enters-first p g n (omega arith)) (entering-next g n l))
 
--- a test over a list with one more behind it
-pub every-last : (test : ℕ → Bool) (l : List ℕ) (n : ℕ) → every test l ≡ true → test n ≡ true → every test (l ++ (n ∷ [])) ≡ true
-every-last test [] n e t = rw t
-every-last test (m ∷ l) n e t =
-    let u = and-true (test m) (every test l) e in
-    rw (u .0, every-last test l n (u .1) t)
-
 -- a test that all numbers below n pass
 every-below : (test : ℕ → Bool) (n : ℕ) → ((i : ℕ) → i < n → test i ≡ true) → every test (upTo n) ≡ true
 every-below test zero h = refl
-every-below test (suc n) h = every-last test (upTo n) n (every-below test n (λ i l. h i (omega arith))) (h n (omega arith))
+every-below test (suc n) h =
+    every-both test (upTo n) (n ∷ []) (every-below test n (λ i l. h i (omega arith))) (rw (h n (omega arith)))
 
 -- and taken apart
 every-parts : (test : ℕ → Bool) (l : List ℕ) (n : ℕ) → every test (l ++ (n ∷ [])) ≡ true → (every test l ≡ true) × (test n ≡ true)

@@ -1,10 +1,10 @@
 -- What reads as a program is well formed: `read-wellFormed`.
 --   Holds      what holds of an answer, if it is accepted
 -- Assumes nothing.
-use Prim.Native.Nat.{ℕ, suc, _+_, _-_, _≤_, _<_}
+use Prim.Native.Nat.{ℕ, suc, _-_, _≤_, _<_}
 use native.Mathlib.Omega.{arith}
 use mathlib.Core.Bool.{Bool, true, false, cond, not, _&&_, _||_}
-use mathlib.Core.List.{List, [], _∷_, _++_, map}
+use mathlib.Core.List.{List, [], _∷_, map}
 use mathlib.Core.Option.{Option, none, some}
 use mathlib.Core.Path.{_≡_, refl, ap, subst}
 use lib.Dec.{leb, ltb, eqb, le→leb, nleb→lt}
@@ -16,6 +16,7 @@ use Rattle.text.specs.Lines.{Line, lines, lineIsFaulty}
 use Rattle.text.specs.Fields.{fields, isName, isVariable, isTerm}
 use Rattle.text.proofs.Keys.{variable-range}
 use Rattle.text.proofs.Bools.{and-true}
+use Rattle.text.proofs.ListLaws.{every-both, every-map}
 use Rattle.semantics.specs.Terms.{con, var, Constraint, Equation, Symbol, Rule, removedHeads, weight}
 use Rattle.semantics.specs.Terms.{isDeclared, isBelow, alphabet, isOfRule, isRuleOf, isWellFormed, symbolAt}
 use Rattle.semantics.proofs.Options.{true-false, true-T, T-true, none-some}
@@ -63,21 +64,6 @@ or-neither false b e = (refl, e)
 pub not-false : (a : Bool) → not a ≡ false → a ≡ true
 not-false true e = refl
 not-false false e = true-false refl e
-
--- a test of all elements, of one list behind another, of images, and by a weaker test
-every-append : {A : Type 0} (t : A → Bool) (l m : List A) → every t l ≡ true → every t m ≡ true → every t (l ++ m) ≡ true
-every-append t [] m p q = q
-every-append t (x ∷ l) m p q =
-    let h = and-true (t x) (every t l) p in
-    and-both (h .0) (every-append t l m (h .1) q)
-
-every-map :
-    {A B : Type 0} (t : A → Bool) (u : B → Bool) (f : A → B) (l : List A) → ((a : A) → t a ≡ true → u (f a) ≡ true)
-    → every t l ≡ true → every u (map f l) ≡ true
-every-map t u f [] k p = refl
-every-map t u f (x ∷ l) k p =
-    let h = and-true (t x) (every t l) p in
-    and-both (k x (h .0)) (every-map t u f l k (h .1))
 
 -- a letter is one of the alphabet
 letter-below : (f : List ℕ) → isVariable f ≡ true → isBelow alphabet (var (letterNumber f)) ≡ true
@@ -138,28 +124,28 @@ over-kept : (symbols : List Symbol) (c : Constraint) → isOfRule symbols c ≡ 
 unfolding withKept
 over-kept symbols c q r p =
     let (h, b, e) = over-parts symbols r p in
-    and-both (and-both (every-append (isOfRule symbols) (r .heads) (c ∷ []) h (and-both q refl)) b) e
+    and-both (and-both (every-both (isOfRule symbols) (r .heads) (c ∷ []) h (and-both q refl)) b) e
 
 over-head : (symbols : List Symbol) (c : Constraint) → isOfRule symbols c ≡ true → (r : Rule)
     → isOver symbols r ≡ true → isOver symbols (withHead c r) ≡ true
 unfolding withHead
 over-head symbols c q r p =
     let (h, b, e) = over-parts symbols r p in
-    and-both (and-both (every-append (isOfRule symbols) (r .heads) (c ∷ []) h (and-both q refl)) b) e
+    and-both (and-both (every-both (isOfRule symbols) (r .heads) (c ∷ []) h (and-both q refl)) b) e
 
 over-body : (symbols : List Symbol) (c : Constraint) → isOfRule symbols c ≡ true → (r : Rule)
     → isOver symbols r ≡ true → isOver symbols (withBody c r) ≡ true
 unfolding withBody
 over-body symbols c q r p =
     let (h, b, e) = over-parts symbols r p in
-    and-both (and-both h (every-append (isOfRule symbols) (r .body) (c ∷ []) b (and-both q refl))) e
+    and-both (and-both h (every-both (isOfRule symbols) (r .body) (c ∷ []) b (and-both q refl))) e
 
 over-equation : (symbols : List Symbol) (k : Equation) → (isBelow alphabet (k .left) && isBelow alphabet (k .right)) ≡ true
     → (r : Rule) → isOver symbols r ≡ true → isOver symbols (withEquation k r) ≡ true
 unfolding withEquation
 over-equation symbols k q r p =
     let (h, b, e) = over-parts symbols r p in
-    and-both (and-both h b) (every-append _ (r .equations) (k ∷ []) e (and-both q refl))
+    and-both (and-both h b) (every-both _ (r .equations) (k ∷ []) e (and-both q refl))
 
 -- changing the last rule keeps a test that the change keeps
 every-onLast :
@@ -241,7 +227,7 @@ rule-sound n fs d s o =
     λ _. holds-refuseIf Sound (leb maxRules (length (d .rules))) 7 n _
     λ _. record {
       before = λ k. absurd (o k);
-      over = every-append (λ (r : RuleRead). isOver (d .symbols) (r .rule)) (d .rules) _ (s .over) refl;
+      over = every-both (λ (r : RuleRead). isOver (d .symbols) (r .rule)) (d .rules) _ (s .over) refl;
     }
 
 -- what a J, H, B or G line finds

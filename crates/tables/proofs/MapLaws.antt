@@ -17,6 +17,7 @@ use borrow.Author.Tests.{eq-eqb, ne-eqb, eqb-true, eqb-false, le-leb, leb-true, 
 use Rattle.text.specs.Lists.{every}
 use Rattle.semantics.specs.Terms.{Term, Constraint, Equation, mapTerms, mapSides}
 use Rattle.text.proofs.Bools.{and-true}
+use Rattle.text.proofs.ListLaws.{every-always, every-weaker, every-map}
 use Rattle.tables.specs.Cells.{cellTerm, cellTerms, cellConstraints, cellEquations, isLow}
 use Rattle.tables.proofs.CellLaws.{either}
 
@@ -143,11 +144,10 @@ module _ (good : Term → Bool) (f : ℕ → ℕ) (σ : Term → Term) (a : Acts
 
   -- used cells stay used
   pub acts-used : (l : List ℕ) → every (leb 1) l ≡ true → every (leb 1) (map f l) ≡ true
-  acts-used [] h = refl
-  acts-used (x ∷ l) h =
-      let one : leb 1 x ≡ true = and-true (leb 1 x) (every (leb 1) l) h .0 in
-      let some-left : f x ≡ 0 → ⊥ = a .used x (λ z. omega (arith, leb-true 1 x one)) in
-      rw (le-leb 1 (f x) (pos-of (f x) some-left), acts-used l (and-true (leb 1 x) (every (leb 1) l) h .1))
+  acts-used l h = every-map (leb 1) (leb 1) f l stays h
+    where
+      stays : (x : ℕ) → leb 1 x ≡ true → leb 1 (f x) ≡ true
+      stays x one = le-leb 1 (f x) (pos-of (f x) (a .used x (λ z. omega (arith, leb-true 1 x one))))
 
 -- symbols stay low
 pub low-kept : (σ : Term → Term) (cs : List Constraint) → every isLow (map (mapTerms σ) cs) ≡ every isLow cs
@@ -161,15 +161,12 @@ anything t = true
 
 pub all-terms : (l : List Term) → every anything l ≡ true
 unfolding anything
-all-terms [] = refl
-all-terms (t ∷ l) = all-terms l
+all-terms l = every-always anything l (λ t. refl)
 
 pub all-equations : (l : List Equation) → every (λ e. anything (e .left) && anything (e .right)) l ≡ true
 unfolding anything
-all-equations [] = refl
-all-equations (e ∷ l) = all-equations l
+all-equations l = every-always (λ e. anything (e .left) && anything (e .right)) l (λ e. refl)
 
 pub all-low : (l : List Constraint) → every isLow l ≡ true → every (λ c. isLow c && every anything (c .terms)) l ≡ true
-all-low [] h = refl
-all-low (c ∷ l) h =
-    rw (and-true (isLow c) (every isLow l) h .0, all-terms (c .terms), all-low l (and-true (isLow c) (every isLow l) h .1))
+all-low l h =
+    every-weaker isLow (λ c. isLow c && every anything (c .terms)) l (λ c low. rw (low, all-terms (c .terms))) h

@@ -23,6 +23,7 @@ use Rattle.text.specs.Fields.{isName, isNumber, valueFrom, valueOf, deci
 use Rattle.text.specs.Constants.{isNumeral, SameConstant, spelled, valued, constantName}
 use Rattle.text.proofs.Bools.{never, and-true}
 use Rattle.text.proofs.Laws.{every-append, last-apart}
+use Rattle.text.proofs.ListLaws.{every-drop}
 use Rattle.text.proofs.ClassLaws.{between-true, is-digit}
 use Rattle.text.proofs.Keys.{nameByte, name-is, name-size, name-bytes}
 use Rattle.text.proofs.Numbers.{value-grows}
@@ -153,11 +154,6 @@ name-dropped [] h = absurd (never (sym h))
 name-dropped (b ∷ s) h = numeral-name (b ∷ s) h ∙ dropped b s h
 
 -- the name of a constant is a name
-every-drop : (test : ℕ → Bool) (n : ℕ) (l : List ℕ) → every test l ≡ true → every test (drop n l) ≡ true
-every-drop test zero l h = h
-every-drop test (suc n) [] h = refl
-every-drop test (suc n) (b ∷ l) h = every-drop test n l (and-true (test b) (every test l) h .1)
-
 pub constant-name : (f : List ℕ) → isName f ≡ true → isName (constantName f) ≡ true
 constant-name [] h = absurd (omega (arith, name-size [] h .0))
 constant-name (b ∷ s) h = go (isNumeral (b ∷ s)) refl

@@ -18,6 +18,7 @@ use Rattle.text.specs.Lists.{every}
 use Rattle.text.proofs.ClassLaws.{is-digit}
 use Rattle.text.proofs.Bools.{and-true}
 use Rattle.text.proofs.Laws.{every-append}
+use Rattle.text.proofs.ListLaws.{every-weaker}
 
 -- digits go in front of what stands behind
 pub decimalFrom-behind : (f n : ℕ) (b : List ℕ) → decimalFrom f n b ≡ decimalFrom f n [] ++ b
@@ -131,10 +132,7 @@ decimal-led (suc f) n h k = go (ltb n 10) refl (decimal-led f (n / 10))
 
 -- all of such digits are digits by class
 digits-classed : (s : List ℕ) → every (between 48 57) s ≡ true → every (isClass digit) s ≡ true
-digits-classed [] h = refl
-digits-classed (b ∷ s) h =
-    let (first, rest) = and-true (between 48 57 b) (every (between 48 57) s) h in
-    rw (is-digit b, first) (digits-classed s rest)
+digits-classed s h = every-weaker (between 48 57) (isClass digit) s (λ b e. is-digit b ∙ e) h
 
 -- such digits have the form of a number
 led-number : (b : ℕ) (s : List ℕ) → between 49 57 b ≡ true → every (between 48 57) s ≡ true → isNumber (b ∷ s) ≡ true

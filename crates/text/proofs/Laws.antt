@@ -1,6 +1,6 @@
 -- Laws of lists, as the definitions and the code of this crate use them.
 --   drop-take                          a part by its ends, and by its start and length
---   every-append, every-implied        a test of all elements: of two lists, and one that follows from another
+--   every-append                       a test of all elements of two lists
 --   last-apart                         a list by its last element
 --   same-..                            two parts compared: from a place on, of different lengths, equal
 --   tabled-length, tabled-at           the length of a table, an entry of it
@@ -35,13 +35,6 @@ pub every-append {ℓ} : {A : Type ℓ} (test : A → Bool) (p q : List A) → e
 every-append test [] q = refl
 every-append test (x ∷ p) q =
     ap (λ (t : Bool). test x && t) (every-append test p q) ∙ sym (and-assoc (test x) (every test p) (every test q))
-
--- a test that holds of all elements is followed by another
-pub every-implied : (p q : ℕ → Bool) → ((b : ℕ) → p b ≡ true → q b ≡ true) → (s : List ℕ) → every p s ≡ true → every q s ≡ true
-every-implied p q f [] h = refl
-every-implied p q f (b ∷ s) h =
-    let both = and-true (p b) (every p s) h in
-    rw (f b (both .0), every-implied p q f s (both .1))
 
 -- a list that is not empty is all but its last element, and that
 pub last-apart : (b : ℕ) (s : List ℕ) → b ∷ s ≡ take (length s) (b ∷ s) ++ (getD (b ∷ s) (length s) 0 ∷ [])

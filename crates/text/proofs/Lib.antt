@@ -2,6 +2,7 @@
 pub mod Opened
 pub mod Bools
 pub mod Laws
+pub mod ListLaws
 pub mod ClassLaws
 pub mod LineLaws
 pub mod Keys

@@ -19,7 +19,7 @@ use Rattle.text.specs.Lists.{every}
 use Rattle.text.specs.Fields.{isName, isNumber, isNumberIn, valueOf, valueFrom}
 use Rattle.text.specs.Keys.{packedFrom, packed, keyOf, numberOf}
 use Rattle.text.proofs.Bools.{never, and-true}
-use Rattle.text.proofs.Laws.{every-implied}
+use Rattle.text.proofs.ListLaws.{every-weaker}
 use Rattle.text.proofs.ClassLaws.{between-true, between-above, between-below, name-range, is-digit}
 use Rattle.text.proofs.Keys.{nameByte, name-is, name-short, name-bytes, key-of-name, packed-grows, form-cases}
 
@@ -116,7 +116,7 @@ number-name [] h e = absurd (let z : _≡_ {A = ℕ} 0 1 = cc in omega arith)
 number-name (b ∷ []) h e = name-is (b ∷ []) (omega arith) h (rw (digit-name b e))
 number-name (b ∷ c ∷ s) h e =
     let digits : every (isClass digit) (b ∷ c ∷ s) ≡ true = and-true (not (eqb b 48)) (every (isClass digit) (b ∷ c ∷ s)) e .1 in
-    name-is (b ∷ c ∷ s) (omega arith) h (every-implied (isClass digit) nameByte digit-name (b ∷ c ∷ s) digits)
+    name-is (b ∷ c ∷ s) (omega arith) h (every-weaker (isClass digit) nameByte (b ∷ c ∷ s) digit-name digits)
 
 number-none : (f : List ℕ) → length f ≤ 8 → isName f ≡ false → NumberBy f
 number-none f h e = no-number f (go (isNumber f) refl) (number-low (keyOf f) (omega (arith, low-key f e)))

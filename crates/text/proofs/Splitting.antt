@@ -30,7 +30,8 @@ use Rattle.text.proofs.ClassLaws.{isInner, plain-inner, inner-comma, in
 use Rattle.text.proofs.ClassLaws.{class-comma, class-feed, class-other}
 use Rattle.text.proofs.Bools.{never, and-true, or-true}
 use Rattle.text.proofs.Passing.{part-suc}
-use Rattle.text.proofs.Laws.{every-append, every-implied}
+use Rattle.text.proofs.Laws.{every-append}
+use Rattle.text.proofs.ListLaws.{every-weaker}
 use Rattle.text.proofs.LineLaws.{before-is, before-not, fields-is, fields-not}
 
 -- bytes in front of a text, no line feed among them
@@ -75,7 +76,7 @@ fields-comma (b ∷ f) r h =
     fields-not b (f ++ (44 ∷ r)) (plain-no-comma b (both .0)) ∙ ap (inFirstField b) (fields-comma f r (both .1))
 
 abbrev inner : (f : List ℕ) → every isPlain f ≡ true → every isInner f ≡ true
-inner f h = every-implied isPlain isInner plain-inner f h
+inner f h = every-weaker isPlain isInner f plain-inner h
 
 pub line-fields-comma : (f : List ℕ) (b : ℕ) (r : List ℕ) → every isPlain f ≡ true → b ≡ 44
     → fields (bytes (f ++ (b ∷ r))) ≡ f ∷ fields (bytes r)
@@ -169,7 +170,7 @@ module _ (p : List ℕ) (h : every isInner p ≡ true) where
   faulty-at b r e k =
       faulty-byte (firstLine (p ++ (b ∷ r)))
       (ap (every fine) (line-append p (b ∷ r) h ∙ ap (λ (l : List ℕ). p ++ l) (line-on b r k))
-      ∙ every-append fine p (b ∷ bytes r) ∙ rw (every-implied isInner fine inner-fine p h, e))
+      ∙ every-append fine p (b ∷ bytes r) ∙ rw (every-weaker isInner fine p inner-fine h, e))
 
   pub faulty-long : (r : List ℕ) → 80 < length p → lineIsFaulty (firstLine (p ++ r)) ≡ true
   faulty-long r k =
@@ -195,7 +196,7 @@ module _ (p : List ℕ) (h : every isInner p ≡ true) where
       faulty-none (firstLine (p ++ (b ∷ r)))
       (lt-ltb (before 10 (p ++ (b ∷ r))) (length (p ++ (b ∷ r))) (omega (arith, before-is-here b r e, length-append p (b ∷ r))))
       (omega (arith, ap length (line-is b r e)))
-      (ap (every fine) (line-is b r e) ∙ every-implied isInner fine inner-fine p h)
+      (ap (every fine) (line-is b r e) ∙ every-weaker isInner fine p inner-fine h)
       ∙ ap (λ (l : List ℕ). eqb (length l) 0) (line-is b r e)
 
 -- numbers noted in a table: what holds of each, one more on

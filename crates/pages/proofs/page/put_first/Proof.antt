@@ -1,9 +1,8 @@
 -- `pages::page::put_first` meets its contract: the field, spaces, the number, and the line's end. Assumes nothing.
 use borrow.Author.Needs.{needs}
 use mathlib.Core.Path.{refl, _∙_}
-use native.Mathlib.Omega.{arith}
 use Rattle.pages.specs.Pages.{headLine}
-use Rattle.pages.proofs.PageLaws.{line-feed, line-wrote, head-field, head-room, head-number, head-wrote}
+use Rattle.pages.proofs.PageLaws.{line-feed, line-wrote, head-field, head-number, head-wrote}
 use Rattle.pages.proofs.page.put_first.Statement.{statement}
 use Rattle.pages.proofs.page.put_first.Tie as tie
 
@@ -24,25 +23,12 @@ returns c =
 copy-requires : tie.Need-copy-requires
 copy-requires c κs = head-field _ _ (c .before .before .before .pre)
 
-add-fill : tie.Need-add-fill
-add-fill c =
-    let start = c .before .before .before .before .before .before .before in
-    omega (arith, head-room _ _ (start .pre))
-
 put-aligned-requires : tie.Need-put-aligned-requires
 put-aligned-requires c κs =
     let at-fill = c .before .before .before in
     let at-copy = at-fill .before .before .before .before in
     let start = at-copy .before .before .before .before in
     head-number _ _ (start .pre) (at-copy .copy .ensures) (at-fill .fill .ensures) (at-copy .copy .kept .0)
-
-add-fill-2 : tie.Need-add-fill-2
-add-fill-2 c =
-    let at-aligned = c .before .before .before in
-    let at-fill = at-aligned .before .before .before .before in
-    let at-copy = at-fill .before .before .before .before in
-    let start = at-copy .before .before .before .before in
-    omega (arith, head-room _ _ (start .pre))
 
 put-byte-requires : tie.Need-put-byte-requires
 unfolding headLine
@@ -63,10 +49,8 @@ put-first-spec =
     tie.close
     (tie.spec
     copy-requires
-    add-fill
     (λ c κs. search needs)
     put-aligned-requires
-    add-fill-2
     (λ c κs. search needs)
     put-byte-requires
     (λ c. search needs)

@@ -1,9 +1,8 @@
 -- `pages::page::put_row` meets its contract: what stands before the bytes, the bytes, spaces and the line feed. Assumes nothing.
 use borrow.Author.Needs.{needs}
 use mathlib.Core.Path.{refl, _∙_}
-use native.Mathlib.Omega.{arith}
-use Rattle.listing.proofs.WriteLaws.{wrote-then, count-first, count-next}
-use Rattle.pages.proofs.PageLaws.{line-bytes, line-room, line-feed, line-wrote}
+use Rattle.listing.proofs.WriteLaws.{wrote-then, count-next}
+use Rattle.pages.proofs.PageLaws.{line-bytes, line-feed, line-wrote}
 use Rattle.pages.proofs.page.put_row.Statement.{statement}
 use Rattle.pages.proofs.page.put_row.Tie as tie
 
@@ -17,19 +16,10 @@ returns c =
     line-wrote _ bytes (at-fill .fill .ensures) refl (at-byte .put-byte .ensures)
     (at-copy .copy .kept .0 ∙ at-indent .put-indent .kept .0) (at-fill .fill .kept .0)
 
-put-indent-requires : tie.Need-put-indent-requires
-put-indent-requires c κs = count-first _ (line-bytes _ (c .before .before .before .pre))
-
 copy-requires : tie.Need-copy-requires
 copy-requires c κs =
     let at-indent = c .before .before .before in
     count-next (line-bytes _ (at-indent .before .before .before .before .pre)) (at-indent .put-indent .ensures)
-
-add-fill : tie.Need-add-fill
-add-fill c =
-    let at-copy = c .before .before .before in
-    let at-indent = at-copy .before .before .before .before in
-    omega (arith, line-room _ (at-indent .before .before .before .before .pre))
 
 put-byte-requires : tie.Need-put-byte-requires
 put-byte-requires c κs =
@@ -44,9 +34,8 @@ pub put-row-spec : {M : Type 1} → statement M
 put-row-spec =
     tie.close
     (tie.spec
-    put-indent-requires
+    (λ c κs. search needs)
     copy-requires
-    add-fill
     (λ c κs. search needs)
     put-byte-requires
     (λ c. search needs)

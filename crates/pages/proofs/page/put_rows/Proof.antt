@@ -2,7 +2,7 @@
 use borrow.Author.Needs.{needs}
 use Prim.Native.Nat.{_-_}
 use native.Mathlib.Omega.{arith}
-use Rattle.pages.proofs.PageLaws.{Rowing, rowing-start, rowing-count, rowing-next, rowing-end}
+use Rattle.pages.proofs.PageLaws.{Rowing, rowing-start, rowing-count, rowing-room, rowing-next, rowing-end}
 use Rattle.pages.proofs.page.put_rows.Statement.{statement}
 use Rattle.pages.proofs.page.put_rows.Tie as tie
 
@@ -22,30 +22,42 @@ loop-holds c = rowing-start _ _ _ _ _ (c .before .before .pre .1)
 loop-again : tie.Need-loop-again Inv-loop μ-loop
 loop-again c =
     let at-put-row = c .before .before in
-    let at-next-row = at-put-row .before .before .before in
+    let at-behind = at-put-row .before .before .before in
+    let at-next-row = at-behind .before in
     let at-loop-test = at-next-row .before in
-    rowing-next (at-loop-test .before .loop .inv) (at-next-row .next-row .ensures) (at-loop-test .loop-test .taken)
-    (at-put-row .put-row .ensures) (at-put-row .put-row .kept .0)
+    rowing-next (at-loop-test .before .loop .inv) (at-next-row .next-row .ensures) _ (at-loop-test .loop-test .taken)
+    (at-behind .behind .ensures) (at-put-row .put-row .ensures) (at-put-row .put-row .kept .0)
 
 next-row-requires : tie.Need-next-row-requires Inv-loop μ-loop
 next-row-requires c κs = c .before .loop .inv .within
 
-sub-put-row : tie.Need-sub-put-row Inv-loop μ-loop
-sub-put-row c = omega (arith, c .before .next-row .ensures .begun)
+sub-put-row-2 : tie.Need-sub-put-row-2 Inv-loop μ-loop
+sub-put-row-2 c = omega (arith, c .before .before .next-row .ensures .begun)
 
-part-put-row-start : tie.Need-part-put-row-start Inv-loop μ-loop
-part-put-row-start c = omega (arith, c .before .next-row .ensures .begun)
+part-put-row-start-2 : tie.Need-part-put-row-start-2 Inv-loop μ-loop
+part-put-row-start-2 c = omega (arith, c .before .before .next-row .ensures .begun)
 
-part-put-row-end : tie.Need-part-put-row-end Inv-loop μ-loop
-part-put-row-end c = let next = c .before .next-row .ensures in omega (arith, next .ended, next .within)
+part-put-row-end-2 : tie.Need-part-put-row-end-2 Inv-loop μ-loop
+part-put-row-end-2 c = let next = c .before .before .next-row .ensures in omega (arith, next .ended, next .within)
 
 put-row-requires : tie.Need-put-row-requires Inv-loop μ-loop
 put-row-requires c κs =
-    let at-next-row = c .before .before in
+    let at-next-row = c .before .before .before in
     let at-loop-test = at-next-row .before in
     let at-loop = at-loop-test .before in
     rowing-count (at-loop .loop .inv) (at-next-row .next-row .ensures) (at-loop-test .loop-test .taken)
     (at-loop .before .before .before .pre .0)
+
+add-end : tie.Need-add-end Inv-loop μ-loop
+add-end c =
+    let at-put-row = c .before .before in
+    let at-next-row = at-put-row .before .before .before .before in
+    let at-loop-test = at-next-row .before in
+    let at-loop = at-loop-test .before in
+    let room =
+    rowing-room (at-loop .loop .inv) (at-next-row .next-row .ensures) (at-loop-test .loop-test .taken)
+    (at-loop .before .before .before .pre .0) (at-put-row .put-row .ensures) in
+    omega (arith, room)
 
 pub put-rows-spec : {M : Type 1} → statement M
 put-rows-spec =
@@ -55,10 +67,15 @@ put-rows-spec =
     μ-loop
     loop-holds
     next-row-requires
-    sub-put-row
-    part-put-row-start
-    part-put-row-end
+    (λ c κs. search needs)
+    (λ c. omega (arith, c .behind .ensures))
+    (λ c. omega (arith, c .behind .ensures))
+    (λ c. search needs)
+    sub-put-row-2
+    part-put-row-start-2
+    part-put-row-end-2
     put-row-requires
+    add-end
     (λ c. omega arith)
     (λ c. omega arith)
     loop-again

@@ -1,18 +1,21 @@
--- Laws of lists that are tested, gathered or answered.
---   every-both, every-take, every-drop, every-pieces     a test of all elements: of two lists, of parts, of pieces
---   every-always, every-weaker, every-map, every-gather     one that always holds, or that follows from another
---   gather-map, answers-append, answers-map     lists one behind the other, and answers
+-- Laws of lists that are tested, gathered or answered, for all crates.
+--   every-both, every-take, every-drop     a test of all elements: of two lists, of parts
+--   every-at                               what all elements pass, each does
+--   every-always, every-weaker, every-together     one that always holds, or that follows from another, or from two
+--   every-map, every-gather                of images, of lists one behind the other
+--   gather-append, gather-map              lists one behind the other: of two lists, of a list's image
+--   answers-append, answers-map            answers: over two lists, over a list's image
 -- Assumes nothing.
-use Prim.Native.Nat.{ℕ, zero, suc}
+use mathlib.Core.Path.{_≡_, refl, sym, ap, _∙_}
 use mathlib.Core.Bool.{Bool, true}
-use mathlib.Core.List.{List, [], _∷_, _++_, map}
+use mathlib.Core.List.{List, [], _∷_, _++_, map, append-assoc}
 use mathlib.Core.Option.{Option, none, some}
-use mathlib.Core.Path.{_≡_, refl}
-use lib.ListN.{take, drop}
+use Prim.Native.Nat.{ℕ, zero, suc, _<_}
+use native.Mathlib.Omega.{arith}
+use lib.ListN.{length, take, drop, getD}
 use Rattle.text.specs.Lists.{onward, every, gather, answers}
 use Rattle.text.proofs.Bools.{and-true}
 use Rattle.text.proofs.Laws.{every-append}
-use Rattle.pages.specs.Pages.{piecesFrom}
 
 -- a test of all elements of one list behind another
 pub every-both : {A : Type 0} (t : A → Bool) (l m : List A) → every t l ≡ true → every t m ≡ true → every t (l ++ m) ≡ true
@@ -31,7 +34,13 @@ every-drop t zero l h = h
 every-drop t (suc n) [] h = refl
 every-drop t (suc n) (x ∷ l) h = every-drop t n l (and-true (t x) (every t l) h .1)
 
--- a test that all elements pass, and one that follows from another
+-- what all elements pass, each does
+pub every-at : {A : Type 0} (t : A → Bool) (l : List A) (i : ℕ) (d : A) → every t l ≡ true → i < length l → t (getD l i d) ≡ true
+every-at t [] i d h k = absurd (omega arith)
+every-at t (x ∷ l) zero d h k = and-true (t x) (every t l) h .0
+every-at t (x ∷ l) (suc i) d h k = every-at t l i d (and-true (t x) (every t l) h .1) (omega arith)
+
+-- a test that all elements pass, one that follows from another, and one that follows from two
 pub every-always : {A : Type 0} (t : A → Bool) (l : List A) → ((a : A) → t a ≡ true) → every t l ≡ true
 every-always t [] h = refl
 every-always t (x ∷ l) h = rw (h x, every-always t l h)
@@ -42,6 +51,15 @@ every-weaker t u [] k h = refl
 every-weaker t u (x ∷ l) k h =
     let (first, rest) = and-true (t x) (every t l) h in
     rw (k x first, every-weaker t u l k rest)
+
+pub every-together :
+    {A : Type 0} (t u v : A → Bool) (l : List A) → ((a : A) → t a ≡ true → u a ≡ true → v a ≡ true)
+    → every t l ≡ true → every u l ≡ true → every v l ≡ true
+every-together t u v [] f h k = refl
+every-together t u v (x ∷ l) f h k =
+    let (first, rest) = and-true (t x) (every t l) h in
+    let (second, others) = and-true (u x) (every u l) k in
+    rw (f x first second, every-together t u v l f rest others)
 
 -- a test of images, and of lists one behind the other, that follows from a test of the elements
 module _ {A B : Type 0} (t : A → Bool) (u : B → Bool) where
@@ -59,15 +77,12 @@ module _ {A B : Type 0} (t : A → Bool) (u : B → Bool) where
       let (first, rest) = and-true (t x) (every t l) h in
       every-both u (f x) (gather f l) (k x first) (every-gather f l k rest)
 
--- of all elements of pieces
-pub every-pieces : {A : Type 0} (t : A → Bool) (k n : ℕ) (l : List A) → every t l ≡ true
-    → every (every t) (piecesFrom k n l) ≡ true
-every-pieces t zero n l h = refl
-every-pieces t (suc k) n [] h = refl
-every-pieces t (suc k) n (x ∷ l) h =
-    rw (every-take t n (x ∷ l) h, every-pieces t k n (drop n (x ∷ l)) (every-drop t n (x ∷ l) h))
+-- lists one behind the other, of two lists and of a list's image
+pub gather-append : {A B : Type 0} (f : A → List B) (a b : List A) → gather f (a ++ b) ≡ gather f a ++ gather f b
+gather-append f [] b = refl
+gather-append f (x ∷ a) b =
+    ap (λ (l : List _). f x ++ l) (gather-append f a b) ∙ sym (append-assoc (f x) (gather f a) (gather f b))
 
--- lists one behind the other, of a list's image
 pub gather-map : {A B C : Type 0} (f : B → List C) (g : A → B) (l : List A) → gather f (map g l) ≡ gather (λ a. f (g a)) l
 gather-map f g [] = refl
 gather-map f g (x ∷ l) = rw (gather-map f g l)
