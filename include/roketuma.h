@@ -5,9 +5,9 @@
    must overlap no text. A call uses no heap and keeps nothing between calls.
 
    A call returns one number, of which the functions below take the parts. It is the length of the listing, or of its pages, which
-   is then in the front of the output, the bytes behind it being as they were; or a refusal, with document 01's number (1 to 11), the text ('S'
-   for the program's, 'G' for the goal's) and the line counted from 1 (0 where no line is meant), every byte of the output being
-   as it was. */
+   is then in the front of the output, the bytes behind it being as they were; or a refusal, with document 01's number (1 to 11),
+   the text ('S' for the program's, 'G' for the goal's) and the line counted from 1 (0 where no line is meant), every byte of the
+   output being as it was. */
 #ifndef ROKETUMA_H
 #define ROKETUMA_H
 

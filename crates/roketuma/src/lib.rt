@@ -1,5 +1,6 @@
-// The library's public functions: the replies from bytes to bytes, reading alone, what the programs print, and the same for programs
-// in other languages. `run`, `check` and `pages` are in crates of their own, and so are the answers, whose specs/ say what they mean.
+// The library's public functions: the replies from bytes to bytes, reading alone, what the programs print, and the same for
+// programs in other languages. `run`, `check` and `pages` are in crates of their own, and so are the answers, whose specs/ say what
+// they mean.
 mod exported;
 mod printing;
 mod reading;
