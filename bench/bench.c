@@ -1,5 +1,6 @@
 /* Nanoseconds of processor time for each call of the library, in a thread with a stack of 256 KB.
-   bench check FOLDER NAME...: checks of FOLDER/NAME. bench run FOLDER NAME...: runs of FOLDER/NAME.goal over FOLDER/NAME.sheet.
+   bench check FOLDER NAME...: checks of FOLDER/NAME. bench pages FOLDER NAME...: the same on pages. bench run FOLDER NAME...: runs of
+   FOLDER/NAME.goal over FOLDER/NAME.sheet.
    `reading` is the same call with a last line that is refused, so that the texts are read and nothing more. Each figure is the least
    of up to ROUNDS, each over some 10 ms of calls or one call; after SECONDS no further round is started. */
 #include "roketuma.h"
@@ -10,7 +11,7 @@
 #include <time.h>
 
 enum { ROUNDS = 15, SECONDS = 3, STACK = 256 * 1024, TEXT_ROOM = 20000 };
-static int count, checks;
+static int count, checks, paged;
 static char **names;
 static const char *folder;
 
@@ -43,6 +44,8 @@ static size_t read_file(const char *name, const char *end, uint8_t *buffer)
 
 static uint64_t call(const struct texts *t, uint8_t *output)
 {
+    if (paged)
+        return roketuma_pages(t->program, t->program_len, output, ROKETUMA_PAGES_ROOM);
     if (checks)
         return roketuma_check(t->program, t->program_len, output, ROKETUMA_ROOM);
     return roketuma_run(t->program, t->program_len, t->goal, t->goal_len, output, ROKETUMA_ROOM);
@@ -75,13 +78,13 @@ static void first_line(uint64_t r, const uint8_t *output, char *line, size_t roo
     if (roketuma_is_refusal(r))
         snprintf(line, room, "REFUSED,%u,%c,%u", roketuma_number(r), roketuma_text(r), roketuma_line(r));
     else
-        snprintf(line, room, "%.*s", (int)strcspn((const char *)output, "\n"), (const char *)output);
+        snprintf(line, room, "%.*s", (int)strcspn((const char *)output, paged ? " " : "\n"), (const char *)output);
 }
 
 static void *work(void *unused)
 {
     static struct texts t;
-    static uint8_t output[ROKETUMA_ROOM];
+    static uint8_t output[ROKETUMA_PAGES_ROOM];
     (void)unused;
     printf("%-15s %18s %8s %14s %14s\n", checks ? "program" : "goal", "answer", "listing", checks ? "ns per check" : "ns per run",
            "ns reading");
@@ -104,13 +107,14 @@ int main(int argc, char **argv)
 {
     pthread_t thread;
     pthread_attr_t attributes;
-    checks = argc > 1 && !strcmp(argv[1], "check");
+    paged = argc > 1 && !strcmp(argv[1], "pages");
+    checks = paged || (argc > 1 && !strcmp(argv[1], "check"));
     folder = argv[argc > 2 ? 2 : 0];
     names = argv + 3;
     count = argc - 3;
     pthread_attr_init(&attributes);
     if (argc < 4 || pthread_attr_setstacksize(&attributes, STACK) || pthread_create(&thread, &attributes, work, NULL)) {
-        fprintf(stderr, "usage: bench check|run FOLDER NAME...\n");
+        fprintf(stderr, "usage: bench check|pages|run FOLDER NAME...\n");
         return 1;
     }
     return pthread_join(thread, NULL);
