@@ -14,8 +14,7 @@ returns : tie.Need-returns
 unfolding ample
 returns c =
     let at-check = c .before .before .before .before in
-    let start = at-check .before .before .before .before in
-    pages-refused (start .args .program .now) refl (at-check .check .ensures) _ (c .before .refusal .given .1)
+    pages-refused _ refl (at-check .check .ensures) _ (c .before .refusal .given .1)
 
 returns-2 : tie.Need-returns-2
 unfolding ample
@@ -23,8 +22,7 @@ returns-2 c =
     let at-lay = c .before .before in
     let at-n = at-lay .before .before .before .before in
     let at-check = at-n .before .before .before in
-    let start = at-check .before .before .before .before in
-    pages-passed (start .args .program .now) refl (at-check .check .ensures) (at-n .n .given .1) (at-lay .lay .ensures)
+    pages-passed _ refl (at-check .check .ensures) (at-n .n .given .1) (at-lay .lay .ensures)
 
 returns-3 : tie.Need-returns-3
 unfolding ample
@@ -32,8 +30,7 @@ returns-3 c =
     let at-lay = c .before .before in
     let at-n = at-lay .before .before .before .before in
     let at-check = at-n .before .before .before in
-    let start = at-check .before .before .before .before in
-    pages-failed (start .args .program .now) refl (at-check .check .ensures) (at-n .n2 .given .1) (at-lay .lay2 .ensures)
+    pages-failed _ refl (at-check .check .ensures) (at-n .n2 .given .1) (at-lay .lay2 .ensures)
 
 array-share-prefix-plain : tie.Need-array-share-prefix-plain
 array-share-prefix-plain c =
@@ -53,8 +50,7 @@ unfolding ample
 lay-requires c κs =
     let at-n = c .before .before .before in
     let at-check = at-n .before .before .before in
-    let start = at-check .before .before .before .before in
-    ask-passed (start .args .program .now) refl (at-check .check .ensures) (at-n .n .given .1)
+    ask-passed _ refl (at-check .check .ensures) (at-n .n .given .1)
 
 array-share-prefix-plain-2 : tie.Need-array-share-prefix-plain-2
 array-share-prefix-plain-2 c =
@@ -74,8 +70,7 @@ unfolding ample
 lay-requires-2 c κs =
     let at-n = c .before .before .before in
     let at-check = at-n .before .before .before in
-    let start = at-check .before .before .before .before in
-    ask-failed (start .args .program .now) refl (at-check .check .ensures) (at-n .n2 .given .1)
+    ask-failed _ refl (at-check .check .ensures) (at-n .n2 .given .1)
 
 pub pages-spec : {M : Type 1} → statement M
 pages-spec =
