@@ -38,7 +38,7 @@ of-rule-low symbols few c h =
     let known = ltb (c .symbol) (length symbols) in
     let declared = and-true (known && counted) (every (isBelow alphabet) (c .terms)) h .0 in
     let below : c .symbol < length symbols = ltb-true (c .symbol) (length symbols) (and-true known counted declared .0) in
-    lt-ltb (c .symbol) 256 (omega (arith, below))
+    lt-ltb (c .symbol) 64 (omega (arith, below))
 
 -- the heads of a rule
 heads-low : (symbols : List Symbol) → length symbols ≤ 32 → (r : Rule) → isRuleOf symbols r ≡ true → every isLow (r .heads) ≡ true

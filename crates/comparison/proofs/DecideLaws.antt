@@ -12,7 +12,6 @@ use mathlib.Core.Logic.{_⊎_, inl, inr, ⊎-elim}
 use mathlib.Core.Path.{_≡_, refl, sym, ap, _∙_}
 use lib.ListN.{length, getD}
 use lib.Seq.{ext-getD}
-use borrow.Author.Tests.{ltb-true}
 use Rattle.text.specs.Lists.{every}
 use Rattle.text.proofs.ListLaws.{every-at}
 use Rattle.semantics.specs.Terms.{Constraint, State}
@@ -25,7 +24,7 @@ use Rattle.semantics.proofs.Comparison.{sameState-complete}
 use Rattle.tables.specs.Cells.{cellTerm, cellConstraints}
 use Rattle.tables.specs.Cells.{isLow}
 use Rattle.tables.proofs.CellLaws.{constraints-length}
-use Rattle.tables.proofs.CellLaws.{le-or-lt}
+use Rattle.tables.proofs.CellLaws.{le-or-lt, low-symbol}
 use Rattle.colours.specs.Rows.{rowOf}
 use Rattle.colours.specs.Bounds.{Below}
 use Rattle.colours.specs.Ends.{endOf}
@@ -73,13 +72,14 @@ variants-same s t s′ t′ v w =
     (λ x. variant-trans s s′ t v (variant-trans s′ t′ t x (variant-sym t t′ w)))
 
 -- the symbols of a state lie below the variables
-low-symbol :
+symbol-below :
     (n : ℕ) (l : List ℕ) (i : ℕ) → length l ≡ 5 * n → every isLow (cellConstraints l) ≡ true → i < n → getD l (5 * i) 0 < 256
-unfolding isLow rowOf
-low-symbol n l i s e h =
+unfolding rowOf
+symbol-below n l i s e h =
     let none : Constraint = record { symbol = 0; terms = [] } in
     let t = every-at isLow (cellConstraints l) i none e (rw (constraints-length n l s) h) in
-    ltb-true (getD l (5 * i) 0) 256 (rw (row-at i l none (omega arith)) at t)
+    let low : getD l (5 * i) 0 < 64 = low-symbol (rowOf l i) (rw (row-at i l none (omega arith)) at t) in
+    omega arith
 
 -- a table of numbers renames one to one
 renames-one : (numbers : List ℕ) (next : ℕ) → Numbering numbers next → OneToOne (Renames numbers)
@@ -97,7 +97,7 @@ module _ (n : ℕ) (cells bound out bound′ : List ℕ) (limit next : ℕ) (s :
   unfolding rowOf
   row-renumbered i h =
       record {
-        symbols = sym (r .constant (5 * i) (low-symbol n cells i s low h));
+        symbols = sym (r .constant (5 * i) (symbol-below n cells i s low h));
         terms = prefix-agree _ _
             (each (r .same (5 * i + 1) (omega arith)) (each (r .same (5 * i + 2) (omega arith))
             (each (r .same (5 * i + 3) (omega arith)) (each (r .same (5 * i + 4) (omega arith)) empty))));

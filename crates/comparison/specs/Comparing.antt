@@ -15,7 +15,7 @@ use Rattle.colours.specs.Bounds.{Below}
 use Rattle.colours.specs.Classes.{Colourable}
 use Rattle.colours.specs.Numbering.{Ascending}
 
--- a state of n constraints, at most 512, whose symbols lie below the variables. Goal variables are at most 28, and each
+-- a state of n constraints, at most 512, whose symbols are ones that there can be. Goal variables are at most 28, and each
 -- firing makes
 -- at most 26 new ones
 pub record Side (cells : List ℕ) (n : ℕ) (bound : List ℕ) : Type 0 where

@@ -12,14 +12,13 @@ use mathlib.Core.Option.{some}
 use mathlib.Core.Path.{_≡_, sym, ap, _∙_}
 use lib.ListN.{length, take, getElem?, length-map}
 use Rattle.text.specs.Lists.{every}
-use Rattle.semantics.specs.Terms.{Constraint, Program, mapTerms}
+use Rattle.semantics.specs.Terms.{Constraint, Program, mapTerms, weightBy}
 use Rattle.semantics.specs.Overlaps.{apart, Overlap, overlapOf, secondPositions}
 use Rattle.semantics.proofs.Enumeration.{overlap-parts}
 use Rattle.semantics.proofs.OverlapGoals.{overlap-goal, wellFormed-heads}
 use Rattle.tables.specs.Cells.{cellConstraints, isLow}
 use Rattle.tables.specs.Rows.{ruleOfRow, ruleOf, rulesOf, rowOf}
 use Rattle.tables.proofs.CellLaws.{constraints-length}
-use Rattle.engine.specs.Runs.{weightBy}
 use Rattle.sides.specs.Sides.{cellGoal}
 use Rattle.judging.specs.Judging.{Stands, Overlapping}
 use Rattle.critical.specs.Walks.{Holds, ruleAt, PairAt, firstHeads, secondHeads}

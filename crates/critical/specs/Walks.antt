@@ -44,7 +44,7 @@ pub record Checkable (rules : List ℕ) (n : ℕ) : Type 0 where
   pub names : List ℕ
   pub whole : program .rules ≡ rulesOf names rules n
   pub well-formed : isWellFormed program ≡ true
-  pub few-symbols : length (program .symbols) ≤ 256
+  pub few-symbols : length (program .symbols) ≤ 64
 
 -- rules i and j of a table of n, which have a and b heads
 pub record PairAt (rules : List ℕ) (n i j a b : ℕ) : Type 0 where

@@ -13,20 +13,20 @@ use mathlib.Core.Path.{_≡_, refl, ap, _∙_}
 use lib.ListN.{length, getD, take, length-append, length-map}
 use Rattle.text.specs.Lists.{every}
 use Rattle.text.proofs.ListLaws.{every-both}
-use Rattle.semantics.specs.Terms.{Term, Constraint, live, mapTerms, mapSides, removedHeads}
+use Rattle.semantics.specs.Terms.{Term, Constraint, live, mapTerms, mapSides, removedHeads, weightBy}
 use Rattle.semantics.specs.Matching.{unassigned, matchAt}
 use Rattle.semantics.specs.Solving.{solve}
 use Rattle.semantics.specs.Firing.{without, instance, settle, fired}
+use Rattle.semantics.proofs.SymbolWeights.{weight-append, weight-map, match-removed}
 use Rattle.tables.specs.Cells.{isLow, stateOf}
 use Rattle.tables.specs.Rows.{ruleOfRow}
 use Rattle.fitting.specs.Cells.{assigned}
 use Rattle.fitting.specs.Positions.{Row}
 use Rattle.engine.specs.States.{Fired}
-use Rattle.engine.specs.Runs.{weightBy, storeOf}
+use Rattle.engine.specs.Runs.{storeOf}
 use Rattle.tables.proofs.MapLaws.{low-kept}
 use Rattle.engine.proofs.RuleLaws.{removedAt, low-without, low-body}
 use Rattle.engine.proofs.SolveLaws.{map-none}
-use Rattle.engine.proofs.WeightLaws.{weight-append, weight-map, match-removed}
 
 -- the constraints of a state that lives after its equations
 record Settled (cells : List Constraint) (cs : List Constraint) : Type 0 where

@@ -21,7 +21,8 @@ use Rattle.tables.specs.Cells.{cellConstraints}
 use Rattle.tables.proofs.CellLaws.{constraints-length}
 use Rattle.engine.specs.Cells.{closedGap}
 use Rattle.engine.specs.States.{Highest, Removed}
-use Rattle.fitting.proofs.PartLaws.{take-constraints, drop-constraints}
+use Rattle.tables.proofs.CellLaws.{constraints-take}
+use Rattle.fitting.proofs.PartLaws.{drop-constraints}
 use Rattle.engine.proofs.FireLaws.{Moving, moving-start, moving-next, moving-end, constraints-append}
 
 -- the cells behind position p of k constraints are moved as far as place i
@@ -135,7 +136,7 @@ gap-closed k p cells l h =
     rw taken
     (constraints-append p (take (5 * p) (take (5 * k) cells)) (drop (5 * suc p) (take (5 * k) cells))
     (length-take-le (5 * p) (take (5 * k) cells) (omega (arith, length-take-le (5 * k) cells h)))
-    ∙ rw (take-constraints p (take (5 * k) cells), drop-constraints (suc p) (take (5 * k) cells)))
+    ∙ rw (constraints-take p (take (5 * k) cells), drop-constraints (suc p) (take (5 * k) cells)))
 
 -- the constraints below a position, and those from it on that stay
 abbrev staying : ℕ → List ℕ → List Constraint → List Constraint

@@ -31,6 +31,7 @@ use Rattle.semantics.specs.Terms.{
   noSymbol,
   symbolAt,
   weight,
+  weightBy,
   removedHeads,
 }
 use Rattle.semantics.specs.Terms.{isDeclared, isBelow, isGoalOf, alphabet, isOfRule, isRuleOf, isWellFormed}
@@ -39,7 +40,7 @@ use Rattle.tables.specs.Layout.{firstRule}
 use Rattle.tables.specs.Cells.{cellTerm, isLow, stateOf}
 use Rattle.tables.specs.Rows.{symbolOf, symbolsOf, ruleOfRow, ruleOf, rulesOf, rowOf, nameOf}
 use Rattle.fitting.specs.Positions.{isLettered, isSide, Row, Table}
-use Rattle.engine.specs.Runs.{weightBy, Lowers, storeOf, Runnable, Startable, Ended}
+use Rattle.engine.specs.Runs.{Lowers, storeOf, Runnable, Startable, Ended}
 use Rattle.text.proofs.Bools.{and-true}
 use Rattle.text.proofs.ListLaws.{every-at, every-weaker, every-drop, every-together}
 use Rattle.fitting.proofs.ChooseLaws.{length-tabled, getD-tabled}
@@ -123,7 +124,7 @@ module _ (names symbols : List ℕ) (s : ℕ) (rules : List ℕ) (n : ℕ) (r : 
 
   declared-low : (c : Constraint) → isDeclared declaredTable c ≡ true → isLow c ≡ true
   unfolding isLow
-  declared-low c h = lt-ltb (c .symbol) 256 (omega (arith, declared-below c h, r .few-symbols))
+  declared-low c h = lt-ltb (c .symbol) 64 (omega (arith, declared-below c h, r .few-symbols))
 
   -- declared constraints weigh what their symbols do
   weight-same : (cs : List Constraint) → every (isDeclared declaredTable) cs ≡ true → weightBy weigh cs ≡ weight declaredTable cs

@@ -12,6 +12,7 @@ use lib.ListN.{length, take, drop, replicate, length-drop}
 use lib.Seq.{drop-drop}
 use Rattle.engine.specs.States.{Skips, Placed}
 use Rattle.engine.specs.Runs.{storeOf, Live, Stepped, Startable, Ended}
+use Rattle.tallies.specs.Symbols.{Tallied}
 use Rattle.fitting.specs.Known.{Knows}
 use Rattle.engine.specs.Runs.{Keeps}
 use Rattle.fitting.proofs.PartLaws.{behind, behind-all}
@@ -23,30 +24,34 @@ use Rattle.engine.proofs.RunLaws.{running-less, running-next, few-now, 
 module _ (rules : List ℕ) (n : ℕ) (bound cells : List ℕ) (m next : ℕ) where
   -- the state begins at a row, and lies within the cells
   pub record Holding (bound′ cells′ : List ℕ) (alive : Bool) (count number firings : ℕ) (known last : List ℕ) (gone at : ℕ)
-      : Type 0 where
+      (table : List ℕ) : Type 0 where
     pub running : Running rules n bound cells m next bound′ (drop (5 * at) cells′) alive count number firings
-    pub keeps : Keeps rules n known last gone (drop (5 * at) cells′) true alive count
+    pub keeps : Keeps rules n known last table gone (drop (5 * at) cells′) true alive count
     pub known-size : length known ≡ 32
     pub last-size : length last ≡ 64
+    pub table-size : length table ≡ 64
     pub grown : gone + count ≤ m + 10 * firings
     pub cells-size : length cells′ ≡ length cells
     pub within : 5 * (at + count) ≤ length cells′
 
   module _ (s : Startable rules n cells m next) where
-    pub holding-start : Holding bound cells true m next 0 (replicate 32 8192) (replicate 64 0) 0 0
-    holding-start =
+    pub holding-start :
+        (table : List ℕ) → Tallied table (storeOf cells m)
+        → Holding bound cells true m next 0 (replicate 32 8192) (replicate 64 0) 0 0 table
+    holding-start table t =
         record {
           running = running-start rules n bound cells m next s;
-          keeps = keeps-start rules n 32 64 cells m;
+          keeps = keeps-start rules n 32 64 table cells m t;
           known-size = refl;
           last-size = refl;
+          table-size = t .size;
           grown = omega arith;
           cells-size = refl;
           within = omega (arith, s .there, s .space);
         }
 
     module _ (bound′ cells′ : List ℕ) (alive : Bool) (count number firings : ℕ) (known last : List ℕ) (gone at : ℕ)
-        (h : Holding bound′ cells′ alive count number firings known last gone at) where
+        (table : List ℕ) (h : Holding bound′ cells′ alive count number firings known last gone at table) where
       -- the state has failed
       pub holding-failed : alive ≡ false → Ended rules n bound cells m next bound′ cells′ false count number firings
       holding-failed z =
@@ -80,29 +85,39 @@ module _ (rules : List ℕ) (n : ℕ) (bound cells : List ℕ) (m next : ℕ) wh
           holding-within : 5 * a ≤ length c
           holding-within = omega (arith, there)
 
+          -- what is kept is that of these cells
+          kept-here : Keeps rules n known last table gone (behind (5 * a) c) true alive count
+          kept-here =
+              keeps-placed rules n known last table gone (drop (5 * at) cells′) true alive count (h .keeps) (behind (5 * a) c)
+              lent
+
           -- what a step asks
           pub holding-live :
               Live rules n (behind (5 * a) c) count number × Knows rules n known last gone (storeOf (behind (5 * a) c) count)
-              × (gone + count ≤ 6000)
+              × (gone + count ≤ 6000) × Tallied table (storeOf (behind (5 * a) c) count)
           holding-live = (
             running-live rules n bound cells m next s bound′ (behind (5 * a) c) alive count number firings here z lent-room,
-            keeps-placed rules n known last gone (drop (5 * at) cells′) true alive count (h .keeps) (behind (5 * a) c) lent
-                .knows refl z,
+            kept-here .knows refl z,
             omega (
               arith,
               h .grown,
               s .there,
               fired-few rules n bound cells m next s bound′ (drop (5 * at) cells′) alive count number firings (h .running) z,
             ),
+            kept-here .tallies refl z,
           )
 
-          module _ (b g known′ last′ : List ℕ) (f x : Bool) (k skip gone′ : ℕ)
+          module _ (b g known′ last′ table′ : List ℕ) (f x : Bool) (k skip gone′ : ℕ)
               (t : Stepped rules n bound′ (behind (5 * a) c) count number b (drop (5 * skip) g) f x k
-              × Keeps rules n known′ last′ gone′ (drop (5 * skip) g) f x k × Skips count skip k
+              × Keeps rules n known′ last′ table′ gone′ (drop (5 * skip) g) f x k × Skips count skip k
               × (gone′ + k ≤ gone + count + 10))
               (same-size : length g ≡ length (behind (5 * a) c)) where
             size-now : length (returned (5 * a) c g) ≡ length c
             size-now = returned-size (5 * a) c g holding-within same-size
+
+            -- the cells are as many as at the start
+            pub holding-size : length (returned (5 * a) c g) ≡ length cells
+            holding-size = size-now ∙ size ∙ h .cells-size
 
             -- the state after the step
             state-now : drop (5 * (a + skip)) (returned (5 * a) c g) ≡ drop (5 * skip) g
@@ -134,8 +149,9 @@ module _ (rules : List ℕ) (n : ℕ) (bound cells : List ℕ) (m next : ℕ) wh
               -- a rule has fired
               pub holding-next :
                   length b ≡ length bound′ → length known′ ≡ length known → length last′ ≡ length last
-                  → Holding b (returned (5 * a) c g) x k (number + 26) (firings + 1) known′ last′ gone′ (a + skip)
-              holding-next o l u =
+                  → length table′ ≡ length table
+                  → Holding b (returned (5 * a) c g) x k (number + 26) (firings + 1) known′ last′ gone′ (a + skip) table′
+              holding-next o l u v =
                   let lent-size : length (behind (5 * a) c) ≡ length c - 5 * a =
                   ap length (behind-all (5 * a) c) ∙ length-drop (5 * a) c in
                   record {
@@ -143,10 +159,11 @@ module _ (rules : List ℕ) (n : ℕ) (bound cells : List ℕ) (m next : ℕ) wh
                         (running-next rules n bound cells m next s bound′ (behind (5 * a) c) alive count number firings here z
                         b (drop (5 * skip) g) f x k (t .0) y o
                         (omega (arith, length-drop (5 * skip) g, same-size, there, t .2 .within)));
-                    keeps = rw state-now (keeps-on rules n known′ last′ gone′ (drop (5 * skip) g) f x k (t .1) y);
+                    keeps = rw state-now (keeps-on rules n known′ last′ table′ gone′ (drop (5 * skip) g) f x k (t .1) y);
                     known-size = l ∙ h .known-size;
                     last-size = u ∙ h .last-size;
+                    table-size = v ∙ h .table-size;
                     grown = omega (arith, t .3, h .grown);
-                    cells-size = size-now ∙ size ∙ h .cells-size;
+                    cells-size = holding-size;
                     within = omega (arith, size-now, there, t .2 .within);
                   }

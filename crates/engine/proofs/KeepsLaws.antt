@@ -1,19 +1,25 @@
--- What is known of rules that fit nowhere, at the start and after a firing.
---   keeps-…        nothing is known at the start; other cells
---   knows-fired    what is known after a firing
+-- What is known of rules that fit nowhere, and the tally, at the start and after a firing.
+--   keeps-…            nothing is known at the start; other cells
+--   row-exchangeable   what a firing asks of the tally
+--   tallied-fired      the tally after a firing
+--   knows-fired        what is known after a firing
 -- Assumes nothing.
 use Prim.Native.Nat.{ℕ, zero, suc, _+_, _-_, _*_, _≤_, _<_}
 use native.Mathlib.Omega.{arith}
 use mathlib.Core.Bool.{Bool, true, _||_}
 use mathlib.Core.List.{List, [], _∷_, _++_, map}
 use mathlib.Core.Logic.{⊎-elim}
-use mathlib.Core.Path.{_≡_, refl, ap, _∙_}
+use mathlib.Core.Option.{some}
+use mathlib.Core.Path.{_≡_, refl, ap, sym, subst, _∙_}
 use lib.Dec.{eqb}
 use lib.ListN.{length, getD, take, replicate, length-map}
 use lib.Seq.{length-take-le}
-use Rattle.semantics.specs.Terms.{Term, Constraint, mapTerms}
+use Rattle.semantics.specs.Terms.{Term, Constraint, live, mapTerms}
+use Rattle.semantics.specs.Matching.{unassigned, matchAt}
 use Rattle.semantics.specs.Firing.{without, instance}
-use Rattle.tables.specs.Cells.{cellEquations}
+use Rattle.semantics.specs.Tally.{exchanged, Counts}
+use Rattle.semantics.proofs.Tallies.{tally-length, fired-tally}
+use Rattle.tables.specs.Cells.{cellTerm, cellConstraints, cellEquations, stateOf}
 use Rattle.tables.specs.Rows.{ruleOfRow}
 use Rattle.tables.proofs.CellLaws.{constraints-length}
 use Rattle.tables.proofs.CellLaws.{le-or-lt}
@@ -21,12 +27,12 @@ use Rattle.fitting.specs.Cells.{assigned}
 use Rattle.fitting.specs.Positions.{Row}
 use Rattle.engine.specs.States.{Fired}
 use Rattle.engine.specs.Runs.{storeOf}
-use Rattle.fitting.specs.Known.{hasSymbol, concerns, Noted, Knows}
-use Rattle.fitting.specs.Known.{Marked, Forgotten}
+use Rattle.tallies.specs.Symbols.{tallied, Tallied, hasSymbol, Marked, Exchangeable, Exchanged}
+use Rattle.fitting.specs.Known.{concerns, Noted, Knows, Forgotten}
 use Rattle.engine.specs.Runs.{Keeps}
 use Rattle.fitting.proofs.BarrenLaws.{without-few}
 use Rattle.fitting.proofs.NotedLaws.{noted-nothing, noted-fired, marked-bounded}
-use Rattle.engine.proofs.RuleLaws.{removedAt, removed-size}
+use Rattle.engine.proofs.RuleLaws.{removedAt, removed-size, low-body}
 use Rattle.engine.proofs.FiredLaws.{fired-plain, fired-length}
 
 -- nothing is known at the start
@@ -45,20 +51,53 @@ knows-start rules n k l cs =
     none-came (suc l) (suc s) w = none-came l s w
 
 pub keeps-start :
-    (rules : List ℕ) (n k l : ℕ) (cells : List ℕ) (m : ℕ) → Keeps rules n (replicate k 8192) (replicate l 0) 0 cells true true m
-keeps-start rules n k l cells m = record { knows = λ y z. knows-start rules n k l (storeOf cells m) }
+    (rules : List ℕ) (n k l : ℕ) (table cells : List ℕ) (m : ℕ) → Tallied table (storeOf cells m)
+    → Keeps rules n (replicate k 8192) (replicate l 0) table 0 cells true true m
+keeps-start rules n k l table cells m t =
+    record { knows = λ y z. knows-start rules n k l (storeOf cells m); tallies = λ y z. t }
 
-module _ (rules : List ℕ) (n : ℕ) (known last : List ℕ) (gone : ℕ) (cells : List ℕ) (f alive : Bool) (count : ℕ)
-    (k : Keeps rules n known last gone cells f alive count) where
+module _ (rules : List ℕ) (n : ℕ) (known last table : List ℕ) (gone : ℕ) (cells : List ℕ) (f alive : Bool) (count : ℕ)
+    (k : Keeps rules n known last table gone cells f alive count) where
   -- and after a firing
-  pub keeps-on : f ≡ true → Keeps rules n known last gone cells true alive count
+  pub keeps-on : f ≡ true → Keeps rules n known last table gone cells true alive count
   keeps-on e = rw e at k
 
   -- the same constraints in other cells
   pub keeps-placed :
-      (cells′ : List ℕ) → take (5 * count) cells′ ≡ take (5 * count) cells → Keeps rules n known last gone cells′ f alive count
+      (cells′ : List ℕ) → take (5 * count) cells′ ≡ take (5 * count) cells
+      → Keeps rules n known last table gone cells′ f alive count
   unfolding storeOf
-  keeps-placed cells′ e = record { knows = λ y z. rw e (k .knows y z) }
+  keeps-placed cells′ e = record { knows = λ y z. rw e (k .knows y z); tallies = λ y z. rw e (k .tallies y z) }
+
+-- what a firing asks of a tally that equals a fresh count
+pub row-exchangeable :
+    (row table : List ℕ) (cs : List Constraint) → Row row → Tallied table cs → length cs ≤ 60000 → Exchangeable row table
+row-exchangeable row table cs r t few =
+    record {
+      size = r .size;
+      heads-few = r .heads-few;
+      kept-few = r .kept-few;
+      body-few = r .body-few;
+      body-low = low-body (ruleOfRow [] row .body) (r .body);
+      table-size = t .size;
+      room = λ s. omega (arith, t .counts s, tally-length cs s);
+    }
+
+-- the tally after a firing equals a fresh count
+pub tallied-fired :
+    (row ps b : List ℕ) (next : ℕ) (bound cells : List ℕ) (m : ℕ) (bound′ cells′ : List ℕ) (count : ℕ)
+    → Fired row ps b next bound cells m bound′ cells′ true count
+    → matchAt (ruleOfRow [] row .heads) (take (getD row 3 0) ps) (storeOf cells m) [] unassigned ≡ some (assigned b)
+    → (table table′ : List ℕ) → Tallied table (storeOf cells m) → length table′ ≡ length table → Exchanged row table table′
+    → Tallied table′ (storeOf cells′ count)
+unfolding storeOf stateOf
+tallied-fired row ps b next bound cells m bound′ cells′ count done fits table table′ t size x =
+    let after : Counts (exchanged (ruleOfRow [] row) (tallied table)) (live (next + 26) (map cellTerm bound′)
+    (cellConstraints (take (5 * count) cells′))) =
+    subst (Counts (exchanged (ruleOfRow [] row) (tallied table))) (sym (done .same []))
+    (fired-tally (tallied table) (ruleOfRow [] row) (take (getD row 3 0) ps) (assigned b) next (map cellTerm bound)
+    (cellConstraints (take (5 * m) cells)) fits (t .counts)) in
+    record { size = size ∙ t .size; counts = λ s. x .same s ∙ after s }
 
 -- terms do not concern
 symbol-mapped : (s : ℕ) (σ : Term → Term) (cs : List Constraint) → hasSymbol s (map (mapTerms σ) cs) ≡ hasSymbol s cs

@@ -5,7 +5,6 @@ pub mod GapLaws
 pub mod SolveLaws
 pub mod RuleLaws
 pub mod FrontLaws
-pub mod WeightLaws
 pub mod FiredLaws
 pub mod KeepsLaws
 pub mod StepLaws

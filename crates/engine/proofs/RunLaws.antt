@@ -11,15 +11,15 @@ use mathlib.Core.Path.{_≡_, refl, sym, ap, _∙_}
 use lib.ListN.{length, take}
 use lib.Seq.{length-take-le}
 use Rattle.text.specs.Lists.{onward, every}
-use Rattle.semantics.specs.Terms.{Rule, State, failed, live}
+use Rattle.semantics.specs.Terms.{Rule, State, failed, live, weightBy}
 use Rattle.semantics.specs.Strategy.{Final, advance, normalise}
+use Rattle.semantics.proofs.SymbolWeights.{weight-length}
 use Rattle.tables.specs.Cells.{cellTerm, cellConstraints, isLow, stateOf}
 use Rattle.tables.specs.Rows.{rulesOf}
 use Rattle.tables.proofs.CellLaws.{constraints-length}
-use Rattle.engine.specs.Runs.{weightBy, Lowers, storeOf, Live, Stepped, Startable, Ended}
+use Rattle.engine.specs.Runs.{Lowers, storeOf, Live, Stepped, Startable, Ended}
 use Rattle.engine.specs.Runs.{Continued}
 use Rattle.engine.proofs.StepLaws.{no-way}
-use Rattle.engine.proofs.WeightLaws.{weight-length}
 
 -- no more constraints than weight
 pub count-weight :

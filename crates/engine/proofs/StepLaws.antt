@@ -11,6 +11,7 @@ use lib.Seq.{length-take-le}
 use Rattle.semantics.specs.Matching.{unassigned, matchAt}
 use Rattle.semantics.specs.Strategy.{advance}
 use Rattle.semantics.proofs.Search.{find-sound}
+use Rattle.semantics.proofs.SymbolWeights.{match-few}
 use Rattle.tables.specs.Layout.{firstRule}
 use Rattle.tables.specs.Cells.{cellConstraints}
 use Rattle.tables.specs.Rows.{nameOf, ruleOfRow, rowOf, ruleOf}
@@ -18,12 +19,12 @@ use Rattle.fitting.specs.Cells.{assigned}
 use Rattle.fitting.specs.Positions.{foundOf, Row, Table, choiceOf, Chosen}
 use Rattle.engine.specs.States.{Fires, Fired, Skips}
 use Rattle.engine.specs.Runs.{storeOf, Live, Stepped}
+use Rattle.tallies.specs.Symbols.{Tallied, Exchangeable}
 use Rattle.fitting.specs.Known.{Knows, Remembered}
 use Rattle.engine.specs.Runs.{Keeps}
 use Rattle.fitting.proofs.ChooseLaws.{lentRow, row-cells}
 use Rattle.engine.proofs.FiredLaws.{fired-lighter, fired-low}
-use Rattle.engine.proofs.KeepsLaws.{knows-fired}
-use Rattle.engine.proofs.WeightLaws.{match-few}
+use Rattle.engine.proofs.KeepsLaws.{row-exchangeable, tallied-fired, knows-fired}
 use Rattle.tables.proofs.CellLaws.{constraints-length}
 
 -- from nothing
@@ -41,17 +42,19 @@ module _ (rules : List ℕ) (n : ℕ) (cells : List ℕ) (m next : ℕ) (s : Liv
   -- the choice may be lent any first rules of the table
   pub step-chooses :
       (known last : List ℕ) (gone : ℕ) → Knows rules n known last gone (storeOf cells m) → gone + m ≤ 6000 → (k : ℕ) → k ≤ n
-      → (ps b : List ℕ) → length ps ≡ 4 → length b ≡ 26
+      → (ps b : List ℕ) → length ps ≡ 4 → length b ≡ 26 → (table : List ℕ) → Tallied table (storeOf cells m)
       → Table rules k × (length (take (5 * m) cells) ≡ 5 * m) × (gone + m ≤ 6000)
       × Knows rules k known last gone (cellConstraints (take (5 * m) cells)) × (length ps ≡ 4) × (length b ≡ 26)
+      × Tallied table (cellConstraints (take (5 * m) cells))
   unfolding storeOf
-  step-chooses known last gone ks few k h ps b four letters = (
+  step-chooses known last gone ks few k h ps b four letters table t = (
     record { size = omega (arith, s .table .size); rows = λ i l. s .table .rows i (omega arith) },
     sym step-lent,
     few,
     record { noted = λ i l. ks .noted i (omega arith); bounded = ks .bounded },
     four,
     letters,
+    t,
   )
 
   -- the constraints after a firing lie within the cells
@@ -78,9 +81,9 @@ module _ (rules : List ℕ) (n : ℕ) (cells : List ℕ) (m next : ℕ) (s : Liv
 
     -- and nothing is kept
     pub step-keeps-none :
-        (known last : List ℕ) (gone : ℕ) (cells′ : List ℕ) (alive : Bool) (count : ℕ)
-        → Keeps rules n known last gone cells′ false alive count
-    step-keeps-none known last gone cells′ alive count = record { knows = λ y. no-way y }
+        (known last table : List ℕ) (gone : ℕ) (cells′ : List ℕ) (alive : Bool) (count : ℕ)
+        → Keeps rules n known last table gone cells′ false alive count
+    step-keeps-none known last table gone cells′ alive count = record { knows = λ y. no-way y; tallies = λ y. no-way y }
 
     module _ (z : f ≡ true) where
       pub step-row : 64 * i + 64 ≤ length rules
@@ -135,8 +138,15 @@ module _ (rules : List ℕ) (n : ℕ) (cells : List ℕ) (m next : ℕ) (s : Liv
                 omega (arith, s .table .rows i (chosen .within z) .heads-few)
 
             -- what remembering it asks
-            pub step-remembers : Row (lentRow rules i) × (gone + taken + count ≤ 65000)
-            step-remembers = (rw (row-cells i) (s .table .rows i (chosen .within z)), omega (arith, done .few, taken-few))
+            pub step-remembers :
+                (table : List ℕ) → Tallied table (storeOf cells m)
+                → Exchangeable (lentRow rules i) table × (gone + taken + count ≤ 65000)
+            unfolding storeOf
+            step-remembers table t = (
+              rw (row-cells i) (row-exchangeable row table (storeOf cells m) (s .table .rows i (chosen .within z)) t
+                  (omega (arith, constraints-length m (take (5 * m) cells) (sym step-lent)))),
+              omega (arith, done .few, taken-few),
+            )
 
             -- not many more constraints have been there
             pub step-few : gone + taken + count ≤ gone + m + 10
@@ -144,17 +154,22 @@ module _ (rules : List ℕ) (n : ℕ) (cells : List ℕ) (m next : ℕ) (s : Liv
 
             -- what is known then
             pub step-keeps :
-                (known known′ last last′ : List ℕ) → Knows rules n known last gone (cellConstraints (take (5 * m) cells))
-                → Remembered (lentRow rules i) (gone + taken + count) known last known′ last′ → 5 * count ≤ length cells′
-                → Keeps rules n known′ last′ (gone + taken) cells′ true alive count
+                (known known′ last last′ table table′ : List ℕ)
+                → Knows rules n known last gone (cellConstraints (take (5 * m) cells))
+                → Remembered (lentRow rules i) (gone + taken + count) known last table known′ last′ table′
+                → 5 * count ≤ length cells′ → Tallied table (storeOf cells m) → length table′ ≡ length table
+                → Keeps rules n known′ last′ table′ (gone + taken) cells′ true alive count
             unfolding storeOf
-            step-keeps known known′ last last′ ks remembered there =
+            step-keeps known known′ last last′ table table′ ks remembered there t size =
                 let o : taken ≡ getD row 3 0 - getD row 1 0 = rw (row-cells i) at e in
-                let r : Remembered row (gone + taken + count) known last known′ last′ = rw (row-cells i) at remembered in
+                let r : Remembered row (gone + taken + count) known last table known′ last′ table′ =
+                rw (row-cells i) at remembered in
                 record {
                   knows = λ x y. knows-fired row ps b next bound cells m bound′ cells′ count (rw y at done)
                       (s .table .rows i (chosen .within z)) (chosen .positions-size) there gone taken o last last′ (r .marks)
                       rules n known known′ ks (r .equated) (r .plain);
+                  tallies = λ x y. tallied-fired row ps b next bound cells m bound′ cells′ count (rw y at done) fits
+                      table table′ t size (r .exchanges);
                 }
 
         -- a rule has fired

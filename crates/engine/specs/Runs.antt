@@ -1,10 +1,10 @@
 -- What the derivation asks and promises.
---   weightBy, Lowers     the weight of constraints, and a weighing that every rule lowers
+--   Lowers               a weighing that every rule lowers
 --   Live, Stepped        one firing of the strategy
 --   Runnable             constraints from which the strategy comes to an end
 --   Startable, Ended     the derivation to its end
 --   Continued            the same, from a number of firings
---   Keeps                a firing keeps what is known of rules that fit nowhere
+--   Keeps                a firing keeps what is known of rules that fit nowhere, and the tally
 -- Assumes nothing.
 use Prim.Native.Nat.{ℕ, _+_, _*_, _≤_, _<_}
 use mathlib.Core.Bool.{Bool, true, false, cond}
@@ -12,18 +12,15 @@ use mathlib.Core.List.{List, [], map}
 use mathlib.Core.Option.{none, some}
 use mathlib.Core.Path.{_≡_}
 use lib.ListN.{length, take}
-use Rattle.text.specs.Lists.{total, every}
-use Rattle.semantics.specs.Terms.{Constraint, live, removedHeads}
+use Rattle.text.specs.Lists.{every}
+use Rattle.semantics.specs.Terms.{Constraint, live, removedHeads, weightBy}
 use Rattle.semantics.specs.Strategy.{advance, normalise}
 use Rattle.tables.specs.Layout.{constraintSize}
 use Rattle.tables.specs.Cells.{cellTerm, cellConstraints, isLow, stateOf}
 use Rattle.tables.specs.Rows.{ruleOfRow, rulesOf, rowOf}
+use Rattle.tallies.specs.Symbols.{Tallied}
 use Rattle.fitting.specs.Known.{Knows}
 use Rattle.fitting.specs.Positions.{Table}
-
--- the weight of constraints, where w weighs the symbols by their numbers
-unfoldable pub weightBy : (ℕ → ℕ) → List Constraint → ℕ
-weightBy w cs = total (λ (c : Constraint). w (c .symbol)) cs
 
 -- a weighing under which what every rule removes weighs more than its body
 pub record Lowers (w : ℕ → ℕ) (rules : List ℕ) (n : ℕ) : Type 0 where
@@ -60,7 +57,7 @@ pub record Stepped (rules : List ℕ) (n : ℕ) (bound cells : List ℕ) (m next
   pub low : fired ≡ true → alive ≡ true → every isLow (storeOf cells′ count) ≡ true
   pub few : count ≤ m + 6
 
--- constraints from which the strategy comes to an end within the arrays: rules that the engine runs, symbols below the variables,
+-- constraints from which the strategy comes to an end within the arrays: rules that the engine runs, symbols that there can be,
 -- and a weighing of at most 512 that every rule lowers
 pub record Runnable (rules : List ℕ) (n : ℕ) (cs : List Constraint) : Type 0 where
   pub table : Table rules n
@@ -97,7 +94,8 @@ pub record Continued (rules : List ℕ) (n : ℕ) (bound cells : List ℕ) (m ne
   pub bounded : (w : ℕ → ℕ) → Lowers w rules n → firings ≤ before + weightBy w (storeOf cells m)
   pub few : alive ≡ true → count ≤ 512
 
--- where a rule has fired and the state lives, the tables are those of the new state
-pub record Keeps (rules : List ℕ) (n : ℕ) (known′ last′ : List ℕ) (gone′ : ℕ) (cells′ : List ℕ) (fired alive : Bool) (count : ℕ)
-    : Type 0 where
+-- where a rule has fired and the state lives, the tables are those of the new state, and its tally equals a fresh count
+pub record Keeps (rules : List ℕ) (n : ℕ) (known′ last′ table′ : List ℕ) (gone′ : ℕ) (cells′ : List ℕ) (fired alive : Bool)
+    (count : ℕ) : Type 0 where
   pub knows : fired ≡ true → alive ≡ true → Knows rules n known′ last′ gone′ (storeOf cells′ count)
+  pub tallies : fired ≡ true → alive ≡ true → Tallied table′ (storeOf cells′ count)

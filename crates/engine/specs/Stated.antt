@@ -10,7 +10,7 @@ use mathlib.Core.Option.{Option, none, some}
 use mathlib.Core.Path.{_≡_}
 use lib.ListN.{length, take, getD}
 use Rattle.text.specs.Lists.{every}
-use Rattle.semantics.specs.Terms.{State, live, removedHeads}
+use Rattle.semantics.specs.Terms.{State, live, removedHeads, weightBy}
 use Rattle.semantics.specs.Matching.{Assignment, matchAt}
 use Rattle.semantics.specs.Firing.{fireAt}
 use Rattle.tables.specs.Layout.{constraintSize, headsCell}
@@ -18,7 +18,7 @@ use Rattle.tables.specs.Cells.{cellTerm, cellConstraints, isLow, stateOf}
 use Rattle.tables.specs.Rows.{ruleOfRow}
 use Rattle.fitting.specs.Cells.{assigned}
 use Rattle.fitting.specs.Positions.{Row}
-use Rattle.engine.specs.Runs.{weightBy, storeOf}
+use Rattle.engine.specs.Runs.{storeOf}
 
 -- as many of the positions as a rule has heads
 abbrev pub statedAt : List ℕ → List ℕ → List ℕ

@@ -29,7 +29,7 @@ pub record Merged (alive : Bool) (a b : ℕ) (equations bound cells equations′
   pub in-bound : alive ≡ true → bound′ ≡ map (merge a b) bound
   pub in-cells : alive ≡ true → cells′ ≡ map (merge a b) cells
 
--- n equations of two cells each, none of them 0, and constraints whose symbols lie below the variables
+-- n equations of two cells each, none of them 0, and constraints whose symbols are ones that there can be
 pub record Solvable (equations : List ℕ) (n : ℕ) (cells : List ℕ) : Type 0 where
   pub size : length equations ≡ 2 * n
   pub used : every (leb 1) equations ≡ true

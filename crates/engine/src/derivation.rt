@@ -10,6 +10,7 @@ use tables::layout::ROW_SIZE;
 ghost use Prim.Native.Nat.{_+_, _*_, _≤_};
 ghost use lib.ListN.{drop};
 ghost use Rattle.tables.specs.Layout.{constraintSize};
+ghost use Rattle.tallies.specs.Symbols.{Tallied};
 ghost use Rattle.engine.specs.States.{Skips};
 ghost use Rattle.engine.specs.Runs.{Live, Stepped, Startable, Ended, Continued, storeOf};
 ghost use Rattle.fitting.specs.Known.{Knows};
@@ -40,13 +41,15 @@ pub fn advance(
     bound: &mut [u16],
     cells: &mut [u16],
     stage: Stage,
+    tally: &mut [u16],
 ) -> Forward
     requires { ⌜ Live (now rules) n (now cells) (stage .count) (stage .next)
         × Knows (now rules) n (now known) (now last) (stage .gone) (storeOf (now cells) (stage .count))
-        × (stage .gone + stage .count ≤ 6000) ⌝ }
+        × (stage .gone + stage .count ≤ 6000)
+        × Tallied (now tally) (storeOf (now cells) (stage .count)) ⌝ }
     ensures { λ r. ⌜ Stepped (now (rules .entry)) n (now (bound .entry)) (now (cells .entry)) (stage .count) (stage .next)
         (now (bound .exit)) (drop (constraintSize * r .skip) (now (cells .exit))) (r .fired) (r .alive) (r .count)
-        × Keeps (now (rules .entry)) n (now (known .exit)) (now (last .exit)) (r .gone)
+        × Keeps (now (rules .entry)) n (now (known .exit)) (now (last .exit)) (now (tally .exit)) (r .gone)
         (drop (constraintSize * r .skip) (now (cells .exit))) (r .fired) (r .alive) (r .count)
         × Skips (stage .count) (r .skip) (r .count)
         × (r .gone + r .count ≤ stage .gone + stage .count + 10) ⌝ }
@@ -65,6 +68,7 @@ pub fn advance(
         stage,
         &mut positions,
         &mut bindings,
+        tally,
     );
     if !choice.found {
         return Forward {
@@ -84,7 +88,7 @@ pub fn advance(
     let count = after.count;
     let skip = after.skip;
     let removed = gone + after.removed;
-    remember(row, known, last, removed + count);
+    remember(row, known, last, removed + count, tally);
     Forward {
         fired: true,
         alive,
@@ -102,7 +106,7 @@ pub struct Final {
     pub firings: usize,
 }
 
-// The derivation to its end, from a live state of m constraints.
+// The derivation to its end, from a live state of m constraints and its tally.
 pub fn normalise(
     rules: &[u16],
     n: usize,
@@ -110,8 +114,9 @@ pub fn normalise(
     cells: &mut [u16],
     m: usize,
     next: u16,
+    tally: &mut [u16],
 ) -> Final
-    requires { ⌜ Startable (now rules) n (now cells) m next ⌝ }
+    requires { ⌜ Startable (now rules) n (now cells) m next × Tallied (now tally) (storeOf (now cells) m) ⌝ }
     ensures { λ r. ⌜ Ended (now (rules .entry)) n (now (bound .entry)) (now (cells .entry)) m next
         (now (bound .exit)) (now (cells .exit)) (r .alive) (r .count) (r .next) (r .firings) ⌝ }
 {
@@ -131,7 +136,16 @@ pub fn normalise(
             next: number,
             gone,
         };
-        let step = advance(rules, n, &mut known, &mut last, bound, &mut cells[a..], now);
+        let step = advance(
+            rules,
+            n,
+            &mut known,
+            &mut last,
+            bound,
+            &mut cells[a..],
+            now,
+            tally,
+        );
         at += step.skip;
         gone = step.gone;
         if !step.fired {
@@ -165,12 +179,14 @@ pub fn normalise_from(
     m: usize,
     next: u16,
     before: usize,
+    tally: &mut [u16],
 ) -> Final
-    requires { ⌜ Startable (now rules) n (now cells) m next × (before ≤ 65000) ⌝ }
+    requires { ⌜ Startable (now rules) n (now cells) m next × (before ≤ 65000)
+        × Tallied (now tally) (storeOf (now cells) m) ⌝ }
     ensures { λ r. ⌜ Continued (now (rules .entry)) n (now (bound .entry)) (now (cells .entry)) m next before
         (now (bound .exit)) (now (cells .exit)) (r .alive) (r .count) (r .next) (r .firings) ⌝ }
 {
-    let end = normalise(rules, n, bound, cells, m, next);
+    let end = normalise(rules, n, bound, cells, m, next, tally);
     let firings = before + end.firings;
     Final {
         alive: end.alive,

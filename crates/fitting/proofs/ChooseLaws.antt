@@ -24,11 +24,13 @@ use Rattle.tables.specs.Cells.{cellConstraints}
 use Rattle.tables.specs.Rows.{ruleOfRow, ruleOf, rulesOf, rowOf}
 use Rattle.fitting.specs.Cells.{assigned}
 use Rattle.fitting.specs.Positions.{foundOf, Seeking, Located, Row, Table, choiceOf, Chosen}
-use Rattle.fitting.specs.Known.{Barren, prefixOf, Noted, Knows, Possible}
+use Rattle.tallies.specs.Symbols.{Tallied}
+use Rattle.fitting.specs.Known.{Barren, prefixOf, Noted, Knows, mayFit}
 use Rattle.tables.proofs.CellLaws.{constraints-length}
 use Rattle.tables.proofs.CellLaws.{either, le-or-lt}
 use Rattle.fitting.proofs.BarrenLaws.{barren-first}
-use Rattle.fitting.proofs.NotedLaws.{noted-nothing, noted-nowhere, noted-first, noted-passed, prefix-above}
+use Rattle.fitting.proofs.NotedLaws.{noted-nothing, noted-nowhere, noted-first, noted-passed, noted-impossible}
+use Rattle.fitting.proofs.NotedLaws.{prefix-above}
 use Rattle.semantics.proofs.Options.{none-some}
 
 -- no cell of zeros is settled
@@ -275,10 +277,8 @@ module _ (rules : List ℕ) (n : ℕ) (start last : List ℕ) (gone : ℕ) (cell
     here = rw z (w .knows .noted i l)
 
     -- what a first look at the rule asks
-    pub noting-look :
-        Row (lentRow rules i) × (length cells ≡ 5 * m) × (gone + m ≤ 6000)
-        × Noted (ruleOfRow [] (lentRow rules i) .heads) (cellConstraints cells) last gone v
-    noting-look = (rw (row-cells i) (given .rows i l), e, few, rw (row-cells i) here)
+    pub noting-look : Row (lentRow rules i)
+    noting-look = rw (row-cells i) (given .rows i l)
 
     -- what the search for it asks
     pub noting-row :
@@ -317,9 +317,12 @@ module _ (rules : List ℕ) (n : ℕ) (start last : List ℕ) (gone : ℕ) (cell
 
   -- a first look finds that
   pub noting-impossible :
-      (r : Bool) → Possible r (lentRow rules i) cells → r ≡ false → (known′ : List ℕ) → known′ ≡ set known i (gone + m)
-      → Noting rules n start last gone cells known′ (i + 1)
-  noting-impossible r p z known′ g = noting-nowhere (rw (row-cells i) at (p .nowhere z)) known′ g
+      (v : ℕ) → v ≡ getD known i 8192 → (table : List ℕ) → Tallied table (cellConstraints cells) → (r : Bool)
+      → r ≡ mayFit last table v (gone + m) (ruleOfRow [] (lentRow rules i) .heads) → r ≡ false
+      → (known′ : List ℕ) → known′ ≡ set known i (gone + m) → Noting rules n start last gone cells known′ (i + 1)
+  noting-impossible v z table t r g y known′ k =
+      noting-nowhere (noted-impossible heads (cellConstraints cells) last table gone v (gone + m) (here v z) t
+      (omega (arith, count)) (sym (rw (row-cells i) at g) ∙ y)) known′ k
 
   module _ (f : Bool) (ps b : List ℕ)
       (t : Located f (getD (lentRow rules i) 3 0) ps b

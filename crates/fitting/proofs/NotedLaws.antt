@@ -3,6 +3,7 @@
 --   noted-nowhere      a rule that fits nowhere now
 --   noted-first        a rule that fits, by its first position
 --   noted-passed       a rule that was found to fit nowhere just now
+--   noted-impossible   a rule that may not fit, at a first look
 --   noted-fired        after a firing without equations
 --   marked-bounded     no symbol came later than now, after a firing
 -- Assumes nothing.
@@ -13,17 +14,20 @@ use mathlib.Core.List.{List, [], _∷_, _++_}
 use mathlib.Core.Logic.{⊎-elim}
 use mathlib.Core.Option.{none}
 use mathlib.Core.Path.{_≡_, refl, _∙_}
-use lib.Dec.{ltb}
+use lib.Dec.{ltb, leb}
 use lib.ListN.{length, getD, length-append}
 use lib.Seq.{take-all}
-use borrow.Author.Tests.{lt-ltb, le-ltb, ltb-false}
+use borrow.Author.Tests.{lt-ltb, le-ltb, ltb-false, leb-false}
 use Rattle.semantics.specs.Terms.{Constraint}
 use Rattle.semantics.specs.Matching.{unassigned}
 use Rattle.semantics.specs.Strategy.{find}
 use Rattle.semantics.specs.Firing.{without}
+use Rattle.semantics.specs.Tally.{isShort}
 use Rattle.semantics.proofs.Options.{true-false}
-use Rattle.tables.proofs.CellLaws.{le-or-lt}
-use Rattle.fitting.specs.Known.{Barren, prefixOf, hasSymbol, concerns, isConcerned, Noted, Marked}
+use Rattle.semantics.proofs.Tallies.{short-nowhere}
+use Rattle.tables.proofs.CellLaws.{either, le-or-lt}
+use Rattle.tallies.specs.Symbols.{tallied, Tallied, hasSymbol, isConcerned, Marked}
+use Rattle.fitting.specs.Known.{Barren, prefixOf, concerns, Noted, mayFit}
 use Rattle.fitting.proofs.BarrenLaws.{barren-fired, barren-strange, without-few}
 
 -- the two kinds of numbers
@@ -86,6 +90,24 @@ pub noted-passed :
 noted-passed hs cs last gone v known b z l =
     known .settled l (rw z (concerned-now last (gone + length cs) b hs))
 
+-- two tests of which neither passes
+neither : (a b : Bool) → (a || b) ≡ false → (a ≡ false) × (b ≡ false)
+neither true b e = true-false refl e
+neither false b e = (refl, e)
+
+-- a rule that may not fit, at a first look, fits nowhere
+pub noted-impossible :
+    (hs cs : List Constraint) (last table : List ℕ) (gone v whole : ℕ) → Noted hs cs last gone v → Tallied table cs
+    → whole ≡ gone + length cs → mayFit last table v whole hs ≡ false → find hs cs [] unassigned ≡ none
+unfolding mayFit
+noted-impossible hs cs last table gone v whole known t z e =
+    ⊎-elim (short-nowhere (tallied table) hs cs (t .counts))
+    (λ long.
+    let both : (leb 8192 v || isConcerned last whole v hs) ≡ false = rw long at e in
+    let (early, strange-since) = neither (leb 8192 v) (isConcerned last whole v hs) both in
+    known .settled (leb-false 8192 v early) (rw (← z) strange-since))
+    (either (isShort (tallied table) hs))
+
 -- an entry, where more is said of the symbols behind the table's end
 entry-later : (l : List ℕ) (s d e : ℕ) → d ≤ e → getD l s d ≤ getD l s e
 entry-later [] s d e h = h
@@ -105,10 +127,6 @@ marked-bounded last body w w′ last′ marks h b s = rw (marks .marked s) (go (
     go : (t : Bool) → cond t w′ (getD last s w′) ≤ w′
     go true = omega arith
     go false = entry-bounded last s w w′ h (b s)
-
-neither : (a b : Bool) → (a || b) ≡ false → (a ≡ false) × (b ≡ false)
-neither true b e = true-false refl e
-neither false b e = (refl, e)
 
 module _ (last last′ : List ℕ) (body : List Constraint) (w w′ v : ℕ) (marks : Marked last body w′ last′) (h : w ≤ w′)
     (later : (s : ℕ) → hasSymbol s body ≡ true → v < w′) where

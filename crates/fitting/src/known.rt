@@ -4,18 +4,19 @@
 //   known    by rule: `whole` when the rule was found to fit nowhere; or LOOSE and how many of the first, counted with those
 //            gone, have no place for it
 //   last     by symbol: `whole` right after the firing whose body last had it; 0 where none had
+//   tally    by symbol: how many constraints there are
 use tables::layout::BODY_CELL;
 use tables::layout::CONSTRAINT_SIZE;
 use tables::layout::EQUATIONS_CELL;
 use tables::layout::FIRST_BODY;
 use tables::wide;
+use tallies::coming::mark;
+use tallies::counting::lower_heads;
 ghost use mathlib.Core.Path.{_≡_};
-ghost use Prim.Native.Nat.{_≤_, _-_, _*_};
-ghost use lib.ListN.{length, set, getD};
-ghost use Rattle.tables.specs.Layout.{constraintSize};
-ghost use Rattle.tables.specs.Cells.{cellConstraints};
-ghost use Rattle.fitting.specs.Positions.{Row};
-ghost use Rattle.fitting.specs.Known.{loose, prefixOf, hasSymbol, isConcerned, Marked, Forgotten, Remembered};
+ghost use Prim.Native.Nat.{_≤_, _-_};
+ghost use lib.ListN.{set, getD};
+ghost use Rattle.tallies.specs.Symbols.{Exchangeable};
+ghost use Rattle.fitting.specs.Known.{loose, prefixOf, Forgotten, Remembered};
 
 // More than `whole` becomes: from it on a number tells of the first constraints only.
 pub const LOOSE: usize = 8192;
@@ -65,57 +66,6 @@ pub fn prefix(v: usize, gone: usize) -> usize
     less(v - LOOSE, gone)
 }
 
-// Whether a constraint of the symbol stands among cells.
-pub fn has_symbol(symbol: u16, cells: &[u16]) -> bool
-    ensures { λ r. ⌜ r ≡ hasSymbol symbol (cellConstraints (now (cells .entry))) ⌝ }
-{
-    let mut i = 0;
-    while CONSTRAINT_SIZE * i + CONSTRAINT_SIZE <= cells.len() {
-        if cells[CONSTRAINT_SIZE * i] == symbol {
-            return true;
-        }
-        i += 1;
-    }
-    false
-}
-
-// When a firing last brought a constraint of the symbol; behind the table's end, just now.
-pub fn last_at(last: &[u16], symbol: u16, whole: usize) -> usize
-    ensures { λ r. ⌜ r ≡ getD (now (last .entry)) symbol whole ⌝ }
-{
-    let s = wide(symbol);
-    if s < last.len() { wide(last[s]) } else { whole }
-}
-
-// Whether a firing since v brought a constraint with the symbol of a head.
-pub fn is_concerned(heads: &[u16], last: &[u16], v: usize, whole: usize) -> bool
-    ensures { λ r. ⌜ r ≡ isConcerned (now (last .entry)) whole v (cellConstraints (now (heads .entry))) ⌝ }
-{
-    let mut i = 0;
-    while CONSTRAINT_SIZE * i + CONSTRAINT_SIZE <= heads.len() {
-        if v < last_at(last, heads[CONSTRAINT_SIZE * i], whole) {
-            return true;
-        }
-        i += 1;
-    }
-    false
-}
-
-// Marks the symbols of a body of n constraints as brought by the last firing, as far as the table goes.
-pub fn mark(body: &[u16], last: &mut [u16], whole: usize, n: usize)
-    requires { ⌜ (length (now body) ≡ constraintSize * n) × (whole ≤ 65000) ⌝ }
-    ensures { λ _. ⌜ Marked (now (last .entry)) (cellConstraints (now (body .entry))) whole (now (last .exit)) ⌝ }
-{
-    let mut i = 0;
-    while i < n {
-        let symbol = wide(body[CONSTRAINT_SIZE * i]);
-        i += 1;
-        if symbol < last.len() {
-            last[symbol] = whole as u16;
-        }
-    }
-}
-
 // Nothing is known any more.
 pub fn forget(known: &mut [u16])
     ensures { λ _. ⌜ Forgotten (now (known .exit)) ⌝ }
@@ -127,15 +77,16 @@ pub fn forget(known: &mut [u16])
     }
 }
 
-// After a firing of a rule: its body's symbols are marked, and after equations nothing is known.
-pub fn remember(row: &[u16], known: &mut [u16], last: &mut [u16], whole: usize)
-    requires { ⌜ Row (now row) × (whole ≤ 65000) ⌝ }
-    ensures { λ _. ⌜ Remembered (now (row .entry)) whole (now (known .entry)) (now (last .entry))
-        (now (known .exit)) (now (last .exit)) ⌝ }
+// After a firing of a rule: the tally is exchanged, its body's symbols are marked, and after equations nothing is known.
+pub fn remember(row: &[u16], known: &mut [u16], last: &mut [u16], whole: usize, tally: &mut [u16])
+    requires { ⌜ Exchangeable (now row) (now tally) × (whole ≤ 65000) ⌝ }
+    ensures { λ _. ⌜ Remembered (now (row .entry)) whole (now (known .entry)) (now (last .entry)) (now (tally .entry))
+        (now (known .exit)) (now (last .exit)) (now (tally .exit)) ⌝ }
 {
+    lower_heads(row, tally);
     let n = wide(row[BODY_CELL]);
     let d = FIRST_BODY + CONSTRAINT_SIZE * n;
-    mark(&row[FIRST_BODY..d], last, whole, n);
+    mark(&row[FIRST_BODY..d], n, last, whole, tally);
     if 0 < row[EQUATIONS_CELL] {
         forget(known);
     }

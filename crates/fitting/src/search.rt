@@ -1,8 +1,6 @@
 // The search for positions head by head, and the choice of a rule.
 use crate::known::LOOSE;
 use crate::known::Stage;
-use crate::known::has_symbol;
-use crate::known::is_concerned;
 use crate::known::known_at;
 use crate::known::note;
 use crate::known::prefix;
@@ -14,6 +12,8 @@ use tables::layout::FIRST_HEAD;
 use tables::layout::HEADS_CELL;
 use tables::layout::ROW_SIZE;
 use tables::wide;
+use tallies::coming::is_concerned;
+use tallies::counting::is_short;
 ghost use mathlib.Core.Bool.{cond};
 ghost use mathlib.Core.List.{[]};
 ghost use mathlib.Core.Path.{_≡_};
@@ -28,7 +28,8 @@ ghost use Rattle.tables.specs.Cells.{cellConstraints};
 ghost use Rattle.tables.specs.Rows.{ruleOfRow};
 ghost use Rattle.fitting.specs.Cells.{assigned, FirstWanted};
 ghost use Rattle.fitting.specs.Positions.{Seeking, Located, Row, Table, Chosen};
-ghost use Rattle.fitting.specs.Known.{Barren, prefixOf, Noted, Knows, Possible};
+ghost use Rattle.tallies.specs.Symbols.{Tallied};
+ghost use Rattle.fitting.specs.Known.{Barren, Knows, mayFit};
 
 // Whether a position is among the first h that are chosen.
 pub fn is_chosen(chosen: [usize; 4], h: usize, p: usize) -> bool
@@ -172,38 +173,22 @@ pub fn leading(row: &[u16], positions: &[usize]) -> usize
     }
 }
 
-// A first look at a rule: it fits nowhere if no constraint has its first head's symbol. Where it fits nowhere among the first
-// constraints, a single head is sought behind them only.
-pub fn is_possible(row: &[u16], cells: &[u16], v: usize, gone: usize) -> bool
-    requires { ⌜ Row (now row) × (constraintSize * (prefixOf v - gone) ≤ length (now cells))
-        × Barren (ruleOfRow [] (now row) .heads) (cellConstraints (now cells)) [] unassigned (prefixOf v - gone) ⌝ }
-    ensures { λ r. ⌜ Possible r (now (row .entry)) (now (cells .entry)) ⌝ }
+// A first look at a rule: it is passed over where its heads of some symbol outnumber the tally, and where it fitted nowhere and no
+// firing since brought a symbol of its heads.
+pub fn may_fit(row: &[u16], last: &[u16], tally: &[u16], v: usize, whole: usize) -> bool
+    requires { ⌜ Row (now row) ⌝ }
+    ensures { λ r. ⌜ r ≡ mayFit (now (last .entry)) (now (tally .entry)) v whole (ruleOfRow [] (now (row .entry)) .heads) ⌝ }
 {
     let n = wide(row[HEADS_CELL]);
-    if LOOSE < v {
-        if n == 1 {
-            let s = CONSTRAINT_SIZE * prefix(v, gone);
-            return has_symbol(row[FIRST_HEAD], &cells[s..]);
-        }
-        return true;
+    let e = FIRST_HEAD + CONSTRAINT_SIZE * n;
+    let heads = &row[FIRST_HEAD..e];
+    if is_short(heads, n, tally) {
+        return false;
     }
-    if n == 0 {
-        return true;
-    }
-    has_symbol(row[FIRST_HEAD], cells)
-}
-
-// A first look at a rule by what is known of it: where it fitted nowhere, a firing since must have brought a symbol of its heads.
-pub fn may_fit(row: &[u16], last: &[u16], v: usize, cells: &[u16], m: usize, gone: usize) -> bool
-    requires { ⌜ Row (now row) × (length (now cells) ≡ constraintSize * m) × (gone + m ≤ 6000)
-        × Noted (ruleOfRow [] (now row) .heads) (cellConstraints (now cells)) (now last) gone v ⌝ }
-    ensures { λ r. ⌜ Possible r (now (row .entry)) (now (cells .entry)) ⌝ }
-{
     if v < LOOSE {
-        let e = FIRST_HEAD + CONSTRAINT_SIZE * wide(row[HEADS_CELL]);
-        return is_concerned(&row[FIRST_HEAD..e], last, v, gone + m);
+        return is_concerned(heads, last, v, whole);
     }
-    is_possible(row, cells, v, gone)
+    true
 }
 
 // Whether a rule fits, and its number.
@@ -212,7 +197,8 @@ pub struct Choice {
     pub number: usize,
 }
 
-// The first rule that fits, with its positions and bindings; what is known of it and of the rules before it is noted.
+// The first rule that fits, with its positions and bindings; what is known of it and of the rules before it is noted. The tally
+// equals a fresh count of the constraints.
 pub fn choose(
     rules: &[u16],
     n: usize,
@@ -222,10 +208,12 @@ pub fn choose(
     stage: Stage,
     positions: &mut [usize],
     bindings: &mut [u16; 26],
+    tally: &[u16],
 ) -> Choice
     requires { ⌜ Table (now rules) n × (length (now cells) ≡ constraintSize * stage .count) × (stage .gone + stage .count ≤ 6000)
         × Knows (now rules) n (now known) (now last) (stage .gone) (cellConstraints (now cells))
-        × (length (now positions) ≡ 4) × (length (now bindings) ≡ 26) ⌝ }
+        × (length (now positions) ≡ 4) × (length (now bindings) ≡ 26)
+        × Tallied (now tally) (cellConstraints (now cells)) ⌝ }
     ensures { λ r. ⌜ Chosen (now (rules .entry)) n (now (cells .entry)) (r .found) (r .number) (now (positions .exit))
         (now (bindings .exit))
         × Knows (now (rules .entry)) n (now (known .exit)) (now (last .entry)) (stage .gone)
@@ -242,7 +230,7 @@ pub fn choose(
         if v != whole {
             let a = ROW_SIZE * q;
             let e = a + ROW_SIZE;
-            if may_fit(&rules[a..e], last, v, cells, m, gone) {
+            if may_fit(&rules[a..e], last, tally, v, whole) {
                 if find_rule(&rules[a..e], cells, m, prefix(v, gone), positions, bindings) {
                     note(known, q, LOOSE + gone + leading(&rules[a..e], positions));
                     return Choice {

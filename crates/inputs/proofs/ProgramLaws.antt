@@ -24,7 +24,7 @@ use Rattle.semantics.proofs.Vocabulary.{TermOver}
 use Rattle.syntax.specs.Programs.{Reading}
 use Rattle.syntax.proofs.WellFormed.{read-wellFormed}
 use Rattle.syntax.proofs.Vocabulary.{ConstantOf, SymbolSmall, RuleSmall, ReadSmall, read-small}
-use Rattle.tables.specs.Layout.{firstVariable}
+use Rattle.tables.specs.Layout.{maxSymbols}
 use Rattle.tables.specs.Cells.{isLow}
 use Rattle.tables.specs.Rows.{symbolOf, symbolsOf, rowOf, ruleOfRow, ruleOf, rulesOf}
 use Rattle.tables.specs.Numbers.{isWithin}
@@ -125,7 +125,7 @@ rows-within n symbols (d ∷ cs) few (also h ds) (also b bs) =
     let low : d .symbol < length symbols = ltb-true (d .symbol) (length symbols)
     (and-true (ltb (d .symbol) (length symbols)) _ h .0) in
     rw (
-      lt-ltb (d .symbol) firstVariable (omega arith),
+      lt-ltb (d .symbol) maxSymbols (omega arith),
       all-every (isBelow n) (all-mono (below-test n) b),
       rows-within n symbols cs few ds bs,
     )

@@ -65,16 +65,16 @@ below-mono : (m n : ℕ) → m ≤ n → (t : Term) → TermBelow m t → TermBe
 below-mono m n h (con c) b = tt
 below-mono m n h (var x) b = omega arith
 
--- a declared symbol, of at most 256, lies below the variables
-declared-low : (symbols : List Symbol) (c : Constraint) → length symbols ≤ 256 → isDeclared symbols c ≡ true → isLow c ≡ true
+-- a declared symbol, of at most 64, is one that there can be
+declared-low : (symbols : List Symbol) (c : Constraint) → length symbols ≤ 64 → isDeclared symbols c ≡ true → isLow c ≡ true
 unfolding isDeclared isLow
 declared-low symbols c few d =
     let k : c .symbol < length symbols = ltb-true (c .symbol) (length symbols) (and-true _ _ d .0) in
-    lt-ltb (c .symbol) 256 (omega arith)
+    lt-ltb (c .symbol) 64 (omega arith)
 
 -- constraints with such symbols, and variables below a number
 within-all :
-    (symbols : List Symbol) (n : ℕ) {cs : List Constraint} → length symbols ≤ 256 → All (λ c. isDeclared symbols c ≡ true) cs
+    (symbols : List Symbol) (n : ℕ) {cs : List Constraint} → length symbols ≤ 64 → All (λ c. isDeclared symbols c ≡ true) cs
     → All (λ c. All (TermBelow n) (c .terms)) cs → All (λ c. isWithin n c ≡ true) cs
 unfolding isWithin
 within-all symbols n few none none = none
@@ -144,7 +144,7 @@ module _ (rules : List ℕ) (n i j : ℕ) (positions : List ℕ) (m v : ℕ) (go
   pub begun-follows :
       (k : ℕ) (ps : List ℕ) → k < n → length ps ≡ 4 → (w : ℕ) (bound cells : List ℕ) (fired alive : Bool) (count : ℕ) → w ≡ v
       → 2590 ≤ length cells → Begun rules k ps goal m v bound cells fired alive count
-      → Followable rules n m w cells fired alive count
+      → Followable rules n k goal m w bound cells fired alive count
   begun-follows k ps h l w bound cells fired alive count e room =
       side-follows rules n k ps goal m v cells (side-asks k ps h l v cells refl room) w bound cells fired alive count e refl
 

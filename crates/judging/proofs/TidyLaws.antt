@@ -21,7 +21,7 @@ use Rattle.text.proofs.Bools.{and-true}
 use Rattle.semantics.proofs.Weights.{every-at}
 use Rattle.tables.specs.Cells.{cellTerm, cellTerms, rowConstraint, cellConstraints, isLow}
 use Rattle.tables.specs.Numbers.{isWithin}
-use Rattle.tables.proofs.CellLaws.{either, le-or-lt, cell-high, every-first, every-rest, element-row}
+use Rattle.tables.proofs.CellLaws.{either, le-or-lt, cell-high, low-symbol, every-first, every-rest, element-row}
 use Rattle.judging.specs.Tidying.{Ended, RowEnded, Tidied}
 
 -- what the code stores behind cell q
@@ -240,9 +240,9 @@ module _ (n m : ℕ) (cells : List ℕ) (s : length cells ≡ 5 * n) (ended : (i
 
     -- every cell of it lies as its symbol or its term does
     row-below : (c : ℕ) → c < 5 → getD cells (5 * i + c) 0 < 256 + m
-    unfolding isLow rowConstraint
+    unfolding rowConstraint
     row-below zero l =
-        let low : getD row 0 0 < 256 = ltb-true (getD row 0 0) 256 (both-within .0) in
+        let low : getD row 0 0 < 64 = low-symbol (rowConstraint row) (both-within .0) in
         rw (← cell-at 0 (omega arith)) (omega arith)
     row-below (suc j) l =
         let e : 5 * i + suc j ≡ 5 * i + (1 + j) = omega arith in

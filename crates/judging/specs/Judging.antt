@@ -48,7 +48,7 @@ pub record Overlapping (rules : List ℕ) (n i j : ℕ) (positions : List ℕ) (
   pub names : List ℕ
   pub whole : program .rules ≡ rulesOf names rules n
   pub well-formed : isWellFormed program ≡ true
-  pub few-symbols : length (program .symbols) ≤ 256
+  pub few-symbols : length (program .symbols) ≤ 64
   pub is-goal : isGoalOf program (cellGoal v goal) ≡ true
   pub runs : Runnable rules n (cellConstraints goal)
   pub first : i < n

@@ -78,8 +78,8 @@ pub fn follow_both(
 {
     let n = peak.rules;
     let m = peak.count;
-    let first = follow(rules, n, m, bound_one, one, steps.first);
-    let second = follow(rules, n, m, bound_two, two, steps.second);
+    let first = follow(rules, n, peak.first, goal, m, bound_one, one, steps.first);
+    let second = follow(rules, n, peak.second, goal, m, bound_two, two, steps.second);
     Ends { first, second }
 }
 

@@ -27,7 +27,7 @@ joinedOf unify cells = cond unify (some (cellConstraints cells)) none
 unfoldable pub termsFrom : List ℕ → ℕ → ℕ → List Term
 termsFrom cells at k = cellTerms (take k (drop at cells))
 
--- what joining the heads at two indices asks: all symbols lie below the variables' cells
+-- what joining the heads at two indices asks: all symbols are ones that there can be
 pub record Heads (cells : List ℕ) (a b : ℕ) : Type 0 where
   pub low : every isLow (cellConstraints cells) ≡ true
   pub first : a + constraintSize ≤ length cells
@@ -48,7 +48,7 @@ pub record Unjoined (m n : ℕ) (ds cells cells′ : List ℕ) (k : ℕ) : Type 
       cellConstraints (take (constraintSize * k) cells′)
       ≡ take m (cellConstraints cells) ++ unjoinedHeads 1 (drop m (cellConstraints cells)) ds
 
--- a rule's row whose heads can be joined: their symbols lie below the variables' cells
+-- a rule's row whose heads can be joined: their symbols are ones that there can be
 pub record RuleRow (row : List ℕ) : Type 0 where
   pub given : Row row
   pub low : every isLow (ruleOfRow [] row .heads) ≡ true

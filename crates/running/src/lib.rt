@@ -17,6 +17,7 @@ use programs::read_program;
 use tables::layout::CONSTRAINT_SIZE;
 use tables::layout::SYMBOL_SIZE;
 use tables::wide;
+use tallies::counting::raise;
 ghost use Prim.Native.Nat.{_≤_};
 ghost use lib.ListN.{length};
 ghost use Rattle.engine.specs.Runs.{Startable};
@@ -32,7 +33,7 @@ pub struct Sizes {
     pub constraints: usize,
 }
 
-// The derivation of a goal as read: each of its variables is itself, and the strategy fires to the end.
+// The derivation of a goal as read: its variables are themselves, its constraints are tallied, and the strategy fires to the end.
 fn derive(rules: &[u16], bound: &mut [u16], cells: &mut [u16], sizes: Sizes) -> Final
     requires { ⌜ Startable (now rules) (sizes .rules) (now cells) (sizes .constraints) (length (now bound))
         × (length (now bound) ≤ 26) ⌝ }
@@ -41,7 +42,11 @@ fn derive(rules: &[u16], bound: &mut [u16], cells: &mut [u16], sizes: Sizes) -> 
 {
     start_bound(bound);
     let v = bound.len() as u16;
-    normalise(rules, sizes.rules, bound, cells, sizes.constraints, v)
+    let m = sizes.constraints;
+    let e = CONSTRAINT_SIZE * m;
+    let mut tally = [0u16; 64];
+    raise(&cells[..e], m, &mut tally);
+    normalise(rules, sizes.rules, bound, cells, m, v, &mut tally)
 }
 
 // The listing of a final state, or number 11.

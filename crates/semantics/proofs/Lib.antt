@@ -36,7 +36,9 @@ pub mod Listings
 pub mod Pairs
 pub mod Comparison
 -- Weights, derivations and runs
+pub mod SymbolWeights
 pub mod Weights
+pub mod Tallies
 pub mod Bound
 pub mod Entering
 pub mod Normal

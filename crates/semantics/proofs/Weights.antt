@@ -7,29 +7,33 @@
 --   fireAt-lighter                      a firing lowers it
 -- Assumes nothing.
 use Prim.Native.Nat.{ℕ, zero, suc, _+_, _<_, _≤_}
-use native.Mathlib.Nat.{zero-add, add-assoc}
 use native.Mathlib.Omega.{arith}
 use mathlib.Core.Bool.{Bool, true, _&&_}
-use mathlib.Core.List.{List, [], _∷_, _++_, map, append-assoc, append-nil}
+use mathlib.Core.List.{List, [], _∷_, _++_, map}
 use mathlib.Core.Option.{Option, none, some}
-use mathlib.Core.Path.{_≡_, refl, ap}
-use lib.Dec.{eqb, ltb, ltb→lt}
+use mathlib.Core.Path.{_≡_, refl}
+use lib.Dec.{ltb, ltb→lt}
 use lib.ListN.{getElem?, take-append-drop}
 use Rattle.text.specs.Lists.{every}
 use Rattle.semantics.specs.Terms.{Term, Constraint, Symbol, Rule, Program, State, failed, live, mapTerms, mapSides}
-use Rattle.semantics.specs.Terms.{keptHeads, removedHeads, symbolAt, weight, isOfRule, isBelow, alphabet, isRuleOf}
-use Rattle.semantics.specs.Terms.{isWellFormed}
-use Rattle.semantics.specs.Matching.{Assignment, unassigned, matchConstraint, matchAt}
+use Rattle.semantics.specs.Terms.{keptHeads, removedHeads, symbolAt, weight, weightBy, isOfRule, isBelow, alphabet}
+use Rattle.semantics.specs.Terms.{isRuleOf, isWellFormed}
+use Rattle.semantics.specs.Matching.{Assignment, unassigned, matchAt}
 use Rattle.semantics.specs.Solving.{solve}
 use Rattle.semantics.specs.Firing.{without, instance, settle, fired, fireAt}
-use Rattle.semantics.specs.Variants.{Inserted, here, there, SameMultiset, done, put}
+use Rattle.semantics.specs.Variants.{Inserted, SameMultiset, done, put}
 use Rattle.semantics.specs.Rewriting.{wholeBody, Reordered, bothFailed, reordered}
-use Rattle.semantics.proofs.Options.{true-T, eqb-equal, none-some, bind-some, cond-some}
+use Rattle.semantics.proofs.Options.{true-T, none-some, bind-some}
 use Rattle.text.proofs.Bools.{and-true}
-use Rattle.semantics.proofs.Removal.{without-none, without-one}
+use Rattle.semantics.proofs.Removal.{without-none}
 use Rattle.semantics.proofs.MatchLaws.{matchAt-sound}
 use Rattle.semantics.proofs.KeptHeads.{fired-reordered}
-use Rattle.semantics.proofs.Search.{matchAt-cons}
+use Rattle.semantics.proofs.SymbolWeights.{weight-append as append-by, weight-inserted as inserted-by}
+use Rattle.semantics.proofs.SymbolWeights.{weight-map as map-by, match-lighter}
+
+-- what each symbol weighs, by its number
+abbrev weighs : List Symbol → ℕ → ℕ
+weighs symbols = λ k. symbolAt symbols k .weight
 
 -- the weight of a list by its first constraint, and of none
 pub weight-cons :
@@ -46,17 +50,15 @@ weight-nil symbols = refl
 -- the weight of two lists, one behind the other
 pub weight-append :
     (symbols : List Symbol) (cs ds : List Constraint) → weight symbols (cs ++ ds) ≡ weight symbols cs + weight symbols ds
-unfolding weight
-weight-append symbols [] ds = rw zero-add
-weight-append symbols (c ∷ cs) ds = rw (add-assoc) (ap (symbolAt symbols (c .symbol) .weight +_) (weight-append symbols cs ds))
+unfolding weight weightBy
+weight-append symbols = append-by (weighs symbols)
 
 -- the weight with one more constraint
 pub weight-inserted :
     (symbols : List Symbol) {c : Constraint} {cs ds : List Constraint} → Inserted c cs ds
     → weight symbols ds ≡ symbolAt symbols (c .symbol) .weight + weight symbols cs
-unfolding weight
-weight-inserted symbols here = refl
-weight-inserted symbols (there i) = omega (arith, weight-inserted symbols i)
+unfolding weight weightBy
+weight-inserted symbols = inserted-by (weighs symbols)
 
 -- equal multisets weigh the same
 weight-multiset :
@@ -68,34 +70,16 @@ weight-multiset symbols (put {a = c} {b = d} {l = cs} {m = ds} e i m) =
 -- replacing terms keeps the weight
 pub weight-map :
     (symbols : List Symbol) (f : Term → Term) (cs : List Constraint) → weight symbols (map (mapTerms f) cs) ≡ weight symbols cs
-unfolding weight mapTerms
-weight-map symbols f [] = refl
-weight-map symbols f (c ∷ cs) = ap (symbolAt symbols (c .symbol) .weight +_) (weight-map symbols f cs)
-
--- a head fits only a constraint of its own symbol
-pub matchConstraint-symbol :
-    (h c : Constraint) (θ end : Assignment) → matchConstraint h c θ ≡ some end → h .symbol ≡ c .symbol
-unfolding matchConstraint
-matchConstraint-symbol h c θ end e =
-    eqb-equal (cond-some (eqb (h .symbol) (c .symbol)) e .0)
+unfolding weight weightBy
+weight-map symbols = map-by (weighs symbols)
 
 -- the constraints at matched positions weigh what the heads do
 pub matchAt-weight :
     (symbols : List Symbol) (hs : List Constraint) (ps : List ℕ) (cs : List Constraint) (chosen : List ℕ) (θ end : Assignment)
     → matchAt hs ps cs chosen θ ≡ some end
     → weight symbols (without 0 chosen cs) ≡ weight symbols hs + weight symbols (without 0 (chosen ++ ps) cs)
-unfolding matchAt
-matchAt-weight symbols [] [] cs chosen θ end e = rw (append-nil, weight-nil, zero-add)
-matchAt-weight symbols [] (p ∷ ps) cs chosen θ end e = none-some refl e
-matchAt-weight symbols (h ∷ hs) [] cs chosen θ end e = none-some refl e
-matchAt-weight symbols (h ∷ hs) (p ∷ ps) cs chosen θ end e =
-    let f = matchAt-cons h hs p ps cs chosen θ end e in
-    let i = without-one 0 chosen cs p p (f .constraint) (omega arith) (f .stands) (f .free) in
-    let m = matchAt-weight symbols hs ps cs (chosen ++ (p ∷ [])) (f .next) end (f .rest) in
-    let s = matchConstraint-symbol h (f .constraint) θ (f .next) (f .fits) in
-    let w = rw (← s) at (weight-inserted symbols i) in
-    let a = rw append-assoc at m in
-    omega (arith, w, a, weight-cons symbols h hs)
+unfolding weight weightBy
+matchAt-weight symbols hs ps cs chosen θ end e = omega (arith, match-lighter (weighs symbols) hs ps cs chosen θ end e)
 
 -- an element of a list that passes a test throughout
 pub every-at {ℓ} :

@@ -7,6 +7,7 @@ pub mod Derivations
 pub mod Remaining
 pub mod Strategy
 pub mod Runs
+pub mod Tally
 pub mod Variants
 pub mod Rewriting
 pub mod Overlaps

@@ -3,7 +3,7 @@
 --   Term, Constraint, Equation, Symbol, Rule, Program, Goal, State
 --   sameTerm, mapTerms      equal terms; a function on terms, throughout a constraint
 --   keptHeads, removedHeads the heads of a rule whose constraints stay, and those whose are removed
---   weight                  the weight of a list of constraints
+--   weight, weightBy        the weight of a list of constraints, by a table of symbols and by the symbols' numbers
 --   isGoalOf                document 01's goal over a sheet's kinds
 --   isWellFormed            the programs that the theory is about
 -- Assumes nothing.
@@ -96,6 +96,10 @@ symbolAt symbols n = getD symbols n noSymbol
 -- the weight of a list of constraints: the sum of its symbols' weights
 unfoldable pub weight : List Symbol → List Constraint → ℕ
 weight symbols cs = total (λ c. symbolAt symbols (c .symbol) .weight) cs
+
+-- the weight of constraints, where w weighs the symbols by their numbers
+unfoldable pub weightBy : (ℕ → ℕ) → List Constraint → ℕ
+weightBy w cs = total (λ (c : Constraint). w (c .symbol)) cs
 
 -- whether a constraint's symbol is declared and the number of terms is its own
 unfoldable pub isDeclared : List Symbol → Constraint → Bool

@@ -11,14 +11,14 @@ use mathlib.Core.Path.{_≡_, ap, sym, _∙_}
 use lib.ListN.{length, take}
 use lib.Seq.{take-all}
 use Rattle.text.specs.Lists.{tabled}
-use Rattle.semantics.specs.Terms.{Program, failed, live, var, weight}
+use Rattle.semantics.specs.Terms.{Program, failed, live, var, weight, weightBy}
 use Rattle.semantics.specs.Firing.{fireAt}
 use Rattle.semantics.specs.Strategy.{goalState, normalise}
 use Rattle.semantics.specs.Overlaps.{sideEnd}
 use Rattle.tables.specs.Layout.{firstRule}
 use Rattle.tables.specs.Cells.{cellTerm, cellConstraints, stateOf}
 use Rattle.tables.specs.Rows.{nameOf, ruleOf, rowOf}
-use Rattle.engine.specs.Runs.{weightBy, Lowers, storeOf, Continued}
+use Rattle.engine.specs.Runs.{Lowers, storeOf, Continued}
 use Rattle.engine.specs.Stated.{statedAt, fireRow, Stated, FiredFrom}
 use Rattle.fitting.proofs.ChooseLaws.{lentRow, row-cells}
 use Rattle.engine.proofs.RunLaws.{count-weight, normalise-rests, failed-rests}
@@ -77,9 +77,15 @@ module _ (rules : List ℕ) (n i : ℕ) (positions goal : List ℕ) (m v : ℕ) 
   -- what follows can be asked for
   pub side-follows :
       (u : ℕ) (bound₂ cells₂ : List ℕ) (fired alive : Bool) (count : ℕ) → u ≡ v → length cells₂ ≡ length cells
-      → Begun rules i positions goal m v bound₂ cells₂ fired alive count → Followable rules n m u cells₂ fired alive count
+      → Begun rules i positions goal m v bound₂ cells₂ fired alive count
+      → Followable rules n i goal m u bound₂ cells₂ fired alive count
   side-follows u bound₂ cells₂ fired alive count same e f =
       rw same (record {
+        rule = s .rule;
+        positions = positions;
+        begun = f;
+        goal-size = s .goal-size;
+        low = s .runs .low;
         starts = λ z y.
             let lighter : weightBy (s .runs .weigh) (storeOf cells₂ count) < weightBy (s .runs .weigh) (cellConstraints goal) =
             rw y at (f .lighter z (s .runs .weigh) (s .runs .lowers .falls i (s .rule))) in
@@ -110,8 +116,8 @@ module _ (rules : List ℕ) (n i : ℕ) (positions goal : List ℕ) (m v : ℕ) 
   side-ended u bound₂ cells₂ fired alive count bound′ cells′ lives k number firings same begun t =
       rw same at (t .ended i positions goal (s .rule) (rw same begun))
 
-module _ (rules : List ℕ) (n m v : ℕ) (bound cells : List ℕ) (fired alive : Bool) (count : ℕ)
-    (s : Followable rules n m v cells fired alive count) where
+module _ (rules : List ℕ) (n j : ℕ) (entered : List ℕ) (m v : ℕ) (bound cells : List ℕ) (fired alive : Bool) (count : ℕ)
+    (s : Followable rules n j entered m v bound cells fired alive count) where
   -- the rule did not fit
   pub side-rests : fired ≡ false → Followed rules n m v bound cells fired alive count bound cells true m v 0
   unfolding sideEnd stateOf goalState cellGoal storeOf

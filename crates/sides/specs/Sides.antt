@@ -1,25 +1,30 @@
 -- A side of an overlap: its goal enters, a rule fires at its positions, and the strategy follows to the end.
---   cellGoal                  a goal from its cells
---   Sidable                   what a side asks
---   Beginnable, Begun         its own firing
---   Followable, Followed      from there to its end
---   Sided                     what it promises: the end that `sideEnd` defines
+--   cellGoal                     a goal from its cells
+--   Sidable                      what a side asks
+--   Beginnable, Begun            its own firing
+--   SideTallying, SideTallied    the tally by symbol after that
+--   Followable, Followed         from there to its end
+--   Sided                        what it promises: the end that `sideEnd` defines
 -- Assumes nothing.
 use Prim.Native.Nat.{ℕ, _+_, _*_, _≤_, _<_}
 use mathlib.Core.Bool.{Bool, true, false, cond}
 use mathlib.Core.List.{List, [], map}
 use mathlib.Core.Option.{none, some}
 use mathlib.Core.Path.{_≡_}
+use lib.Dec.{eqb}
 use lib.ListN.{length, take}
 use Rattle.text.specs.Lists.{every, tabled}
-use Rattle.semantics.specs.Terms.{var, Program, Goal, isWellFormed, removedHeads}
+use Rattle.semantics.specs.Terms.{var, Program, Goal, isWellFormed, removedHeads, weightBy}
 use Rattle.semantics.specs.Firing.{fireAt}
 use Rattle.semantics.specs.Strategy.{goalState}
 use Rattle.semantics.specs.Overlaps.{sideEnd}
-use Rattle.tables.specs.Layout.{constraintSize}
+use Rattle.semantics.specs.Tally.{tallyOf, exchanged}
+use Rattle.tables.specs.Layout.{maxSymbols, constraintSize}
 use Rattle.tables.specs.Cells.{cellTerm, cellConstraints, isLow, stateOf}
 use Rattle.tables.specs.Rows.{ruleOfRow, ruleOf, rulesOf, rowOf}
-use Rattle.engine.specs.Runs.{weightBy, Lowers, storeOf, Runnable, Startable}
+use Rattle.tallies.specs.Symbols.{tallied}
+use Rattle.fitting.specs.Positions.{Row}
+use Rattle.engine.specs.Runs.{Lowers, storeOf, Runnable, Startable}
 use Rattle.engine.specs.Stated.{statedAt}
 
 -- a goal of v variables, from the cells of its constraints
@@ -62,8 +67,28 @@ pub record Begun (rules : List ℕ) (i : ℕ) (positions goal : List ℕ) (m v :
   pub low : fired ≡ true → alive ≡ true → every isLow (storeOf cells count) ≡ true
   pub few : count ≤ m + 6
 
--- what following asks: where the state lives, the strategy comes to an end from it
-pub record Followable (rules : List ℕ) (n m v : ℕ) (cells : List ℕ) (fired alive : Bool) (count : ℕ) : Type 0 where
+-- what the tally of a side asks: a rule, a goal of m constraints, and a table of all symbols that has none
+pub record SideTallying (row goal : List ℕ) (m : ℕ) (table : List ℕ) : Type 0 where
+  pub given : Row row
+  pub goal-size : length goal ≡ constraintSize * m
+  pub low : every isLow (cellConstraints goal) ≡ true
+  pub few : m ≤ 600
+  pub size : length table ≡ maxSymbols
+  pub zeros : every (eqb 0) table ≡ true
+
+-- the goal's constraints entered, and the rule fired
+pub record SideTallied (row goal table′ : List ℕ) : Type 0 where
+  pub same : (s : ℕ) → tallied table′ s ≡ exchanged (ruleOfRow [] row) (tallyOf (cellConstraints goal)) s
+
+-- what following asks: the side of rule i began so, at some positions of a goal of m constraints; where the state lives, the
+-- strategy comes to an end from it
+pub record Followable (rules : List ℕ) (n i : ℕ) (goal : List ℕ) (m v : ℕ) (bound cells : List ℕ) (fired alive : Bool) (count : ℕ)
+    : Type 0 where
+  pub rule : i < n
+  pub positions : List ℕ
+  pub begun : Begun rules i positions goal m v bound cells fired alive count
+  pub goal-size : length goal ≡ constraintSize * m
+  pub low : every isLow (cellConstraints goal) ≡ true
   pub starts : fired ≡ true → alive ≡ true → Startable rules n cells count (v + 26)
   pub few : m ≤ 512
   pub variables : v ≤ 50000

@@ -5,8 +5,11 @@ use engine::derivation::normalise_from;
 use engine::entering::start_bound;
 use engine::stated::fire_from;
 use tables::layout::ROW_SIZE;
+use tallies::counting::exchange;
+use tallies::counting::raise;
 ghost use lib.ListN.{length};
 ghost use Rattle.sides.specs.Sides.{Sidable, Beginnable, Begun, Followable, Followed, Sided};
+ghost use Rattle.sides.specs.Sides.{SideTallying, SideTallied};
 
 // A side's own firing: the rule of a number fires at its positions of the goal, which has m constraints and as many variables as
 // `bound` has cells. If it does not fit there, the goal enters as it is.
@@ -30,16 +33,29 @@ pub fn begin(
     fire_from(&rules[a..b], positions, next, goal, m, bound, cells)
 }
 
-// The end of a side that began so: the strategy follows. Where the rule did not fit, the goal is the end.
+// The tally of a side after its own firing: the goal's m constraints enter an empty store, and the rule fires.
+pub fn tally_side(row: &[u16], goal: &[u16], m: usize, tally: &mut [u16])
+    requires { ⌜ SideTallying (now row) (now goal) m (now tally) ⌝ }
+    ensures { λ _. ⌜ SideTallied (now (row .entry)) (now (goal .entry)) (now (tally .exit)) ⌝ }
+{
+    raise(goal, m, tally);
+    exchange(row, tally);
+}
+
+// The end of a side that began so, with the rule of a number: the strategy follows. Where the rule did not fit, the goal is the
+// end.
 pub fn follow(
     rules: &[u16],
     n: usize,
+    rule: usize,
+    goal: &[u16],
     m: usize,
     bound: &mut [u16],
     cells: &mut [u16],
     step: Step,
 ) -> Final
-    requires { ⌜ Followable (now rules) n m (length (now bound)) (now cells) (step .fired) (step .alive) (step .count) ⌝ }
+    requires { ⌜ Followable (now rules) n rule (now goal) m (length (now bound)) (now bound) (now cells)
+        (step .fired) (step .alive) (step .count) ⌝ }
     ensures { λ r. ⌜ Followed (now (rules .entry)) n m (length (now (bound .entry))) (now (bound .entry)) (now (cells .entry))
         (step .fired) (step .alive) (step .count) (now (bound .exit)) (now (cells .exit))
         (r .alive) (r .count) (r .next) (r .firings) ⌝ }
@@ -62,7 +78,11 @@ pub fn follow(
             firings: 1,
         };
     }
-    normalise_from(rules, n, bound, cells, step.count, number, 1)
+    let a = ROW_SIZE * rule;
+    let b = a + ROW_SIZE;
+    let mut tally = [0u16; 64];
+    tally_side(&rules[a..b], goal, m, &mut tally);
+    normalise_from(rules, n, bound, cells, step.count, number, 1, &mut tally)
 }
 
 // The end of a side: its own firing, then the strategy.
@@ -81,5 +101,5 @@ pub fn side(
         (now (bound .exit)) (now (cells .exit)) (r .alive) (r .count) (r .next) (r .firings) ⌝ }
 {
     let step = begin(rules, rule, positions, goal, m, bound, cells);
-    follow(rules, n, m, bound, cells, step)
+    follow(rules, n, rule, goal, m, bound, cells, step)
 }

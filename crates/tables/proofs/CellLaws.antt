@@ -1,9 +1,11 @@
 -- Laws of cells as terms and constraints.
 --   either, le-or-lt, every-first, every-rest      tests taken apart
 --   cell-low, cell-high       a cell below 256 is a constant, any other a variable
+--   low-symbol                what a low symbol lies below
 --   same-cell                 two cells are the same term where they are the same cell
 --   terms-none, terms-more                         the terms of cells from one on
 --   constraints-length                             how many constraints whole rows are
+--   constraints-take, constraints-drop             the first constraints of cells, and the others
 --   constraints-at, constraints-short              the constraints of cells from one on
 --   constraints-drop                               the constraints behind the first k
 --   element-row, element-none                      the constraint of a number
@@ -20,9 +22,9 @@ use lib.ListN.{length, getD, getElem?, take, drop, length-drop}
 use lib.Seq.{drop-cons, drop-drop}
 use borrow.Author.Tests.{lt-ltb, le-ltb, eq-eqb, ne-eqb, eqb-true, eqb-false, leb-true, leb-false, ltb-true}
 use Rattle.text.specs.Lists.{every}
-use Rattle.semantics.specs.Terms.{con, var, sameTerm, isBelow, alphabet}
+use Rattle.semantics.specs.Terms.{con, var, Constraint, sameTerm, isBelow, alphabet}
 use Rattle.text.proofs.Bools.{and-true}
-use Rattle.tables.specs.Cells.{cellTerm, cellTerms, rowConstraint, cellConstraints}
+use Rattle.tables.specs.Cells.{cellTerm, cellTerms, rowConstraint, cellConstraints, isLow}
 
 -- a test's two answers
 pub either : (b : Bool) → (b ≡ true) ⊎ (b ≡ false)
@@ -42,6 +44,11 @@ cell-low x h = rw (lt-ltb x 256 h)
 pub cell-high : (x : ℕ) → 256 ≤ x → cellTerm x ≡ var (x - 256)
 unfolding cellTerm
 cell-high x h = rw (le-ltb x 256 h)
+
+-- a low symbol lies below 64, and so below every variable's cell
+pub low-symbol : (c : Constraint) → isLow c ≡ true → c .symbol < 64
+unfolding isLow
+low-symbol c h = ltb-true (c .symbol) 64 h
 
 -- two tests that hold together are the same
 pub eqb-iff : (a b c d : ℕ) → (a ≡ b → c ≡ d) → (c ≡ d → a ≡ b) → eqb a b ≡ eqb c d
@@ -132,6 +139,10 @@ constraints-short l i h = few (drop (5 * i) l) (omega (arith, length-drop (5 * i
     few (k₀ ∷ a ∷ b ∷ c ∷ []) k = refl
     few (k₀ ∷ a ∷ b ∷ c ∷ d ∷ m) k = absurd (omega arith)
 
+-- five cells more
+five-more : (k : ℕ) → 5 * suc k ≡ suc (suc (suc (suc (suc (5 * k)))))
+five-more k = omega arith
+
 -- the constraints behind the first k
 pub constraints-drop : (k : ℕ) (l : List ℕ) → drop k (cellConstraints l) ≡ cellConstraints (drop (5 * k) l)
 unfolding cellConstraints
@@ -144,6 +155,17 @@ constraints-drop (suc k) (a ∷ b ∷ c ∷ d ∷ []) = sym (constraints-short (
 constraints-drop (suc k) (a ∷ b ∷ c ∷ d ∷ e ∷ l) =
     let five : suc (suc (suc (suc (suc (5 * k))))) ≡ 5 * suc k = omega arith in
     constraints-drop k l ∙ ap (λ (n : ℕ). cellConstraints (drop n (a ∷ b ∷ c ∷ d ∷ e ∷ l))) five
+
+-- the first k constraints
+pub constraints-take : (k : ℕ) (l : List ℕ) → cellConstraints (take (5 * k) l) ≡ take k (cellConstraints l)
+unfolding cellConstraints
+constraints-take zero l = refl
+constraints-take (suc k) [] = rw five-more
+constraints-take (suc k) (a ∷ []) = rw five-more
+constraints-take (suc k) (a ∷ b ∷ []) = rw five-more
+constraints-take (suc k) (a ∷ b ∷ c ∷ []) = rw five-more
+constraints-take (suc k) (a ∷ b ∷ c ∷ d ∷ []) = rw five-more
+constraints-take (suc k) (a ∷ b ∷ c ∷ d ∷ e ∷ l) = rw (five-more, constraints-take k l)
 
 -- the constraint of number k
 pub element-row :

@@ -10,16 +10,16 @@ use mathlib.Core.Bool.{Bool, true, false, _&&_}
 use mathlib.Core.List.{List, [], _∷_, _++_, map, map-append, append-assoc, append-nil}
 use mathlib.Core.Logic.{_⊎_, inl, inr}
 use mathlib.Core.Path.{_≡_, refl, ap, _∙_}
-use lib.Dec.{eqb, ltb, leb}
+use lib.Dec.{eqb, leb}
 use lib.ListN.{length, getD, set, take, drop, length-set, length-map, drop-of-length-le}
 use lib.Seq.{drop-cons, take-suc, length-take-le, set-at, getD-at, take-all}
-use borrow.Author.Tests.{eq-eqb, ne-eqb, eqb-true, eqb-false, le-leb, leb-true, ltb-true}
+use borrow.Author.Tests.{eq-eqb, ne-eqb, eqb-true, eqb-false, le-leb, leb-true}
 use Rattle.text.specs.Lists.{every}
 use Rattle.semantics.specs.Terms.{Term, Constraint, Equation, mapTerms, mapSides}
 use Rattle.text.proofs.Bools.{and-true}
 use Rattle.text.proofs.ListLaws.{every-always, every-weaker, every-map}
 use Rattle.tables.specs.Cells.{cellTerm, cellTerms, cellConstraints, cellEquations, isLow}
-use Rattle.tables.proofs.CellLaws.{either}
+use Rattle.tables.proofs.CellLaws.{either, low-symbol}
 
 -- after i turns the first i cells hold f of the source's, and the others what they held
 pub record Mapped (f : ℕ → ℕ) (source start cells : List ℕ) (i : ℕ) : Type 0 where
@@ -96,7 +96,7 @@ module _ (good : Term → Bool) (f : ℕ → ℕ) (σ : Term → Term) (a : Acts
 
   pub acts-constraints :
       (l : List ℕ) → every passes (cellConstraints l) ≡ true → cellConstraints (map f l) ≡ map (mapTerms σ) (cellConstraints l)
-  unfolding cellConstraints mapTerms isLow
+  unfolding cellConstraints mapTerms
   acts-constraints [] h = refl
   acts-constraints (k ∷ []) h = refl
   acts-constraints (k ∷ x ∷ []) h = refl
@@ -104,14 +104,15 @@ module _ (good : Term → Bool) (f : ℕ → ℕ) (σ : Term → Term) (a : Acts
   acts-constraints (k ∷ x ∷ y ∷ z ∷ []) h = refl
   acts-constraints (k ∷ x ∷ y ∷ z ∷ u ∷ l) h =
       let terms : List ℕ = x ∷ y ∷ z ∷ u ∷ [] in
-      let first : (ltb k 256 && every good (cellTerms terms)) ≡ true =
-      and-true (ltb k 256 && every good (cellTerms terms)) (every passes (cellConstraints l)) h .0 in
-      let both : (ltb k 256 ≡ true) × (every good (cellTerms terms) ≡ true) =
-      and-true (ltb k 256) (every good (cellTerms terms)) first in
+      let this : Constraint = record { symbol = k; terms = cellTerms terms } in
+      let first : passes this ≡ true = and-true (passes this) (every passes (cellConstraints l)) h .0 in
+      let both : (isLow this ≡ true) × (every good (cellTerms terms) ≡ true) =
+      and-true (isLow this) (every good (cellTerms terms)) first in
+      let below : k < 64 = low-symbol this (both .0) in
       rw (
-        a .low k (ltb-true k 256 (both .0)),
+        a .low k (omega arith),
         acts-terms terms (both .1),
-        acts-constraints l (and-true (ltb k 256 && every good (cellTerms terms)) (every passes (cellConstraints l)) h .1),
+        acts-constraints l (and-true (passes this) (every passes (cellConstraints l)) h .1),
       )
 
   -- whether both sides of an equation pass the test
@@ -153,7 +154,7 @@ module _ (good : Term → Bool) (f : ℕ → ℕ) (σ : Term → Term) (a : Acts
 pub low-kept : (σ : Term → Term) (cs : List Constraint) → every isLow (map (mapTerms σ) cs) ≡ every isLow cs
 unfolding mapTerms isLow
 low-kept σ [] = refl
-low-kept σ (c ∷ cs) = ap (ltb (c .symbol) 256 &&_) (low-kept σ cs)
+low-kept σ (c ∷ cs) = ap (isLow c &&_) (low-kept σ cs)
 
 -- the test that every term passes
 unfoldable pub anything : Term → Bool

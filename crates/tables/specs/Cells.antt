@@ -2,7 +2,7 @@
 --   cellTerm, cellTerms          a cell as a term, and cells up to the first 0
 --   rowConstraint                five cells as a constraint
 --   cellConstraints, cellEquations   cells as constraints and equations
---   isLow                        a constraint whose symbol lies below the variables
+--   isLow                        a constraint whose symbol is one that there can be
 --   stateOf                      cells as a state
 -- A cell holds a symbol's number, a constant's, or 256 more than a variable's; 0 stands behind a constraint's last term.
 -- Assumes nothing.
@@ -12,7 +12,7 @@ use mathlib.Core.List.{List, [], _∷_, map}
 use lib.Dec.{ltb, eqb}
 use lib.ListN.{getD, drop}
 use Rattle.semantics.specs.Terms.{Term, con, var, Constraint, Equation, State, failed, live}
-use Rattle.tables.specs.Layout.{firstVariable}
+use Rattle.tables.specs.Layout.{firstVariable, maxSymbols}
 
 -- a cell as a term
 unfoldable pub cellTerm : ℕ → Term
@@ -37,9 +37,9 @@ cellConstraints (k ∷ a ∷ b ∷ c ∷ []) = []
 cellConstraints (k ∷ a ∷ b ∷ c ∷ d ∷ cells) =
     record { symbol = k; terms = cellTerms (a ∷ b ∷ c ∷ d ∷ []) } ∷ cellConstraints cells
 
--- whether a constraint's symbol lies below the variables' cells
+-- whether a constraint's symbol is one that there can be
 unfoldable pub isLow : Constraint → Bool
-isLow c = ltb (c .symbol) firstVariable
+isLow c = ltb (c .symbol) maxSymbols
 
 -- cells as equations, two to each
 unfoldable pub cellEquations : List ℕ → List Equation

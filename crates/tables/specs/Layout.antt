@@ -1,4 +1,5 @@
 -- The layout of the flat tables by name, as src/layout.rt has it for the code.
+--   maxNames, maxSymbols         how many names a table has room for, and how many symbols there can be
 --   firstRule, firstVariable     where the numbers of rules and of variables start; symbols count from 0, and constants from
 --                                `firstConstant` of syntax
 --   goalPlace                    what a place in the goal's text is more than its start
@@ -9,6 +10,10 @@ use Prim.Native.Nat.{ℕ}
 -- how many names a table has room for: symbols, constants and rules, each by its number
 abbrev pub maxNames : ℕ
 maxNames = 256
+
+-- how many symbols there can be: each has a number below it
+abbrev pub maxSymbols : ℕ
+maxSymbols = 64
 
 -- the number of the first rule's name
 abbrev pub firstRule : ℕ

@@ -63,7 +63,7 @@ renumberedCell table x =
     let new = getD table (x - firstVariable) 0 in
     cond (ltb x firstVariable) x (cond (eqb new 0) x new)
 
--- whether a constraint's symbol lies below the variables, and its variables below v
+-- whether a constraint's symbol is one that there can be, and its variables lie below v
 unfoldable pub isWithin : ℕ → Constraint → Bool
 isWithin v c = isLow c && every (isBelow v) (c .terms)
 

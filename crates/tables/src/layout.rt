@@ -3,6 +3,9 @@
 // How many names a table has room for.
 pub const MAX_NAMES: usize = 256;
 
+// How many symbols there can be.
+pub const MAX_SYMBOLS: usize = 64;
+
 // The numbers of the first constant and of the first rule; symbols count from 0.
 pub const FIRST_CONSTANT: usize = 64;
 

@@ -13,27 +13,27 @@ use Rattle.engine.proofs.derivation.advance.Tie as tie
 -- from the choice, where the function starts
 abbrev entry : tie.After-choose → tie.Start
 entry c =
-    let lent = c .before .before .before in
-    lent .before .before .before .before .before .before .before .before
+    let lent = c .before .before .before .before in
+    lent .before .before .before .before .before .before .before .before .before
 
 slice-aggregate-choose : tie.Need-slice-aggregate-choose
 slice-aggregate-choose c =
-    let start = c .before .before .before .before .before .before .before .before in
+    let start = c .before .before .before .before .before .before .before .before .before in
     step-lent _ _ _ _ _ (start .pre .0)
 
 choose-requires : tie.Need-choose-requires
 choose-requires c κs =
-    let lent = c .before .before in
-    let start = lent .before .before .before .before .before .before .before .before in
+    let lent = c .before .before .before in
+    let start = lent .before .before .before .before .before .before .before .before .before in
     step-chooses _ _ _ _ _ (start .pre .0) _ _ _ (start .pre .1) (start .pre .2) _ (omega arith)
-    (replicate 4 0) (replicate 26 0) refl refl
+    (replicate 4 0) (replicate 26 0) refl refl _ (start .pre .3)
 
 returns : tie.Need-returns
 returns c =
     let at-choose = c .before .before .before .before .before in
     let start = entry at-choose in (
       step-rests _ _ _ _ _ (start .pre .0) _ _ _ _ (at-choose .choose .ensures .0) _ (not-true _ (c .if1 .taken)),
-      step-keeps-none _ _ _ _ _ (start .pre .0) _ _ _ _ (at-choose .choose .ensures .0) _ _ _ _ _ _,
+      step-keeps-none _ _ _ _ _ (start .pre .0) _ _ _ _ (at-choose .choose .ensures .0) _ _ _ _ _ _ _,
       step-skips _ _ _ _ _ (start .pre .0) _ _ _ _ (at-choose .choose .ensures .0),
       omega arith,
     )
@@ -86,11 +86,11 @@ add-removed c =
 
 remember-requires : tie.Need-remember-requires
 remember-requires c κs =
-    let at = c .before .before .before .before .before .before .before in
+    let at = c .before .before .before .before .before .before .before .before in
     let at-choose = chosen at in
     let start = entry at-choose in
     step-remembers _ _ _ _ _ (start .pre .0) _ _ _ _ (at-choose .choose .ensures .0) (not-false _ (found at .if1 .left))
-    _ _ _ _ _ (at .fire-front .ensures .0) _ _ (start .pre .2) (at .fire-front .ensures .2)
+    _ _ _ _ _ (at .fire-front .ensures .0) _ _ (start .pre .2) (at .fire-front .ensures .2) _ (start .pre .3)
 
 add-remember : tie.Need-add-remember
 add-remember c =
@@ -103,16 +103,17 @@ add-remember c =
 
 returns-2 : tie.Need-returns-2
 returns-2 c =
-    let at-remember = c .before .before .before .before in
-    let at = at-remember .before .before .before .before .before .before .before .before in
+    let at-remember = c .before .before .before .before .before .before in
+    let at = at-remember .before .before .before .before .before .before .before .before .before in
     let at-choose = chosen at in
     let start = entry at-choose in
     let fits′ = not-false _ (found at .if1 .left) in
     let fired′ = at .fire-front .ensures in (
       step-moves _ _ _ _ _ (start .pre .0) _ _ _ _ (at-choose .choose .ensures .0) fits′ _ _ _ _ _ (fired′ .0),
       step-keeps _ _ _ _ _ (start .pre .0) _ _ _ _ (at-choose .choose .ensures .0) fits′ _ _ _ _ _ (fired′ .0)
-          _ _ (start .pre .2) (fired′ .2) _ _ _ _ (at-choose .choose .ensures .1) (at-remember .remember .ensures)
-          (step-there _ _ _ _ _ (start .pre .0) _ _ _ (at .fire-front .kept .1 .1 .1 .1 .1 .0) (fired′ .1)),
+          _ _ (start .pre .2) (fired′ .2) _ _ _ _ _ _ (at-choose .choose .ensures .1) (at-remember .remember .ensures)
+          (step-there _ _ _ _ _ (start .pre .0) _ _ _ (at .fire-front .kept .1 .1 .1 .1 .1 .0) (fired′ .1))
+          (start .pre .3) (at-remember .remember .kept .1 .1 .1 .1 .0),
       fired′ .1,
       step-few _ _ _ _ _ (start .pre .0) _ _ _ _ (at-choose .choose .ensures .0) fits′ _ _ _ _ _ (fired′ .0)
           _ _ (start .pre .2) (fired′ .2),
@@ -126,7 +127,7 @@ advance-spec =
     slice-aggregate-choose
     (λ c. search needs)
     choose-requires
-    (λ c. search needs) (λ c. search needs) (λ c. search needs)
+    (λ c. search needs) (λ c. search needs) (λ c. search needs) (λ c. search needs)
     returns
     mul-a
     add-b
@@ -139,5 +140,5 @@ advance-spec =
     add-removed
     add-remember
     remember-requires
-    (λ c. search needs) (λ c. search needs) (λ c. search needs) (λ c. search needs)
+    (λ c. search needs) (λ c. search needs) (λ c. search needs) (λ c. search needs) (λ c. search needs)
     returns-2)

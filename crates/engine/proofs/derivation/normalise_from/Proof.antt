@@ -8,8 +8,8 @@ use Rattle.engine.proofs.derivation.normalise_from.Tie as tie
 
 add-firings : tie.Need-add-firings
 add-firings c =
-    let called = c .before .before .before .before .before in
-    let start = called .before .before .before .before .before .before in
+    let called = c .before .before .before .before .before .before .before in
+    let start = called .before .before .before .before .before .before .before .before in
     omega (arith, ended-few _ _ _ _ _ _ _ _ _ _ _ _ (called .normalise .ensures) (start .pre .0), start .pre .1)
 
 returns : tie.Need-returns
@@ -17,4 +17,8 @@ returns c = search ended-later
 
 pub normalise-from-spec : {M : Type 1} → statement M
 normalise-from-spec =
-    tie.close (tie.spec (λ c κs. search needs) add-firings (λ c. search needs) (λ c. search needs) returns)
+    tie.close (tie.spec
+    (λ c κs. search needs)
+    add-firings
+    (λ c. search needs) (λ c. search needs) (λ c. search needs)
+    returns)

@@ -11,15 +11,15 @@ use Rattle.fitting.proofs.search.choose.Statement.{statement}
 use Rattle.fitting.proofs.search.choose.Tie as tie
 
 abbrev Inv-loop : tie.InvT-loop
-Inv-loop rules n known₀ last cells positions₀ bindings₀ m gone whole i₀ known positions bindings i =
+Inv-loop rules n known₀ last cells positions₀ bindings₀ tally m gone whole i₀ known positions bindings i =
     Noting rules n known₀ last gone cells known i × (length positions ≡ 4) × (length bindings ≡ 26)
 
 abbrev μ-loop : tie.MeasureT-loop
-μ-loop rules n known₀ last cells positions₀ bindings₀ m gone whole i₀ known positions bindings i = n - i
+μ-loop rules n known₀ last cells positions₀ bindings₀ tally m gone whole i₀ known positions bindings i = n - i
 
 loop-holds : tie.Need-loop-holds Inv-loop μ-loop
 loop-holds c =
-    let start = c .before .before .before .before .before in
+    let start = c .before .before .before .before .before .before in
     (noting-start _ _ _ _ _ _ (start .pre .3), start .pre .4, start .pre .5)
 
 may-fit-requires : tie.Need-may-fit-requires Inv-loop μ-loop
@@ -27,7 +27,7 @@ may-fit-requires c κs =
     let at-known-at = c .before .before in
     let at-loop-test = at-known-at .before .before in
     let at-loop = at-loop-test .before in
-    let start = at-loop .before .before .before .before .before .before in
+    let start = at-loop .before .before .before .before .before .before .before in
     noting-look _ _ _ _ _ _ _ _ _ (start .pre .0) (start .pre .1) (start .pre .2) (at-loop .loop .inv .0)
     (at-loop-test .loop-test .taken) _
     (at-known-at .known-at .ensures)
@@ -38,7 +38,7 @@ find-rule-requires c κs =
     let at-known-at = at-prefix .before .before .before .before .before .before in
     let at-loop-test = at-known-at .before .before in
     let at-loop = at-loop-test .before in
-    let start = at-loop .before .before .before .before .before .before in
+    let start = at-loop .before .before .before .before .before .before .before in
     let row = noting-row _ _ _ _ _ _ _ _ _ (start .pre .0) (start .pre .1) (start .pre .2) (at-loop .loop .inv .0)
     (at-loop-test .loop-test .taken) _ (at-known-at .known-at .ensures) _ (at-prefix .prefix .ensures) in
     (row .0, row .1, row .2, row .3, at-loop .loop .inv .1)
@@ -49,7 +49,7 @@ leading-requires c κs =
     let at-may-fit = at-find-rule .before .before .before .before .before .before in
     let at-loop-test = at-may-fit .before .before .before .before .before in
     let at-loop = at-loop-test .before in
-    let start = at-loop .before .before .before .before .before .before in
+    let start = at-loop .before .before .before .before .before .before .before in
     choosing-leads _ _ _ _ (start .pre .0) (at-loop .loop .inv .0 .choosing) (at-loop-test .loop-test .taken)
     _ _ _ (at-find-rule .find-rule .ensures)
 
@@ -60,7 +60,7 @@ note-requires c κs =
     let at-may-fit = at-find-rule .before .before .before .before .before .before in
     let at-loop-test = at-may-fit .before .before .before .before .before in
     let at-loop = at-loop-test .before in
-    let start = at-loop .before .before .before .before .before .before in
+    let start = at-loop .before .before .before .before .before .before .before in
     noting-room _ _ _ _ _ _ _ _ _ (start .pre .0) (start .pre .1) (start .pre .2) (at-loop .loop .inv .0)
     (at-loop-test .loop-test .taken) _ _ _
     (at-find-rule .find-rule .ensures) (at-if3 .if3 .taken) _ (c .leading .ensures)
@@ -72,7 +72,7 @@ add-note-2 c =
     let at-may-fit = at-find-rule .before .before .before .before .before .before in
     let at-loop-test = at-may-fit .before .before .before .before .before in
     let at-loop = at-loop-test .before in
-    let start = at-loop .before .before .before .before .before .before in
+    let start = at-loop .before .before .before .before .before .before .before in
     omega (
       arith,
       noting-room _ _ _ _ _ _ _ _ _ (start .pre .0) (start .pre .1) (start .pre .2) (at-loop .loop .inv .0)
@@ -89,7 +89,7 @@ returns c =
     let at-may-fit = at-find-rule .before .before .before .before .before .before in
     let at-loop-test = at-may-fit .before .before .before .before .before in
     let at-loop = at-loop-test .before in
-    let start = at-loop .before .before .before .before .before .before in
+    let start = at-loop .before .before .before .before .before .before .before in
     noting-found _ _ _ _ _ _ _ _ _ (start .pre .0) (start .pre .1) (start .pre .2) (at-loop .loop .inv .0)
     (at-loop-test .loop-test .taken) _ _ _
     (at-find-rule .find-rule .ensures) (at-if3 .if3 .taken) _ (at-leading .leading .ensures) _ (at-note .note .ensures)
@@ -102,7 +102,7 @@ loop-again c =
     let at-may-fit = at-find-rule .before .before .before .before .before .before in
     let at-loop-test = at-may-fit .before .before .before .before .before in
     let at-loop = at-loop-test .before in
-    let start = at-loop .before .before .before .before .before .before in
+    let start = at-loop .before .before .before .before .before .before .before in
     let located = at-find-rule .find-rule .ensures in (
       noting-next _ _ _ _ _ _ _ _ _ (start .pre .0) (start .pre .1) (start .pre .2) (at-loop .loop .inv .0)
           (at-loop-test .loop-test .taken) _ _ _ located (at-if3 .if3 .left) _ (at-note2 .note2 .ensures),
@@ -115,11 +115,12 @@ loop-again-2 c =
     let at-note3 = c .before .before in
     let at-if2 = at-note3 .before .before in
     let at-may-fit = at-if2 .before in
-    let at-loop-test = at-may-fit .before .before .before .before .before in
+    let at-known-at = at-may-fit .before .before .before in
+    let at-loop-test = at-known-at .before .before in
     let at-loop = at-loop-test .before in
-    let start = at-loop .before .before .before .before .before .before in (
+    let start = at-loop .before .before .before .before .before .before .before in (
       noting-impossible _ _ _ _ _ _ _ _ _ (start .pre .0) (start .pre .1) (start .pre .2) (at-loop .loop .inv .0)
-          (at-loop-test .loop-test .taken) _
+          (at-loop-test .loop-test .taken) _ (at-known-at .known-at .ensures) _ (start .pre .6) _
           (at-may-fit .may-fit .ensures) (at-if2 .if2 .left) _ (at-note3 .note3 .ensures),
       at-loop .loop .inv .1,
       at-loop .loop .inv .2,
@@ -130,7 +131,7 @@ loop-again-3 c =
     let at-known-at = c .before in
     let at-loop-test = at-known-at .before .before in
     let at-loop = at-loop-test .before in
-    let start = at-loop .before .before .before .before .before .before in (
+    let start = at-loop .before .before .before .before .before .before .before in (
       noting-passed _ _ _ _ _ _ _ _ _ (start .pre .0) (start .pre .1) (start .pre .2) (at-loop .loop .inv .0)
           (at-loop-test .loop-test .taken) _
           (at-known-at .known-at .ensures) (c .if1 .left),
@@ -144,7 +145,7 @@ same-length-2 c =
     let at-find-rule = at-if3 .before .before .before in
     let at-may-fit = at-find-rule .before .before .before .before .before .before in
     let at-loop = at-may-fit .before .before .before .before .before .before in
-    let start = at-loop .before .before .before .before .before .before in
+    let start = at-loop .before .before .before .before .before .before .before in
     at-find-rule .find-rule .ensures .positions-size ∙ sym (start .pre .4)
 
 same-length-3 : tie.Need-same-length-3 Inv-loop μ-loop
@@ -153,13 +154,13 @@ same-length-3 c = c .before .loop .inv .0 .size
 same-length-4 : tie.Need-same-length-4 Inv-loop μ-loop
 same-length-4 c =
     let at-loop = c .before in
-    let start = at-loop .before .before .before .before .before .before in
+    let start = at-loop .before .before .before .before .before .before .before in
     at-loop .loop .inv .1 ∙ sym (start .pre .4)
 
 returns-2 : tie.Need-returns-2 Inv-loop μ-loop
 returns-2 c =
     let at-loop = c .before in
-    let start = at-loop .before .before .before .before .before .before in (
+    let start = at-loop .before .before .before .before .before .before .before in (
       choosing-none _ _ _ _ (start .pre .0) (at-loop .loop .inv .0 .choosing) (c .loop-test .left)
           _ _ (at-loop .loop .inv .1) (at-loop .loop .inv .2),
       at-loop .loop .inv .0 .knows,

@@ -4,9 +4,9 @@ use borrow.Author.Needs.{needs}
 use Prim.Native.Nat.{_-_}
 use native.Mathlib.Omega.{arith}
 use lib.ListN.{length}
-use Rattle.fitting.proofs.KnownLaws.{Meeting, meeting-start, meeting-found, meeting-next, meeting-end}
-use Rattle.fitting.proofs.known.is_concerned.Statement.{statement}
-use Rattle.fitting.proofs.known.is_concerned.Tie as tie
+use Rattle.tallies.proofs.ComeLaws.{Meeting, meeting-start, meeting-found, meeting-next, meeting-end}
+use Rattle.tallies.proofs.coming.is_concerned.Statement.{statement}
+use Rattle.tallies.proofs.coming.is_concerned.Tie as tie
 
 abbrev Inv-loop : tie.InvT-loop
 Inv-loop heads last v whole i₀ i = Meeting heads last v whole i

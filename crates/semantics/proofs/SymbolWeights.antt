@@ -1,9 +1,12 @@
--- The constraints at matched positions weigh what the heads do.
---   weight-append, weight-map      the weight of lists of constraints
---   weight-length                  no more constraints than weight
---   match-few                      no more heads than constraints
---   match-lighter                  what is left beside the matched positions, and the heads, weigh as much as all
---   match-removed                  the same of the later positions and heads
+-- The weight of constraints by their symbols (`weightBy`), and what it says of a match: the constraints at matched positions
+-- weigh what the heads do.
+--   weight-append, weight-map           the weight of lists of constraints
+--   weight-length, weight-one           beside the number of constraints
+--   weight-inserted                     with one more constraint
+--   matchConstraint-symbol              a head fits only a constraint of its own symbol
+--   match-few                           no more heads than constraints
+--   match-lighter                       what is left beside the matched positions, and the heads, weigh as much as all
+--   match-removed                       the same of the later positions and heads
 -- Assumes nothing.
 use Prim.Native.Nat.{ℕ, zero, suc, _+_, _≤_}
 use native.Mathlib.Nat.{add-zero}
@@ -15,22 +18,29 @@ use mathlib.Core.Path.{_≡_, refl, ap, _∙_}
 use lib.Dec.{eqb}
 use lib.ListN.{length, drop}
 use Rattle.text.specs.Lists.{has}
-use Rattle.semantics.specs.Terms.{Term, Constraint, mapTerms}
-use Rattle.semantics.specs.Matching.{Assignment, unassigned, matchAt}
+use Rattle.semantics.specs.Terms.{Term, Constraint, mapTerms, weightBy}
+use Rattle.semantics.specs.Matching.{Assignment, unassigned, matchConstraint, matchAt}
 use Rattle.semantics.specs.Firing.{without}
 use Rattle.semantics.specs.Variants.{Inserted, here, there}
-use Rattle.semantics.proofs.Options.{none-some}
+use Rattle.semantics.proofs.Options.{none-some, cond-some, eqb-equal}
 use Rattle.semantics.proofs.Removal.{without-one, without-none, has-front}
 use Rattle.semantics.proofs.Search.{matchAt-cons}
-use Rattle.semantics.proofs.Weights.{matchConstraint-symbol}
-use Rattle.engine.specs.Runs.{weightBy}
+
+-- a head fits only a constraint of its own symbol
+pub matchConstraint-symbol :
+    (h c : Constraint) (θ end : Assignment) → matchConstraint h c θ ≡ some end → h .symbol ≡ c .symbol
+unfolding matchConstraint
+matchConstraint-symbol h c θ end e =
+    eqb-equal (cond-some (eqb (h .symbol) (c .symbol)) e .0)
 
 module _ (w : ℕ → ℕ) where
+  -- the weight of two lists, one behind the other
   pub weight-append : (l m : List Constraint) → weightBy w (l ++ m) ≡ weightBy w l + weightBy w m
   unfolding weightBy
   weight-append [] m = omega arith
   weight-append (c ∷ l) m = omega (arith, weight-append l m)
 
+  -- replacing terms keeps the weight
   pub weight-map : (σ : Term → Term) (l : List Constraint) → weightBy w (map (mapTerms σ) l) ≡ weightBy w l
   unfolding weightBy mapTerms
   weight-map σ [] = refl
@@ -43,7 +53,7 @@ module _ (w : ℕ → ℕ) where
   weight-length p (c ∷ l) = omega (arith, p (c .symbol), weight-length p l)
 
   -- the weight with one more constraint
-  weight-inserted :
+  pub weight-inserted :
       {c : Constraint} {cs ds : List Constraint} → Inserted c cs ds → weightBy w ds ≡ w (c .symbol) + weightBy w cs
   unfolding weightBy
   weight-inserted here = refl

@@ -1,9 +1,9 @@
 -- `last_at` meets its contract.
 -- Assumes nothing.
 use borrow.Author.Needs.{needs}
-use Rattle.fitting.proofs.KnownLaws.{symbol-there, symbol-behind}
-use Rattle.fitting.proofs.known.last_at.Statement.{statement}
-use Rattle.fitting.proofs.known.last_at.Tie as tie
+use Rattle.tallies.proofs.ComeLaws.{symbol-there, symbol-behind}
+use Rattle.tallies.proofs.coming.last_at.Statement.{statement}
+use Rattle.tallies.proofs.coming.last_at.Tie as tie
 
 returns : tie.Need-returns
 returns c = search symbol-there

@@ -1,0 +1,2 @@
+-- The tables by symbol. Assumes nothing.
+pub mod Symbols
