@@ -6,6 +6,7 @@ use fitting::known::Stage;
 use fitting::known::remember;
 use fitting::search::choose;
 use tables::layout::CONSTRAINT_SIZE;
+use tables::layout::MAX_SYMBOLS;
 use tables::layout::ROW_SIZE;
 ghost use Prim.Native.Nat.{_+_, _*_, _≤_};
 ghost use lib.ListN.{drop};
@@ -125,7 +126,7 @@ pub fn normalise(
     let mut number = next;
     let mut firings = 0;
     let mut known = [8192u16; 32];
-    let mut last = [0u16; 64];
+    let mut last = [0u16; MAX_SYMBOLS];
     let mut gone = 0;
     let mut at = 0;
     while alive {

@@ -14,7 +14,7 @@ use lib.ListN.{length, getD, set, take, drop, length-set, length-drop}
 use lib.ListN.{List·getD-eq-default}
 use lib.Seq.{length-take-le, getD-set-same, getD-set-other}
 use borrow.Author.Tests.{le-leb, lt-leb}
-use Rattle.semantics.specs.Terms.{Constraint, removedHeads}
+use Rattle.semantics.specs.Terms.{removedHeads}
 use Rattle.semantics.specs.Tally.{isShort}
 use Rattle.tables.specs.Cells.{cellConstraints}
 use Rattle.tables.specs.Rows.{ruleOfRow}

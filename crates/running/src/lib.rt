@@ -15,6 +15,7 @@ use programs::Counts;
 use programs::ProgramRead;
 use programs::read_program;
 use tables::layout::CONSTRAINT_SIZE;
+use tables::layout::MAX_SYMBOLS;
 use tables::layout::SYMBOL_SIZE;
 use tables::wide;
 use tallies::counting::raise;
@@ -44,7 +45,7 @@ fn derive(rules: &[u16], bound: &mut [u16], cells: &mut [u16], sizes: Sizes) -> 
     let v = bound.len() as u16;
     let m = sizes.constraints;
     let e = CONSTRAINT_SIZE * m;
-    let mut tally = [0u16; 64];
+    let mut tally = [0u16; MAX_SYMBOLS];
     raise(&cells[..e], m, &mut tally);
     normalise(rules, sizes.rules, bound, cells, m, v, &mut tally)
 }

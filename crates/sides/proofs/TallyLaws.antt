@@ -19,7 +19,7 @@ use Rattle.semantics.proofs.Tallies.{fire-tally}
 use Rattle.tables.specs.Cells.{cellConstraints, stateOf}
 use Rattle.tables.specs.Rows.{ruleOfRow, ruleOf, rowOf}
 use Rattle.tables.proofs.CellLaws.{constraints-length}
-use Rattle.tallies.specs.Symbols.{tallied, Tallied, Raisable, Raised, Exchangeable, Exchanged}
+use Rattle.tallies.specs.Symbols.{Tallied, Raisable, Raised, Exchangeable, Exchanged}
 use Rattle.tallies.proofs.FreshLaws.{fresh-raisable, raised-fresh}
 use Rattle.fitting.proofs.ChooseLaws.{lentRow, row-cells}
 use Rattle.engine.specs.Runs.{storeOf}

@@ -4,6 +4,7 @@ use engine::derivation::Step;
 use engine::derivation::normalise_from;
 use engine::entering::start_bound;
 use engine::stated::fire_from;
+use tables::layout::MAX_SYMBOLS;
 use tables::layout::ROW_SIZE;
 use tallies::counting::exchange;
 use tallies::counting::raise;
@@ -80,7 +81,7 @@ pub fn follow(
     }
     let a = ROW_SIZE * rule;
     let b = a + ROW_SIZE;
-    let mut tally = [0u16; 64];
+    let mut tally = [0u16; MAX_SYMBOLS];
     tally_side(&rules[a..b], goal, m, &mut tally);
     normalise_from(rules, n, bound, cells, step.count, number, 1, &mut tally)
 }

@@ -15,7 +15,6 @@ use lib.Dec.{eqb}
 use lib.ListN.{length, getD, set, take, drop, length-set, take-append-drop, List·getD-eq-default}
 use lib.Seq.{getD-take, getD-drop, getD-set-same, getD-set-other, take-add}
 use borrow.Author.Tests.{eq-eqb, ne-eqb, eqb-true, eqb-false}
-use Rattle.text.specs.Lists.{every}
 use Rattle.semantics.specs.Terms.{Constraint, weightBy}
 use Rattle.semantics.specs.Tally.{tallyOf, isShort}
 use Rattle.semantics.proofs.Tallies.{tally-append, tally-length, short-outnumbered}

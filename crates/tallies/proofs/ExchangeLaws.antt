@@ -9,14 +9,13 @@ use mathlib.Core.List.{List, []}
 use mathlib.Core.Path.{_≡_, sym, ap, _∙_}
 use lib.ListN.{length, getD, take, drop, length-drop}
 use lib.Seq.{drop-drop, length-take-le}
-use Rattle.text.specs.Lists.{every}
 use Rattle.text.proofs.Laws.{drop-take}
 use Rattle.semantics.specs.Terms.{removedHeads}
-use Rattle.semantics.specs.Tally.{tallyOf, exchanged}
-use Rattle.tables.specs.Cells.{cellConstraints, isLow}
+use Rattle.semantics.specs.Tally.{exchanged}
+use Rattle.tables.specs.Cells.{cellConstraints}
 use Rattle.tables.specs.Rows.{ruleOfRow}
 use Rattle.tables.proofs.CellLaws.{constraints-drop}
-use Rattle.tallies.specs.Symbols.{tallied, Raisable, Raised, Lowered, Exchangeable, Exchanged}
+use Rattle.tallies.specs.Symbols.{Raisable, Raised, Lowered, Exchangeable, Exchanged}
 
 module _ (row table : List ℕ) (x : Exchangeable row table) where
   module _ (k h : ℕ) (ke : k ≡ getD row 1 0) (he : h ≡ getD row 3 0) where

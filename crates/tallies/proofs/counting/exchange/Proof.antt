@@ -1,7 +1,6 @@
 -- `exchange` meets its contract: the heads that the rule removes go, then its body comes.
 -- Assumes nothing.
 use borrow.Author.Needs.{needs}
-use native.Mathlib.Omega.{arith}
 use Rattle.tallies.proofs.ExchangeLaws.{body-raisable, body-raised}
 use Rattle.tallies.proofs.counting.exchange.Statement.{statement}
 use Rattle.tallies.proofs.counting.exchange.Tie as tie

@@ -1,7 +1,6 @@
 -- `lower_heads` meets its contract: the cells that it lends are those of the heads that the rule removes.
 -- Assumes nothing.
 use borrow.Author.Needs.{needs}
-use native.Mathlib.Omega.{arith}
 use Rattle.tallies.proofs.ExchangeLaws.{removed-size, heads-lowered}
 use Rattle.tallies.proofs.counting.lower_heads.Statement.{statement}
 use Rattle.tallies.proofs.counting.lower_heads.Tie as tie
