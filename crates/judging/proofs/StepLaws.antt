@@ -1,14 +1,15 @@
 -- Sides in the same state after their own firings: one law for each way that the code goes.
 --   steps-ask                what comparing the two states asks
---   step-apart, step-same    what it promises
+--   step-apart, step-failed, step-same    what it promises
 --   step-joins               then the overlap joins
 -- Assumes nothing.
 use Prim.Native.Nat.{ℕ, _+_, _*_, _≤_}
 use native.Mathlib.Omega.{arith}
-use mathlib.Core.Bool.{Bool, true, false}
+use mathlib.Core.Bool.{Bool, true, false, not}
 use mathlib.Core.List.{List, [], _∷_}
 use mathlib.Core.Path.{_≡_, refl, sym, ap, subst, _∙_}
 use lib.ListN.{length, take}
+use borrow.Author.Tests.{not-true}
 use Rattle.semantics.specs.Strategy.{Final}
 use Rattle.semantics.specs.Overlaps.{firstEnd, secondEnd}
 use Rattle.semantics.specs.Verdict.{isJoinable}
@@ -72,6 +73,14 @@ module _ {steps : Steps} {bound₁ cells₁ bound₂ cells₂ : List ℕ} where
   pub step-apart : SameStep false steps bound₁ cells₁ bound₂ cells₂
   step-apart =
       record { first = λ y. true-false y refl; second = λ y. true-false y refl; same = λ y. true-false y refl }
+
+  -- the first has failed: so must the second
+  pub step-failed :
+      steps .first .fired ≡ true → steps .second .fired ≡ true → steps .first .alive ≡ false
+      → SameStep (not (steps .second .alive)) steps bound₁ cells₁ bound₂ cells₂
+  unfolding stateOf
+  step-failed a b c =
+      record { first = λ y. a; second = λ y. b; same = λ y next. rw (c, not-true (steps .second .alive) y) refl }
 
   -- the cells are the same
   pub step-same :

@@ -83,7 +83,7 @@ pub fn follow_both(
     Ends { first, second }
 }
 
-// Whether both sides are in the same live state after their own firings.
+// Whether both sides are in the same state after their own firings: both have failed, or the cells are the same.
 pub fn same_step(
     steps: Steps,
     bound_one: &[u16],
@@ -104,7 +104,7 @@ pub fn same_step(
         return false;
     }
     if !own.alive {
-        return false;
+        return !other.alive;
     }
     if !other.alive {
         return false;

@@ -1,9 +1,9 @@
--- `same_step` meets its contract: the two states are compared cell by cell.
+-- `same_step` meets its contract: both states have failed, or are compared cell by cell.
 -- Assumes nothing.
-use borrow.Author.Tests.{not-false}
+use borrow.Author.Tests.{not-true, not-false}
 use mathlib.Core.Path.{sym, _∙_}
 use lib.Seq.{length-take-le}
-use Rattle.judging.proofs.StepLaws.{second-room, step-apart, step-same}
+use Rattle.judging.proofs.StepLaws.{second-room, step-apart, step-failed, step-same}
 use borrow.Author.Needs.{needs}
 use Rattle.judging.proofs.same_step.Statement.{statement}
 use Rattle.judging.proofs.same_step.Tie as tie
@@ -30,6 +30,14 @@ same-cells-requires-2 c κs =
     length-take-le _ _ (start .pre .first) ∙ sym
     (length-take-le _ _ (second-room (start .pre) (counts .if5 .left)))
 
+returns-3 : tie.Need-returns-3
+returns-3 c =
+    let first-failed = c .before in
+    let second-fired = first-failed .before .before in
+    let first-fired = second-fired .before .before in
+    step-failed (not-false _ (first-fired .if1 .left)) (not-false _ (second-fired .if2 .left))
+    (not-true _ (first-failed .if3 .taken))
+
 returns-7 : tie.Need-returns-7
 returns-7 c =
     let alike = c .before .before .before in
@@ -47,7 +55,9 @@ pub same-step-spec : {M : Type 1} → statement M
 same-step-spec =
     tie.close
     (tie.spec
-    (λ c. step-apart) (λ c. step-apart) (λ c. step-apart) (λ c. step-apart) (λ c. step-apart)
+    (λ c. step-apart) (λ c. step-apart)
+    returns-3
+    (λ c. step-apart) (λ c. step-apart)
     (λ c κs. search needs) (λ c. step-apart) (λ c. search needs)
     slice-aggregate-same-cells
     slice-aggregate-same-cells-2
