@@ -36,7 +36,6 @@ pub struct Forward {
 // The strategy's firing, if a rule fits.
 pub fn advance(
     rules: &[u16],
-    n: usize,
     known: &mut [u16],
     last: &mut [u16],
     bound: &mut [u16],
@@ -44,13 +43,13 @@ pub fn advance(
     stage: Stage,
     tally: &mut [u16],
 ) -> Forward
-    requires { ⌜ Live (now rules) n (now cells) (stage .count) (stage .next)
-        × Knows (now rules) n (now known) (now last) (stage .gone) (storeOf (now cells) (stage .count))
+    requires { ⌜ Live (now rules) (stage .rules) (now cells) (stage .count) (stage .next)
+        × Knows (now rules) (stage .rules) (now known) (now last) (stage .gone) (storeOf (now cells) (stage .count))
         × (stage .gone + stage .count ≤ 6000)
         × Tallied (now tally) (storeOf (now cells) (stage .count)) ⌝ }
-    ensures { λ r. ⌜ Stepped (now (rules .entry)) n (now (bound .entry)) (now (cells .entry)) (stage .count) (stage .next)
-        (now (bound .exit)) (drop (constraintSize * r .skip) (now (cells .exit))) (r .fired) (r .alive) (r .count)
-        × Keeps (now (rules .entry)) n (now (known .exit)) (now (last .exit)) (now (tally .exit)) (r .gone)
+    ensures { λ r. ⌜ Stepped (now (rules .entry)) (stage .rules) (now (bound .entry)) (now (cells .entry)) (stage .count)
+        (stage .next) (now (bound .exit)) (drop (constraintSize * r .skip) (now (cells .exit))) (r .fired) (r .alive) (r .count)
+        × Keeps (now (rules .entry)) (stage .rules) (now (known .exit)) (now (last .exit)) (now (tally .exit)) (r .gone)
         (drop (constraintSize * r .skip) (now (cells .exit))) (r .fired) (r .alive) (r .count)
         × Skips (stage .count) (r .skip) (r .count)
         × (r .gone + r .count ≤ stage .gone + stage .count + 10) ⌝ }
@@ -62,7 +61,6 @@ pub fn advance(
     let mut bindings = [0; 26];
     let choice = choose(
         rules,
-        n,
         known,
         last,
         &cells[..e],
@@ -133,13 +131,13 @@ pub fn normalise(
         at = make_room(cells, at, count);
         let a = CONSTRAINT_SIZE * at;
         let now = Stage {
+            rules: n,
             count,
             next: number,
             gone,
         };
         let step = advance(
             rules,
-            n,
             &mut known,
             &mut last,
             bound,

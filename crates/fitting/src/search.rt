@@ -201,7 +201,6 @@ pub struct Choice {
 // equals a fresh count of the constraints.
 pub fn choose(
     rules: &[u16],
-    n: usize,
     known: &mut [u16],
     last: &[u16],
     cells: &[u16],
@@ -210,15 +209,17 @@ pub fn choose(
     bindings: &mut [u16; 26],
     tally: &[u16],
 ) -> Choice
-    requires { ⌜ Table (now rules) n × (length (now cells) ≡ constraintSize * stage .count) × (stage .gone + stage .count ≤ 6000)
-        × Knows (now rules) n (now known) (now last) (stage .gone) (cellConstraints (now cells))
+    requires { ⌜ Table (now rules) (stage .rules) × (length (now cells) ≡ constraintSize * stage .count)
+        × (stage .gone + stage .count ≤ 6000)
+        × Knows (now rules) (stage .rules) (now known) (now last) (stage .gone) (cellConstraints (now cells))
         × (length (now positions) ≡ 4) × (length (now bindings) ≡ 26)
         × Tallied (now tally) (cellConstraints (now cells)) ⌝ }
-    ensures { λ r. ⌜ Chosen (now (rules .entry)) n (now (cells .entry)) (r .found) (r .number) (now (positions .exit))
-        (now (bindings .exit))
-        × Knows (now (rules .entry)) n (now (known .exit)) (now (last .entry)) (stage .gone)
+    ensures { λ r. ⌜ Chosen (now (rules .entry)) (stage .rules) (now (cells .entry)) (r .found) (r .number)
+        (now (positions .exit)) (now (bindings .exit))
+        × Knows (now (rules .entry)) (stage .rules) (now (known .exit)) (now (last .entry)) (stage .gone)
         (cellConstraints (now (cells .entry))) ⌝ }
 {
+    let n = stage.rules;
     let m = stage.count;
     let gone = stage.gone;
     let whole = gone + m;

@@ -163,6 +163,16 @@ module _ (heads table : List ℕ) (i : ℕ) (w : Sufficing heads table i) where
               (either (eqb x s));
         })
 
+    -- it has fewer than there are heads of this symbol so far
+    short-here : there < tallyOf (take (suc i) (cellConstraints heads)) x → true ≡ isShort (tallied table) (cellConstraints heads)
+    short-here l =
+        sym (short-outnumbered (tallied table) (cellConstraints heads) .1
+        (x, omega (arith, l, t, front-fewer (suc i) (cellConstraints heads) x)))
+
+    -- it has none
+    pub sufficing-none : there ≡ 0 → true ≡ isShort (tallied table) (cellConstraints heads)
+    sufficing-none z = short-here (omega (arith, z, counted-own heads i x h e))
+
     -- it has more than there are earlier heads
     pub sufficing-many : i < there → Sufficing heads table (i + 1)
     sufficing-many l = sufficing-next (omega (arith, counted-few heads i x, l))
@@ -171,15 +181,18 @@ module _ (heads table : List ℕ) (i : ℕ) (w : Sufficing heads table i) where
       earlier : k ≡ tallyOf (take i (cellConstraints heads)) x
       earlier = c ∙ ap (λ cs. tallyOf cs x) (constraints-take i heads)
 
-      -- it has more than there are earlier heads of this symbol
-      pub sufficing-some : k < there → Sufficing heads table (i + 1)
-      sufficing-some l = sufficing-next (omega (arith, earlier, l))
+      -- the earlier heads of this symbol are among all earlier ones
+      pub earlier-few : k ≤ i
+      earlier-few = omega (arith, earlier, counted-few heads i x)
 
-      -- it has none for this head
-      pub sufficing-short : there ≤ k → true ≡ isShort (tallied table) (cellConstraints heads)
-      sufficing-short l =
-          sym (short-outnumbered (tallied table) (cellConstraints heads) .1
-          (x, omega (arith, l, t, earlier, counted-own heads i x h e, front-fewer (suc i) (cellConstraints heads) x)))
+      module _ (wanted : ℕ) (z : wanted ≡ 1 + k) where
+        -- it has as many as are wanted: one for this head, and those for the earlier ones of its symbol
+        pub sufficing-some : wanted ≤ there → Sufficing heads table (i + 1)
+        sufficing-some l = sufficing-next (omega (arith, earlier, l, z))
+
+        -- it has fewer
+        pub sufficing-short : there < wanted → true ≡ isShort (tallied table) (cellConstraints heads)
+        sufficing-short l = short-here (omega (arith, l, z, earlier, counted-own heads i x h e))
 
 -- a table with one cell set
 set-at-other : (table : List ℕ) (x v s : ℕ) → (x ≡ s → ⊥) → tallied (set table x v) s ≡ tallied table s

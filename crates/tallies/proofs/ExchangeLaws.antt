@@ -46,7 +46,7 @@ module _ (row table : List ℕ) (x : Exchangeable row table) where
 
   module _ (b : ℕ) (be : b ≡ getD row 4 0) where
     -- the cells of a body, as the code lends them
-    body-cells : cellConstraints (take (26 + 5 * b - 26) (drop 26 row)) ≡ ruleOfRow [] row .body
+    pub body-cells : cellConstraints (take (26 + 5 * b - 26) (drop 26 row)) ≡ ruleOfRow [] row .body
     unfolding ruleOfRow
     body-cells = let size : 26 + 5 * b - 26 ≡ 5 * getD row 4 0 = omega arith in rw size
 

@@ -44,7 +44,7 @@ pub fn count_symbol(symbol: u16, cells: &[u16], n: usize) -> usize
 }
 
 // Whether a rule with these n heads is passed over: for one of them there are, with the earlier heads of its symbol, more than the
-// tally has. Where the tally has more than there are earlier heads, these need not be counted.
+// tally has. Where the tally has none, or more than there are earlier heads, these need not be counted.
 pub fn is_short(heads: &[u16], n: usize, tally: &[u16]) -> bool
     requires { ⌜ length (now heads) ≡ constraintSize * n ⌝ }
     ensures { λ r. ⌜ r ≡ isShort (tallied (now (tally .entry))) (cellConstraints (now (heads .entry))) ⌝ }
@@ -56,8 +56,12 @@ pub fn is_short(heads: &[u16], n: usize, tally: &[u16]) -> bool
         let there = tally_at(tally, symbol);
         let earlier = i;
         i += 1;
+        if there == 0 {
+            return true;
+        }
         if there <= earlier {
-            if there <= count_symbol(symbol, &heads[..e], earlier) {
+            let wanted = 1 + count_symbol(symbol, &heads[..e], earlier);
+            if there < wanted {
                 return true;
             }
         }

@@ -91,7 +91,7 @@ move-down-requires c κs =
     let start = at-loop .before .before .before .before .before in
     holding-down _ _ _ _ _ _ (start .pre .0) _ _ _ _ _ _ _ _ _ _ _ (at-loop .loop .inv)
     (at-loop-test .loop-test .taken) _ _ (at-make-room .make-room .kept .0) (at-make-room .make-room .ensures)
-    _ _ _ _ _ _ _ _ _ _ (at-advance .advance .ensures) (at-advance .advance .kept .1 .1 .1 .1 .1 .0)
+    _ _ _ _ _ _ _ _ _ _ (at-advance .advance .ensures) (at-advance .advance .kept .1 .1 .1 .1 .0)
 
 returns : tie.Need-returns Inv-loop μ-loop
 returns c =
@@ -104,14 +104,14 @@ returns c =
     let start = at-loop .before .before .before .before .before in
     holding-rests _ _ _ _ _ _ (start .pre .0) _ _ _ _ _ _ _ _ _ _ _ (at-loop .loop .inv)
     (at-loop-test .loop-test .taken) _ _ (at-make-room .make-room .kept .0) (at-make-room .make-room .ensures)
-    _ _ _ _ _ _ _ _ _ _ (at-advance .advance .ensures) (at-advance .advance .kept .1 .1 .1 .1 .1 .0)
+    _ _ _ _ _ _ _ _ _ _ (at-advance .advance .ensures) (at-advance .advance .kept .1 .1 .1 .1 .0)
     (not-true _ (at-if1 .if1 .taken)) _ (at-move-down .move-down .ensures)
 
 same-length : tie.Need-same-length Inv-loop μ-loop
 same-length c =
     let at-advance = c .before .before .before .before .before .before .before .before .before .before .before .before .before .before .before in
     let at-loop = at-advance .before .before .before .before .before .before .before .before .before .before .before in
-    at-advance .advance .kept .1 .1 .1 .1 .0 ∙ at-loop .loop .inv .running .bound-size
+    at-advance .advance .kept .1 .1 .1 .0 ∙ at-loop .loop .inv .running .bound-size
 
 same-length-2 : tie.Need-same-length-2 Inv-loop μ-loop
 same-length-2 c =
@@ -124,14 +124,14 @@ same-length-2 c =
     at-move-down .move-down .kept .0
     ∙ holding-size _ _ _ _ _ _ (start .pre .0) _ _ _ _ _ _ _ _ _ _ _ (at-loop .loop .inv)
     (at-loop-test .loop-test .taken) _ _ (at-make-room .make-room .kept .0) (at-make-room .make-room .ensures)
-    _ _ _ _ _ _ _ _ _ _ (at-advance .advance .ensures) (at-advance .advance .kept .1 .1 .1 .1 .1 .0)
+    _ _ _ _ _ _ _ _ _ _ (at-advance .advance .ensures) (at-advance .advance .kept .1 .1 .1 .1 .0)
 
 same-length-3 : tie.Need-same-length-3 Inv-loop μ-loop
 same-length-3 c =
     let at-advance = c .before .before .before .before .before .before .before .before .before .before .before .before .before .before .before in
     let at-loop = at-advance .before .before .before .before .before .before .before .before .before .before .before in
     let start = at-loop .before .before .before .before .before in
-    at-advance .advance .kept .1 .1 .1 .1 .1 .1 .1 .0 ∙ at-loop .loop .inv .table-size ∙ sym (start .pre .1 .size)
+    at-advance .advance .kept .1 .1 .1 .1 .1 .1 .0 ∙ at-loop .loop .inv .table-size ∙ sym (start .pre .1 .size)
 
 loop-less : tie.Need-loop-less Inv-loop μ-loop
 loop-less c =
@@ -142,7 +142,7 @@ loop-less c =
     let start = at-loop .before .before .before .before .before in
     holding-less _ _ _ _ _ _ (start .pre .0) _ _ _ _ _ _ _ _ _ _ _ (at-loop .loop .inv)
     (at-loop-test .loop-test .taken) _ _ (at-make-room .make-room .kept .0) (at-make-room .make-room .ensures)
-    _ _ _ _ _ _ _ _ _ _ (at-advance .advance .ensures) (at-advance .advance .kept .1 .1 .1 .1 .1 .0)
+    _ _ _ _ _ _ _ _ _ _ (at-advance .advance .ensures) (at-advance .advance .kept .1 .1 .1 .1 .0)
     (not-false _ (c .if1 .left))
 
 add-number : tie.Need-add-number Inv-loop μ-loop
@@ -169,9 +169,9 @@ loop-again c =
     let start = at-loop .before .before .before .before .before in
     holding-next _ _ _ _ _ _ (start .pre .0) _ _ _ _ _ _ _ _ _ _ _ (at-loop .loop .inv)
     (at-loop-test .loop-test .taken) _ _ (at-make-room .make-room .kept .0) (at-make-room .make-room .ensures)
-    _ _ _ _ _ _ _ _ _ _ (at-advance .advance .ensures) (at-advance .advance .kept .1 .1 .1 .1 .1 .0)
-    (not-false _ (c .if1 .left)) (at-advance .advance .kept .1 .1 .1 .1 .0) (at-advance .advance .kept .1 .1 .0)
-    (at-advance .advance .kept .1 .1 .1 .0) (at-advance .advance .kept .1 .1 .1 .1 .1 .1 .1 .0)
+    _ _ _ _ _ _ _ _ _ _ (at-advance .advance .ensures) (at-advance .advance .kept .1 .1 .1 .1 .0)
+    (not-false _ (c .if1 .left)) (at-advance .advance .kept .1 .1 .1 .0) (at-advance .advance .kept .1 .0)
+    (at-advance .advance .kept .1 .1 .0) (at-advance .advance .kept .1 .1 .1 .1 .1 .1 .0)
 
 same-length-5 : tie.Need-same-length-5 Inv-loop μ-loop
 same-length-5 c = c .before .loop .inv .cells-size

@@ -11,11 +11,11 @@ use Rattle.fitting.proofs.search.choose.Statement.{statement}
 use Rattle.fitting.proofs.search.choose.Tie as tie
 
 abbrev Inv-loop : tie.InvT-loop
-Inv-loop rules n known₀ last cells positions₀ bindings₀ tally m gone whole i₀ known positions bindings i =
+Inv-loop rules known₀ last cells positions₀ bindings₀ tally n m gone whole i₀ known positions bindings i =
     Noting rules n known₀ last gone cells known i × (length positions ≡ 4) × (length bindings ≡ 26)
 
 abbrev μ-loop : tie.MeasureT-loop
-μ-loop rules n known₀ last cells positions₀ bindings₀ tally m gone whole i₀ known positions bindings i = n - i
+μ-loop rules known₀ last cells positions₀ bindings₀ tally n m gone whole i₀ known positions bindings i = n - i
 
 loop-holds : tie.Need-loop-holds Inv-loop μ-loop
 loop-holds c =
