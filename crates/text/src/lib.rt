@@ -2,6 +2,8 @@
 //   table       the constant table of the 256 classes
 //   fields      a line split into its fields; numbers and words by a field's key and place
 //   parting     the input of `sheetrun`, parted at its first line `GOAL`
+#![tactic(auto)]
+
 pub mod fields;
 pub mod parting;
 pub mod table;

@@ -7,22 +7,18 @@ use lib.ListN.{get_or}
 use Rattle.text.specs.Bytes.{class_of, class_number}
 use Rattle.text.specs.Cursors.{class_table}
 use Rattle.text.proofs.Laws.{tabled-length, tabled-at}
-use Rattle.text.proofs.table.class_of.Statement.{statement}
-use Rattle.text.proofs.table.class_of.Tie as tie
+use Rattle.text.proofs.table.class_of.Goals as goal
 
-shared-slice-read-result : tie.Need-shared-slice-read-result
+pub bounds-classes-b : goal.bounds-classes-b
 unfolding class_table
-shared-slice-read-result c =
-    rw (c.before.requires) (omega (arith, tabled-length (λ (b : ℕ). class_number (class_of b)) 256, c.before.ranges.b))
+bounds-classes-b c =
+    rw (c.requires) (omega (arith, tabled-length (λ (b : ℕ). class_number (class_of b)) 256, c.ranges.b))
 
-returns : tie.Need-returns
+pub returns : goal.returns
 unfolding class_table
 returns c =
-    let args' = c.before.args in
-    let pre' = c.before.requires in
-    let fits' = c.before.ranges in
+    let args' = c.args in
+    let pre' = c.requires in
+    let fits' = c.ranges in
     let b' = args'.b in
     ap (λ (l : List ℕ). get_or l b' 0) pre' ∙ tabled-at (λ (b : ℕ). class_number (class_of b)) 256 b' 0 (omega (arith, fits'.b))
-
-pub class-of-spec : {M : Type 1} → statement M
-class-of-spec = tie.close (tie.spec shared-slice-read-result returns)

@@ -3,12 +3,8 @@
 use mathlib.Core.Path.{refl}
 use Rattle.text.specs.Bytes.{between, class_of, class_number}
 use Rattle.text.specs.Cursors.{class_table}
-use Rattle.text.proofs.table.classes.Statement.{statement}
-use Rattle.text.proofs.table.classes.Tie as tie
+use Rattle.text.proofs.table.classes.Goals as goal
 
-returns : tie.Need-returns
+pub returns : goal.returns
 unfolding between class_of class_number class_table
 returns c = refl
-
-pub classes-spec : {M : Type 1} → statement M
-classes-spec = tie.close (tie.spec returns)

@@ -1,0 +1,13 @@
+-- `text::fields::next_field` meets its contract: what is known of the bytes passed, one byte on. Assumes nothing.
+use borrow.Author.Rules.{rules}
+use Prim.Native.Nat.{◌≤◌, ◌-◌}
+use native.Mathlib.Omega.{arith}
+use Rattle.text.specs.Splits.{Passed, part}
+use Rattle.text.proofs.Passing.{passed_start, passed-step}
+use Rattle.text.proofs.fields.next_field.Given as goal
+
+abbrev pub invariant-loop-i : goal.invariant-loop-i
+invariant-loop-i l = (l.at ≤ l.i) × (l.i ≤ l.limit) × Passed (part l.s l.at l.i) l.value (l.i - l.at) l.capital
+
+abbrev pub decreases-loop-i : goal.decreases-loop-i
+decreases-loop-i l = l.limit - l.i

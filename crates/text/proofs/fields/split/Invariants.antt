@@ -1,0 +1,12 @@
+-- `text::fields::split` meets its contract: the fields so far, one field on. Assumes nothing.
+use borrow.Author.Rules.{rules}
+use native.Mathlib.Omega.{arith}
+use Prim.Native.Nat.{suc, ◌-◌}
+use Rattle.text.proofs.Splitting.{Walk, walk_start, walk-comma, walk-feed, walk-fault}
+use Rattle.text.proofs.fields.split.Given as goal
+
+abbrev pub invariant-loop-found : goal.invariant-loop-found
+invariant-loop-found l = Walk l.s l.at l.limit l.keys l.starts l.count l.start
+
+abbrev pub decreases-loop-found : goal.decreases-loop-found
+decreases-loop-found l = suc l.limit - l.start
