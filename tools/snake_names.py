@@ -12,7 +12,7 @@ import os, re, sys
 
 WORD = r"[^\s()\[\]{}.,;:\"`|@⌜⌝↦⟨⟩]+"
 # Lemmas whose names a definition of the same file would get: a lemma that would have its function's name gets `_lem`.
-LEMMAS = {'read_back': 'read_back_lem', 'rows_on': 'rows_on_lem'}
+LEMMAS = {'read_back': ('read_back_lem', 'readBack'), 'rows_on': ('rows_on_lem', 'rowsOn')}
 
 
 def files(top):
@@ -34,10 +34,12 @@ def snake(name):
 
 def declared(text):
     """The names that a file of specs/ or proofs/ declares."""
-    for m in re.finditer(r"(?m)^[ ]*(?:abbrev |unfoldable |instance |private )*(?:pub )?(?:data |record )?(" + WORD + r")[ ]*(?:[({][^=]*?[)}][ ]*)*:[ ]", text):
+    for m in re.finditer(r"(?m)^[ ]*(?:abbrev |unfoldable |instance |private )*(?:pub )?(?:data |record )?(" + WORD + r")[ ]*(?:[({][^=]*?[)}][ ]*)*:(?:[ ]|$)", text):
         yield m.group(1)
     for m in re.finditer(r"(?m)^[ ]*(?:abbrev |unfoldable )*(?:pub )(?:data |record )?(" + WORD + r")\s", text):
         yield m.group(1)
+    for m in re.finditer(r"(?m)^  (?:pub )?((?:[a-z]\w* )+[a-z]\w*) : [A-Z]\w*$", text):
+        yield from m.group(1).split()
 
 
 def main(top):
@@ -51,7 +53,7 @@ def main(top):
             params |= set(re.findall(r'(?:\bmut )?([a-z_]\w*): [&\[\]A-Za-z]', text))
         if path.endswith('.antt'):
             told |= set(declared(text))
-    table = dict(LEMMAS)
+    table = {lemma: new for lemma, (new, other) in LEMMAS.items() if other in told}
     for name in sorted(told):
         new = snake(name)
         if new != name and re.match(r'[a-z]', name):

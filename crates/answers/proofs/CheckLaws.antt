@@ -26,7 +26,7 @@ use Rattle.syntax.specs.Programs.{Reading, read_program}
 use Rattle.syntax.proofs.WellFormed.{read-well_formed}
 use Rattle.syntax.proofs.ByValue.{read-by-value}
 use Rattle.text.proofs.Decimals.{decimal-exact}
-use Rattle.replies.specs.Replies.{Text, programText, Reply, refusal, listing, reply_of, fitted, check_listing, check_reply}
+use Rattle.replies.specs.Replies.{Text, program_text, Reply, refusal, listing, reply_of, fitted, check_listing, check_reply}
 use Rattle.replies.specs.Replies.{Layout, plain, laid_reply, output_after}
 use Rattle.replies.specs.Claims.{verdict_reply}
 use Rattle.replies.proofs.Demand3.{fitted-listed, verdict-one}
@@ -43,13 +43,13 @@ use Rattle.answers.proofs.OutcomeLaws.{outcome-claim, appearance-claim, countere
 
 -- an answer that means a refusal of the program's text
 pub refusal-answer :
-    (number line : ℕ) (output : List ℕ) (r : CheckReply) → check_meant r output ≡ refusal number programText line
+    (number line : ℕ) (output : List ℕ) (r : CheckReply) → check_meant r output ≡ refusal number program_text line
     → r ≡ of_program number line
 unfolding check_meant text_meant of_program
 refusal-answer number line output (Refused f) e = go f.number f.text f.line e
   where
     go :
-        (n : ℕ) (t : TextName) (l : ℕ) → refusal n (text_meant t) l ≡ refusal number programText line
+        (n : ℕ) (t : TextName) (l : ℕ) → refusal n (text_meant t) l ≡ refusal number program_text line
         → Refused (record { number = n; text = t; line = l }) ≡ of_program number line
     go n S l k =
         let a : n ≡ number = cc in
@@ -120,14 +120,14 @@ module _ (layout : Layout) (s before after : List ℕ) (r : CheckReply)
   -- the reply to a text that reads
   read-reply :
       (p : Reading) → read_program s ≡ accepted p
-      → laid_reply layout s (length before) ≡ fitted programText (length before) (layout.laid (check_listing p))
+      → laid_reply layout s (length before) ≡ fitted program_text (length before) (layout.laid (check_listing p))
   unfolding laid_reply reply_of
   read-reply p e = rw e
 
   -- and to one that does not
   turned-reply :
       (number line : ℕ) → read_program s ≡ refused number line
-      → laid_reply layout s (length before) ≡ refusal number programText line
+      → laid_reply layout s (length before) ≡ refusal number program_text line
   unfolding laid_reply reply_of
   turned-reply number line e = rw e
 
@@ -139,7 +139,7 @@ module _ (layout : Layout) (s before after : List ℕ) (r : CheckReply)
   unfolding verdict_reply check_listing
   listed-verdict back p e n h v k =
       let left =
-      fitted-is programText (length before) (layout.laid (check_listing p)) (take n after) (sym (read-reply p e) ∙ h) in
+      fitted-is program_text (length before) (layout.laid (check_listing p)) (take n after) (sym (read-reply p e) ∙ h) in
       let same : take n after ≡ layout.laid (check_listing p) = cc in
       ap (λ (l : List ℕ). listing (layout.held l)) same ∙ ap listing (back p e) ∙ ap (verdict_reply p) k
 
@@ -156,7 +156,7 @@ module _ (layout : Layout) (s before after : List ℕ) (r : CheckReply)
         length (layout.laid (check_listing p)) ≤ length before → ((n : ℕ) × (r ≡ Confluent n)) ⊎ ((n : ℕ) × (r ≡ Unjoined n))
     decided fits =
         listing-answer (layout.laid (check_listing p)) after r
-        (c.meant ∙ (read-reply p e ∙ fitted-listed programText (length before) (layout.laid (check_listing p)) fits))
+        (c.meant ∙ (read-reply p e ∙ fitted-listed program_text (length before) (layout.laid (check_listing p)) fits))
 
     one-outcome : (n : ℕ) → r ≡ Confluent n → OneOutcome p.program
     one-outcome n h = (outcome-claim p.program).1 (demand.exact.0 (told.pass p e n h))
@@ -214,28 +214,28 @@ module _ (layout : Layout) (s before after : List ℕ) (r : CheckReply)
       -- the text that a reply's refusal names
       text_of : Reply → Text
       text_of (refusal number t line) = t
-      text_of (listing bytes) = programText
+      text_of (listing bytes) = program_text
 
-      fits : (b : Bool) (bytes : List ℕ) → text_of (cond b (refusal 11 programText 0) (listing bytes)) ≡ programText
+      fits : (b : Bool) (bytes : List ℕ) → text_of (cond b (refusal 11 program_text 0) (listing bytes)) ≡ program_text
       fits true bytes = refl
       fits false bytes = refl
 
       always :
           (a : Answer Reading)
-          → text_of (reply_of programText a (λ p. fitted programText (length before) (layout.laid (check_listing p)))) ≡ programText
+          → text_of (reply_of program_text a (λ p. fitted program_text (length before) (layout.laid (check_listing p)))) ≡ program_text
       always (refused number line) = refl
       always (accepted p) = fits (ltb (length before) (length (layout.laid (check_listing p)))) (layout.laid (check_listing p))
 
-      text : text_meant f.text ≡ programText
+      text : text_meant f.text ≡ program_text
       text = sym (ap text_of (meant-by (Refused f) h)) ∙ always (read_program s)
 
-      named : (t : TextName) → text_meant t ≡ programText → t ≡ S
+      named : (t : TextName) → text_meant t ≡ program_text → t ≡ S
       named S k = refl
       named G k = absurd (let z : ◌≡◌ {A = ℕ} 0 1 = cc in omega arith)
 
   -- the reply of a refusal of the program's text
   of-program :
-      (number line : ℕ) → r ≡ of_program number line → laid_reply layout s (length before) ≡ refusal number programText line
+      (number line : ℕ) → r ≡ of_program number line → laid_reply layout s (length before) ≡ refusal number program_text line
   unfolding of_program check_meant text_meant
   of-program number line h = meant-by (of_program number line) h
 
@@ -250,7 +250,7 @@ module _ (layout : Layout) (s before after : List ℕ) (r : CheckReply)
           rw (sym same, sym line') k
       go (accepted p) k =
           let (eleven, zero, short) =
-          fitted-refused programText (length before) (layout.laid (check_listing p)) number line
+          fitted-refused program_text (length before) (layout.laid (check_listing p)) number line
           (sym (read-reply p k) ∙ of-program number line h) in
           absurd (omega (arith, eleven, few))
 
@@ -269,7 +269,7 @@ module _ (layout : Layout) (s before after : List ℕ) (r : CheckReply)
           absurd (omega (arith, same, (program-number s k).1))
       go (accepted p) k =
           let (eleven, zero, short) =
-          fitted-refused programText (length before) (layout.laid (check_listing p)) 11 0 (sym (read-reply p k) ∙ of-program 11 0 h) in
+          fitted-refused program_text (length before) (layout.laid (check_listing p)) 11 0 (sym (read-reply p k) ∙ of-program 11 0 h) in
           (p, k, short)
 
 -- demand 3 of the answer to any text, and of the bytes that it leaves
@@ -285,7 +285,7 @@ demand-of layout s before after r back c told =
       );
       eleven = (
         λ (p, e, short). refusal-answer 11 0 after r (c.meant ∙ (read-reply layout s before after r c p e
-            ∙ fitted_short programText (length before) (layout.laid (check_listing p)) short)),
+            ∙ fitted_short program_text (length before) (layout.laid (check_listing p)) short)),
         eleven-short layout s before after r c,
       );
       untouched = refusing layout s before after r c;

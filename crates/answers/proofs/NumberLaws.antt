@@ -15,7 +15,7 @@ use mathlib.Core.Path.{◌≡◌, refl, sym, ap, subst, ◌∙◌}
 use lib.ListN.{length, drop}
 use lib.Seq.{length-take-le, take_at}
 use borrow.Author.Tests.{lt-ltb, le-ltb}
-use Rattle.replies.specs.Replies.{Text, programText, goalText, Reply, refusal, listing, run_reply, check_reply, output_after}
+use Rattle.replies.specs.Replies.{Text, program_text, goal_text, Reply, refusal, listing, run_reply, check_reply, output_after}
 use Rattle.replies.specs.Replies.{Layout, plain, laid_reply}
 use Rattle.replies.proofs.LineNumbers.{Within, run-within, check-within}
 use Rattle.answers.specs.Answers.{text_meant, letter_of, reply_meant, answer_of, name_byte, answer_number}
@@ -60,8 +60,8 @@ run-read (listing bytes) few = rw (lt-ltb (length bytes) 4294967296 (omega (arit
 -- the letter of a text names it
 letter-meant : (t : Text) → text_meant (letter_of t) ≡ t
 unfolding text_meant letter_of
-letter-meant programText = refl
-letter-meant goalText = refl
+letter-meant program_text = refl
+letter-meant goal_text = refl
 
 -- the answer of a reply, with an output that is left as the reply says
 replied-of :

@@ -27,7 +27,7 @@ use Rattle.listing.specs.Listing.{fields_behind, line_of}
 use Rattle.listing.specs.Writing.{laid, Countable, Writes}
 use Rattle.text.proofs.Decimals.{decimal-low, decimal-high, decimal-few}
 use Rattle.listing.proofs.WriteLaws.{part_from, part_back, wrote_then, wrote-behind}
-use Rattle.replies.specs.Replies.{programText, goalText, Reply, refusal, listing, run_reply, check_reply, output_after}
+use Rattle.replies.specs.Replies.{program_text, goal_text, Reply, refusal, listing, run_reply, check_reply, output_after}
 use Rattle.replies.specs.Replies.{text_letter, printed, ample, sheetrun, sheetcheck}
 use Rattle.answers.specs.Answers.{text_meant, reply_meant, answer_of, Replied, refusal_bytes, Printed}
 use Rattle.answers.specs.declared.TextName.{TextName}
@@ -131,11 +131,11 @@ pub printed-front : {s o a : List ℕ} (n : ℕ) → Printed s o a n → n ≡ l
 printed-front {a = a} n w = sym (length-take-le n a (printed-within w))
 
 -- a refusal's line is what is printed of it
-program-line : (number line : ℕ) → refusal_bytes number (44 ∷ 83 ∷ 44 ∷ []) line ≡ printed (refusal number programText line)
+program-line : (number line : ℕ) → refusal_bytes number (44 ∷ 83 ∷ 44 ∷ []) line ≡ printed (refusal number program_text line)
 unfolding refusal_bytes ascii printed line_of fields_behind text_letter
 program-line number line = append_assoc word (decimal number) (rest (44 ∷ 83 ∷ 44 ∷ []) line)
 
-goal-line : (number line : ℕ) → refusal_bytes number (44 ∷ 71 ∷ 44 ∷ []) line ≡ printed (refusal number goalText line)
+goal-line : (number line : ℕ) → refusal_bytes number (44 ∷ 71 ∷ 44 ∷ []) line ≡ printed (refusal number goal_text line)
 unfolding refusal_bytes ascii printed line_of fields_behind text_letter
 goal-line number line = append_assoc word (decimal number) (rest (44 ∷ 71 ∷ 44 ∷ []) line)
 

@@ -18,7 +18,7 @@ use Rattle.syntax.specs.Goals.{read_goal}
 use Rattle.listing.specs.Writing.{listed_in, listed_over, ListedAs}
 use Rattle.listing.specs.declared.Listed.{Listed}
 use Rattle.listing.specs.declared.Listed.TheVariants.{TooShort, Written}
-use Rattle.replies.specs.Replies.{Text, programText, goalText, Reply, refusal, listing, reply_of, fitted, run_reply}
+use Rattle.replies.specs.Replies.{Text, program_text, goal_text, Reply, refusal, listing, reply_of, fitted, run_reply}
 use Rattle.replies.specs.Replies.{output_after}
 use Rattle.answers.specs.Answers.{text_meant, reply_meant, letter_of, answer_of, Replied, name_byte}
 use Rattle.answers.specs.Answers.{answer_number, text_byte, reply_number}
@@ -45,13 +45,13 @@ refused-goal program goal output p number line r e = rw (r, e) (record { meant =
 -- a listing that does not fit
 pub listed-short :
     {bytes before after : List ℕ} {reply : Listed} → ListedAs bytes before after reply → reply ≡ TooShort
-    → Replied (fitted goalText (length before) bytes) before after (Refused (record { number = 11; text = G; line = 0 }))
+    → Replied (fitted goal_text (length before) bytes) before after (Refused (record { number = 11; text = G; line = 0 }))
 unfolding fitted listed_in listed_over output_after reply_meant text_meant answer_of letter_of
 listed-short {bytes} {before} {after} {reply} l e = go (ltb (length before) (length bytes)) (sym e ∙ l.answer) l.output
   where
     go :
         (b : Bool) → TooShort ≡ cond b TooShort (Written (length bytes)) → after ≡ cond b before (bytes ++ drop (length bytes) before)
-        → Replied (cond b (refusal 11 goalText 0) (listing bytes)) before after
+        → Replied (cond b (refusal 11 goal_text 0) (listing bytes)) before after
         (Refused (record { number = 11; text = G; line = 0 }))
     go true a o = record { meant = refl; answer = refl; output = o }
     go false a o = absurd (let z : ◌≡◌ {A = ℕ} 0 1 = cc in omega arith)
@@ -59,13 +59,13 @@ listed-short {bytes} {before} {after} {reply} l e = go (ltb (length before) (len
 -- a listing that fits
 pub listed-written :
     {bytes before after : List ℕ} {reply : Listed} (n : ℕ) → ListedAs bytes before after reply → reply ≡ Written n
-    → Replied (fitted goalText (length before) bytes) before after (ListedTo n)
+    → Replied (fitted goal_text (length before) bytes) before after (ListedTo n)
 unfolding fitted listed_in listed_over output_after reply_meant answer_of
 listed-written {bytes} {before} {after} {reply} n l e = go (ltb (length before) (length bytes)) (sym e ∙ l.answer) l.output
   where
     go :
         (b : Bool) → Written n ≡ cond b TooShort (Written (length bytes)) → after ≡ cond b before (bytes ++ drop (length bytes) before)
-        → Replied (cond b (refusal 11 goalText 0) (listing bytes)) before after (ListedTo n)
+        → Replied (cond b (refusal 11 goal_text 0) (listing bytes)) before after (ListedTo n)
     go true a o = absurd (let z : ◌≡◌ {A = ℕ} 0 1 = cc in omega arith)
     go false a o =
         let size : n ≡ length bytes = cc in
@@ -97,8 +97,8 @@ byte-few G = omega arith
 
 letter-byte : (t : Text) → name_byte (letter_of t) ≡ text_byte t
 unfolding name_byte letter_of text_byte
-letter-byte programText = refl
-letter-byte goalText = refl
+letter-byte program_text = refl
+letter-byte goal_text = refl
 
 -- the number of a reply's answer is the reply's
 pub reply-number : (reply : Reply) → answer_number (answer_of reply) ≡ reply_number reply

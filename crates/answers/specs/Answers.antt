@@ -9,7 +9,7 @@
 use Rattle.std.specs.Prelude.{ℕ, ◌+◌, ◌*◌, List, [], ◌∷◌, ◌++◌, ◌≡◌, length, take, drop}
 use Rattle.text.specs.Bytes.{ascii}
 use Rattle.text.specs.Fields.{decimal}
-use Rattle.replies.specs.Replies.{Text, programText, goalText, Reply, refusal, listing, output_after}
+use Rattle.replies.specs.Replies.{Text, program_text, goal_text, Reply, refusal, listing, output_after}
 use Rattle.answers.specs.declared.TextName.{TextName}
 use Rattle.answers.specs.declared.TextName.TheVariants.{S, G}
 use Rattle.answers.specs.declared.RunReply.{RunReply}
@@ -17,8 +17,8 @@ use Rattle.answers.specs.declared.RunReply.TheVariants.{Refused, Listed}
 
 -- the text that a letter names
 unfoldable pub text_meant : TextName → Text
-text_meant S = programText
-text_meant G = goalText
+text_meant S = program_text
+text_meant G = goal_text
 
 -- an answer as a reply: a refusal's number, text and line; or the listing that the output holds
 unfoldable pub reply_meant : RunReply → List ℕ → Reply
@@ -27,8 +27,8 @@ reply_meant (Listed n) output = listing (take n output)
 
 -- the letter of a text
 unfoldable pub letter_of : Text → TextName
-letter_of programText = S
-letter_of goalText = G
+letter_of program_text = S
+letter_of goal_text = G
 
 -- the answer of a reply: a listing's is its length
 unfoldable pub answer_of : Reply → RunReply
@@ -53,8 +53,8 @@ answer_number (Listed n) = n
 
 -- the byte of a text's letter
 unfoldable pub text_byte : Text → ℕ
-text_byte programText = 83
-text_byte goalText = 71
+text_byte program_text = 83
+text_byte goal_text = 71
 
 -- a reply as one number: a listing's length; or 2^32 times a refusal's number, 2^16 times the byte of its text, and its line
 unfoldable pub reply_number : Reply → ℕ

@@ -60,7 +60,7 @@ use Rattle.listing.specs.declared.Listed.{Listed}
 use Rattle.listing.specs.declared.Listed.TheVariants.{TooShort, Written}
 use Rattle.verdicts.specs.declared.Shown.{Shown as Listing}
 use Rattle.verdicts.proofs.CheckLaws.{pass-listed, overlap-named}
-use Rattle.replies.specs.Replies.{programText, refusal, listing, reply_of, fitted, check_listing, check_reply, plain, output_after}
+use Rattle.replies.specs.Replies.{program_text, refusal, listing, reply_of, fitted, check_listing, check_reply, plain, output_after}
 use Rattle.replies.proofs.ShortNames.{Termed, TermedProgram, program-termed, reads-accepted}
 use Rattle.answers.specs.Answers.{text_meant}
 use Rattle.inputs.specs.Inputs.{program_table, is_known, GoalReady}
@@ -80,14 +80,14 @@ use Rattle.answers.proofs.CheckLaws.{demand-plain}
 -- a listing that does not fit
 pub check-short :
     {bytes before after : List ℕ} {reply : Listed} → ListedAs bytes before after reply → reply ≡ TooShort
-    → CheckReplied (fitted programText (length before) bytes) before after (Refused (record { number = 11; text = S; line = 0 }))
+    → CheckReplied (fitted program_text (length before) bytes) before after (Refused (record { number = 11; text = S; line = 0 }))
 unfolding fitted listed_in listed_over output_after check_meant listed_bytes text_meant
 check-short {bytes} {before} {after} {reply} l e = go (ltb (length before) (length bytes)) (sym e ∙ l.answer) l.output
   where
     go :
         (b : Bool) → TooShort ≡ cond b TooShort (Written (length bytes))
         → after ≡ cond b before (bytes ++ drop (length bytes) before)
-        → CheckReplied (cond b (refusal 11 programText 0) (listing bytes)) before after
+        → CheckReplied (cond b (refusal 11 program_text 0) (listing bytes)) before after
         (Refused (record { number = 11; text = S; line = 0 }))
     go true a o = record { meant = refl; counted = omega arith; output = o }
     go false a o = absurd (let z : ◌≡◌ {A = ℕ} 0 1 = cc in omega arith)
@@ -96,7 +96,7 @@ check-short {bytes} {before} {after} {reply} l e = go (ltb (length before) (leng
 written :
     {bytes before after : List ℕ} {reply : Listed} (n : ℕ) (r : CheckReply) → check_meant r after ≡ listing (take n after)
     → listed_bytes r ≡ n → ListedAs bytes before after reply → reply ≡ Written n
-    → CheckReplied (fitted programText (length before) bytes) before after r
+    → CheckReplied (fitted program_text (length before) bytes) before after r
 unfolding fitted listed_in listed_over output_after
 written {bytes} {before} {after} {reply} n r meant counted l e =
     go (ltb (length before) (length bytes)) (sym e ∙ l.answer) l.output
@@ -104,7 +104,7 @@ written {bytes} {before} {after} {reply} n r meant counted l e =
     go :
         (b : Bool) → Written n ≡ cond b TooShort (Written (length bytes))
         → after ≡ cond b before (bytes ++ drop (length bytes) before)
-        → CheckReplied (cond b (refusal 11 programText 0) (listing bytes)) before after r
+        → CheckReplied (cond b (refusal 11 program_text 0) (listing bytes)) before after r
     go true a o = absurd (let z : ◌≡◌ {A = ℕ} 0 1 = cc in omega arith)
     go false a o =
         let size : n ≡ length bytes = cc in
@@ -117,13 +117,13 @@ written {bytes} {before} {after} {reply} n r meant counted l e =
 
 pub check-passed :
     {bytes before after : List ℕ} {reply : Listed} (n : ℕ) → ListedAs bytes before after reply → reply ≡ Written n
-    → CheckReplied (fitted programText (length before) bytes) before after (Confluent n)
+    → CheckReplied (fitted program_text (length before) bytes) before after (Confluent n)
 unfolding check_meant listed_bytes
 check-passed n l e = written n (Confluent n) refl refl l e
 
 pub check-failed :
     {bytes before after : List ℕ} {reply : Listed} (n : ℕ) → ListedAs bytes before after reply → reply ≡ Written n
-    → CheckReplied (fitted programText (length before) bytes) before after (Unjoined n)
+    → CheckReplied (fitted program_text (length before) bytes) before after (Unjoined n)
 unfolding check_meant listed_bytes
 check-failed n l e = written n (Unjoined n) refl refl l e
 
@@ -169,7 +169,7 @@ module _ {program places rules : List ℕ} {n : ℕ} (r : CheckReady program pla
   -- the reply is the listing of the verdict, or number 11
   check-replies :
       {before after : List ℕ} {reply : CheckReply}
-      → CheckReplied (fitted programText (length before) (check_listing r.p)) before after reply
+      → CheckReplied (fitted program_text (length before) (check_listing r.p)) before after reply
       → CheckReplied (check_reply program (length before)) before after reply
   unfolding check_reply reply_of
   check-replies l = rw r.first.read l
@@ -223,7 +223,7 @@ module _ {program places rules : List ℕ} {n : ℕ} (r : CheckReady program pla
       pass-listed naming k ∙ ap (verdict_listing naming) (sym v) in
       record {
         replied = check-replies
-            (subst (λ (s : List ℕ). CheckReplied (fitted programText (length before) s) before after reply) same l.replied);
+            (subst (λ (s : List ℕ). CheckReplied (fitted program_text (length before) s) before after reply) same l.replied);
         told = told-pass v l.no-fail;
       }
 
@@ -429,7 +429,7 @@ module _ {program places goal bounds one two : List ℕ} {s : Shown} (r : ShowRe
         rw (first-same, second-same) (overlap-listed r.ready o _ _ h.decided) in
         record {
           replied = check-replies r.ready
-              (subst (λ (t : List ℕ). CheckReplied (fitted programText (length before) t) before after reply) same
+              (subst (λ (t : List ℕ). CheckReplied (fitted program_text (length before) t) before after reply) same
               (l.replied o (shown_by o h)));
           told = told-fail r.ready h.decided l.no-pass;
         }

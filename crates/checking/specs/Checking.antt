@@ -24,7 +24,7 @@ use Rattle.verdicts.specs.Verdicts.{verdict_listing}
 use Rattle.verdicts.specs.Checks.{final_of, ShownBy}
 use Rattle.listing.specs.declared.End.{End}
 use Rattle.verdicts.specs.declared.Shown.{Shown as Listed}
-use Rattle.replies.specs.Replies.{programText, fitted, check_reply}
+use Rattle.replies.specs.Replies.{program_text, fitted, check_reply}
 use Rattle.answers.specs.declared.CheckReply.{CheckReply}
 use Rattle.answers.specs.declared.CheckReply.TheVariants.{Confluent, Unjoined}
 use Rattle.inputs.specs.Inputs.{ProgramReady}
@@ -68,7 +68,7 @@ pub record ShowReady (program places goal bounds one two : List ℕ) (s : Shown)
 -- a pass over a number of overlaps is listed, or number 11
 pub record PassReplied (overlaps : ℕ) (before after : List ℕ) (r : CheckReply) : Type 0 where
   pub replied :
-      CheckReplied (fitted programText (length before) (line_of (ascii "CONFLUENT") (decimal overlaps ∷ []))) before after r
+      CheckReplied (fitted program_text (length before) (line_of (ascii "CONFLUENT") (decimal overlaps ∷ []))) before after r
   pub no-fail : NoFail r
 
 -- the overlap that the tables hold is listed, with the ends that they hold, or number 11
@@ -76,7 +76,7 @@ pub record OverlapReplied (program places goal bounds one two : List ℕ) (s : L
     : Type 0 where
   pub replied : (o : Overlap) → ShownBy (name_in program [] places) goal s o
       → CheckReplied
-      (fitted programText (length before)
+      (fitted program_text (length before)
       (verdict_listing (name_in program [] places)
       (unjoined o (final_of (take s.variables bounds) one s.one) (final_of (drop s.variables bounds) two s.two))))
       before after r

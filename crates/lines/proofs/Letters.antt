@@ -14,14 +14,14 @@ use lib.Dec.{leb}
 use Rattle.text.specs.Bytes.{between, class_of, class_number, is_class}
 use Rattle.text.specs.Fields.{is_name, is_variable}
 use Rattle.text.specs.Keys.{key_of}
-use Rattle.syntax.specs.Forms.{symbolForm, keptForm, headForm, bodyForm, equationForm, noForm, form_of_byte, form_of}
+use Rattle.syntax.specs.Forms.{symbol_form, kept_form, head_form, body_form, equation_form, no_form, form_of_byte, form_of}
 use Rattle.syntax.specs.Forms.{section_after}
 use Rattle.lines.specs.Read.{section_meant}
 use Rattle.text.proofs.Keys.{name-key, variable-key, letter-key, key-of-more}
 
 pub form-none :
     (b : ℕ) → (b ≡ 75 → ⊥) → (b ≡ 82 → ⊥) → (b ≡ 74 → ⊥) → (b ≡ 72 → ⊥) → (b ≡ 66 → ⊥) → (b ≡ 69 → ⊥) → (b ≡ 71 → ⊥)
-    → form_of_byte b ≡ noForm
+    → form_of_byte b ≡ no_form
 unfolding form_of_byte
 form-none b k r j h o e g =
     rw (ne_eqb b 75 k, ne_eqb b 82 r, ne_eqb b 74 j, ne_eqb b 72 h, ne_eqb b 66 o, ne_eqb b 69 e, ne_eqb b 71 g)
@@ -30,7 +30,7 @@ form-none b k r j h o e g =
 other_byte : (b x : ℕ) → is_variable (x ∷ []) ≡ true → is_variable (b ∷ []) ≡ false → b ≡ x → ⊥
 other_byte b x p q e = let z : ◌≡◌ {A = ℕ} 0 1 = cc in omega arith
 
-form_small : (b : ℕ) → is_variable (b ∷ []) ≡ false → form_of (b ∷ []) ≡ noForm
+form_small : (b : ℕ) → is_variable (b ∷ []) ≡ false → form_of (b ∷ []) ≡ no_form
 unfolding is_variable is_class class_of class_number between form_of
 form_small b q =
     form-none b (other_byte b 75 refl q) (other_byte b 82 refl q) (other_byte b 74 refl q) (other_byte b 72 refl q)
@@ -54,7 +54,7 @@ form-letter (b ∷ []) h = go (is_variable (b ∷ [])) refl
 form-letter (b ∷ c ∷ s) h = rw (key-of-more b c s (not-name (b ∷ c ∷ s) h))
 
 -- a first field that is a name
-pub form-word : (f : List ℕ) → 27 < key_of f → form_of f ≡ noForm
+pub form-word : (f : List ℕ) → 27 < key_of f → form_of f ≡ no_form
 unfolding form_of between
 form-word [] h = refl
 form-word (b ∷ []) h =
@@ -66,7 +66,7 @@ form-word (b ∷ []) h =
 form-word (b ∷ c ∷ s) h = refl
 
 -- where a line may not stand, and where a B or E line leads
-pub section-symbol : (p : ℕ) → (p ≡ 0 → ⊥) → section_after symbolForm (section_meant p) ≡ none
+pub section-symbol : (p : ℕ) → (p ≡ 0 → ⊥) → section_after symbol_form (section_meant p) ≡ none
 unfolding section_after section_meant
 section-symbol zero h = absurd (h refl)
 section-symbol (suc zero) h = refl
@@ -74,7 +74,7 @@ section-symbol (suc (suc zero)) h = refl
 section-symbol (suc (suc (suc zero))) h = refl
 section-symbol (suc (suc (suc (suc p)))) h = refl
 
-pub section-kept : (p : ℕ) → (p ≡ 1 → ⊥) → section_after keptForm (section_meant p) ≡ none
+pub section-kept : (p : ℕ) → (p ≡ 1 → ⊥) → section_after kept_form (section_meant p) ≡ none
 unfolding section_after section_meant
 section-kept zero h = refl
 section-kept (suc zero) h = absurd (h refl)
@@ -82,7 +82,7 @@ section-kept (suc (suc zero)) h = refl
 section-kept (suc (suc (suc zero))) h = refl
 section-kept (suc (suc (suc (suc p)))) h = refl
 
-pub section-head : (p : ℕ) → (p ≡ 1 → ⊥) → (p ≡ 2 → ⊥) → section_after headForm (section_meant p) ≡ none
+pub section-head : (p : ℕ) → (p ≡ 1 → ⊥) → (p ≡ 2 → ⊥) → section_after head_form (section_meant p) ≡ none
 unfolding section_after section_meant
 section-head zero h k = refl
 section-head (suc zero) h k = absurd (h refl)
@@ -90,7 +90,7 @@ section-head (suc (suc zero)) h k = absurd (k refl)
 section-head (suc (suc (suc zero))) h k = refl
 section-head (suc (suc (suc (suc p)))) h k = refl
 
-pub section-body : (p : ℕ) → (p ≡ 0 → ⊥) → p < 4 → section_after bodyForm (section_meant p) ≡ some (section_meant 3)
+pub section-body : (p : ℕ) → (p ≡ 0 → ⊥) → p < 4 → section_after body_form (section_meant p) ≡ some (section_meant 3)
 unfolding section_after section_meant
 section-body zero h k = absurd (h refl)
 section-body (suc zero) h k = refl
@@ -98,7 +98,7 @@ section-body (suc (suc zero)) h k = refl
 section-body (suc (suc (suc zero))) h k = refl
 section-body (suc (suc (suc (suc p)))) h k = absurd (omega arith)
 
-pub section-late : (p : ℕ) → 4 ≤ p → section_after bodyForm (section_meant p) ≡ none
+pub section-late : (p : ℕ) → 4 ≤ p → section_after body_form (section_meant p) ≡ none
 unfolding section_after section_meant
 section-late zero h = absurd (omega arith)
 section-late (suc zero) h = absurd (omega arith)
@@ -106,7 +106,7 @@ section-late (suc (suc zero)) h = absurd (omega arith)
 section-late (suc (suc (suc zero))) h = absurd (omega arith)
 section-late (suc (suc (suc (suc p)))) h = refl
 
-pub section-equation : (p : ℕ) → (p ≡ 0 → ⊥) → section_after equationForm (section_meant p) ≡ some (section_meant 4)
+pub section-equation : (p : ℕ) → (p ≡ 0 → ⊥) → section_after equation_form (section_meant p) ≡ some (section_meant 4)
 unfolding section_after section_meant
 section-equation zero h = absurd (h refl)
 section-equation (suc zero) h = refl

@@ -16,8 +16,8 @@ use Rattle.text.specs.Splits.{Holds}
 use Rattle.text.specs.declared.fields.Fields.{Fields}
 use Rattle.semantics.specs.Terms as terms
 use Rattle.syntax.specs.Answers.{Answer, refused, accepted, refuse_if}
-use Rattle.syntax.specs.Forms.{Form, symbolForm, ruleForm, keptForm, headForm, bodyForm, equationForm, goalForm, noForm}
-use Rattle.syntax.specs.Forms.{Section, inSymbols, inKept, inHeads, in_body, inEquations, field_at, constants_after, first_constant}
+use Rattle.syntax.specs.Forms.{Form, symbol_form, rule_form, kept_form, head_form, body_form, equation_form, goal_form, no_form}
+use Rattle.syntax.specs.Forms.{Section, in_symbols, in_kept, in_heads, in_body, in_equations, field_at, constants_after, first_constant}
 use Rattle.syntax.specs.Forms.{letter_number, is_constraint_faulty, symbol_number, is_undeclared}
 use Rattle.syntax.specs.Programs.{Found, constraint_line}
 use Rattle.tables.specs.Layout.{max_names, first_rule, goal_place}
@@ -34,22 +34,22 @@ use Rattle.lines.specs.declared.ConstraintRead.{ConstraintRead}
 
 -- the form that the code's form stands for
 unfoldable pub form_meant : LineForm → Form
-form_meant Symbol = symbolForm
-form_meant Rule = ruleForm
-form_meant Kept = keptForm
-form_meant Head = headForm
-form_meant Body = bodyForm
-form_meant Equation = equationForm
-form_meant Goal = goalForm
-form_meant Nothing = noForm
+form_meant Symbol = symbol_form
+form_meant Rule = rule_form
+form_meant Kept = kept_form
+form_meant Head = head_form
+form_meant Body = body_form
+form_meant Equation = equation_form
+form_meant Goal = goal_form
+form_meant Nothing = no_form
 
 -- the section that a number stands for
 unfoldable pub section_meant : ℕ → Section
-section_meant zero = inSymbols
-section_meant (suc zero) = inKept
-section_meant (suc (suc zero)) = inHeads
+section_meant zero = in_symbols
+section_meant (suc zero) = in_kept
+section_meant (suc (suc zero)) = in_heads
 section_meant (suc (suc (suc zero))) = in_body
-section_meant (suc (suc (suc (suc n)))) = inEquations
+section_meant (suc (suc (suc (suc n)))) = in_equations
 
 -- the section that a line leads to: none from 5 on
 unfoldable pub section_answer : ℕ → Option Section

@@ -19,7 +19,7 @@ use lib.Bits.{bit_and, and_block, and_zero_l, and_zero_r}
 use lib.Dec.{eqb}
 use lib.ListN.{length, take, drop, get_or, length-take}
 use lib.Seq.{append_snoc}
-use Rattle.text.specs.Bytes.{small, capital, digit, comma, lineFeed, other, between, class_of, is_class, is_name_class}
+use Rattle.text.specs.Bytes.{small, capital, digit, comma, line_feed, other, between, class_of, is_class, is_name_class}
 use Rattle.text.specs.Lists.{every}
 use Rattle.text.specs.Fields.{is_name}
 use Rattle.text.specs.Constants.{is_numeral, constant_name}
@@ -98,7 +98,7 @@ unfolding class_of is_name_class
 letter-high b h k = go (between 97 122 b) (between 65 90 b) (between 48 57 b) (eqb b 44) (eqb b 10) refl (sym (is_digit b) ∙ k) h
   where
     go : (s c d m l : Bool) → between 97 122 b ≡ s → d ≡ false
-        → is_name_class (cond s small (cond c capital (cond d digit (cond m comma (cond l lineFeed other))))) ≡ true → 97 ≤ b
+        → is_name_class (cond s small (cond c capital (cond d digit (cond m comma (cond l line_feed other))))) ≡ true → 97 ≤ b
     go true c d m l p q n = (between-true 97 122 b p).0
     go false true d m l p q n = absurd (never (sym n))
     go false false true m l p q n = absurd (never q)

@@ -17,7 +17,7 @@ use Rattle.listing.specs.Writing.{ListedAs}
 use Rattle.listing.specs.declared.Listed.{Listed}
 use Rattle.listing.specs.declared.Listed.TheVariants.{TooShort, Written}
 use Rattle.pages.specs.Pages.{pages_of, page_size, max_pages}
-use Rattle.replies.specs.Replies.{Text, programText, Reply, refusal, listing, reply_of, fitted, check_listing, check_reply, ample}
+use Rattle.replies.specs.Replies.{Text, program_text, Reply, refusal, listing, reply_of, fitted, check_listing, check_reply, ample}
 use Rattle.replies.specs.Replies.{Layout, plain, paged, laid_reply, output_after}
 use Rattle.replies.proofs.Demand3.{fitted-listed}
 use Rattle.replies.proofs.CheckRoom.{check-fits}
@@ -44,11 +44,11 @@ refused-laid layout s room number text line = go (read_program s) refl
   where
     go :
         (a : Answer Reading) → read_program s ≡ a
-        → reply_of programText a (λ p. fitted programText ample (check_listing p)) ≡ refusal number text line
-        → reply_of programText a (λ p. fitted programText room (layout.laid (check_listing p))) ≡ refusal number text line
+        → reply_of program_text a (λ p. fitted program_text ample (check_listing p)) ≡ refusal number text line
+        → reply_of program_text a (λ p. fitted program_text room (layout.laid (check_listing p))) ≡ refusal number text line
     go (refused n l) k h = h
     go (accepted p) k h =
-        let e = sym (fitted-listed programText ample (check_listing p) (check-fits s p k)) ∙ h in
+        let e = sym (fitted-listed program_text ample (check_listing p) (check-fits s p k)) ∙ h in
         absurd (let z : ◌≡◌ {A = ℕ} 0 1 = cc in omega arith)
 
 -- one that is listed reads, and the listing is its check's
@@ -60,22 +60,22 @@ listed-program s bytes = go (read_program s) refl
   where
     go :
         (a : Answer Reading) → read_program s ≡ a
-        → reply_of programText a (λ p. fitted programText ample (check_listing p)) ≡ listing bytes
+        → reply_of program_text a (λ p. fitted program_text ample (check_listing p)) ≡ listing bytes
         → (p : Reading) × (read_program s ≡ accepted p) × (check_listing p ≡ bytes)
     go (refused n l) k h = absurd (let z : ◌≡◌ {A = ℕ} 0 1 = cc in omega arith)
     go (accepted p) k h =
-        let e = sym (fitted-listed programText ample (check_listing p) (check-fits s p k)) ∙ h in
+        let e = sym (fitted-listed program_text ample (check_listing p) (check-fits s p k)) ∙ h in
         let same : check_listing p ≡ bytes = cc in
         (p, k, same)
 
 -- so the reply in a layout is what is laid down for that listing, or number 11
 laid-listed :
     (layout : Layout) (s : List ℕ) (room : ℕ) (bytes : List ℕ) → check_reply s ample ≡ listing bytes
-    → laid_reply layout s room ≡ fitted programText room (layout.laid bytes)
+    → laid_reply layout s room ≡ fitted program_text room (layout.laid bytes)
 unfolding laid_reply reply_of
 laid-listed layout s room bytes h =
     let (p, e, same) = listed-program s bytes h in
-    rw e (ap (λ (l : List ℕ). fitted programText room (layout.laid l)) same)
+    rw e (ap (λ (l : List ℕ). fitted program_text room (layout.laid l)) same)
 
 -- the pages of a listing as an answer
 module _ {bytes before after : List ℕ} {reply : Listed} (l : ListedAs (pages_of bytes) before after reply) where
@@ -121,7 +121,7 @@ module _ (s : List ℕ) {room full : List ℕ} {r : CheckReply} (lent : length r
   -- an answer of the same kind, with the pages of the listing
   with-pages :
       {before after : List ℕ} {q : CheckReply} (n : ℕ) → check_reply s ample ≡ listing (take n full) → Told s q
-      → CheckReplied (fitted programText (length before) (pages_of (take n full))) before after q
+      → CheckReplied (fitted program_text (length before) (pages_of (take n full))) before after q
       → CheckReplied (laid_reply paged s (length before)) before after q × Demand3Of paged s before after q
   unfolding paged
   with-pages {before} {after} {q} n h t c =

@@ -22,7 +22,7 @@ use Rattle.text.specs.declared.fields.Fields.{Fields}
 use Rattle.text.proofs.Bools.{and-true}
 use Rattle.semantics.specs.Terms.{Constraint, Symbol, Rule}
 use Rattle.syntax.specs.Answers.{Answer, refused, accepted, and_then}
-use Rattle.syntax.specs.Forms.{keptForm, headForm, equationForm, field_at, constants_after, term_of, letter_number, is_equation_faulty}
+use Rattle.syntax.specs.Forms.{kept_form, head_form, equation_form, field_at, constants_after, term_of, letter_number, is_equation_faulty}
 use Rattle.syntax.specs.Programs.{RuleRead, Draft, Found, constraint_line, on_last, last_rule, with_kept, with_head, with_equation}
 use Rattle.syntax.specs.Programs.{with_rule, read_constraint, read_equation, read_form}
 use Rattle.syntax.proofs.WellFormed.{or-neither, not-false}
@@ -87,7 +87,7 @@ kept-last c (r ∷ []) = refl
 kept-last c (r ∷ q ∷ []) = refl
 kept-last c (r ∷ q ∷ p ∷ rs) = ap (λ (l : List RuleRead). r ∷ l) (kept-last c (q ∷ p ∷ rs))
 
-read_kept : (n : ℕ) (fs : List (List ℕ)) (d : Draft) → and_then (read_form headForm n fs d) one_kept ≡ read_form keptForm n fs d
+read_kept : (n : ℕ) (fs : List (List ℕ)) (d : Draft) → and_then (read_form head_form n fs d) one_kept ≡ read_form kept_form n fs d
 unfolding read_form read_constraint with_rule
 read_kept n fs d = go (constraint_line (leb 4 (length (last_rule d.rules).heads)) d.symbols letter_number d.constants n fs)
   where
@@ -293,12 +293,12 @@ module _ (f : Fields) (s : Stage) (names places rules : List ℕ) (size : length
 
   -- a J line, by what is found of it as an H line
   module _ (used names' places' rules' : List ℕ) (r : LineRead)
-      (c : AddsIn headForm f s used names places rules names' places' rules' r) where
+      (c : AddsIn head_form f s used names places rules names' places' rules' r) where
     pub kept-refused : (x : ℕ) → r ≡ Refused x
-        → AddsIn keptForm f s used names places rules names' places' rules' (Refused x)
+        → AddsIn kept_form f s used names places rules names' places' rules' (Refused x)
     unfolding line_answer
     kept-refused x z =
-        let d : AddsIn headForm f s used names places rules names' places' rules' (Refused x) = rw z at c in
+        let d : AddsIn head_form f s used names places rules names' places' rules' (Refused x) = rw z at c in
         record {
           answers = λ fs symbols n hold u.
               ap (λ (a : Answer Draft). and_then a one_kept) (d.answers fs symbols n hold u)
@@ -312,7 +312,7 @@ module _ (f : Fields) (s : Stage) (names places rules : List ℕ) (size : length
       abbrev k : ℕ
       k = get_or rules' (64 * i + 1) 0
 
-      as-head : AddsIn headForm f s used names places rules names' places' rules' (Next t)
+      as-head : AddsIn head_form f s used names places rules names' places' rules' (Next t)
       as-head = rw z at c
 
       gains : head_gained 0 s rules' (Next t)
@@ -334,7 +334,7 @@ module _ (f : Fields) (s : Stage) (names places rules : List ℕ) (size : length
           (omega (arith, kept-room), omega (arith, kept_small, last.heads, row-cell rules' i 3 (omega arith)))
 
       pub kept_next : (rules'' : List ℕ) → rules'' ≡ set rules' (64 * i + 1) (k + 1)
-          → AddsIn keptForm f s used names places rules names' places' rules'' (Next t)
+          → AddsIn kept_form f s used names places rules names' places' rules'' (Next t)
       unfolding line_answer draft_of
       kept_next rules'' g =
           let grow : rules'' ≡ grown rules' i 1 6 k [] kept-room (omega arith) (omega arith) (omega arith) =
@@ -364,9 +364,9 @@ module _ (f : Fields) (s : Stage) (names places rules : List ℕ) (size : length
   module _ (used : List ℕ) where
     sides-refused : (x : ℕ) (names' places' : List ℕ)
         → ((fs : List (List ℕ)) (symbols : List ℕ) (n : ℕ) → Holds fs f
-        → refused x n ≡ read_form equationForm n fs (draft_of names symbols rules s))
+        → refused x n ≡ read_form equation_form n fs (draft_of names symbols rules s))
         → Kept f names places names' places'
-        → AddsIn equationForm f s used names places rules names' places' rules (Refused x)
+        → AddsIn equation_form f s used names places rules names' places' rules (Refused x)
     unfolding line_answer
     sides-refused x names' places' g k = record {
       answers = λ fs symbols n h u. g fs symbols n h;
@@ -376,7 +376,7 @@ module _ (f : Fields) (s : Stage) (names places rules : List ℕ) (size : length
     }
 
     pub sides-faulty : ((fs : List (List ℕ)) → Holds fs f → true ≡ is_equation_faulty fs)
-        → AddsIn equationForm f s used names places rules names places rules (Refused 4)
+        → AddsIn equation_form f s used names places rules names places rules (Refused 4)
     unfolding read_form read_equation
     sides-faulty g = sides-refused 4 names places (λ fs symbols n h. rw (← g fs h)) (kept_same f names places)
 
@@ -387,7 +387,7 @@ module _ (f : Fields) (s : Stage) (names places rules : List ℕ) (size : length
           ap (λ (m : ℕ). length (last_rule (rules_read names rules m)).equations) q
           ∙ last-sides names rules i room h e (omega (arith, e, few-sides))
 
-      pub sides-full : 4 ≤ h → AddsIn equationForm f s used names places rules names places rules (Refused 7)
+      pub sides-full : 4 ≤ h → AddsIn equation_form f s used names places rules names places rules (Refused 7)
       unfolding read_form read_equation draft_of
       sides-full k =
           sides-refused 7 names places (λ fs symbols n hold. rw (← fine fs hold, sides-count, le-leb 4 h k)) (kept_same f
@@ -403,7 +403,7 @@ module _ (f : Fields) (s : Stage) (names places rules : List ℕ) (size : length
         abbrev after : List (List ℕ) → List (List ℕ)
         after fs = constants_after (drop 1 fs) (constants_of names s.constants)
 
-        pub sides-many : t.full ≡ true → AddsIn equationForm f s used names places rules names' places' rules (Refused 7)
+        pub sides-many : t.full ≡ true → AddsIn equation_form f s used names places rules names' places' rules (Refused 7)
         unfolding read_form read_equation draft_of
         sides-many z =
             sides-refused 7 names' places'
@@ -448,7 +448,7 @@ module _ (f : Fields) (s : Stage) (names places rules : List ℕ) (size : length
                 → accepted (with_rule (with_equation (record { left = cell_term a; right = cell_term b })) (constants_of names'
                 t.count)
                 (draft_of names symbols rules s))
-                ≡ read_form equationForm n fs (draft_of names symbols rules s)
+                ≡ read_form equation_form n fs (draft_of names symbols rules s)
             unfolding read_form read_equation draft_of
             sides-read symbols n =
                 rw (
@@ -463,7 +463,7 @@ module _ (f : Fields) (s : Stage) (names places rules : List ℕ) (size : length
 
           pub sides-next : (rules' : List ℕ)
               → rules' ≡ set (paste rules (64 * i + (56 + 2 * h)) (a ∷ b ∷ []) 2) (64 * i + 5) (suc (get_or rules (64 * i + 5) 0))
-              → AddsIn equationForm f s used names places rules names' places' rules' (Next (next t.count))
+              → AddsIn equation_form f s used names places rules names' places' rules' (Next (next t.count))
           unfolding line_answer
           sides-next rules' g =
               let at : ℕ = 56 + 2 * h in

@@ -25,8 +25,8 @@ use Rattle.text.proofs.LineLaws.{fields-some}
 use Rattle.text.proofs.SplitLaws.{lines_at, lines_split, lines-done, line-fine}
 use Rattle.semantics.specs.Terms.{Symbol, Rule}
 use Rattle.syntax.specs.Answers.{Answer, refused, accepted, and_then}
-use Rattle.syntax.specs.Forms.{Form, symbolForm, ruleForm, keptForm, headForm, bodyForm, equationForm, goalForm, noForm, form_of}
-use Rattle.syntax.specs.Forms.{Section, inSymbols, inKept, inHeads, in_body, inEquations, section_after, field_at}
+use Rattle.syntax.specs.Forms.{Form, symbol_form, rule_form, kept_form, head_form, body_form, equation_form, goal_form, no_form, form_of}
+use Rattle.syntax.specs.Forms.{Section, in_symbols, in_kept, in_heads, in_body, in_equations, section_after, field_at}
 use Rattle.syntax.specs.Programs.{RuleRead, Draft, Reading, blank, in_section, read_form, read_fields, read_line, read_lines}
 use Rattle.syntax.specs.Programs.{check_rules, read_program}
 use Rattle.syntax.proofs.Tabled.{tabled-same, map-tabled}
@@ -60,15 +60,15 @@ unfolding section_answer
 section-none p o q r = sym q ∙ ap (λ (b : Bool). cond b (some (section_meant p)) none) (le-ltb p 5 (omega arith))
 
 -- a K line leads to the section of symbols
-symbols-only : (w v : Section) → section_after symbolForm w ≡ some v → v ≡ inSymbols
+symbols-only : (w v : Section) → section_after symbol_form w ≡ some v → v ≡ in_symbols
 unfolding section_after
-symbols-only inSymbols v z = cc
-symbols-only inKept v z = absurd (let y : ◌≡◌ {A = ℕ} 0 1 = cc in omega arith)
-symbols-only inHeads v z = absurd (let y : ◌≡◌ {A = ℕ} 0 1 = cc in omega arith)
+symbols-only in_symbols v z = cc
+symbols-only in_kept v z = absurd (let y : ◌≡◌ {A = ℕ} 0 1 = cc in omega arith)
+symbols-only in_heads v z = absurd (let y : ◌≡◌ {A = ℕ} 0 1 = cc in omega arith)
 symbols-only in_body v z = absurd (let y : ◌≡◌ {A = ℕ} 0 1 = cc in omega arith)
-symbols-only inEquations v z = absurd (let y : ◌≡◌ {A = ℕ} 0 1 = cc in omega arith)
+symbols-only in_equations v z = absurd (let y : ◌≡◌ {A = ℕ} 0 1 = cc in omega arith)
 
-section-zero : (p : ℕ) → section_meant p ≡ inSymbols → p ≡ 0
+section-zero : (p : ℕ) → section_meant p ≡ in_symbols → p ≡ 0
 unfolding section_meant
 section-zero zero e = refl
 section-zero (suc zero) e = absurd (let y : ◌≡◌ {A = ℕ} 0 1 = cc in omega arith)
@@ -76,33 +76,33 @@ section-zero (suc (suc zero)) e = absurd (let y : ◌≡◌ {A = ℕ} 0 1 = cc i
 section-zero (suc (suc (suc zero))) e = absurd (let y : ◌≡◌ {A = ℕ} 0 1 = cc in omega arith)
 section-zero (suc (suc (suc (suc p)))) e = absurd (let y : ◌≡◌ {A = ℕ} 0 1 = cc in omega arith)
 
-pub first-section : (p q : ℕ) → section_answer p ≡ section_after symbolForm (section_meant q) → p < 5 → p ≡ 0
+pub first-section : (p q : ℕ) → section_answer p ≡ section_after symbol_form (section_meant q) → p < 5 → p ≡ 0
 first-section p q e h =
     section-zero p (symbols-only (section_meant q) (section_meant p)
-    (section-some p (section_after symbolForm (section_meant q)) e h))
+    (section-some p (section_after symbol_form (section_meant q)) e h))
 
-begun : (form : Form) (p q : ℕ) → section_after form inSymbols ≡ none → section_answer p ≡ section_after form (section_meant q)
+begun : (form : Form) (p q : ℕ) → section_after form in_symbols ≡ none → section_answer p ≡ section_after form (section_meant q)
     → p < 5 → 0 < q
 unfolding section_meant
 begun form p zero x e h =
-    let z : none ≡ some (section_meant p) = sym x ∙ section-some p (section_after form inSymbols) e h in
+    let z : none ≡ some (section_meant p) = sym x ∙ section-some p (section_after form in_symbols) e h in
     absurd (let y : ◌≡◌ {A = ℕ} 0 1 = cc in omega arith)
 begun form p (suc q) x e h = omega arith
 
 module _ (form : Form) (p q : ℕ) (led : section_answer p ≡ section_after form (section_meant q)) (l : p < 5) where
-  pub begun_kept : form ≡ keptForm → 0 < q
+  pub begun_kept : form ≡ kept_form → 0 < q
   unfolding section_after
   begun_kept e = begun form p q (rw e) led l
 
-  pub begun-head : form ≡ headForm → 0 < q
+  pub begun-head : form ≡ head_form → 0 < q
   unfolding section_after
   begun-head e = begun form p q (rw e) led l
 
-  pub begun-body : form ≡ bodyForm → 0 < q
+  pub begun-body : form ≡ body_form → 0 < q
   unfolding section_after
   begun-body e = begun form p q (rw e) led l
 
-  pub begun-equation : form ≡ equationForm → 0 < q
+  pub begun-equation : form ≡ equation_form → 0 < q
   unfolding section_after
   begun-equation e = begun form p q (rw e) led l
 
@@ -166,7 +166,7 @@ module _ (f : Fields) (n : ℕ) (s : Stage) (names places symbols rules : List �
           rules-size = refl;
         }
 
-    pub line-symbol : {names' places' symbols' : List ℕ} {r : LineRead} → form ≡ symbolForm → Sound rules s → Begun s
+    pub line-symbol : {names' places' symbols' : List ℕ} {r : LineRead} → form ≡ symbol_form → Sound rules s → Begun s
         → SymbolIn f at names places symbols names' places' symbols' r
         → LineIn f n s names places symbols rules names' places' symbols' rules r
     unfolding read_form
@@ -186,7 +186,7 @@ module _ (f : Fields) (n : ℕ) (s : Stage) (names places symbols rules : List �
           rules-size = refl;
         }
 
-    pub line-rule : {names' places' rules' : List ℕ} {r : LineRead} → form ≡ ruleForm
+    pub line-rule : {names' places' rules' : List ℕ} {r : LineRead} → form ≡ rule_form
         → RuleIn f n at names places rules names' places' rules' r
         → LineIn f n s names places symbols rules names' places' symbols rules' r
     unfolding read_form
@@ -215,11 +215,11 @@ module _ (f : Fields) (n : ℕ) (s : Stage) (names places symbols rules : List �
           rules-size = c.size;
         }
 
-pub goal-form : (n : ℕ) (fs : List (List ℕ)) (d : Draft) → read_form goalForm n fs d ≡ refused 3 n
+pub goal-form : (n : ℕ) (fs : List (List ℕ)) (d : Draft) → read_form goal_form n fs d ≡ refused 3 n
 unfolding read_form
 goal-form n fs d = refl
 
-pub no-form : (n : ℕ) (fs : List (List ℕ)) (d : Draft) → read_form noForm n fs d ≡ refused 3 n
+pub no-form : (n : ℕ) (fs : List (List ℕ)) (d : Draft) → read_form no_form n fs d ≡ refused 3 n
 unfolding read_form
 no-form n fs d = refl
 

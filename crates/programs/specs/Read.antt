@@ -14,7 +14,7 @@ use Rattle.text.specs.Splits.{Holds}
 use Rattle.text.specs.declared.fields.Fields.{Fields}
 use Rattle.semantics.specs.Terms as terms
 use Rattle.syntax.specs.Answers.{Answer, refused, accepted}
-use Rattle.syntax.specs.Forms.{Form, headForm, bodyForm}
+use Rattle.syntax.specs.Forms.{Form, head_form, body_form}
 use Rattle.syntax.specs.Programs.{RuleRead, Draft, Reading, blank, read_symbol, read_rule}
 use Rattle.syntax.specs.Programs.{read_form, read_fields, read_lines, check_rules}
 use Rattle.syntax.specs.Programs.{read_program}
@@ -117,8 +117,8 @@ pub record RuleIn (f : Fields) (n : ℕ) (s : Stage) (names places rules names' 
 
 -- the form of a line that adds to part 0 of a rule, its heads, or to part 1, its body
 unfoldable pub part_form : ℕ → Form
-part_form zero = headForm
-part_form (suc w) = bodyForm
+part_form zero = head_form
+part_form (suc w) = body_form
 
 -- what is promised of a J, H, B or E line, over the used part of the table of symbols
 pub record AddsIn (form : Form) (f : Fields) (s : Stage) (used names places rules names' places' rules' : List ℕ) (r : LineRead)

@@ -1,7 +1,7 @@
 // What J, H, B and E lines add to the last rule: numbers 4, 6 and 7.
 ghost use Rattle.std.specs.Prelude.{◌≡◌, false, List, ℕ, ◌*◌, ◌≤◌, ◌<◌, length};
 ghost use Rattle.text.specs.Splits.{Holds};
-ghost use Rattle.syntax.specs.Forms.{keptForm, equationForm, is_equation_faulty};
+ghost use Rattle.syntax.specs.Forms.{kept_form, equation_form, is_equation_faulty};
 ghost use Rattle.lines.specs.Read.{Lent};
 ghost use Rattle.programs.specs.Read.{part_form, Sound, AddsIn, head_gained};
 
@@ -61,7 +61,7 @@ pub fn kept_line(
 ) -> LineRead
     requires { Lent f 0 names.old places.old × (length symbols.now ≡ 2 * stage.symbols) × (length rules.old ≡ 2048)
         × Sound rules.old stage × (0 < stage.rules) }
-    ensures { AddsIn keptForm f stage symbols.now names.old places.old
+    ensures { AddsIn kept_form f stage symbols.now names.old places.old
         rules.old names.new places.new rules.new result }
 {
     let cell = ROW_SIZE * (stage.rules - 1) + KEPT_CELL;
@@ -94,7 +94,7 @@ pub fn equation_line(
 ) -> LineRead
     requires { Lent f 0 names.old places.old × (length rules.old ≡ 2048) × Sound rules.old stage
         × (0 < stage.rules) }
-    ensures { (used : List ℕ) → AddsIn equationForm f stage used names.old places.old
+    ensures { (used : List ℕ) → AddsIn equation_form f stage used names.old places.old
         rules.old names.new places.new rules.new result }
 {
     if is_equation_faulty(f) {

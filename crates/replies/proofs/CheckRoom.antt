@@ -52,7 +52,7 @@ use Rattle.syntax.proofs.Vocabulary.{SymbolSmall, ReadSmall, read_small}
 use Rattle.listing.specs.Listing.{line_of, Naming, naming_of, term_shown, constraint_lines, variable_name, end_listing}
 use Rattle.verdicts.specs.Verdicts.{pair_lines, verdict_listing}
 use Rattle.listing.proofs.SizeLaws.{Short, decimal-short, number_short, line-few, ShortRow, rows_few}
-use Rattle.replies.specs.Replies.{Text, programText, refusal, reply_of, fitted, check_listing, check_reply}
+use Rattle.replies.specs.Replies.{Text, program_text, refusal, reply_of, fitted, check_listing, check_reply}
 use Rattle.replies.specs.Replies.{printed, ample, sheetcheck}
 use Rattle.replies.proofs.Demand3.{fitted-listed}
 use Rattle.replies.proofs.ShortNames.{ShortProgram, program-short, reads-accepted, reads-refused}
@@ -454,12 +454,12 @@ check-answered program = go (read_program program) refl
   where
     go :
         (a : Answer Reading) → read_program program ≡ a
-        → Answered (reply_of programText a (λ p. fitted programText ample (check_listing p)))
+        → Answered (reply_of program_text a (λ p. fitted program_text ample (check_listing p)))
     go (refused n l) k =
-        refused_by n programText l
+        refused_by n program_text l
         (omega (arith, (reads-refused 9 ShortProgram (read_program program) (program-short program) k).most))
     go (accepted p) k =
-        subst Answered (sym (fitted-listed programText ample (check_listing p) (check-fits program p k)))
+        subst Answered (sym (fitted-listed program_text ample (check_listing p) (check-fits program p k)))
         (listed (check_listing p) (check-begins p))
 
 -- `sheetcheck` never prints number 11

@@ -14,7 +14,7 @@ use Rattle.syntax.proofs.WellFormed.{read-well_formed}
 use Rattle.syntax.proofs.GoalVocabulary.{goal-small}
 use Rattle.syntax.proofs.Vocabulary.{read_small}
 use Rattle.syntax.proofs.ByValue.{read-by-value, goal-by-value}
-use Rattle.replies.specs.Replies.{listing, reply_of, goalText, run_listing, run_reply}
+use Rattle.replies.specs.Replies.{listing, reply_of, goal_text, run_listing, run_reply}
 use Rattle.replies.specs.Claims.{Demand2On}
 use Rattle.replies.proofs.Appearance.{goal-by-appearance}
 use Rattle.replies.proofs.Demand3.{fitted-listed}
@@ -25,7 +25,7 @@ run-listed-in :
     → read_goal r.program.symbols r.constants t ≡ accepted g → length (run_listing r g) ≤ room
     → run_reply s t room ≡ listing (run_listing r g)
 unfolding run_reply reply_of
-run-listed-in s t room r g e f l = rw (e, f) (fitted-listed goalText room (run_listing r g) l)
+run-listed-in s t room r g e f l = rw (e, f) (fitted-listed goal_text room (run_listing r g) l)
 
 -- demand 2: firing is the published Simplify step, the overlaps are the published critical pairs, and the reply to a goal is the
 -- listing of its run

@@ -23,7 +23,7 @@ use Rattle.syntax.proofs.ByValue.{read-by-value}
 use Rattle.listing.specs.Listing.{line_of}
 use Rattle.verdicts.specs.Verdicts.{verdict_listing}
 use Rattle.text.proofs.Decimals.{decimal-exact}
-use Rattle.replies.specs.Replies.{Reply, refusal, listing, Text, programText, reply_of, fitted, check_listing, check_reply}
+use Rattle.replies.specs.Replies.{Reply, refusal, listing, Text, program_text, reply_of, fitted, check_listing, check_reply}
 use Rattle.replies.specs.Claims.{verdict_reply, passes, fails, Checked, Demand3On}
 
 -- a listing that fits the room
@@ -42,7 +42,7 @@ pub check-listed :
     (s : List ℕ) (room : ℕ) (r : Reading) → read_program s ≡ accepted r → length (check_listing r) ≤ room
     → check_reply s room ≡ listing (check_listing r)
 unfolding check_reply reply_of
-check-listed s room r e l = rw e (fitted-listed programText room (check_listing r) l)
+check-listed s room r e l = rw e (fitted-listed program_text room (check_listing r) l)
 
 -- the first byte of a listing
 first_byte : Reply → ℕ

@@ -56,16 +56,16 @@ pub goal_a : Goal
 goal_a = record { variables = 0; constraints = record { symbol = 0; terms = [] } ∷ [] }
 
 -- the verdict on the sheet with two ways shows the goal a
-twoWays-verdict :
+two_ways-verdict :
     (o : Overlap) × (one : Final) × (two : Final) × (verdict two_ways_reading.program ≡ unjoined o one two) × (o.goal ≡ goal_a)
 unfolding two_ways_reading goal_a textOpened semanticsOpened syntaxOpened libraryOpened
-twoWays-verdict = (_, _, _, refl, refl)
+two_ways-verdict = (_, _, _, refl, refl)
 
 -- the sheet with two ways is not confluent: its goal a has two finished derivations whose ends are not equal
 pub two_ways-not :
     (o : Overlap) × (one : Final) × (two : Final) × Counterexample two_ways_reading.program o one two × (o.goal ≡ goal_a)
 two_ways-not =
-    let (o, one, two, v, g) = twoWays-verdict in
+    let (o, one, two, v, g) = two_ways-verdict in
     let shown = (verdict-exact two_ways_reading.program (read-well_formed (ascii two_ways) two_ways-reads)).shown o one two in
     (o, one, two, shown.0 v, g)
 
@@ -81,17 +81,17 @@ unfolding no_refl no_refl_reading textOpened semanticsOpened syntaxOpened librar
 no_refl-reads = refl
 
 -- what the verdict on it shows: anti and idem, joined in head 2 of anti and head 1 of idem
-noRefl-verdict :
+no_refl-verdict :
     (o : Overlap) × (one : Final) × (two : Final) × (verdict no_refl_reading.program ≡ unjoined o one two)
     × (o.first.number ≡ 0) × (o.second.number ≡ 1) × (o.partners ≡ 0 ∷ 1 ∷ [])
 unfolding no_refl no_refl_reading textOpened semanticsOpened syntaxOpened libraryOpened
-noRefl-verdict = (_, _, _, refl, refl, refl, refl)
+no_refl-verdict = (_, _, _, refl, refl, refl, refl)
 
 -- this is its earliest unjoined overlap, so every overlap of anti with itself joins
 pub no_refl-earliest :
     (o : Overlap) × (one : Final) × (two : Final) × Counterexample no_refl_reading.program o one two
     × (o.first.number ≡ 0) × (o.second.number ≡ 1) × (o.partners ≡ 0 ∷ 1 ∷ [])
 no_refl-earliest =
-    let (o, one, two, v, i, j, ds) = noRefl-verdict in
+    let (o, one, two, v, i, j, ds) = no_refl-verdict in
     let shown = (verdict-exact no_refl_reading.program (read-well_formed (ascii no_refl) no_refl-reads)).shown o one two in
     (o, one, two, shown.0 v, i, j, ds)

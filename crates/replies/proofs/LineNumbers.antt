@@ -17,7 +17,7 @@ use Rattle.semantics.specs.Terms.{Symbol}
 use Rattle.syntax.specs.Answers.{Answer, refused, accepted}
 use Rattle.syntax.specs.Programs.{Reading, read_program}
 use Rattle.syntax.specs.Goals.{GoalReading, read_goal}
-use Rattle.replies.specs.Replies.{Text, programText, goalText, Reply, refusal, listing, reply_of, fitted, run_listing}
+use Rattle.replies.specs.Replies.{Text, program_text, goal_text, Reply, refusal, listing, reply_of, fitted, run_listing}
 use Rattle.replies.specs.Replies.{check_listing, run_reply, check_reply, Layout, plain, laid_reply}
 use Rattle.replies.proofs.ShortNames.{Turned, ShortProgram, ShortGoal, program-short, goal-short, reads-refused}
 use Rattle.replies.proofs.Room.{run-few}
@@ -72,16 +72,16 @@ run-within program goal room = go (read_program program) refl
     goals :
         (p : Reading) → read_program program ≡ accepted p → (a : Answer GoalReading)
         → read_goal p.program.symbols p.constants goal ≡ a
-        → Within (reply_of goalText a (λ g. fitted goalText room (run_listing p g)))
+        → Within (reply_of goal_text a (λ g. fitted goal_text room (run_listing p g)))
     goals p k (refused n l) h =
-        turned-within 10 n goalText l (omega arith) (goal-turned p.program.symbols p.constants goal h)
-    goals p k (accepted g) h = fitted-within goalText room (run_listing p g) (omega (arith, run-few program goal p g k h))
+        turned-within 10 n goal_text l (omega arith) (goal-turned p.program.symbols p.constants goal h)
+    goals p k (accepted g) h = fitted-within goal_text room (run_listing p g) (omega (arith, run-few program goal p g k h))
 
     go :
         (a : Answer Reading) → read_program program ≡ a
-        → Within (reply_of programText a (λ p. reply_of goalText (read_goal p.program.symbols p.constants goal)
-        (λ g. fitted goalText room (run_listing p g))))
-    go (refused n l) k = turned-within 9 n programText l (omega arith) (program-turned program k)
+        → Within (reply_of program_text a (λ p. reply_of goal_text (read_goal p.program.symbols p.constants goal)
+        (λ g. fitted goal_text room (run_listing p g))))
+    go (refused n l) k = turned-within 9 n program_text l (omega arith) (program-turned program k)
     go (accepted p) k = goals p k (read_goal p.program.symbols p.constants goal) refl
 
 -- every reply of a check in a layout that lays down less than 2^31 bytes
@@ -94,9 +94,9 @@ laid-within layout program room few = go (read_program program) refl
   where
     go :
         (a : Answer Reading) → read_program program ≡ a
-        → Within (reply_of programText a (λ p. fitted programText room (layout.laid (check_listing p))))
-    go (refused n l) k = turned-within 9 n programText l (omega arith) (program-turned program k)
-    go (accepted p) k = fitted-within programText room (layout.laid (check_listing p)) (few p k)
+        → Within (reply_of program_text a (λ p. fitted program_text room (layout.laid (check_listing p))))
+    go (refused n l) k = turned-within 9 n program_text l (omega arith) (program-turned program k)
+    go (accepted p) k = fitted-within program_text room (layout.laid (check_listing p)) (few p k)
 
 -- every reply of a check
 pub check-within : (program : List ℕ) (room : ℕ) → Within (check_reply program room)

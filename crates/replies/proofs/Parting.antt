@@ -17,7 +17,7 @@ use Rattle.text.specs.Lines.{goal_line, Parts, in_program, parted_from, parted}
 
 -- how the parts of an input and of its first n bytes agree: a line `GOAL` has 5 bytes, of which a cut may leave 4
 pub data Agree (n : ℕ) (x y : Parts) : Type 0 where
-  sameProgram :
+  same_program :
       x.program ≡ y.program → n ≤ length x.program + 5 + length x.goal → n ≤ length y.program + 5 + length y.goal
       → Agree n x y
   long_programs : n ≤ length x.program + 4 → n ≤ length y.program + 4 → Agree n x y
@@ -25,7 +25,7 @@ pub data Agree (n : ℕ) (x y : Parts) : Type 0 where
 -- one byte in front of both programs
 agree-more : (b n : ℕ) (x y : Parts) → Agree n x y → Agree (suc n) (in_program b x) (in_program b y)
 unfolding in_program
-agree-more b n x y (sameProgram e g h) = sameProgram (ap (λ (s : List ℕ). b ∷ s) e) (omega arith) (omega arith)
+agree-more b n x y (same_program e g h) = same_program (ap (λ (s : List ℕ). b ∷ s) e) (omega arith) (omega arith)
 agree-more b n x y (long_programs g h) = long_programs (omega arith) (omega arith)
 
 -- the parts of an input of at least n bytes agree with those of its first n, from any place on
@@ -47,7 +47,7 @@ parted-from-agrees fresh (suc n) (b ∷ s) h = elim (dec_lt n 4) [
         (cond found (record { program = []; goal = drop 5 (b ∷ s) }) (in_program b (parted_from (eqb b 10) s)))
         (cond found (record { program = []; goal = drop 5 (b ∷ take n s) }) (in_program b (parted_from (eqb b 10) (take n s))))
     go true more =
-        sameProgram refl (omega (arith, length-drop 5 (b ∷ s)))
+        same_program refl (omega (arith, length-drop 5 (b ∷ s)))
         (omega (arith, length-drop 5 (b ∷ take n s), length-take-le n s (le_of_suc-le-suc h)))
     go false more = agree-more b n (parted_from (eqb b 10) s) (parted_from (eqb b 10) (take n s)) more
 

@@ -18,9 +18,9 @@ use Rattle.semantics.specs.Terms.{Symbol}
 use Rattle.syntax.specs.Answers.{Answer, refused, accepted}
 use Rattle.syntax.specs.Programs.{Reading, read_program}
 use Rattle.syntax.specs.Goals.{read_goal}
-use Rattle.replies.specs.Replies.{refusal, programText, goalText, reply_of, fitted, run_listing, run_reply}
+use Rattle.replies.specs.Replies.{refusal, program_text, goal_text, reply_of, fitted, run_listing, run_reply}
 use Rattle.replies.specs.Replies.{check_reply, printed, ample, sheetrun, sheetcheck}
-use Rattle.replies.proofs.Parting.{Agree, sameProgram, long_programs, parted-agrees}
+use Rattle.replies.proofs.Parting.{Agree, same_program, long_programs, parted-agrees}
 
 -- a text of more than 16,384 bytes meets number 1
 pub long-program : (s : List ℕ) → 16384 < length s → read_program s ≡ refused 1 0
@@ -35,21 +35,21 @@ long-goal symbols constants s h = rw (lt-ltb 16384 (length s) h)
 
 -- the reply where the program is too long, and where the goal is
 program-replies :
-    (program goal : List ℕ) (room : ℕ) → 16384 < length program → run_reply program goal room ≡ refusal 1 programText 0
+    (program goal : List ℕ) (room : ℕ) → 16384 < length program → run_reply program goal room ≡ refusal 1 program_text 0
 unfolding run_reply reply_of
 program-replies program goal room h = rw (long-program program h)
 
 goal-replies :
     (program goal : List ℕ) (room : ℕ) → 16384 < length goal
-    → run_reply program goal room ≡ reply_of programText (read_program program) (λ _. refusal 1 goalText 0)
+    → run_reply program goal room ≡ reply_of program_text (read_program program) (λ _. refusal 1 goal_text 0)
 unfolding run_reply reply_of
 goal-replies program goal room h = go (read_program program)
   where
     go :
         (a : Answer Reading)
-        → reply_of programText a
-        (λ p. reply_of goalText (read_goal p.program.symbols p.constants goal) (λ g. fitted goalText room (run_listing p g)))
-        ≡ reply_of programText a (λ _. refusal 1 goalText 0)
+        → reply_of program_text a
+        (λ p. reply_of goal_text (read_goal p.program.symbols p.constants goal) (λ g. fitted goal_text room (run_listing p g)))
+        ≡ reply_of program_text a (λ _. refusal 1 goal_text 0)
     go (refused number line) = refl
     go (accepted p) = rw (long-goal p.program.symbols p.constants goal h)
 
@@ -59,13 +59,13 @@ pub agree-replies :
     → run_reply x.program x.goal room ≡ run_reply y.program y.goal room
 agree-replies n x y room h (long_programs a b) =
     program-replies x.program x.goal room (omega arith) ∙ sym (program-replies y.program y.goal room (omega arith))
-agree-replies n x y room h (sameProgram e a b) = elim (dec_lt 16384 (length x.program)) [
+agree-replies n x y room h (same_program e a b) = elim (dec_lt 16384 (length x.program)) [
   | yes k ↦
       program-replies x.program x.goal room k
       ∙ sym (program-replies y.program y.goal room (omega (arith, k, ap length e)))
   | no k ↦
       goal-replies x.program x.goal room (omega (arith, k))
-      ∙ ap (λ (s : List ℕ). reply_of programText (read_program s) (λ _. refusal 1 goalText 0)) e
+      ∙ ap (λ (s : List ℕ). reply_of program_text (read_program s) (λ _. refusal 1 goal_text 0)) e
       ∙ sym (goal-replies y.program y.goal room (omega (arith, k, ap length e)))
 ]
 
@@ -85,7 +85,7 @@ unfolding sheetrun
 prefix-decides input = ap printed (prefix-replies 40000 input ample (omega arith))
 
 -- the reply of a check where the program is too long
-check-replies : (program : List ℕ) (room : ℕ) → 16384 < length program → check_reply program room ≡ refusal 1 programText 0
+check-replies : (program : List ℕ) (room : ℕ) → 16384 < length program → check_reply program room ≡ refusal 1 program_text 0
 unfolding check_reply reply_of
 check-replies program room h = rw (long-program program h)
 

@@ -44,7 +44,7 @@ use Rattle.listing.specs.Listing.{fields_behind, line_of, Naming, naming_of, ter
 use Rattle.listing.specs.Listing.{constraint_lines, numbered_as, unbound, bound_lines, state_listing, end_listing}
 use Rattle.text.proofs.Decimals.{decimal-low, decimal-high}
 use Rattle.listing.proofs.SizeLaws.{Short, decimal-short, number_short, place-all, line-few, rows_few, bounds-few}
-use Rattle.replies.specs.Replies.{Text, programText, goalText, Reply, refusal, listing, reply_of, fitted}
+use Rattle.replies.specs.Replies.{Text, program_text, goal_text, Reply, refusal, listing, reply_of, fitted}
 use Rattle.replies.specs.Replies.{run_listing, run_reply, printed, ample, sheetrun}
 use Rattle.replies.proofs.Elements.{all-at}
 use Rattle.replies.proofs.Demand3.{fitted-listed}
@@ -291,7 +291,7 @@ pub run-listed :
     (program goal : List ℕ) (p : Reading) (g : GoalReading) → read_program program ≡ accepted p
     → read_goal p.program.symbols p.constants goal ≡ accepted g → run_reply program goal ample ≡ listing (run_listing p g)
 unfolding run_reply reply_of
-run-listed program goal p g e f = rw (e, f) (fitted-listed goalText ample (run_listing p g) (run_fits program goal p g e f))
+run-listed program goal p g e f = rw (e, f) (fitted-listed goal_text ample (run_listing p g) (run_fits program goal p g e f))
 
 -- a reply that is not number 11: a refusal by at most number 10, or a listing that does not begin as a refusal does
 pub data Answered : Reply → Type 0 where
@@ -319,21 +319,21 @@ run-answered program goal = go (read_program program) refl
     goals :
         (p : Reading) → read_program program ≡ accepted p → (a : Answer GoalReading)
         → read_goal p.program.symbols p.constants goal ≡ a
-        → Answered (reply_of goalText a (λ g. fitted goalText ample (run_listing p g)))
+        → Answered (reply_of goal_text a (λ g. fitted goal_text ample (run_listing p g)))
     goals p k (refused n l) h =
-        refused_by n goalText l
+        refused_by n goal_text l
         (reads-refused 10 (ShortGoal p.constants) (read_goal p.program.symbols p.constants goal)
         (goal-short p.program.symbols p.constants goal) h).most
     goals p k (accepted g) h =
-        subst Answered (sym (fitted-listed goalText ample (run_listing p g) (run_fits program goal p g k h)))
+        subst Answered (sym (fitted-listed goal_text ample (run_listing p g) (run_fits program goal p g k h)))
         (listed (run_listing p g) (run-begins p g))
 
     go :
         (a : Answer Reading) → read_program program ≡ a
-        → Answered (reply_of programText a (λ p. reply_of goalText (read_goal p.program.symbols p.constants goal)
-        (λ g. fitted goalText ample (run_listing p g))))
+        → Answered (reply_of program_text a (λ p. reply_of goal_text (read_goal p.program.symbols p.constants goal)
+        (λ g. fitted goal_text ample (run_listing p g))))
     go (refused n l) k =
-        refused_by n programText l
+        refused_by n program_text l
         (omega (arith, (reads-refused 9 ShortProgram (read_program program) (program-short program) k).most))
     go (accepted p) k = goals p k (read_goal p.program.symbols p.constants goal) refl
 

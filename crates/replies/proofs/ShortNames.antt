@@ -25,7 +25,7 @@ use Rattle.semantics.proofs.Configurations.{All, also}
 use Rattle.semantics.proofs.Configurations as C
 use Rattle.semantics.proofs.Multisets.{all_append, all-mono, all_map}
 use Rattle.syntax.specs.Answers.{Answer, refused, accepted, refuse_if, and_then}
-use Rattle.syntax.specs.Forms.{Form, symbolForm, ruleForm, keptForm, headForm, bodyForm, equationForm, goalForm, noForm, form_of}
+use Rattle.syntax.specs.Forms.{Form, symbol_form, rule_form, kept_form, head_form, body_form, equation_form, goal_form, no_form, form_of}
 use Rattle.syntax.specs.Forms.{Section, section_after, field_at, constants_after, letter_number}
 use Rattle.syntax.specs.Forms.{is_symbol_faulty, is_rule_faulty, is_equation_faulty, is_constraint_faulty, is_undeclared, constraint_of}
 use Rattle.syntax.specs.Programs.{RuleRead, Draft, Reading, Found, blank, in_section, on_last, last_rule, with_kept, with_head}
@@ -145,18 +145,18 @@ turned {m} number line h low =
     let (least, most) = and-true (leb 1 number) (leb number m) h in
     record { least = leb-true 1 number least; most = leb-true number m most; within = low }
 
-reads-refuseIf :
+reads-refuse_if :
     {A : Type 0} (m : ℕ) (P : A → Type 0) (b : Bool) (number line : ℕ) (otherwise : Answer A)
     → (leb 1 number && leb number m) ≡ true → line ≤ 16384 → (b ≡ false → Reads m P otherwise)
     → Reads m P (refuse_if b number line otherwise)
-reads-refuseIf m P true number line otherwise q low h = turned number line q low
-reads-refuseIf m P false number line otherwise q low h = h refl
+reads-refuse_if m P true number line otherwise q low h = turned number line q low
+reads-refuse_if m P false number line otherwise q low h = h refl
 
-reads-andThen :
+reads-and_then :
     {A B : Type 0} (m : ℕ) (P : A → Type 0) (R : B → Type 0) (r : Answer A) (next : A → Answer B) → Reads m P r
     → ((a : A) → P a → Reads m R (next a)) → Reads m R (and_then r next)
-reads-andThen m P R (refused number line) next h k = h
-reads-andThen m P R (accepted a) next h k = k a h
+reads-and_then m P R (refused number line) next h k = h
+reads-and_then m P R (accepted a) next h k = k a h
 
 -- a rule of a good name, whose R line is one that a refusal may have
 record TermedRule (r : RuleRead) : Type 0 where
@@ -196,9 +196,9 @@ module _ (n : ℕ) (low : n ≤ 16384) where
   symbol-reads : (fs : List (List ℕ)) (d : Draft) → TermedDraft d → Reads 9 TermedDraft (read_symbol n fs d)
   unfolding read_symbol
   symbol-reads fs d s =
-      reads-refuseIf 9 TermedDraft (is_symbol_faulty fs) 4 n _ refl low
-      λ fine. reads-refuseIf 9 TermedDraft (is_known (field_at 1 fs) (map (λ s. s.name) d.symbols)) 5 n _ refl low
-      λ _. reads-refuseIf 9 TermedDraft (leb max_symbols (length d.symbols)) 7 n _ refl low
+      reads-refuse_if 9 TermedDraft (is_symbol_faulty fs) 4 n _ refl low
+      λ fine. reads-refuse_if 9 TermedDraft (is_known (field_at 1 fs) (map (λ s. s.name) d.symbols)) 5 n _ refl low
+      λ _. reads-refuse_if 9 TermedDraft (leb max_symbols (length d.symbols)) 7 n _ refl low
       λ _. record {
         symbols = all_append s.symbols (also (symbol-named fs fine) C.none);
         rules = s.rules;
@@ -208,9 +208,9 @@ module _ (n : ℕ) (low : n ≤ 16384) where
   rule-reads : (fs : List (List ℕ)) (d : Draft) → TermedDraft d → Reads 9 TermedDraft (read_rule n fs d)
   unfolding read_rule
   rule-reads fs d s =
-      reads-refuseIf 9 TermedDraft (is_rule_faulty fs) 4 n _ refl low
-      λ fine. reads-refuseIf 9 TermedDraft (is_known (field_at 1 fs) (map (λ r. r.rule.name) d.rules)) 5 n _ refl low
-      λ _. reads-refuseIf 9 TermedDraft (leb max_rules (length d.rules)) 7 n _ refl low
+      reads-refuse_if 9 TermedDraft (is_rule_faulty fs) 4 n _ refl low
+      λ fine. reads-refuse_if 9 TermedDraft (is_known (field_at 1 fs) (map (λ r. r.rule.name) d.rules)) 5 n _ refl low
+      λ _. reads-refuse_if 9 TermedDraft (leb max_rules (length d.rules)) 7 n _ refl low
       λ _. record {
         symbols = s.symbols;
         rules = all_append s.rules (also (record { named = rule-named fs fine; within = low }) C.none);
@@ -228,9 +228,9 @@ module _ (n : ℕ) (low : n ≤ 16384) where
       → Reads 9 P (constraint_line full symbols variable constants n fs)
   unfolding constraint_line
   found-reads P full symbols variable constants fs k =
-      reads-refuseIf 9 P (is_constraint_faulty fs) 4 n _ refl low
-      λ fine. reads-refuseIf 9 P (is_undeclared symbols fs) 6 n _ refl low
-      λ _. reads-refuseIf 9 P (full || ltb max_constants (length (constants_after (drop 2 fs) constants))) 7 n _ refl low
+      reads-refuse_if 9 P (is_constraint_faulty fs) 4 n _ refl low
+      λ fine. reads-refuse_if 9 P (is_undeclared symbols fs) 6 n _ refl low
+      λ _. reads-refuse_if 9 P (full || ltb max_constants (length (constants_after (drop 2 fs) constants))) 7 n _ refl low
       λ _. k (line-terms fs fine)
 
   constraint-reads :
@@ -239,7 +239,7 @@ module _ (n : ℕ) (low : n ≤ 16384) where
       → Reads 9 TermedDraft (read_constraint count most add n fs d)
   unfolding read_constraint
   constraint-reads count most add fs d k s =
-      reads-andThen 9 (λ found. All Termed found.constants) TermedDraft
+      reads-and_then 9 (λ found. All Termed found.constants) TermedDraft
       (constraint_line (leb most count) d.symbols letter_number d.constants n fs) _
       (found-reads _ (leb most count) d.symbols letter_number d.constants fs
       λ _. constants-termed (drop 2 fs) d.constants s.constants)
@@ -250,23 +250,23 @@ module _ (n : ℕ) (low : n ≤ 16384) where
   equation-reads fs d s =
       let constants = constants_after (drop 1 fs) d.constants in
       let full = leb max_equations (length (last_rule d.rules).equations) in
-      reads-refuseIf 9 TermedDraft (is_equation_faulty fs) 4 n _ refl low
-      λ _. reads-refuseIf 9 TermedDraft (full || ltb max_constants (length constants)) 7 n _ refl low
+      reads-refuse_if 9 TermedDraft (is_equation_faulty fs) 4 n _ refl low
+      λ _. reads-refuse_if 9 TermedDraft (full || ltb max_constants (length constants)) 7 n _ refl low
       λ _. change-termed _ constants d (λ r. refl) s (constants-termed (drop 1 fs) d.constants s.constants)
 
   form-reads : (form : Form) (fs : List (List ℕ)) (d : Draft) → TermedDraft d → Reads 9 TermedDraft (read_form form n fs d)
   unfolding read_form with_kept with_head with_body
-  form-reads symbolForm fs d s = symbol-reads fs d s
-  form-reads ruleForm fs d s = rule-reads fs d s
-  form-reads keptForm fs d s =
+  form-reads symbol_form fs d s = symbol-reads fs d s
+  form-reads rule_form fs d s = rule-reads fs d s
+  form-reads kept_form fs d s =
       constraint-reads (length (last_rule d.rules).heads) max_heads with_kept fs d (λ c r. refl) s
-  form-reads headForm fs d s =
+  form-reads head_form fs d s =
       constraint-reads (length (last_rule d.rules).heads) max_heads with_head fs d (λ c r. refl) s
-  form-reads bodyForm fs d s =
+  form-reads body_form fs d s =
       constraint-reads (length (last_rule d.rules).body) max_body with_body fs d (λ c r. refl) s
-  form-reads equationForm fs d s = equation-reads fs d s
-  form-reads goalForm fs d s = turned 3 n refl low
-  form-reads noForm fs d s = turned 3 n refl low
+  form-reads equation_form fs d s = equation-reads fs d s
+  form-reads goal_form fs d s = turned 3 n refl low
+  form-reads no_form fs d s = turned 3 n refl low
 
   moved-termed : (section : Section) (d : Draft) → TermedDraft d → TermedDraft (in_section section d)
   unfolding in_section
@@ -285,13 +285,13 @@ module _ (n : ℕ) (low : n ≤ 16384) where
   line_reads : (l : Line) (d : Draft) → TermedDraft d → Reads 9 TermedDraft (read_line n l d)
   unfolding read_line
   line_reads l d s =
-      reads-refuseIf 9 TermedDraft (line_is_faulty l) 2 n _ refl low λ _. fields_read (fields l.bytes) d s
+      reads-refuse_if 9 TermedDraft (line_is_faulty l) 2 n _ refl low λ _. fields_read (fields l.bytes) d s
 
 lines-read : (n : ℕ) (d : Draft) (ls : List Line) → n + length ls ≤ 16385 → TermedDraft d → Reads 9 TermedDraft (read_lines n d ls)
 unfolding read_lines
 lines-read n d [] h s = s
 lines-read n d (l ∷ ls) h s =
-    reads-andThen 9 TermedDraft TermedDraft (read_line n l d) _ (line_reads n (omega arith) l d s)
+    reads-and_then 9 TermedDraft TermedDraft (read_line n l d) _ (line_reads n (omega arith) l d s)
     (λ e t. lines-read (suc n) e ls (omega arith) t)
 
 -- the rules, each at its R line
@@ -301,8 +301,8 @@ rules-read :
 unfolding check_rules
 rules-read P symbols [] otherwise all h = h
 rules-read P symbols (r ∷ rs) otherwise (also s all) h =
-    reads-refuseIf 9 P (eqb (length (removed_heads r.rule)) 0) 8 r.line _ refl s.within
-    λ _. reads-refuseIf 9 P (leb (weight symbols (removed_heads r.rule)) (weight symbols r.rule.body)) 9 r.line _ refl
+    reads-refuse_if 9 P (eqb (length (removed_heads r.rule)) 0) 8 r.line _ refl s.within
+    λ _. reads-refuse_if 9 P (leb (weight symbols (removed_heads r.rule)) (weight symbols r.rule.body)) 9 r.line _ refl
     s.within
     λ _. rules-read P symbols rs otherwise all h
 
@@ -323,8 +323,8 @@ lines-few (b ∷ s) = go (eqb b 10) (lines s) (lines-few s)
 pub program-termed : (s : List ℕ) → Reads 9 TermedProgram (read_program s)
 unfolding read_program blank
 program-termed s =
-    reads-refuseIf 9 TermedProgram (ltb max_text (length s)) 1 0 _ refl (omega arith)
-    λ short. reads-andThen 9 TermedDraft TermedProgram (read_lines 1 blank (lines s)) _
+    reads-refuse_if 9 TermedProgram (ltb max_text (length s)) 1 0 _ refl (omega arith)
+    λ short. reads-and_then 9 TermedDraft TermedProgram (read_lines 1 blank (lines s)) _
     (lines-read 1 blank (lines s) (omega (arith, lines-few s, ltb-false 16384 (length s) short))
     (record { symbols = C.none; rules = C.none; constants = C.none }))
     λ d t. rules-read TermedProgram d.symbols d.rules _ t.rules
@@ -354,9 +354,9 @@ goal-line-reads before symbols n l d low s =
     let variable : List ℕ → ℕ = λ f. index_of f letters in
     let full = leb max_goal (length d.constraints) in
     let P = TermedGoalDraft before in
-    reads-refuseIf 9 P (line_is_faulty l) 2 n _ refl low
-    λ _. reads-refuseIf 9 P (not (is_goal_form (form_of (field_at 0 fs)))) 3 n _ refl low
-    λ _. reads-andThen 9 (TermedFound before fs) P (constraint_line full symbols variable d.constants n fs) _
+    reads-refuse_if 9 P (line_is_faulty l) 2 n _ refl low
+    λ _. reads-refuse_if 9 P (not (is_goal_form (form_of (field_at 0 fs)))) 3 n _ refl low
+    λ _. reads-and_then 9 (TermedFound before fs) P (constraint_line full symbols variable d.constants n fs) _
     (found-reads n low _ full symbols variable d.constants fs
     λ terms. record { terms = terms; constants = λ h. constants-termed (drop 2 fs) d.constants (s.constants h) })
     λ found h. record {
@@ -370,7 +370,7 @@ goal-lines-read :
 unfolding read_goal_lines
 goal-lines-read before symbols n d [] h s = s
 goal-lines-read before symbols n d (l ∷ ls) h s =
-    reads-andThen 9 (TermedGoalDraft before) (TermedGoalDraft before) (read_goal_line symbols n l d) _
+    reads-and_then 9 (TermedGoalDraft before) (TermedGoalDraft before) (read_goal_line symbols n l d) _
     (goal-line-reads before symbols n l d (omega arith) s)
     (λ e t. goal-lines-read before symbols (suc n) e ls (omega arith) t)
 
@@ -387,12 +387,12 @@ unfolding read_goal
 goal-termed symbols constants s =
     let start : GoalDraft = record { constraints = []; letters = []; constants = constants } in
     let P = TermedGoal constants in
-    reads-refuseIf 10 P (ltb max_text (length s)) 1 0 _ refl (omega arith)
-    λ short. reads-andThen 10 (TermedGoalDraft constants) P (read_goal_lines symbols 1 start (lines s)) _
+    reads-refuse_if 10 P (ltb max_text (length s)) 1 0 _ refl (omega arith)
+    λ short. reads-and_then 10 (TermedGoalDraft constants) P (read_goal_lines symbols 1 start (lines s)) _
     (reads-ten (TermedGoalDraft constants) (read_goal_lines symbols 1 start (lines s))
     (goal-lines-read constants symbols 1 start (lines s) (omega (arith, lines-few s, ltb-false 16384 (length s) short))
     (record { letters = C.none; constants = λ h. h })))
-    λ d t. reads-refuseIf 10 P (ltb max_weight (weight symbols d.constraints)) 10 0 _ refl (omega arith)
+    λ d t. reads-refuse_if 10 P (ltb max_weight (weight symbols d.constraints)) 10 0 _ refl (omega arith)
     λ _. record { letters = t.letters; constants = t.constants }
 
 -- what holds of the value, and of a refusal

@@ -23,7 +23,7 @@ unfoldable pub use Rattle.listing.specs.Writing.{ample}
 
 -- the text that a refusal names: S for a program's (document 01: the sheet's), G for a goal's
 pub data Text : Type 0 where
-  programText goalText : Text
+  program_text goal_text : Text
 
 -- a reply: a refusal by document 01's number, with its text and the line, from 1, or 0; or a listing, or its pages
 pub data Reply : Type 0 where
@@ -51,12 +51,12 @@ check_listing p = verdict_listing (naming_of p.program.symbols p.constants) (ver
 -- the reply of the run: the program's refusals, then the goal's, then number 11
 unfoldable pub run_reply : List ℕ → List ℕ → ℕ → Reply
 run_reply program goal room =
-    reply_of programText (read_program program)
-    (λ p. reply_of goalText (read_goal p.program.symbols p.constants goal) (λ g. fitted goalText room (run_listing p g)))
+    reply_of program_text (read_program program)
+    (λ p. reply_of goal_text (read_goal p.program.symbols p.constants goal) (λ g. fitted goal_text room (run_listing p g)))
 
 -- the reply of the check
 unfoldable pub check_reply : List ℕ → ℕ → Reply
-check_reply program room = reply_of programText (read_program program) (λ p. fitted programText room (check_listing p))
+check_reply program room = reply_of program_text (read_program program) (λ p. fitted program_text room (check_listing p))
 
 -- how an output holds a listing: the bytes laid down for it, and the listing that bytes hold
 pub record Layout : Type 0 where
@@ -74,7 +74,7 @@ paged = record { laid = pages_of; held = read_back }
 -- the reply of the check with its listing in a layout; number 11 measures what is laid down. It is `check_reply` for `plain`
 unfoldable pub laid_reply : Layout → List ℕ → ℕ → Reply
 laid_reply layout program room =
-    reply_of programText (read_program program) (λ p. fitted programText room (layout.laid (check_listing p)))
+    reply_of program_text (read_program program) (λ p. fitted program_text room (layout.laid (check_listing p)))
 
 -- the lent output afterwards: untouched under a refusal; the listing, and then the old bytes, otherwise
 unfoldable pub output_after : Reply → List ℕ → List ℕ
@@ -83,8 +83,8 @@ output_after (listing bytes) old = overlaid bytes old
 
 -- the letter of a text
 unfoldable pub text_letter : Text → List ℕ
-text_letter programText = ascii "S"
-text_letter goalText = ascii "G"
+text_letter program_text = ascii "S"
+text_letter goal_text = ascii "G"
 
 -- what a program prints of a reply
 unfoldable pub printed : Reply → List ℕ

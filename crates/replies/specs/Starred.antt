@@ -15,7 +15,7 @@ use Rattle.semantics.specs.Verdict.{unjoined, is_joinable}
 use Rattle.syntax.specs.Programs.{Reading, read_program}
 use Rattle.listing.specs.Listing.{naming_of}
 use Rattle.verdicts.specs.Verdicts.{verdict_listing}
-use Rattle.replies.specs.Replies.{listing, programText, reply_of, run_reply, check_reply, printed, ample}
+use Rattle.replies.specs.Replies.{listing, program_text, reply_of, run_reply, check_reply, printed, ample}
 
 -- a case: the check of a program; the run of a goal over a program; the overlap of a program's first rule with itself by a
 -- list of partners; the comparison of two states
@@ -45,7 +45,7 @@ shown (check program) = printed (check_reply (ascii program) ample)
 shown (run program goal) = printed (run_reply (ascii program) (ascii goal) ample)
 shown (self_overlap program partners) =
     printed
-    (reply_of programText (read_program (ascii program))
+    (reply_of program_text (read_program (ascii program))
     (λ p. listing (onward (self_overlap_of p.program.rules partners) (ascii "NONE\n") (overlap_shown p))))
 shown (comparison s t) = cond (same_state s t) (ascii "EQUAL\n") (ascii "UNEQUAL\n")
 

@@ -30,7 +30,7 @@ use Rattle.goals.specs.ReadGoal.{goal_answer, GoalIn}
 use Rattle.goals.specs.declared.GoalCounts.{GoalCounts}
 use Rattle.goals.specs.declared.GoalRead.{GoalRead}
 use Rattle.goals.specs.declared.GoalRead.TheVariants as goal-read
-use Rattle.replies.specs.Replies.{Text, programText, goalText, refusal, listing, reply_of, fitted, run_listing, run_reply}
+use Rattle.replies.specs.Replies.{Text, program_text, goal_text, refusal, listing, reply_of, fitted, run_listing, run_reply}
 use Rattle.replies.proofs.ShortNames.{Turned, Reads, ShortProgram, ShortGoal, program-short, goal-short}
 use Rattle.answers.specs.Answers.{text_meant, text_byte, name_byte, reply_number}
 use Rattle.roketuma.specs.Readings.{Judgement, readable, unreadable, judged, goal_reply, read_reply, read_meant}
@@ -52,7 +52,7 @@ module _ {program names places names' places' symbols' rules' : List ℕ} {reply
       → unreadable number (text_meant S) line ≡ read_reply program goal
   unfolding program_answer text_meant read_reply judged
   program-unreadable goal number line h =
-      ap (λ (a : Answer Reading). judged programText a (λ p. goal_reply p.program.symbols p.constants goal))
+      ap (λ (a : Answer Reading). judged program_text a (λ p. goal_reply p.program.symbols p.constants goal))
       (sym (ap (program_answer names' symbols' rules') h) ∙ r.answers)
 
   module _ (counts : Counts) (h : reply ≡ program-read.Accepted counts) where
@@ -63,7 +63,7 @@ module _ {program names places names' places' symbols' rules' : List ℕ} {reply
         → read_meant a ≡ read_reply program goal
     unfolding program_answer reading_of read_reply judged
     program-goes-on goal a e =
-        e ∙ ap (λ (a : Answer Reading). judged programText a (λ p. goal_reply p.program.symbols p.constants goal))
+        e ∙ ap (λ (a : Answer Reading). judged program_text a (λ p. goal_reply p.program.symbols p.constants goal))
         (sym (ap (program_answer names' symbols' rules') h) ∙ r.answers)
 
 module _ {symbols names places : List ℕ} {c : Counts} (t : Tabled symbols names places c) where
@@ -77,7 +77,7 @@ module _ {symbols names places : List ℕ} {c : Counts} (t : Tabled symbols name
         ≡ goal_reply (symbols_of names symbols c.symbols) (constants_of names c.constants) goal
     unfolding goal_answer text_meant goal_reply judged
     goal-unreadable number line h =
-        ap (λ (a : Answer GoalReading). judged goalText a (λ g. readable))
+        ap (λ (a : Answer GoalReading). judged goal_text a (λ g. readable))
         (sym (ap (goal_answer names' cells letters) h) ∙ goal-answers t goal g)
 
     -- a goal that is read
@@ -86,7 +86,7 @@ module _ {symbols names places : List ℕ} {c : Counts} (t : Tabled symbols name
         → read_meant Readable ≡ goal_reply (symbols_of names symbols c.symbols) (constants_of names c.constants) goal
     unfolding goal_answer read_meant goal_reply judged
     goal-readable found h =
-        ap (λ (a : Answer GoalReading). judged goalText a (λ g. readable))
+        ap (λ (a : Answer GoalReading). judged goal_text a (λ g. readable))
         (sym (ap (goal_answer names' cells letters) h) ∙ goal-answers t goal g)
 
 -- a letter has the byte of the text that it names
@@ -116,46 +116,46 @@ unfolding read_reply goal_reply judged run_reply reply_of
 read-refused program goal room number text line e = go (read_program program) e
   where
     goals :
-        (p : Reading) (a : Answer GoalReading) → judged goalText a (λ g. readable) ≡ unreadable number text line
-        → reply_of goalText a (λ g. fitted goalText room (run_listing p g)) ≡ refusal number text line
+        (p : Reading) (a : Answer GoalReading) → judged goal_text a (λ g. readable) ≡ unreadable number text line
+        → reply_of goal_text a (λ g. fitted goal_text room (run_listing p g)) ≡ refusal number text line
     goals p (refused n l) h = cc
     goals p (accepted g) h = absurd (let z : ◌≡◌ {A = ℕ} 0 1 = cc in omega arith)
 
     go :
         (a : Answer Reading)
-        → judged programText a (λ p. goal_reply p.program.symbols p.constants goal) ≡ unreadable number text line
-        → reply_of programText a (λ p. reply_of goalText (read_goal p.program.symbols p.constants goal)
-        (λ g. fitted goalText room (run_listing p g))) ≡ refusal number text line
+        → judged program_text a (λ p. goal_reply p.program.symbols p.constants goal) ≡ unreadable number text line
+        → reply_of program_text a (λ p. reply_of goal_text (read_goal p.program.symbols p.constants goal)
+        (λ g. fitted goal_text room (run_listing p g))) ≡ refusal number text line
     go (refused n l) h = cc
     go (accepted p) h = goals p (read_goal p.program.symbols p.constants goal) h
 
 -- where they are read, a run of them is listed, or meets number 11
 pub read-readable :
     (program goal : List ℕ) (room : ℕ) → read_reply program goal ≡ readable
-    → (run_reply program goal room ≡ refusal 11 goalText 0) ⊎ ((bytes : List ℕ) × (run_reply program goal room ≡ listing bytes))
+    → (run_reply program goal room ≡ refusal 11 goal_text 0) ⊎ ((bytes : List ℕ) × (run_reply program goal room ≡ listing bytes))
 unfolding read_reply goal_reply judged run_reply reply_of fitted
 read-readable program goal room e = go (read_program program) e
   where
     fits :
         (b : Bool) (bytes : List ℕ)
-        → (cond b (refusal 11 goalText 0) (listing bytes) ≡ refusal 11 goalText 0)
-        ⊎ ((more : List ℕ) × (cond b (refusal 11 goalText 0) (listing bytes) ≡ listing more))
+        → (cond b (refusal 11 goal_text 0) (listing bytes) ≡ refusal 11 goal_text 0)
+        ⊎ ((more : List ℕ) × (cond b (refusal 11 goal_text 0) (listing bytes) ≡ listing more))
     fits true bytes = inl refl
     fits false bytes = inr (bytes, refl)
 
     goals :
-        (p : Reading) (a : Answer GoalReading) → judged goalText a (λ g. readable) ≡ readable
-        → (reply_of goalText a (λ g. fitted goalText room (run_listing p g)) ≡ refusal 11 goalText 0)
-        ⊎ ((bytes : List ℕ) × (reply_of goalText a (λ g. fitted goalText room (run_listing p g)) ≡ listing bytes))
+        (p : Reading) (a : Answer GoalReading) → judged goal_text a (λ g. readable) ≡ readable
+        → (reply_of goal_text a (λ g. fitted goal_text room (run_listing p g)) ≡ refusal 11 goal_text 0)
+        ⊎ ((bytes : List ℕ) × (reply_of goal_text a (λ g. fitted goal_text room (run_listing p g)) ≡ listing bytes))
     goals p (refused n l) h = absurd (let z : ◌≡◌ {A = ℕ} 0 1 = cc in omega arith)
     goals p (accepted g) h = fits (ltb room (length (run_listing p g))) (run_listing p g)
 
     go :
-        (a : Answer Reading) → judged programText a (λ p. goal_reply p.program.symbols p.constants goal) ≡ readable
-        → (reply_of programText a (λ p. reply_of goalText (read_goal p.program.symbols p.constants goal)
-        (λ g. fitted goalText room (run_listing p g))) ≡ refusal 11 goalText 0)
-        ⊎ ((bytes : List ℕ) × (reply_of programText a (λ p. reply_of goalText (read_goal p.program.symbols p.constants goal)
-        (λ g. fitted goalText room (run_listing p g))) ≡ listing bytes))
+        (a : Answer Reading) → judged program_text a (λ p. goal_reply p.program.symbols p.constants goal) ≡ readable
+        → (reply_of program_text a (λ p. reply_of goal_text (read_goal p.program.symbols p.constants goal)
+        (λ g. fitted goal_text room (run_listing p g))) ≡ refusal 11 goal_text 0)
+        ⊎ ((bytes : List ℕ) × (reply_of program_text a (λ p. reply_of goal_text (read_goal p.program.symbols p.constants goal)
+        (λ g. fitted goal_text room (run_listing p g))) ≡ listing bytes))
     go (refused n l) h = absurd (let z : ◌≡◌ {A = ℕ} 0 1 = cc in omega arith)
     go (accepted p) h = goals p (read_goal p.program.symbols p.constants goal) h
 
@@ -175,7 +175,7 @@ read-exact program goal room number text line few =
   where
     other :
         run_reply program goal room ≡ refusal number text line
-        → (run_reply program goal room ≡ refusal 11 goalText 0) ⊎ ((bytes : List ℕ) × (run_reply program goal room ≡ listing bytes))
+        → (run_reply program goal room ≡ refusal 11 goal_text 0) ⊎ ((bytes : List ℕ) × (run_reply program goal room ≡ listing bytes))
         → read_reply program goal ≡ unreadable number text line
     other e (inl h) = absurd (let z : number ≡ 11 = cc in omega (arith, few))
     other e (inr (bytes, h)) = absurd (let z : ◌≡◌ {A = ℕ} 0 1 = cc in omega arith)
@@ -205,7 +205,7 @@ read-numbers program goal number text line e = go (read_program program) (progra
 
     goals :
         (p : Reading) (a : Answer GoalReading) → Reads 10 (ShortGoal p.constants) a
-        → judged goalText a (λ g. readable) ≡ unreadable number text line → Turned 10 number line
+        → judged goal_text a (λ g. readable) ≡ unreadable number text line → Turned 10 number line
     goals p (refused n l) t h =
         let a : n ≡ number = cc in
         let b : l ≡ line = cc in
@@ -214,7 +214,7 @@ read-numbers program goal number text line e = go (read_program program) (progra
 
     go :
         (a : Answer Reading) → Reads 9 ShortProgram a
-        → judged programText a (λ p. goal_reply p.program.symbols p.constants goal) ≡ unreadable number text line
+        → judged program_text a (λ p. goal_reply p.program.symbols p.constants goal) ≡ unreadable number text line
         → Turned 10 number line
     go (refused n l) t h =
         let a : n ≡ number = cc in
@@ -238,11 +238,11 @@ decoded :
     → read_meant (read_read (judgement_number j)) ≡ j
 unfolding read_read judgement_number read_meant text_meant reply_number text_byte name_byte
 decoded readable t = refl
-decoded (unreadable number programText line) t =
-    let turned = t number programText line refl in
+decoded (unreadable number program_text line) t =
+    let turned = t number program_text line refl in
     ap read_meant (number_read number line S turned.least (omega (arith, turned.within)))
-decoded (unreadable number goalText line) t =
-    let turned = t number goalText line refl in
+decoded (unreadable number goal_text line) t =
+    let turned = t number goal_text line refl in
     ap read_meant (number_read number line G turned.least (omega (arith, turned.within)))
 
 -- the number of `roketuma_read` decodes to an answer of which holds what `read` promises

@@ -12,7 +12,7 @@ use Rattle.semantics.specs.Terms.{Symbol}
 use Rattle.syntax.specs.Answers.{Answer, refused, accepted}
 use Rattle.syntax.specs.Programs.{read_program}
 use Rattle.syntax.specs.Goals.{read_goal}
-use Rattle.replies.specs.Replies.{Text, programText, goalText, refusal}
+use Rattle.replies.specs.Replies.{Text, program_text, goal_text, refusal}
 use Rattle.roketuma.specs.declared.reading.ReadReply.{ReadReply}
 use Rattle.roketuma.specs.declared.reading.ReadReply.TheVariants.{Refused, Readable}
 use Rattle.answers.specs.Answers.{text_meant, reply_number}
@@ -30,12 +30,12 @@ judged text (accepted a) next = next a
 
 -- the judgement of a goal's text over the symbols and constants of a program
 unfoldable pub goal_reply : List Symbol → List (List ℕ) → List ℕ → Judgement
-goal_reply symbols constants goal = judged goalText (read_goal symbols constants goal) (λ g. readable)
+goal_reply symbols constants goal = judged goal_text (read_goal symbols constants goal) (λ g. readable)
 
 -- the judgement of a program's text and a goal's: the program's refusals, then the goal's
 unfoldable pub read_reply : List ℕ → List ℕ → Judgement
 read_reply program goal =
-    judged programText (read_program program) (λ p. goal_reply p.program.symbols p.constants goal)
+    judged program_text (read_program program) (λ p. goal_reply p.program.symbols p.constants goal)
 
 -- an answer as a judgement
 unfoldable pub read_meant : ReadReply → Judgement

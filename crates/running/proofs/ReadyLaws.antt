@@ -34,7 +34,7 @@ use Rattle.engine.proofs.GoalLaws.{program_of, goal-starts, goal-runs}
 use Rattle.listing.specs.Listing.{naming_of, variable_name, end_listing}
 use Rattle.listing.specs.Ends.{end_bytes, Listable}
 use Rattle.listing.proofs.NamingLaws.{uses_only, bound_in, state-named, variable-named}
-use Rattle.replies.specs.Replies.{goalText, reply_of, fitted, run_listing, run_reply}
+use Rattle.replies.specs.Replies.{goal_text, reply_of, fitted, run_listing, run_reply}
 use Rattle.answers.specs.Answers.{Replied}
 use Rattle.inputs.specs.Inputs.{program_table, is_known}
 use Rattle.running.specs.Stages.{Ready, Entered, final_bytes, FinalListable}
@@ -176,7 +176,7 @@ module _ {program goal places rules letters cells : List ℕ} {z : Sizes} (r : R
       (λ i h. same-letters i (omega (arith, few))) uses
 
   -- the reply is the listing, or number 11
-  run-replies : (room : ℕ) → run_reply program goal room ≡ fitted goalText room (run_listing r.p r.g)
+  run-replies : (room : ℕ) → run_reply program goal room ≡ fitted goal_text room (run_listing r.p r.g)
   unfolding run_reply reply_of
   run-replies room = rw (r.first.read, r.read)
 
@@ -196,12 +196,12 @@ module _ {program goal places rules letters cells : List ℕ} {z : Sizes} (r : R
     -- its listing is the definition's, and so is the reply
     pub ready-replies :
         {before after : List ℕ} {reply : RunReply}
-        → Replied (fitted goalText (length before) (final_bytes program goal places letters bound' cells' f)) before after reply
+        → Replied (fitted goal_text (length before) (final_bytes program goal places letters bound' cells' f)) before after reply
         → Replied (run_reply program goal (length before)) before after reply
     unfolding final_bytes
     ready-replies {before} {after} {reply} l =
         rw run-replies
-        (subst (λ (bytes : List ℕ). Replied (fitted goalText (length before) bytes) before after reply)
+        (subst (λ (bytes : List ℕ). Replied (fitted goal_text (length before) bytes) before after reply)
         (ap (end_listing (name_in program goal places) (variable_name letters)) ready-runs ∙ final-listed) l)
 
     -- and it can be listed
@@ -272,10 +272,10 @@ failed-listed program goal places letters bound cells e h = rw h
 
 -- a reply by other words for its bytes
 pub replied-is :
-    {a b before after : List ℕ} {reply : RunReply} → a ≡ b → Replied (fitted goalText (length before) a) before after reply
-    → Replied (fitted goalText (length before) b) before after reply
+    {a b before after : List ℕ} {reply : RunReply} → a ≡ b → Replied (fitted goal_text (length before) a) before after reply
+    → Replied (fitted goal_text (length before) b) before after reply
 replied-is {a} {b} {before} {after} {reply} e l =
-    subst (λ (s : List ℕ). Replied (fitted goalText (length before) s) before after reply) e l
+    subst (λ (s : List ℕ). Replied (fitted goal_text (length before) s) before after reply) e l
 
 -- what the listing of such an end asks
 pub lives-listable :
@@ -332,10 +332,10 @@ module _ {program goal places rules letters cells : List ℕ} {z : Sizes} (r : R
 
       pub back-replies :
           {before after : List ℕ} {reply : RunReply}
-          → Replied (fitted goalText (length before)
+          → Replied (fitted goal_text (length before)
           (final_bytes program goal places letters (take v (b ++ drop v array)) cells' f)) before after reply
           → Replied (run_reply program goal (length before)) before after reply
       back-replies {before} {after} {reply} l =
           ready-replies r f entered
-          (subst (λ (p : List ℕ). Replied (fitted goalText (length before) (final_bytes program goal places letters p cells' f))
+          (subst (λ (p : List ℕ). Replied (fitted goal_text (length before) (final_bytes program goal places letters p cells' f))
           before after reply) again l)

@@ -3,7 +3,7 @@
 ghost use Rattle.std.specs.Prelude.{◌≤◌, length};
 ghost use Rattle.engine.specs.Runs.{Startable};
 ghost use Rattle.listing.specs.Ends.{end_bytes, Listable};
-ghost use Rattle.replies.specs.Replies.{goalText, fitted, run_reply};
+ghost use Rattle.replies.specs.Replies.{goal_text, fitted, run_reply};
 ghost use Rattle.answers.specs.Answers.{Replied};
 ghost use Rattle.running.specs.Stages.{Entered, final_bytes, FinalListable, Ready};
 ghost use Rattle.inputs.specs.Inputs.{GoalReady};
@@ -53,7 +53,7 @@ fn list<'a>(
     output: &mut [u8],
 ) -> RunReply
     requires { Listable end.alive end.next bound.now cells.old }
-    ensures { Replied (fitted goalText (length output.old)
+    ensures { Replied (fitted goal_text (length output.old)
         (end_bytes program.now goal.now places.now letters.now
         bound.now cells.old end))
         output.old output.new result }
@@ -80,7 +80,7 @@ fn list_final<'a>(
     output: &mut [u8],
 ) -> RunReply
     requires { FinalListable bound.now cells.old end }
-    ensures { Replied (fitted goalText (length output.old)
+    ensures { Replied (fitted goal_text (length output.old)
         (final_bytes program.now goal.now places.now letters.now
         bound.now cells.old end))
         output.old output.new result }

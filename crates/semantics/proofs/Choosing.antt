@@ -32,11 +32,11 @@ pub record Chosen (n : ℕ) (rs : List Rule) (cs : List Constraint) (c : Choice)
       (i : ℕ) (r : Rule) → i < at → get_elem? rs i ≡ some r → find r.heads cs [] unassigned ≡ none
 
 -- what is chosen among rules
-chooseFrom-chosen :
+choose_from-chosen :
     (n : ℕ) (rs : List Rule) (cs : List Constraint) (c : Choice) → choose_from n rs cs ≡ some c → Chosen n rs cs c
 unfolding choose_from
-chooseFrom-chosen n [] cs c e = none-some refl e
-chooseFrom-chosen n (r ∷ rs) cs c e = go (chooseFrom-chosen (suc n) rs cs c) (find r.heads cs [] unassigned) refl e
+choose_from-chosen n [] cs c e = none-some refl e
+choose_from-chosen n (r ∷ rs) cs c e = go (choose_from-chosen (suc n) rs cs c) (find r.heads cs [] unassigned) refl e
   where
     late : find r.heads cs [] unassigned ≡ none → Chosen (suc n) rs cs c → Chosen n (r ∷ rs) cs c
     late t f = record {
@@ -65,12 +65,12 @@ chooseFrom-chosen n (r ∷ rs) cs c e = go (chooseFrom-chosen (suc n) rs cs c) (
     }
 
 -- where nothing is chosen, no rule is found to fit
-chooseFrom-none :
+choose_from-none :
     (n : ℕ) (rs : List Rule) (cs : List Constraint) → choose_from n rs cs ≡ none
     → (i : ℕ) (r : Rule) → get_elem? rs i ≡ some r → find r.heads cs [] unassigned ≡ none
 unfolding choose_from
-chooseFrom-none n [] cs e i r s = none-some refl s
-chooseFrom-none n (q ∷ rs) cs e zero r s =
+choose_from-none n [] cs e i r s = none-some refl s
+choose_from-none n (q ∷ rs) cs e zero r s =
     let p : q ≡ r = cc in rw (← p) (go (find q.heads cs [] unassigned) refl e)
   where
     go :
@@ -79,7 +79,7 @@ chooseFrom-none n (q ∷ rs) cs e zero r s =
         → find q.heads cs [] unassigned ≡ none
     go none t e = t
     go (some m) t e = none-some e refl
-chooseFrom-none n (q ∷ rs) cs e (suc i) r s = chooseFrom-none (suc n) rs cs (go (find q.heads cs [] unassigned) e) i r s
+choose_from-none n (q ∷ rs) cs e (suc i) r s = choose_from-none (suc n) rs cs (go (find q.heads cs [] unassigned) e) i r s
   where
     go :
         (o : Option Match)
@@ -95,7 +95,7 @@ pub choose-sound :
     × (match_at c.rule.heads c.found.positions cs [] unassigned ≡ some c.found.assignment)
 unfolding choose
 choose-sound rs cs c e =
-    let h = chooseFrom-chosen 0 rs cs c e in
+    let h = choose_from-chosen 0 rs cs c e in
     (rw (h.number, zero-add) h.stands, find-sound c.rule.heads cs c.found h.found)
 
 -- it is chosen at the smallest positions at which it fits
@@ -104,7 +104,7 @@ pub choose-smallest :
     → (qs : List ℕ) (end : Assignment) → match_at c.rule.heads qs cs [] unassigned ≡ some end
     → Or (qs ≡ c.found.positions) (Before c.found.positions qs)
 unfolding choose
-choose-smallest rs cs c e = find-smallest c.rule.heads cs c.found (chooseFrom-chosen 0 rs cs c e).found
+choose-smallest rs cs c e = find-smallest c.rule.heads cs c.found (choose_from-chosen 0 rs cs c e).found
 
 -- no rule of a smaller number fits at any positions
 pub choose-lowest :
@@ -112,7 +112,7 @@ pub choose-lowest :
     → (n : ℕ) (r : Rule) → n < c.number → get_elem? rs n ≡ some r → (ps : List ℕ) → match_at r.heads ps cs [] unassigned ≡ none
 unfolding choose
 choose-lowest rs cs c e n r l s =
-    let h = chooseFrom-chosen 0 rs cs c e in
+    let h = choose_from-chosen 0 rs cs c e in
     find-complete r.heads cs [] unassigned (h.earlier n r (omega (arith, h.number)) s)
 
 -- where nothing is chosen, no rule fits at any positions
@@ -120,7 +120,7 @@ pub choose-complete :
     (rs : List Rule) (cs : List Constraint) → choose rs cs ≡ none
     → (n : ℕ) (r : Rule) → get_elem? rs n ≡ some r → (ps : List ℕ) → match_at r.heads ps cs [] unassigned ≡ none
 unfolding choose
-choose-complete rs cs e n r s = find-complete r.heads cs [] unassigned (chooseFrom-none 0 rs cs e n r s)
+choose-complete rs cs e n r s = find-complete r.heads cs [] unassigned (choose_from-none 0 rs cs e n r s)
 
 -- the strategy's step is a firing of a rule of the list
 pub advance-fires :

@@ -33,12 +33,12 @@ terms-equated [] (t ∷ ts) p = none-some refl p
 terms-equated (s ∷ ss) [] p = none-some refl p
 terms-equated (s ∷ ss) (t ∷ ts) p =
     let (es, q, e) = bind-some (equate_terms ss ts) (λ es. some (record { left = s; right = t } ∷ es)) p in
-    subst (Equated (s ∷ ss) (t ∷ ts)) (some-equal e) (P.Equated.oneMore (terms-equated ss ts q))
+    subst (Equated (s ∷ ss) (t ∷ ts)) (some-equal e) (P.Equated.one_more (terms-equated ss ts q))
 
 equated-terms : {ss ts : List Term} {es : List Equation} → Equated ss ts es → equate_terms ss ts ≡ some es
 unfolding equate_terms
 equated-terms no_terms = refl
-equated-terms (P.Equated.oneMore q) = rw (equated-terms q)
+equated-terms (P.Equated.one_more q) = rw (equated-terms q)
 
 -- the equations between joined heads are those between the chosen heads; cs are all heads of the first rule, hs those from k on
 pub join-equated :
@@ -62,14 +62,14 @@ join-equated cs k (h ∷ hs) (suc d ∷ ds) gs {es} at l p =
     (λ i. ap (get_elem? cs) (let z : suc k + i ≡ k + suc i = omega arith in z) ∙ at (suc i)) (omega arith) rest in
     let atk : get_elem? cs k ≡ some h = ap (get_elem? cs) (let z : k ≡ k + 0 = omega arith in z) ∙ at 0 in
     rw (atk, atg) (subst (EquatedAll _ _) (some-equal e)
-    (P.EquatedAll.oneMore (eqb-equal sy) (terms-equated h.terms g.terms te) ih))
+    (P.EquatedAll.one_more (eqb-equal sy) (terms-equated h.terms g.terms te) ih))
 
 -- the equations between two lists begin with those between their first constraints
 equated-cons :
     {c d : Constraint} {cs ds : List Constraint} {es : List Equation} → EquatedAll (c ∷ cs) (d ∷ ds) es
     → (fs : List Equation) × (more : List Equation) × (c.symbol ≡ d.symbol) × Equated c.terms d.terms fs
     × EquatedAll cs ds more × (fs ++ more ≡ es)
-equated-cons (P.EquatedAll.oneMore {es} {fs} p q r) = (es, fs, p, q, r, refl)
+equated-cons (P.EquatedAll.one_more {es} {fs} p q r) = (es, fs, p, q, r, refl)
 
 equated-nil : {es : List Equation} → EquatedAll [] [] es → [] ≡ es
 equated-nil no_constraints = refl

@@ -111,11 +111,11 @@ module _
           after r (all-member (program-lettered p w) (at-member p.rules n e)) (fire_at r ps d.state) refl
 
   -- so do all events
-  followAll-sound :
+  follow_all-sound :
       (es : List Event) (d : Progress) → Sound g.variables d.state → Sound g.variables (follow_all p g es d).state
   unfolding follow_all
-  followAll-sound [] d h = h
-  followAll-sound (e ∷ es) d h = followAll-sound es (follow p g e d) (follow-sound e d h)
+  follow_all-sound [] d h = h
+  follow_all-sound (e ∷ es) d h = follow_all-sound es (follow p g e d) (follow-sound e d h)
 
 -- where a derivation starts
 pub start-sound : (g : Goal) → All (ConstraintBelow g.variables) g.constraints → Sound g.variables (start g).state
@@ -129,4 +129,4 @@ pub derive-scoped :
 unfolding derive
 derive-scoped p g es w e =
     let over = goal-below p g e in
-    (followAll-sound p w g over es (start g) (start-sound g over)).0
+    (follow_all-sound p w g over es (start g) (start-sound g over)).0

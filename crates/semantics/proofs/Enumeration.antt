@@ -20,7 +20,7 @@ use Rattle.semantics.specs.Solving.{solve}
 use Rattle.semantics.specs.Runs.{Before, at_first, at_later}
 use Rattle.semantics.specs.Overlaps.{partner_lists, is_pairing, pairings, Numbered, Overlap, apart, join_equations}
 use Rattle.semantics.specs.Overlaps.{unjoined_heads, goal_of, overlap_of, numbered_from, overlaps_of, overlaps_among, overlaps}
-use Rattle.semantics.specs.Order.{Earlier, by_first, by_second, byPartners}
+use Rattle.semantics.specs.Order.{Earlier, by_first, by_second, by_partners}
 use Rattle.semantics.proofs.Configurations.{Or, inl, inr, Member, first, All, also}
 use Rattle.semantics.proofs.Configurations as C
 use Rattle.semantics.proofs.Options.{none-some, bind-some, cond-some}
@@ -268,7 +268,7 @@ of-ascend i j =
     ascending-answers (overlap_of i j) (λ a b o u l e f.
     let one = (overlap-parts i j a e).made in
     let two = (overlap-parts i j b f).made in
-    subst₂ Earlier (sym one) (sym two) (byPartners refl refl l))
+    subst₂ Earlier (sym one) (sym two) (by_partners refl refl l))
     (pairings-ascend (length i.rule.heads) (length j.rule.heads))
 
 -- of one rule with others, those with the smaller of these first; then those of the others

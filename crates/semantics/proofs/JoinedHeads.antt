@@ -42,6 +42,7 @@ heads-same (h ∷ hs) = λ i. record { symbol = h.symbol; terms = terms h.terms 
 pub agreed-member :
     {A : Type 0} {y : A} (n : ℕ) (xs ys : List A) (ds : List ℕ) → Agreed n xs ys ds → Member y ys
     → Or (Member y xs) (Member y (leftover n ys ds))
+agreed-member {A = A} {y = y} n xs [] ds a x'' = elim x'' [ ]
 agreed-member n xs (z ∷ ys) ds a first = go (decide (has n ds))
   where
     go :
@@ -82,13 +83,15 @@ leftover-member {A} {y} n (z ∷ ys) ds i = go (has n ds) i (leftover-member (su
 terms-sides :
     {ss ts : List Term} {es : List Equation} {e : Equation} → Equated ss ts es → Member e es
     → Member e.left ss × Member e.right ts
-terms-sides (P.Equated.oneMore q) first = (first, first)
-terms-sides (P.Equated.oneMore q) (later i) = let (a, b) = terms-sides q i in (later a, later b)
+terms-sides {e = e} P.no_terms x5 = elim x5 [ ]
+terms-sides (P.Equated.one_more q) first = (first, first)
+terms-sides (P.Equated.one_more q) (later i) = let (a, b) = terms-sides q i in (later a, later b)
 
 pub equated-sides :
     {cs ds : List Constraint} {es : List Equation} {e : Equation} → EquatedAll cs ds es → Member e es
     → Within cs e.left × Within ds e.right
-equated-sides {e} (P.EquatedAll.oneMore {c} {d} {cs} {ds} {es} {fs} p q r) i = go (member-append es i) (λ j. equated-sides r j)
+equated-sides {e = e} P.no_constraints i = elim i [ ]
+equated-sides {e} (P.EquatedAll.one_more {c} {d} {cs} {ds} {es} {fs} p q r) i = go (member-append es i) (λ j. equated-sides r j)
   where
     go :
         Or (Member e es) (Member e fs) → (Member e fs → Within cs e.left × Within ds e.right)

@@ -12,7 +12,7 @@ use lib.Dec.{eqb, eqb-suc-zero, eqb-suc-suc, eqb-zero-suc}
 use lib.ListN.{length}
 use Rattle.text.specs.Lists.{every, has}
 use Rattle.semantics.specs.Overlaps.{is_one_to_one, is_pairing}
-use Rattle.semantics.specs.CriticalPairs.{Joint, rights, Joints, no_more, oneMore, Joining, joints_from, joints_of, partner_of}
+use Rattle.semantics.specs.CriticalPairs.{Joint, rights, Joints, no_more, one_more, Joining, joints_from, joints_of, partner_of}
 use Rattle.semantics.specs.CriticalPairs.{partners_from, partners_of}
 use Rattle.semantics.proofs.Configurations.{Or, inl, inr, All, none, also}
 use Rattle.semantics.proofs.Options.{decide, true-false, eqb-equal, equal-eqb, apart_eqb}
@@ -25,7 +25,7 @@ use Rattle.semantics.proofs.Enumeration.{IsPairing}
 partner-before : {m n k : ℕ} {js : List Joint} (i : ℕ) → Joints m n k js → i < k → partner_of i js ≡ 0
 unfolding partner_of
 partner-before i no_more h = refl
-partner-before i (oneMore {j} a b c d more) h =
+partner-before i (one_more {j} a b c d more) h =
     rw (apart_eqb {m = i} {n = j.left} (λ e. omega arith)) (partner-before i more (omega arith))
 
 -- a joint in front of all heads gives none of them a partner
@@ -41,9 +41,9 @@ pub joints-partners :
     (m n k l : ℕ) {js : List Joint} → l ≡ k + m → Joints l n k js → joints_from k (partners_from k m js) ≡ js
 unfolding joints_from partners_from partner_of
 joints-partners zero n k l e no_more = refl
-joints-partners zero n k l e (oneMore a b c d more) = absurd (omega arith)
+joints-partners zero n k l e (one_more a b c d more) = absurd (omega arith)
 joints-partners (suc m) n k l e no_more = joints-partners m n (suc k) l (omega arith) no_more
-joints-partners (suc m) n k l e (oneMore {j} {js} a b c d more) =
+joints-partners (suc m) n k l e (one_more {j} {js} a b c d more) =
     go (decide (eqb k j.left)) (λ i h. joints-partners m n (suc k) l (omega arith) h)
   where
     go :
@@ -56,7 +56,7 @@ joints-partners (suc m) n k l e (oneMore {j} {js} a b c d more) =
         (λ i. record { left = q i; right = j.right } ∷ ih js (subst (λ x. Joints l n (suc x) js) (sym q) more) i)
     go (inr p) ih =
         let q : (k ≡ j.left → ⊥) = λ z. true-false (equal-eqb z) p in
-        rw (p, partner-before k more (omega arith)) (ih (j ∷ js) (oneMore (omega arith) b c d more))
+        rw (p, partner-before k more (omega arith)) (ih (j ∷ js) (one_more (omega arith) b c d more))
 
 -- joints of later heads give a head no partner
 partner-later : (i k : ℕ) (ds : List ℕ) → i < k → partner_of i (joints_from k ds) ≡ 0
@@ -94,10 +94,10 @@ joints-of m n k e (also {a = zero} {l = ds} b h) u =
   where
     later : {js : List Joint} → Joints m n (suc k) js → Joints m n k js
     later no_more = no_more
-    later (oneMore {j} a b c d more) = oneMore {k = k} {j = j} (omega arith) b c d more
+    later (one_more {j} a b c d more) = one_more {k = k} {j = j} (omega arith) b c d more
 joints-of m n k e (also {a = suc d} {l = ds} b h) u =
     let (v, w) = and-true (eqb (suc d) 0 || not (has (suc d) ds)) (is_one_to_one ds) u in
-    oneMore {k = k} {j = record { left = k; right = d }} (omega arith) (omega arith) (omega arith)
+    one_more {k = k} {j = record { left = k; right = d }} (omega arith) (omega arith) (omega arith)
     (has-rights d (suc k) ds ∙ once (or_cases (eqb (suc d) 0) (not (has (suc d) ds)) v))
     (joints-of m n (suc k) (omega arith) h w)
   where
@@ -110,7 +110,7 @@ one-to-one : (m n k l : ℕ) (ds : List ℕ) → Joints m n l (joints_from k ds)
 unfolding joints_from is_one_to_one
 one-to-one m n k l [] h = refl
 one-to-one m n k l (zero ∷ ds) h = rw (equal-eqb {m = 0} refl) (one-to-one m n (suc k) l ds h)
-one-to-one m n k l (suc d ∷ ds) (oneMore a b c e more) =
+one-to-one m n k l (suc d ∷ ds) (one_more a b c e more) =
     rw (eqb-suc-zero d, sym (has-rights d (suc k) ds) ∙ e) (one-to-one m n (suc k) (suc k) ds more)
 
 -- no joints: all partners are 0
@@ -135,7 +135,7 @@ partners-long k (suc m) js = ap suc (partners-long (suc k) m js)
 partner-within : {l m n : ℕ} (k : ℕ) {js : List Joint} → Joints m n l js → partner_of k js ≤ n
 unfolding partner_of
 partner-within k no_more = omega arith
-partner-within {n} k (oneMore {j} {js} a b c d more) = go (eqb k j.left) (partner-within k more)
+partner-within {n} k (one_more {j} {js} a b c d more) = go (eqb k j.left) (partner-within k more)
   where
     go : (b : Bool) → partner_of k js ≤ n → cond b (suc j.right) (partner_of k js) ≤ n
     go true h = omega arith

@@ -88,17 +88,17 @@ extend-cases x t θ y = go (decide (eqb x y))
     go (inr p) = inr (rw p)
 
 -- matching one term
-matchTerm-sound :
+match_term-sound :
     (h t : Term) (θ : Assignment) {θ' : Assignment} → match_term h t θ ≡ some θ' → TermsMatch (h ∷ []) (t ∷ []) θ θ'
 unfolding match_term
-matchTerm-sound (con c) t θ {θ'} p = go (cond-some (same_term (con c) t) p)
+match_term-sound (con c) t θ {θ'} p = go (cond-some (same_term (con c) t) p)
   where
     go : (same_term (con c) t ≡ true) × (some θ ≡ some θ') → TermsMatch (con c ∷ []) (t ∷ []) θ θ'
     go (q, r) =
         let e : θ ≡ θ' = cc in
         subst (TermsMatch (con c ∷ []) (t ∷ []) θ) e
         (record { fits = each (same-equal (con c) t q) empty; extends = λ x u f. f; from = λ x u f. inl f })
-matchTerm-sound (var x) t θ {θ'} p = go (θ x) refl p
+match_term-sound (var x) t θ {θ'} p = go (θ x) refl p
   where
     settled : (u : Term) → θ x ≡ some u → (same_term u t ≡ true) × (some θ ≡ some θ') → TermsMatch (var x ∷ []) (t ∷ []) θ θ'
     settled u f (q, r) =
@@ -166,14 +166,14 @@ match_terms-sound [] (t ∷ ts) θ p = none-some refl p
 match_terms-sound (h ∷ hs) [] θ p = none-some refl p
 match_terms-sound (h ∷ hs) (t ∷ ts) θ p =
     let (ν, q, r) = bind-some (match_term h t θ) (match_terms hs ts) p in
-    terms-both (matchTerm-sound h t θ q) (match_terms-sound hs ts ν r)
+    terms-both (match_term-sound h t θ q) (match_terms-sound hs ts ν r)
 
 -- matching a head
-matchConstraint-sound :
+match_constraint-sound :
     (h c : Constraint) (θ : Assignment) {θ' : Assignment} → match_constraint h c θ ≡ some θ'
     → (h.symbol ≡ c.symbol) × TermsMatch h.terms c.terms θ θ'
 unfolding match_constraint
-matchConstraint-sound h c θ p =
+match_constraint-sound h c θ p =
     let (q, r) = cond-some (eqb h.symbol c.symbol) p in
     (eqb-equal q, match_terms-sound h.terms c.terms θ r)
 
@@ -226,7 +226,7 @@ match_at-sound (h ∷ hs) (q ∷ ps) cs chosen θ p =
     let (c, stands, b) =
     bind-some (get_elem? cs q) (λ c. bind (match_constraint h c θ) (match_at hs ps cs (chosen ++ (q ∷ [])))) a in
     let (ν, m, d) = bind-some (match_constraint h c θ) (match_at hs ps cs (chosen ++ (q ∷ []))) b in
-    let head = matchConstraint-sound h c θ m in
+    let head = match_constraint-sound h c θ m in
     let more = match_at-sound hs ps cs (chosen ++ (q ∷ [])) ν d in
     record {
       matched = c ∷ more.matched;
@@ -245,12 +245,12 @@ abbrev pub Agrees : Assignment → (ℕ → Term) → Type 0
 Agrees θ ϑ = (x : ℕ) (t : Term) → θ x ≡ some t → t ≡ ϑ x
 
 -- where the replacement makes a head's term t, matching answers, and the answer agrees with it again
-matchTerm-complete :
+match_term-complete :
     (ϑ : ℕ → Term) (h t : Term) (θ : Assignment) → Agrees θ ϑ → instantiate ϑ h ≡ t
     → (θ' : Assignment) × (match_term h t θ ≡ some θ') × Agrees θ' ϑ
 unfolding match_term
-matchTerm-complete ϑ (con c) t θ a p = (θ, rw (equal-same p), a)
-matchTerm-complete ϑ (var x) t θ a p = go (θ x) refl
+match_term-complete ϑ (con c) t θ a p = (θ, rw (equal-same p), a)
+match_term-complete ϑ (var x) t θ a p = go (θ x) refl
   where
     agrees :
         (y : ℕ) (u : Term) → Or ((x ≡ y) × (extend x t θ y ≡ some t)) (extend x t θ y ≡ θ y)
@@ -268,23 +268,23 @@ matchTerm-complete ϑ (var x) t θ a p = go (θ x) refl
     go (some u) f = (θ, rw (f, equal-same (a x u f ∙ p)), a)
 
 -- the same for lists of terms
-matchTerms-complete :
+match_terms-complete :
     (ϑ : ℕ → Term) {hs ts : List Term} (θ : Assignment) → Agrees θ ϑ → Pointwise (λ h t. instantiate ϑ h ≡ t) hs ts
     → (θ' : Assignment) × (match_terms hs ts θ ≡ some θ') × Agrees θ' ϑ
 unfolding match_terms
-matchTerms-complete ϑ θ a empty = (θ, refl, a)
-matchTerms-complete ϑ θ a (each {a = h} {b = t} p ps) =
-    let (ν, q, b) = matchTerm-complete ϑ h t θ a p in
-    let (θ', r, c) = matchTerms-complete ϑ ν b ps in
+match_terms-complete ϑ θ a empty = (θ, refl, a)
+match_terms-complete ϑ θ a (each {a = h} {b = t} p ps) =
+    let (ν, q, b) = match_term-complete ϑ h t θ a p in
+    let (θ', r, c) = match_terms-complete ϑ ν b ps in
     (θ', rw q r, c)
 
 -- the same for a head
-matchConstraint-complete :
+match_constraint-complete :
     (ϑ : ℕ → Term) (h c : Constraint) (θ : Assignment) → Agrees θ ϑ → ConstraintRel (λ s t. instantiate ϑ s ≡ t) h c
     → (θ' : Assignment) × (match_constraint h c θ ≡ some θ') × Agrees θ' ϑ
 unfolding match_constraint
-matchConstraint-complete ϑ h c θ a r =
-    let (θ', q, b) = matchTerms-complete ϑ θ a r.terms in
+match_constraint-complete ϑ h c θ a r =
+    let (θ', q, b) = match_terms-complete ϑ θ a r.terms in
     (θ', rw (equal-eqb r.symbols) q, b)
 
 -- where a replacement makes the heads the constraints at fresh positions, matching answers there
@@ -296,6 +296,6 @@ pub match_at-complete :
 unfolding match_at
 match_at-complete ϑ cs chosen θ a empty f empty = (θ, refl, a)
 match_at-complete ϑ cs chosen θ a (each {a = p} {b = c} s ss) f (each {a = h} r rs) =
-    let (ν, q, b) = matchConstraint-complete ϑ h c θ a r in
+    let (ν, q, b) = match_constraint-complete ϑ h c θ a r in
     let (θ', m, d) = match_at-complete ϑ cs (chosen ++ (p ∷ [])) ν b ss f.1 rs in
     (θ', rw (f.0, s, q) m, d)

@@ -117,6 +117,7 @@ zipped-right (each r p) z = behind (zipped-right p z)
 pub paired-zipped :
     {R : Term → Term → Type 0} {s t : Term} {hs M : List Constraint} → Pointwise (ConstraintRel R) hs M → Paired s t hs M
     → Zipped (lift s) (lift t) (flat (map lift_atom hs)) (flat (map lift_atom M))
+paired-zipped {R = R} {s = s} {t = t} empty x4 = elim x4 [ ]
 paired-zipped (each {l = hs} {m = M} r p) (in_first z) =
     zipped-left (flat (map lift_atom hs)) (flat (map lift_atom M)) (zipped_map lift lift z)
 paired-zipped (each r p) (in_rest z) =

@@ -139,6 +139,7 @@ member-unmap f (x ∷ l) (later i) = let h = member-unmap f l i in (h.0, later h
 
 -- what all elements have, each has; and conversely
 pub all-member : {A : Type 0} {P : A → Type 0} {a : A} {l : List A} → All P l → Member a l → P a
+all-member {A = A} {P = P} {a = a} none x3 = elim x3 [ ]
 all-member (also p ps) first = p
 all-member (also p ps) (later i) = all-member ps i
 

@@ -13,7 +13,7 @@ use lib.ListN.{length, get_elem?}
 use Rattle.semantics.specs.Terms.{Program}
 use Rattle.semantics.specs.Runs.{Before}
 use Rattle.semantics.specs.Overlaps.{Numbered, Overlap, overlap_of, overlaps}
-use Rattle.semantics.specs.Order.{IsOverlapOf, Earlier, by_first, by_second, byPartners, StrictTotalOrder}
+use Rattle.semantics.specs.Order.{IsOverlapOf, Earlier, by_first, by_second, by_partners, StrictTotalOrder}
 use Rattle.semantics.proofs.Precedence.{before-irreflexive, before-transitive, before-compare}
 use Rattle.semantics.proofs.Indices.{some-equal}
 use Rattle.semantics.proofs.Listings.{at-member, ascending-before}
@@ -51,18 +51,18 @@ partners-long p o u l k a =
 pub earlier-irreflexive : (o : Overlap) → Earlier o o → ⊥
 earlier-irreflexive o (by_first l) = omega arith
 earlier-irreflexive o (by_second e l) = omega arith
-earlier-irreflexive o (byPartners e f b) = before-irreflexive b
+earlier-irreflexive o (by_partners e f b) = before-irreflexive b
 
 pub earlier-transitive : (o u v : Overlap) → Earlier o u → Earlier u v → Earlier o v
 earlier-transitive o u v (by_first l) (by_first k) = by_first (omega arith)
 earlier-transitive o u v (by_first l) (by_second e k) = by_first (omega arith)
-earlier-transitive o u v (by_first l) (byPartners e f b) = by_first (omega arith)
+earlier-transitive o u v (by_first l) (by_partners e f b) = by_first (omega arith)
 earlier-transitive o u v (by_second e l) (by_first k) = by_first (omega arith)
 earlier-transitive o u v (by_second e l) (by_second f k) = by_second (e ∙ f) (omega arith)
-earlier-transitive o u v (by_second e l) (byPartners f g b) = by_second (e ∙ f) (omega arith)
-earlier-transitive o u v (byPartners e f b) (by_first k) = by_first (omega arith)
-earlier-transitive o u v (byPartners e f b) (by_second g k) = by_second (e ∙ g) (omega arith)
-earlier-transitive o u v (byPartners e f b) (byPartners g h c) = byPartners (e ∙ g) (f ∙ h) (before-transitive b c)
+earlier-transitive o u v (by_second e l) (by_partners f g b) = by_second (e ∙ f) (omega arith)
+earlier-transitive o u v (by_partners e f b) (by_first k) = by_first (omega arith)
+earlier-transitive o u v (by_partners e f b) (by_second g k) = by_second (e ∙ g) (omega arith)
+earlier-transitive o u v (by_partners e f b) (by_partners g h c) = by_partners (e ∙ g) (f ∙ h) (before-transitive b c)
 
 -- of two overlaps of a program one is earlier, or they are the same
 earlier-total : (p : Program) (o u : Overlap) → Listed p o → Listed p u → (o ≡ u) ⊎ (Earlier o u ⊎ Earlier u o)
@@ -74,8 +74,8 @@ earlier-total p o u l k =
         → (o.partners ≡ u.partners) ⊎ (Before o.partners u.partners ⊎ Before u.partners o.partners)
         → (o ≡ u) ⊎ (Earlier o u ⊎ Earlier u o)
     partners a b (inl e) = inl (same-overlap p o u l k a b e)
-    partners a b (inr (inl e)) = inr (inl (byPartners a b e))
-    partners a b (inr (inr e)) = inr (inr (byPartners (sym a) (sym b) e))
+    partners a b (inr (inl e)) = inr (inl (by_partners a b e))
+    partners a b (inr (inr e)) = inr (inr (by_partners (sym a) (sym b) e))
 
     seconds :
         o.first.number ≡ u.first.number → Dec (o.second.number < u.second.number)

@@ -123,11 +123,11 @@ second-cases q n free (suc k) ds h =
     in_section t (inl e) ih = inr (n, omega arith, t, eqb-equal e)
     in_section t (inr e) ih = weaken free (omega arith) (ih e)
 
-    atFree :
+    at_free :
         Or (eqb q free ≡ true) (has q (second_positions (suc n) (suc free) k ds) ≡ true)
         → (has q (second_positions (suc n) (suc free) k ds) ≡ true → Section (suc free) (suc n)) → Section free n
-    atFree (inl e) ih = let z : q ≡ free = eqb-equal e in inl (omega arith)
-    atFree (inr e) ih = weaken (suc free) (omega arith) (ih e)
+    at_free (inl e) ih = let z : q ≡ free = eqb-equal e in inl (omega arith)
+    at_free (inr e) ih = weaken (suc free) (omega arith) (ih e)
 
     go :
         Or (has n ds ≡ true) (has n ds ≡ false)
@@ -136,7 +136,7 @@ second-cases q n free (suc k) ds h =
     go (inl t) one two =
         in_section t (or_cases (eqb q (index_from (eqb n) 0 ds)) (has q (second_positions (suc n) free k ds)) (rw t at h)) one
     go (inr t) one two =
-        atFree (or_cases (eqb q free) (has q (second_positions (suc n) (suc free) k ds)) (rw t at h)) two
+        at_free (or_cases (eqb q free) (has q (second_positions (suc n) (suc free) k ds)) (rw t at h)) two
 
 -- the second side's positions are distinct
 second-distinct : (n free k : ℕ) (ds : List ℕ) → length ds ≤ free → Distinct (second_positions n free k ds)

@@ -149,17 +149,17 @@ pub constraint-inside :
 constraint-inside i v = record { symbols = v.symbols; terms = terms-inside i v.terms }
 
 -- two terms that are paired are made equal
-pairTerm-sound :
+pair_term-sound :
     (s t : Term) (ps qs : List Pair) → pair_term s t ps ≡ some qs → Grown ps qs × TermVariant (Paired qs) s t
 unfolding pair_term
-pairTerm-sound (con a) (con b) ps qs e =
+pair_term-sound (con a) (con b) ps qs e =
     let u = cond-some (eqb a b) e in
     let v : a ≡ b = eqb-equal u.0 in
     let w : ps ≡ qs = cc in
     (rw (← w) (grown-same ps), rw (← v) same_con)
-pairTerm-sound (con a) (var y) ps qs e = none-some refl e
-pairTerm-sound (var x) (con b) ps qs e = none-some refl e
-pairTerm-sound (var x) (var y) ps qs e = go (are_partners x y ps) refl (are_paired x y ps) refl e
+pair_term-sound (con a) (var y) ps qs e = none-some refl e
+pair_term-sound (var x) (con b) ps qs e = none-some refl e
+pair_term-sound (var x) (var y) ps qs e = go (are_partners x y ps) refl (are_paired x y ps) refl e
   where
     go :
         (s : Bool) → are_partners x y ps ≡ s → (t : Bool) → are_paired x y ps ≡ t
@@ -181,7 +181,7 @@ pair_terms-sound [] (t ∷ ts) ps qs e = none-some refl e
 pair_terms-sound (s ∷ ss) [] ps qs e = none-some refl e
 pair_terms-sound (s ∷ ss) (t ∷ ts) ps qs e =
     let u = bind-some (pair_term s t ps) (pair_terms ss ts) e in
-    let f = pairTerm-sound s t ps u.0 u.1 in
+    let f = pair_term-sound s t ps u.0 u.1 in
     let r = pair_terms-sound ss ts u.0 qs u.2 in
     (grown-chain f.0 r.0, each (term-inside r.0.holds f.1) r.1)
 
@@ -205,12 +205,12 @@ inside-pair ρ x y ps r i a b h = go (paired-cases a b (record { left = x; right
     go (inr u) = i a b u
 
 -- terms that a renaming makes equal are paired, inside that renaming
-pairTerm-complete :
+pair_term-complete :
     (ρ : ℕ → ℕ → Type 0) → OneToOne ρ → (s t : Term) (ps : List Pair) → Inside (Paired ps) ρ → TermVariant ρ s t
     → (qs : List Pair) × (pair_term s t ps ≡ some qs) × Inside (Paired qs) ρ
 unfolding pair_term
-pairTerm-complete ρ o s t ps i (same_con {c = c}) = (ps, rw (eqb_same c), i)
-pairTerm-complete ρ o s t ps i (partners {x = x} {y = y} r) = go (are_partners x y ps) refl (are_paired x y ps) refl
+pair_term-complete ρ o s t ps i (same_con {c = c}) = (ps, rw (eqb_same c), i)
+pair_term-complete ρ o s t ps i (partners {x = x} {y = y} r) = go (are_partners x y ps) refl (are_paired x y ps) refl
   where
     both : (a b : ℕ) → ρ a b → Or (a ≡ x) (b ≡ y) → (a ≡ x) × (b ≡ y)
     both a b h (inl e) = (e, o.0 x b y (rw e at h) r)
@@ -234,7 +234,7 @@ pub pair_terms-complete :
 unfolding pair_terms
 pair_terms-complete ρ o ss ts ps i empty = (ps, refl, i)
 pair_terms-complete ρ o ss ts ps i (each {a = s} {b = t} {l = l} {m = m} r rs) =
-    let f = pairTerm-complete ρ o s t ps i r in
+    let f = pair_term-complete ρ o s t ps i r in
     let g = pair_terms-complete ρ o l m f.0 f.2 rs in
     (g.0, rw f.1 g.1, g.2)
 

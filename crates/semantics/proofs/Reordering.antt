@@ -134,11 +134,11 @@ with_more more failed = failed
 with_more more (live next bound cs) = live next bound (cs ++ more bound)
 
 -- reordered states with more constraints
-withMore-reordered :
+with_more-reordered :
     (more : List Term → List Constraint) {s t : State} → Reordered s t → Reordered (with_more more s) (with_more more t)
 unfolding with_more
-withMore-reordered more both_failed = both_failed
-withMore-reordered more (reordered {bound = bound} m) =
+with_more-reordered more both_failed = both_failed
+with_more-reordered more (reordered {bound = bound} m) =
     reordered (multiset-append m (multiset-refl (λ c. refl) (more bound)))
 
 -- more constraints that follow what the goal variables become
@@ -201,7 +201,7 @@ fire-moves more r ps next bound cs ds t f e m =
             (body-behind (without 0 ps cs) (more bound) body (without 0 qs ds) n) in
             let one = fired-reordered r ps θ next bound cs (match_at-sound r.heads ps cs [] unassigned a) in
             let two = fired-reordered r qs θ next bound ds (match_at-sound r.heads qs ds [] unassigned c) in
-            let u = reordered-trans (withMore-reordered more one) (reordered-trans s (reordered-sym two)) in
+            let u = reordered-trans (with_more-reordered more one) (reordered-trans s (reordered-sym two)) in
             (qs, fired r qs θ next bound ds, rw c, rw q at u)
 
 -- no more constraints change nothing

@@ -51,10 +51,10 @@ unfolding match_at
 match_at-join f = rw (f.free, f.stands, f.fits) f.rest
 
 -- heads match at no fewer positions
-matchAt-few :
+match_at-few :
     (h : Constraint) (hs cs : List Constraint) (chosen : List ℕ) (θ : Assignment) → match_at (h ∷ hs) [] cs chosen θ ≡ none
 unfolding match_at
-matchAt-few h hs cs chosen θ = refl
+match_at-few h hs cs chosen θ = refl
 
 -- where the first answer over a list comes from: every earlier element has none
 pub record FirstAt {A : Type 0} (p : ℕ) (cs : List Constraint) (try : ℕ → Constraint → Option A) (a : A) : Type 0 where
@@ -215,7 +215,7 @@ found-join h hs cs chosen θ m f next free fits g = record {
     smallest :
         (qs : List ℕ) (end : Assignment) → match_at (h ∷ hs) qs cs chosen θ ≡ some end
         → Or (qs ≡ f.at ∷ g.positions) (Before (f.at ∷ g.positions) qs)
-    smallest [] end e = none-some (matchAt-few h hs cs chosen θ) e
+    smallest [] end e = none-some (match_at-few h hs cs chosen θ) e
     smallest (q ∷ qs) end e = by_order q qs end (match_at-cons h hs q qs cs chosen θ end e) (compared f.at q)
 
 -- what the search finds

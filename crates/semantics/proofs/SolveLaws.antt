@@ -136,6 +136,7 @@ solves-factor (further {ν = ν} u r) =
 -- each equation holds under the answer
 solves-joins :
     {es : List Equation} {σ τ : Term → Term} → Solves es σ τ → {e : Equation} → Member e es → τ e.left ≡ τ e.right
+solves-joins (solved {σ = σ}) {e = e} x5 = elim x5 [ ]
 solves-joins (further {e = e} u r) first =
     let (ρ, f, h) = solves-factor r in
     h e.left ∙ ap ρ u.joins ∙ sym (h e.right)

@@ -151,12 +151,12 @@ enough-tried t n r rs cs enough = go (decide (is_short t r.heads))
     go (inr e) = rw e
 
 -- the choice among rules with a tally that equals a fresh count is that of the full search
-chooseFrom-tally :
+choose_from-tally :
     (t : Tally) (n : ℕ) (rs : List Rule) (cs : List Constraint) → ((s : ℕ) → t s ≡ tally_of cs s)
     → choose_from_by t n rs cs ≡ choose_from n rs cs
 unfolding choose_from_by choose_from
-chooseFrom-tally t n [] cs counts = refl
-chooseFrom-tally t n (r ∷ rs) cs counts = rw (chooseFrom-tally t (suc n) rs cs counts) (go (decide (is_short t r.heads)))
+choose_from-tally t n [] cs counts = refl
+choose_from-tally t n (r ∷ rs) cs counts = rw (choose_from-tally t (suc n) rs cs counts) (go (decide (is_short t r.heads)))
   where
     more : Option Choice
     more = choose_from (suc n) rs cs
@@ -172,7 +172,7 @@ chooseFrom-tally t n (r ∷ rs) cs counts = rw (chooseFrom-tally t (suc n) rs cs
 pub tally-chooses :
     (t : Tally) (rs : List Rule) (cs : List Constraint) → ((s : ℕ) → t s ≡ tally_of cs s) → choose_by t rs cs ≡ choose rs cs
 unfolding choose_by choose
-tally-chooses t rs cs = chooseFrom-tally t 0 rs cs
+tally-chooses t rs cs = choose_from-tally t 0 rs cs
 
 -- the tally after an entry
 pub entry-tally : (t : Tally) (c : Constraint) (s : State) → Counts t s → Counts (raised c t) (taken c s)

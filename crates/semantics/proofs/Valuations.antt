@@ -29,6 +29,7 @@ use Rattle.semantics.proofs.SolveLaws.{Solution, solve-solution, solve-clash}
 -- each of the equations holds; and where each does, all do
 pub hold-member :
     {α : ℕ → ℕ} {e : Equation} {es : List Equation} → Hold α es → Member e es → value α e.left ≡ value α e.right
+hold-member {α = α} {e = e} all x3 = elim x3 [ ]
 hold-member (and p h) first = p
 hold-member (and p h) (later i) = hold-member h i
 

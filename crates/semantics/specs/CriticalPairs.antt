@@ -37,7 +37,7 @@ rights js = map (λ j. j.right) js
 -- no head twice
 pub data Joints (m n : ℕ) : ℕ → List Joint → Type 0 where
   no_more : {k : ℕ} → Joints m n k []
-  oneMore :
+  one_more :
       {k : ℕ} {j : Joint} {js : List Joint} → k ≤ j.left → j.left < m → j.right < n → has j.right (rights js) ≡ false
       → Joints m n (suc j.left) js → Joints m n k (j ∷ js)
 

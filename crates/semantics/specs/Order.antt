@@ -20,7 +20,7 @@ IsOverlapOf p o = (n : ℕ) × (get_elem? (overlaps p) n ≡ some o)
 pub data Earlier (o u : Overlap) : Type 0 where
   by_first : o.first.number < u.first.number → Earlier o u
   by_second : o.first.number ≡ u.first.number → o.second.number < u.second.number → Earlier o u
-  byPartners :
+  by_partners :
       o.first.number ≡ u.first.number → o.second.number ≡ u.second.number → Before o.partners u.partners
       → Earlier o u
 

@@ -62,13 +62,13 @@ pub record Satisfiable (es : List Equation) : Type 0 where
 -- the equations between two lists of terms, and between two lists of constraints: c(t1, …) ≐ c(s1, …) is t1 ≐ s1 and so on
 pub data Equated : List Term → List Term → List Equation → Type 0 where
   no_terms : Equated [] [] []
-  oneMore :
+  one_more :
       {s t : Term} {ss ts : List Term} {es : List Equation} → Equated ss ts es
       → Equated (s ∷ ss) (t ∷ ts) (record { left = s; right = t } ∷ es)
 
 pub data EquatedAll : List Constraint → List Constraint → List Equation → Type 0 where
   no_constraints : EquatedAll [] [] []
-  oneMore :
+  one_more :
       {c d : Constraint} {cs ds : List Constraint} {es fs : List Equation} → c.symbol ≡ d.symbol
       → Equated c.terms d.terms es → EquatedAll cs ds fs → EquatedAll (c ∷ cs) (d ∷ ds) (es ++ fs)
 

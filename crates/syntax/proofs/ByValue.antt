@@ -27,7 +27,7 @@ use Rattle.semantics.proofs.Configurations as C
 use Rattle.semantics.proofs.Multisets.{all_append, all-mono}
 use Rattle.semantics.proofs.Indices.{index_from-hit, index_from-miss}
 use Rattle.syntax.specs.Answers.{Answer, refused, accepted}
-use Rattle.syntax.specs.Forms.{Form, symbolForm, ruleForm, keptForm, headForm, bodyForm, equationForm, goalForm, noForm}
+use Rattle.syntax.specs.Forms.{Form, symbol_form, rule_form, kept_form, head_form, body_form, equation_form, goal_form, no_form}
 use Rattle.syntax.specs.Forms.{form_of, Section, section_after, field_at, constants_after, first_constant, term_of, letter_number}
 use Rattle.syntax.specs.Forms.{is_symbol_faulty, is_rule_faulty, is_equation_faulty}
 use Rattle.syntax.specs.Programs.{Draft, Reading, blank, in_section, last_rule, with_rule}
@@ -330,20 +330,20 @@ equation-grows n fs d =
 form-grows :
     (form : Form) (n : ℕ) (fs : List (List ℕ)) (d : Draft) → Holds (GrowsTo d (term_fields form fs)) (read_form form n fs d)
 unfolding read_form read_symbol read_rule term_fields
-form-grows symbolForm n fs d =
+form-grows symbol_form n fs d =
     holds-refuse_if (GrowsTo d []) (is_symbol_faulty fs) 4 n _
     λ _. holds-refuse_if (GrowsTo d []) (is_known (field_at 1 fs) (map (λ s. s.name) d.symbols)) 5 n _
     λ _. holds-refuse_if (GrowsTo d []) (leb max_symbols (length d.symbols)) 7 n _ λ _. grows_none d.constants
-form-grows ruleForm n fs d =
+form-grows rule_form n fs d =
     holds-refuse_if (GrowsTo d []) (is_rule_faulty fs) 4 n _
     λ _. holds-refuse_if (GrowsTo d []) (is_known (field_at 1 fs) (map (λ r. r.rule.name) d.rules)) 5 n _
     λ _. holds-refuse_if (GrowsTo d []) (leb max_rules (length d.rules)) 7 n _ λ _. grows_none d.constants
-form-grows keptForm n fs d = constraint-grows _ _ _ n fs d
-form-grows headForm n fs d = constraint-grows _ _ _ n fs d
-form-grows bodyForm n fs d = constraint-grows _ _ _ n fs d
-form-grows equationForm n fs d = equation-grows n fs d
-form-grows goalForm n fs d = tt
-form-grows noForm n fs d = tt
+form-grows kept_form n fs d = constraint-grows _ _ _ n fs d
+form-grows head_form n fs d = constraint-grows _ _ _ n fs d
+form-grows body_form n fs d = constraint-grows _ _ _ n fs d
+form-grows equation_form n fs d = equation-grows n fs d
+form-grows goal_form n fs d = tt
+form-grows no_form n fs d = tt
 
 -- the term fields of a line
 abbrev line_terms : Line → List (List ℕ)
@@ -380,14 +380,14 @@ read-grows s e =
 -- each line of a goal
 goal-form : (form : Form) (fs : List (List ℕ)) → not (is_goal_form form) ≡ false → term_fields form fs ≡ drop 2 fs
 unfolding is_goal_form term_fields
-goal-form symbolForm fs h = absurd (never h)
-goal-form ruleForm fs h = absurd (never h)
-goal-form keptForm fs h = refl
-goal-form headForm fs h = refl
-goal-form bodyForm fs h = refl
-goal-form equationForm fs h = absurd (never h)
-goal-form goalForm fs h = refl
-goal-form noForm fs h = absurd (never h)
+goal-form symbol_form fs h = absurd (never h)
+goal-form rule_form fs h = absurd (never h)
+goal-form kept_form fs h = refl
+goal-form head_form fs h = refl
+goal-form body_form fs h = refl
+goal-form equation_form fs h = absurd (never h)
+goal-form goal_form fs h = refl
+goal-form no_form fs h = absurd (never h)
 
 abbrev GoalGrowsTo : GoalDraft → List (List ℕ) → GoalDraft → Type 0
 GoalGrowsTo d gs e = Grows d.constants gs e.constants

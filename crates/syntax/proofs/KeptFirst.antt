@@ -15,8 +15,8 @@ use Rattle.text.specs.Fields.{fields}
 use Rattle.semantics.specs.Terms.{Constraint, Rule}
 use Rattle.semantics.proofs.Options.{none-some}
 use Rattle.syntax.specs.Answers.{Answer, refused, accepted, and_then}
-use Rattle.syntax.specs.Forms.{Form, symbolForm, ruleForm, keptForm, headForm, bodyForm, equationForm, goalForm, noForm}
-use Rattle.syntax.specs.Forms.{form_of, Section, inSymbols, inKept, inHeads, in_body, inEquations, section_after, field_at}
+use Rattle.syntax.specs.Forms.{Form, symbol_form, rule_form, kept_form, head_form, body_form, equation_form, goal_form, no_form}
+use Rattle.syntax.specs.Forms.{form_of, Section, in_symbols, in_kept, in_heads, in_body, in_equations, section_after, field_at}
 use Rattle.syntax.specs.Forms.{constants_after, letter_number, is_symbol_faulty, is_rule_faulty, is_equation_faulty}
 use Rattle.syntax.specs.Programs.{Draft, RuleRead, Found, blank, in_section, on_last, last_rule, with_kept, with_head, with_body}
 use Rattle.syntax.specs.Programs.{with_rule, read_symbol, read_rule, constraint_line, read_constraint, read_equation}
@@ -30,7 +30,7 @@ AllKept r = r.kept ≡ length r.heads
 
 -- where a J line may stand, all heads of the last rule are
 abbrev KeptFirst : Draft → Type 0
-KeptFirst d = d.section ≡ inKept → AllKept (last_rule d.rules)
+KeptFirst d = d.section ≡ in_kept → AllKept (last_rule d.rules)
 
 -- the last rule behind others, and the last one changed
 last-rule : (rs : List RuleRead) (r : RuleRead) → last_rule (rs ++ (r ∷ [])) ≡ r.rule
@@ -47,49 +47,49 @@ last-changed c (r ∷ q ∷ []) h = simp length-append (omega (arith, h))
 last-changed c (r ∷ q ∷ p ∷ rs) h = last-changed c (q ∷ p ∷ rs) h
 
 -- J lines stand only where J lines may, and only R and J lines lead there
-kept-before : (s : Section) {t : Section} → section_after keptForm s ≡ some t → s ≡ inKept
+kept-before : (s : Section) {t : Section} → section_after kept_form s ≡ some t → s ≡ in_kept
 unfolding section_after
-kept-before inSymbols e = none-some refl e
-kept-before inKept e = refl
-kept-before inHeads e = none-some refl e
+kept-before in_symbols e = none-some refl e
+kept-before in_kept e = refl
+kept-before in_heads e = none-some refl e
 kept-before in_body e = none-some refl e
-kept-before inEquations e = none-some refl e
+kept-before in_equations e = none-some refl e
 
 -- a form leads elsewhere
 abbrev Elsewhere : Form → Type 0
-Elsewhere form = (s t : Section) → section_after form s ≡ some t → t ≡ inKept → ⊥
+Elsewhere form = (s t : Section) → section_after form s ≡ some t → t ≡ in_kept → ⊥
 
-symbols-elsewhere : Elsewhere symbolForm
+symbols-elsewhere : Elsewhere symbol_form
 unfolding section_after
-symbols-elsewhere inSymbols t e k = let z : ◌≡◌ {A = ℕ} 0 1 = cc in absurd (omega arith)
-symbols-elsewhere inKept t e k = none-some refl e
-symbols-elsewhere inHeads t e k = none-some refl e
+symbols-elsewhere in_symbols t e k = let z : ◌≡◌ {A = ℕ} 0 1 = cc in absurd (omega arith)
+symbols-elsewhere in_kept t e k = none-some refl e
+symbols-elsewhere in_heads t e k = none-some refl e
 symbols-elsewhere in_body t e k = none-some refl e
-symbols-elsewhere inEquations t e k = none-some refl e
+symbols-elsewhere in_equations t e k = none-some refl e
 
-heads-elsewhere : Elsewhere headForm
+heads-elsewhere : Elsewhere head_form
 unfolding section_after
-heads-elsewhere inSymbols t e k = none-some refl e
-heads-elsewhere inKept t e k = let z : ◌≡◌ {A = ℕ} 0 1 = cc in absurd (omega arith)
-heads-elsewhere inHeads t e k = let z : ◌≡◌ {A = ℕ} 0 1 = cc in absurd (omega arith)
+heads-elsewhere in_symbols t e k = none-some refl e
+heads-elsewhere in_kept t e k = let z : ◌≡◌ {A = ℕ} 0 1 = cc in absurd (omega arith)
+heads-elsewhere in_heads t e k = let z : ◌≡◌ {A = ℕ} 0 1 = cc in absurd (omega arith)
 heads-elsewhere in_body t e k = none-some refl e
-heads-elsewhere inEquations t e k = none-some refl e
+heads-elsewhere in_equations t e k = none-some refl e
 
-body-elsewhere : Elsewhere bodyForm
+body-elsewhere : Elsewhere body_form
 unfolding section_after
-body-elsewhere inSymbols t e k = none-some refl e
-body-elsewhere inKept t e k = let z : ◌≡◌ {A = ℕ} 0 1 = cc in absurd (omega arith)
-body-elsewhere inHeads t e k = let z : ◌≡◌ {A = ℕ} 0 1 = cc in absurd (omega arith)
+body-elsewhere in_symbols t e k = none-some refl e
+body-elsewhere in_kept t e k = let z : ◌≡◌ {A = ℕ} 0 1 = cc in absurd (omega arith)
+body-elsewhere in_heads t e k = let z : ◌≡◌ {A = ℕ} 0 1 = cc in absurd (omega arith)
 body-elsewhere in_body t e k = let z : ◌≡◌ {A = ℕ} 0 1 = cc in absurd (omega arith)
-body-elsewhere inEquations t e k = none-some refl e
+body-elsewhere in_equations t e k = none-some refl e
 
-equations-elsewhere : Elsewhere equationForm
+equations-elsewhere : Elsewhere equation_form
 unfolding section_after
-equations-elsewhere inSymbols t e k = none-some refl e
-equations-elsewhere inKept t e k = let z : ◌≡◌ {A = ℕ} 0 1 = cc in absurd (omega arith)
-equations-elsewhere inHeads t e k = let z : ◌≡◌ {A = ℕ} 0 1 = cc in absurd (omega arith)
+equations-elsewhere in_symbols t e k = none-some refl e
+equations-elsewhere in_kept t e k = let z : ◌≡◌ {A = ℕ} 0 1 = cc in absurd (omega arith)
+equations-elsewhere in_heads t e k = let z : ◌≡◌ {A = ℕ} 0 1 = cc in absurd (omega arith)
 equations-elsewhere in_body t e k = let z : ◌≡◌ {A = ℕ} 0 1 = cc in absurd (omega arith)
-equations-elsewhere inEquations t e k = let z : ◌≡◌ {A = ℕ} 0 1 = cc in absurd (omega arith)
+equations-elsewhere in_equations t e k = let z : ◌≡◌ {A = ℕ} 0 1 = cc in absurd (omega arith)
 
 -- a J, H or B line, whose constraint and constants may be any
 constraint-kept :
@@ -109,29 +109,29 @@ form-kept :
     (form : Form) (n : ℕ) (fs : List (List ℕ)) (d : Draft) (t : Section) → section_after form d.section ≡ some t
     → KeptFirst d → Holds KeptFirst (read_form form n fs (in_section t d))
 unfolding read_form read_symbol read_rule read_equation in_section with_rule
-form-kept symbolForm n fs d t e h =
+form-kept symbol_form n fs d t e h =
     holds-refuse_if KeptFirst (is_symbol_faulty fs) 4 n _
     λ _. holds-refuse_if KeptFirst (is_known (field_at 1 fs) (map (λ s. s.name) d.symbols)) 5 n _
     λ _. holds-refuse_if KeptFirst (leb max_symbols (length d.symbols)) 7 n _
     λ _ k. absurd (symbols-elsewhere d.section t e k)
-form-kept ruleForm n fs d t e h =
+form-kept rule_form n fs d t e h =
     holds-refuse_if KeptFirst (is_rule_faulty fs) 4 n _
     λ _. holds-refuse_if KeptFirst (is_known (field_at 1 fs) (map (λ r. r.rule.name) d.rules)) 5 n _
     λ _. holds-refuse_if KeptFirst (leb max_rules (length d.rules)) 7 n _ λ _ k. rw (last-rule d.rules) refl
-form-kept keptForm n fs d t e h =
+form-kept kept_form n fs d t e h =
     constraint-kept KeptFirst _ _ with_kept n fs _ (λ c l k. last-changed c d.rules (h (kept-before d.section e)))
-form-kept headForm n fs d t e h =
+form-kept head_form n fs d t e h =
     constraint-kept KeptFirst _ _ with_head n fs _ (λ c l k. absurd (heads-elsewhere d.section t e k))
-form-kept bodyForm n fs d t e h =
+form-kept body_form n fs d t e h =
     constraint-kept KeptFirst _ _ with_body n fs _ (λ c l k. absurd (body-elsewhere d.section t e k))
-form-kept equationForm n fs d t e h =
+form-kept equation_form n fs d t e h =
     let constants = constants_after (drop 1 fs) d.constants in
     holds-refuse_if KeptFirst (is_equation_faulty fs) 4 n _
     λ _. holds-refuse_if KeptFirst
     (leb max_equations (length (last_rule d.rules).equations) || ltb max_constants (length constants)) 7 n _
     λ _ k. absurd (equations-elsewhere d.section t e k)
-form-kept goalForm n fs d t e h = tt
-form-kept noForm n fs d t e h = tt
+form-kept goal_form n fs d t e h = tt
+form-kept no_form n fs d t e h = tt
 
 fields-kept : (n : ℕ) (fs : List (List ℕ)) (d : Draft) → KeptFirst d → Holds KeptFirst (read_fields n fs d)
 unfolding read_fields
@@ -152,7 +152,7 @@ lines-kept n d (l ∷ ls) h =
 
 -- behind any lines of a program, where a J line may stand all heads of the rule are kept
 pub kept-first :
-    (ls : List Line) (d : Draft) → read_lines 1 blank ls ≡ accepted d → d.section ≡ inKept
+    (ls : List Line) (d : Draft) → read_lines 1 blank ls ≡ accepted d → d.section ≡ in_kept
     → (last_rule d.rules).kept ≡ length (last_rule d.rules).heads
 unfolding blank last_rule
 kept-first ls d e = holds-accepted KeptFirst (read_lines 1 blank ls) (lines-kept 1 blank ls (λ k. refl)) e

@@ -25,7 +25,7 @@ use Rattle.semantics.proofs.Configurations as C
 use Rattle.semantics.proofs.Multisets.{all-mono, all_append, all_map}
 use Rattle.semantics.proofs.Vocabulary.{TermOver, ConstraintOver, RuleOver}
 use Rattle.syntax.specs.Answers.{Answer, refused, accepted}
-use Rattle.syntax.specs.Forms.{Form, symbolForm, ruleForm, keptForm, headForm, bodyForm, equationForm, goalForm, noForm}
+use Rattle.syntax.specs.Forms.{Form, symbol_form, rule_form, kept_form, head_form, body_form, equation_form, goal_form, no_form}
 use Rattle.syntax.specs.Forms.{form_of, Section, section_after, field_at, constants_after, first_constant, term_of}
 use Rattle.syntax.specs.Forms.{letter_number, is_symbol_faulty, is_rule_faulty, is_equation_faulty, constraint_of}
 use Rattle.syntax.specs.Programs.{Draft, RuleRead, Reading, Found, blank, in_section, on_last, last_rule, with_kept, with_head}
@@ -116,13 +116,13 @@ unfolding constraint_of
 constraint-over symbols variable fs before = all_map _ (fields-over variable (drop 2 fs) before)
 
 -- the last rule is changed, and the others stay
-all-onLast :
+all-on_last :
     (P : Rule → Type 0) (f : Rule → Rule) (rs : List RuleRead) → (P (last_rule rs) → P (f (last_rule rs)))
     → All (λ r. P r.rule) rs → All (λ r. P r.rule) (on_last f rs)
 unfolding on_last last_rule
-all-onLast P f [] k C.none = C.none
-all-onLast P f (r ∷ []) k (also h C.none) = also (k h) C.none
-all-onLast P f (r ∷ q ∷ rs) k (also h more) = also h (all-onLast P f (q ∷ rs) k more)
+all-on_last P f [] k C.none = C.none
+all-on_last P f (r ∷ []) k (also h C.none) = also (k h) C.none
+all-on_last P f (r ∷ q ∷ rs) k (also h more) = also h (all-on_last P f (q ∷ rs) k more)
 
 -- a draft within the limits
 pub record Small (d : Draft) : Type 0 where
@@ -209,7 +209,7 @@ change-small f constants d s least most k =
       few-rules = rw (length-on_last f d.rules) s.few-rules;
       few-constants = most;
       symbols = s.symbols;
-      rules = all-onLast (RuleSmall (length constants)) f d.rules k (all-mono (λ r. rule-more least r.rule) s.rules);
+      rules = all-on_last (RuleSmall (length constants)) f d.rules k (all-mono (λ r. rule-more least r.rule) s.rules);
     }
 
 -- what a J, H or B line finds, over the constants after it
@@ -308,17 +308,17 @@ equation-small n fs d s =
 
 form_small : (form : Form) (n : ℕ) (fs : List (List ℕ)) (d : Draft) → Small d → Holds Small (read_form form n fs d)
 unfolding read_form
-form_small symbolForm n fs d s = symbol-small n fs d s
-form_small ruleForm n fs d s = rule-small n fs d s
-form_small keptForm n fs d s =
+form_small symbol_form n fs d s = symbol-small n fs d s
+form_small rule_form n fs d s = rule-small n fs d s
+form_small kept_form n fs d s =
     constraint-small (length (last_rule d.rules).heads) 4 with_kept n fs d s (λ k c. kept_small k c (last_rule d.rules))
-form_small headForm n fs d s =
+form_small head_form n fs d s =
     constraint-small (length (last_rule d.rules).heads) 4 with_head n fs d s (λ k c. head_small k c (last_rule d.rules))
-form_small bodyForm n fs d s =
+form_small body_form n fs d s =
     constraint-small (length (last_rule d.rules).body) 6 with_body n fs d s (λ k c. body-small k c (last_rule d.rules))
-form_small equationForm n fs d s = equation-small n fs d s
-form_small goalForm n fs d s = tt
-form_small noForm n fs d s = tt
+form_small equation_form n fs d s = equation-small n fs d s
+form_small goal_form n fs d s = tt
+form_small no_form n fs d s = tt
 
 moved-small : (section : Section) (d : Draft) → Small d → Small (in_section section d)
 unfolding in_section

@@ -21,8 +21,8 @@ use Rattle.semantics.specs.Terms.{con, var, Constraint, Equation, Symbol, Rule, 
 use Rattle.semantics.specs.Terms.{is_declared, is_below, alphabet, is_of_rule, is_rule_of, is_well_formed, symbol_at}
 use Rattle.semantics.proofs.Options.{true-false, true-T, T_true, none-some}
 use Rattle.syntax.specs.Answers.{Answer, refused, accepted, refuse_if, and_then}
-use Rattle.syntax.specs.Forms.{Form, symbolForm, ruleForm, keptForm, headForm, bodyForm, equationForm, goalForm, noForm}
-use Rattle.syntax.specs.Forms.{form_of, Section, inSymbols, inKept, inHeads, in_body, inEquations, section_after, field_at}
+use Rattle.syntax.specs.Forms.{Form, symbol_form, rule_form, kept_form, head_form, body_form, equation_form, goal_form, no_form}
+use Rattle.syntax.specs.Forms.{form_of, Section, in_symbols, in_kept, in_heads, in_body, in_equations, section_after, field_at}
 use Rattle.syntax.specs.Forms.{constants_after}
 use Rattle.syntax.specs.Forms.{term_of, letter_number, is_symbol_faulty, is_rule_faulty, is_equation_faulty, is_constraint_faulty}
 use Rattle.syntax.specs.Forms.{is_undeclared, symbol_number, constraint_of}
@@ -148,15 +148,15 @@ over-equation symbols k q r p =
     and_both (and_both h b) (every-both _ r.equations (k ∷ []) e (and_both q refl))
 
 -- changing the last rule keeps a test that the change keeps
-every-onLast :
+every-on_last :
     (t : Rule → Bool) (f : Rule → Rule) (rs : List RuleRead) → ((r : Rule) → t r ≡ true → t (f r) ≡ true)
     → every (λ r. t r.rule) rs ≡ true → every (λ r. t r.rule) (on_last f rs) ≡ true
 unfolding on_last
-every-onLast t f [] k p = p
-every-onLast t f (r ∷ []) k p = and_both (k r.rule (and-true (t r.rule) true p).0) refl
-every-onLast t f (r ∷ q ∷ rs) k p =
+every-on_last t f [] k p = p
+every-on_last t f (r ∷ []) k p = and_both (k r.rule (and-true (t r.rule) true p).0) refl
+every-on_last t f (r ∷ q ∷ rs) k p =
     let h = and-true (t r.rule) (every (λ r. t r.rule) (q ∷ rs)) p in
-    and_both h.0 (every-onLast t f (q ∷ rs) k h.1)
+    and_both h.0 (every-on_last t f (q ∷ rs) k h.1)
 
 pub length-on_last : (f : Rule → Rule) (rs : List RuleRead) → length (on_last f rs) ≡ length rs
 unfolding on_last
@@ -166,7 +166,7 @@ length-on_last f (r ∷ q ∷ rs) = ap suc (length-on_last f (q ∷ rs))
 
 -- a draft whose rules are over its symbols, and which has none while symbols are still declared
 record Sound (d : Draft) : Type 0 where
-  before : d.section ≡ inSymbols → d.rules ≡ []
+  before : d.section ≡ in_symbols → d.rules ≡ []
   over : every (λ r. is_over d.symbols r.rule) d.rules ≡ true
 
 blank-sound : Sound blank
@@ -174,42 +174,42 @@ unfolding blank
 blank-sound = record { before = λ _. refl; over = refl }
 
 -- a K line stands among the K lines
-symbol-section : (section after : Section) → section_after symbolForm section ≡ some after → section ≡ inSymbols
+symbol-section : (section after : Section) → section_after symbol_form section ≡ some after → section ≡ in_symbols
 unfolding section_after
-symbol-section inSymbols after e = refl
-symbol-section inKept after e = none-some refl e
-symbol-section inHeads after e = none-some refl e
+symbol-section in_symbols after e = refl
+symbol-section in_kept after e = none-some refl e
+symbol-section in_heads after e = none-some refl e
 symbol-section in_body after e = none-some refl e
-symbol-section inEquations after e = none-some refl e
+symbol-section in_equations after e = none-some refl e
 
 -- a rule's lines stand in a rule
-rule-section : (form : Form) (section after : Section) → section_after form section ≡ some after → (form ≡ symbolForm → ⊥)
-    → after ≡ inSymbols → ⊥
+rule-section : (form : Form) (section after : Section) → section_after form section ≡ some after → (form ≡ symbol_form → ⊥)
+    → after ≡ in_symbols → ⊥
 unfolding section_after
-rule-section symbolForm section after e n k = n refl
-rule-section ruleForm section after e n k = let z : ◌≡◌ {A = ℕ} 0 1 = cc in omega arith
-rule-section keptForm inSymbols after e n k = none-some refl e
-rule-section keptForm inKept after e n k = let z : ◌≡◌ {A = ℕ} 0 1 = cc in omega arith
-rule-section keptForm inHeads after e n k = none-some refl e
-rule-section keptForm in_body after e n k = none-some refl e
-rule-section keptForm inEquations after e n k = none-some refl e
-rule-section headForm inSymbols after e n k = none-some refl e
-rule-section headForm inKept after e n k = let z : ◌≡◌ {A = ℕ} 0 1 = cc in omega arith
-rule-section headForm inHeads after e n k = let z : ◌≡◌ {A = ℕ} 0 1 = cc in omega arith
-rule-section headForm in_body after e n k = none-some refl e
-rule-section headForm inEquations after e n k = none-some refl e
-rule-section bodyForm inSymbols after e n k = none-some refl e
-rule-section bodyForm inKept after e n k = let z : ◌≡◌ {A = ℕ} 0 1 = cc in omega arith
-rule-section bodyForm inHeads after e n k = let z : ◌≡◌ {A = ℕ} 0 1 = cc in omega arith
-rule-section bodyForm in_body after e n k = let z : ◌≡◌ {A = ℕ} 0 1 = cc in omega arith
-rule-section bodyForm inEquations after e n k = none-some refl e
-rule-section equationForm inSymbols after e n k = none-some refl e
-rule-section equationForm inKept after e n k = let z : ◌≡◌ {A = ℕ} 0 1 = cc in omega arith
-rule-section equationForm inHeads after e n k = let z : ◌≡◌ {A = ℕ} 0 1 = cc in omega arith
-rule-section equationForm in_body after e n k = let z : ◌≡◌ {A = ℕ} 0 1 = cc in omega arith
-rule-section equationForm inEquations after e n k = let z : ◌≡◌ {A = ℕ} 0 1 = cc in omega arith
-rule-section goalForm section after e n k = none-some refl e
-rule-section noForm section after e n k = none-some refl e
+rule-section symbol_form section after e n k = n refl
+rule-section rule_form section after e n k = let z : ◌≡◌ {A = ℕ} 0 1 = cc in omega arith
+rule-section kept_form in_symbols after e n k = none-some refl e
+rule-section kept_form in_kept after e n k = let z : ◌≡◌ {A = ℕ} 0 1 = cc in omega arith
+rule-section kept_form in_heads after e n k = none-some refl e
+rule-section kept_form in_body after e n k = none-some refl e
+rule-section kept_form in_equations after e n k = none-some refl e
+rule-section head_form in_symbols after e n k = none-some refl e
+rule-section head_form in_kept after e n k = let z : ◌≡◌ {A = ℕ} 0 1 = cc in omega arith
+rule-section head_form in_heads after e n k = let z : ◌≡◌ {A = ℕ} 0 1 = cc in omega arith
+rule-section head_form in_body after e n k = none-some refl e
+rule-section head_form in_equations after e n k = none-some refl e
+rule-section body_form in_symbols after e n k = none-some refl e
+rule-section body_form in_kept after e n k = let z : ◌≡◌ {A = ℕ} 0 1 = cc in omega arith
+rule-section body_form in_heads after e n k = let z : ◌≡◌ {A = ℕ} 0 1 = cc in omega arith
+rule-section body_form in_body after e n k = let z : ◌≡◌ {A = ℕ} 0 1 = cc in omega arith
+rule-section body_form in_equations after e n k = none-some refl e
+rule-section equation_form in_symbols after e n k = none-some refl e
+rule-section equation_form in_kept after e n k = let z : ◌≡◌ {A = ℕ} 0 1 = cc in omega arith
+rule-section equation_form in_heads after e n k = let z : ◌≡◌ {A = ℕ} 0 1 = cc in omega arith
+rule-section equation_form in_body after e n k = let z : ◌≡◌ {A = ℕ} 0 1 = cc in omega arith
+rule-section equation_form in_equations after e n k = let z : ◌≡◌ {A = ℕ} 0 1 = cc in omega arith
+rule-section goal_form section after e n k = none-some refl e
+rule-section no_form section after e n k = none-some refl e
 
 -- each line keeps a draft sound
 symbol-sound : (n : ℕ) (fs : List (List ℕ)) (d : Draft) → d.rules ≡ [] → Holds Sound (read_symbol n fs d)
@@ -219,7 +219,7 @@ symbol-sound n fs d e =
     λ _. holds-refuse_if Sound (is_known (field_at 1 fs) (map (λ s. s.name) d.symbols)) 5 n _
     λ _. holds-refuse_if Sound (leb max_symbols (length d.symbols)) 7 n _ λ _. record { before = λ _. e; over = rw e refl }
 
-rule-sound : (n : ℕ) (fs : List (List ℕ)) (d : Draft) → Sound d → (d.section ≡ inSymbols → ⊥) → Holds Sound (read_rule n fs d)
+rule-sound : (n : ℕ) (fs : List (List ℕ)) (d : Draft) → Sound d → (d.section ≡ in_symbols → ⊥) → Holds Sound (read_rule n fs d)
 unfolding read_rule
 rule-sound n fs d s o =
     holds-refuse_if Sound (is_rule_faulty fs) 4 n _
@@ -251,7 +251,7 @@ holds-constraint_line P full symbols variable constants n fs k =
 
 constraint-sound :
     (count most : ℕ) (add : Constraint → Rule → Rule) (n : ℕ) (fs : List (List ℕ)) (d : Draft) → Sound d
-    → (d.section ≡ inSymbols → ⊥)
+    → (d.section ≡ in_symbols → ⊥)
     → ((c : Constraint) → is_of_rule d.symbols c ≡ true → (r : Rule) → is_over d.symbols r ≡ true
     → is_over d.symbols (add c r) ≡ true)
     → Holds Sound (read_constraint count most add n fs d)
@@ -263,7 +263,7 @@ constraint-sound count most add n fs d s o k =
     λ a b _ _. constraint-of_rule d.symbols (constants_after (drop 2 fs) d.constants) fs a b)
     λ found _ h. record {
       before = λ q. absurd (o q);
-      over = every-onLast (is_over d.symbols) _ d.rules (k found.constraint h) s.over;
+      over = every-on_last (is_over d.symbols) _ d.rules (k found.constraint h) s.over;
     }
 
 -- the two sides of an equation, by their fields
@@ -281,7 +281,7 @@ sides-below constants (a ∷ b ∷ c ∷ fs) e =
     let k = and-true (is_term c) (every is_term fs) h.1 in
     rw (term-below constants b h.0, term-below constants c k.0)
 
-equation-sound : (n : ℕ) (fs : List (List ℕ)) (d : Draft) → Sound d → (d.section ≡ inSymbols → ⊥)
+equation-sound : (n : ℕ) (fs : List (List ℕ)) (d : Draft) → Sound d → (d.section ≡ in_symbols → ⊥)
     → Holds Sound (read_equation n fs d)
 unfolding read_equation with_rule
 equation-sound n fs d s o =
@@ -292,12 +292,12 @@ equation-sound n fs d s o =
     λ _. record {
       before = λ q. absurd (o q);
       over =
-          every-onLast (is_over d.symbols) _ d.rules
+          every-on_last (is_over d.symbols) _ d.rules
           (over-equation d.symbols _ (sides-below (constants_after (drop 1 fs) d.constants) fs a)) s.over;
     }
 
 -- a draft at another section, which is behind the K lines
-moved-sound : (section : Section) (d : Draft) → Sound d → (section ≡ inSymbols → ⊥) → Sound (in_section section d)
+moved-sound : (section : Section) (d : Draft) → Sound d → (section ≡ in_symbols → ⊥) → Sound (in_section section d)
 unfolding in_section
 moved-sound section d s o = record { before = λ k. absurd (o k); over = s.over }
 
@@ -305,24 +305,24 @@ form-sound :
     (form : Form) (n : ℕ) (section : Section) (fs : List (List ℕ)) (d : Draft) → Sound d → section_after form d.section ≡ some section
     → Holds Sound (read_form form n fs (in_section section d))
 unfolding read_form in_section
-form-sound symbolForm n section fs d s e = symbol-sound n fs (in_section section d) (s.before (symbol-section d.section section e))
-form-sound ruleForm n section fs d s e =
-    let o = rule-section ruleForm d.section section e (λ k. let z : ◌≡◌ {A = ℕ} 0 1 = cc in omega arith) in
+form-sound symbol_form n section fs d s e = symbol-sound n fs (in_section section d) (s.before (symbol-section d.section section e))
+form-sound rule_form n section fs d s e =
+    let o = rule-section rule_form d.section section e (λ k. let z : ◌≡◌ {A = ℕ} 0 1 = cc in omega arith) in
     rule-sound n fs (in_section section d) (moved-sound section d s o) o
-form-sound keptForm n section fs d s e =
-    let o = rule-section keptForm d.section section e (λ k. let z : ◌≡◌ {A = ℕ} 0 1 = cc in omega arith) in
+form-sound kept_form n section fs d s e =
+    let o = rule-section kept_form d.section section e (λ k. let z : ◌≡◌ {A = ℕ} 0 1 = cc in omega arith) in
     constraint-sound _ _ with_kept n fs (in_section section d) (moved-sound section d s o) o (over-kept d.symbols)
-form-sound headForm n section fs d s e =
-    let o = rule-section headForm d.section section e (λ k. let z : ◌≡◌ {A = ℕ} 0 1 = cc in omega arith) in
+form-sound head_form n section fs d s e =
+    let o = rule-section head_form d.section section e (λ k. let z : ◌≡◌ {A = ℕ} 0 1 = cc in omega arith) in
     constraint-sound _ _ with_head n fs (in_section section d) (moved-sound section d s o) o (over-head d.symbols)
-form-sound bodyForm n section fs d s e =
-    let o = rule-section bodyForm d.section section e (λ k. let z : ◌≡◌ {A = ℕ} 0 1 = cc in omega arith) in
+form-sound body_form n section fs d s e =
+    let o = rule-section body_form d.section section e (λ k. let z : ◌≡◌ {A = ℕ} 0 1 = cc in omega arith) in
     constraint-sound _ _ with_body n fs (in_section section d) (moved-sound section d s o) o (over-body d.symbols)
-form-sound equationForm n section fs d s e =
-    let o = rule-section equationForm d.section section e (λ k. let z : ◌≡◌ {A = ℕ} 0 1 = cc in omega arith) in
+form-sound equation_form n section fs d s e =
+    let o = rule-section equation_form d.section section e (λ k. let z : ◌≡◌ {A = ℕ} 0 1 = cc in omega arith) in
     equation-sound n fs (in_section section d) (moved-sound section d s o) o
-form-sound goalForm n section fs d s e = tt
-form-sound noForm n section fs d s e = tt
+form-sound goal_form n section fs d s e = tt
+form-sound no_form n section fs d s e = tt
 
 fields-sound : (n : ℕ) (fs : List (List ℕ)) (d : Draft) → Sound d → Holds Sound (read_fields n fs d)
 unfolding read_fields

@@ -11,7 +11,7 @@ use Rattle.text.specs.Lists.{gather}
 use Rattle.text.specs.Lines.{Line, lines}
 use Rattle.text.specs.Fields.{fields, is_name}
 use Rattle.text.specs.Constants.{SameConstant, constant_name}
-use Rattle.syntax.specs.Forms.{Form, symbolForm, ruleForm, keptForm, headForm, bodyForm, equationForm, goalForm, noForm}
+use Rattle.syntax.specs.Forms.{Form, symbol_form, rule_form, kept_form, head_form, body_form, equation_form, goal_form, no_form}
 use Rattle.syntax.specs.Forms.{form_of, field_at, term_of}
 
 -- a constant is one of a list: the i-th
@@ -33,14 +33,14 @@ pub record ByValue (constants : List (List ℕ)) : Type 0 where
 
 -- the term fields of a line of a form
 unfoldable pub term_fields : Form → List (List ℕ) → List (List ℕ)
-term_fields symbolForm fs = []
-term_fields ruleForm fs = []
-term_fields keptForm fs = drop 2 fs
-term_fields headForm fs = drop 2 fs
-term_fields bodyForm fs = drop 2 fs
-term_fields equationForm fs = drop 1 fs
-term_fields goalForm fs = drop 2 fs
-term_fields noForm fs = []
+term_fields symbol_form fs = []
+term_fields rule_form fs = []
+term_fields kept_form fs = drop 2 fs
+term_fields head_form fs = drop 2 fs
+term_fields body_form fs = drop 2 fs
+term_fields equation_form fs = drop 1 fs
+term_fields goal_form fs = drop 2 fs
+term_fields no_form fs = []
 
 -- the term fields of lines, in order
 unfoldable pub terms_in : List Line → List (List ℕ)

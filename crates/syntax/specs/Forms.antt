@@ -14,58 +14,58 @@ use Rattle.semantics.specs.Terms.{Term, con, var, Constraint, Symbol, symbol_at}
 
 -- the forms of a line: K, R, J, H, B, E and G, and any other
 pub data Form : Type 0 where
-  symbolForm ruleForm keptForm headForm bodyForm equationForm goalForm noForm : Form
+  symbol_form rule_form kept_form head_form body_form equation_form goal_form no_form : Form
 
 -- the form that a byte stands for, over all byte values
 unfoldable pub form_of_byte : ℕ → Form
 form_of_byte b =
-    cond (eqb b 75) symbolForm
-    (cond (eqb b 82) ruleForm
-    (cond (eqb b 74) keptForm
-    (cond (eqb b 72) headForm (cond (eqb b 66) bodyForm (cond (eqb b 69) equationForm (cond (eqb b 71) goalForm noForm))))))
+    cond (eqb b 75) symbol_form
+    (cond (eqb b 82) rule_form
+    (cond (eqb b 74) kept_form
+    (cond (eqb b 72) head_form (cond (eqb b 66) body_form (cond (eqb b 69) equation_form (cond (eqb b 71) goal_form no_form))))))
 
 -- the form of a line by its first field, which is one letter
 unfoldable pub form_of : List ℕ → Form
-form_of [] = noForm
+form_of [] = no_form
 form_of (b ∷ []) = form_of_byte b
-form_of (b ∷ c ∷ s) = noForm
+form_of (b ∷ c ∷ s) = no_form
 
 -- where a line stands in a program: among the K lines, or in a rule behind its R or J lines, its H lines, its B lines or its
 -- E lines
 pub data Section : Type 0 where
-  inSymbols inKept inHeads in_body inEquations : Section
+  in_symbols in_kept in_heads in_body in_equations : Section
 
 -- the section after a line of a form, if it may stand in this section: all K lines come first; in each rule J lines come before
 -- H lines, H lines before B lines, and B lines before E lines
 unfoldable pub section_after : Form → Section → Option Section
-section_after symbolForm inSymbols = some inSymbols
-section_after symbolForm inKept = none
-section_after symbolForm inHeads = none
-section_after symbolForm in_body = none
-section_after symbolForm inEquations = none
-section_after ruleForm section = some inKept
-section_after keptForm inSymbols = none
-section_after keptForm inKept = some inKept
-section_after keptForm inHeads = none
-section_after keptForm in_body = none
-section_after keptForm inEquations = none
-section_after headForm inSymbols = none
-section_after headForm inKept = some inHeads
-section_after headForm inHeads = some inHeads
-section_after headForm in_body = none
-section_after headForm inEquations = none
-section_after bodyForm inSymbols = none
-section_after bodyForm inKept = some in_body
-section_after bodyForm inHeads = some in_body
-section_after bodyForm in_body = some in_body
-section_after bodyForm inEquations = none
-section_after equationForm inSymbols = none
-section_after equationForm inKept = some inEquations
-section_after equationForm inHeads = some inEquations
-section_after equationForm in_body = some inEquations
-section_after equationForm inEquations = some inEquations
-section_after goalForm section = none
-section_after noForm section = none
+section_after symbol_form in_symbols = some in_symbols
+section_after symbol_form in_kept = none
+section_after symbol_form in_heads = none
+section_after symbol_form in_body = none
+section_after symbol_form in_equations = none
+section_after rule_form section = some in_kept
+section_after kept_form in_symbols = none
+section_after kept_form in_kept = some in_kept
+section_after kept_form in_heads = none
+section_after kept_form in_body = none
+section_after kept_form in_equations = none
+section_after head_form in_symbols = none
+section_after head_form in_kept = some in_heads
+section_after head_form in_heads = some in_heads
+section_after head_form in_body = none
+section_after head_form in_equations = none
+section_after body_form in_symbols = none
+section_after body_form in_kept = some in_body
+section_after body_form in_heads = some in_body
+section_after body_form in_body = some in_body
+section_after body_form in_equations = none
+section_after equation_form in_symbols = none
+section_after equation_form in_kept = some in_equations
+section_after equation_form in_heads = some in_equations
+section_after equation_form in_body = some in_equations
+section_after equation_form in_equations = some in_equations
+section_after goal_form section = none
+section_after no_form section = none
 
 -- a field of a line by its number, from 0
 unfoldable pub field_at : ℕ → List (List ℕ) → List ℕ

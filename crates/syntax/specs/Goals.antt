@@ -8,7 +8,7 @@ use Rattle.text.specs.Lines.{Line, lines, line_is_faulty}
 use Rattle.text.specs.Fields.{fields, is_name}
 use Rattle.semantics.specs.Terms.{Constraint, Symbol, Goal, weight}
 use Rattle.syntax.specs.Answers.{Answer, accepted, refuse_if, and_then}
-use Rattle.syntax.specs.Forms.{Form, symbolForm, ruleForm, keptForm, headForm, bodyForm, equationForm, goalForm, noForm}
+use Rattle.syntax.specs.Forms.{Form, symbol_form, rule_form, kept_form, head_form, body_form, equation_form, goal_form, no_form}
 use Rattle.syntax.specs.Forms.{form_of, field_at}
 use Rattle.syntax.specs.Programs.{max_text, constraint_line}
 
@@ -47,14 +47,14 @@ read_constraint_of_goal symbols n fs d =
 
 -- whether a line of a form may stand in a goal
 unfoldable pub is_goal_form : Form → Bool
-is_goal_form symbolForm = false
-is_goal_form ruleForm = false
-is_goal_form keptForm = false
-is_goal_form headForm = false
-is_goal_form bodyForm = false
-is_goal_form equationForm = false
-is_goal_form goalForm = true
-is_goal_form noForm = false
+is_goal_form symbol_form = false
+is_goal_form rule_form = false
+is_goal_form kept_form = false
+is_goal_form head_form = false
+is_goal_form body_form = false
+is_goal_form equation_form = false
+is_goal_form goal_form = true
+is_goal_form no_form = false
 
 -- the fields of line n of a goal: number 3, then 4 to 7
 unfoldable pub read_goal_fields : List Symbol → ℕ → List (List ℕ) → GoalDraft → Answer GoalDraft

@@ -11,8 +11,8 @@ use Rattle.text.specs.Lines.{Line, lines, line_is_faulty}
 use Rattle.text.specs.Fields.{fields, value_of}
 use Rattle.semantics.specs.Terms.{Term, Constraint, Equation, Symbol, Rule, Program, removed_heads, weight}
 use Rattle.syntax.specs.Answers.{Answer, refused, accepted, refuse_if, and_then}
-use Rattle.syntax.specs.Forms.{Form, symbolForm, ruleForm, keptForm, headForm, bodyForm, equationForm, goalForm, noForm}
-use Rattle.syntax.specs.Forms.{form_of, Section, inSymbols, section_after, field_at, constants_after, term_of, letter_number}
+use Rattle.syntax.specs.Forms.{Form, symbol_form, rule_form, kept_form, head_form, body_form, equation_form, goal_form, no_form}
+use Rattle.syntax.specs.Forms.{form_of, Section, in_symbols, section_after, field_at, constants_after, term_of, letter_number}
 use Rattle.syntax.specs.Forms.{is_symbol_faulty, is_rule_faulty, is_equation_faulty, is_constraint_faulty}
 use Rattle.syntax.specs.Forms.{is_undeclared, constraint_of}
 
@@ -58,7 +58,7 @@ pub record Draft : Type 0 where
 
 -- where reading starts
 unfoldable pub blank : Draft
-blank = record { section = inSymbols; symbols = []; rules = []; constants = [] }
+blank = record { section = in_symbols; symbols = []; rules = []; constants = [] }
 
 -- a draft in another section
 unfoldable pub in_section : Section → Draft → Draft
@@ -167,14 +167,14 @@ read_equation n fs d =
 
 -- a line of a form that may stand where it does
 unfoldable pub read_form : Form → ℕ → List (List ℕ) → Draft → Answer Draft
-read_form symbolForm n fs d = read_symbol n fs d
-read_form ruleForm n fs d = read_rule n fs d
-read_form keptForm n fs d = read_constraint (length (last_rule d.rules).heads) max_heads with_kept n fs d
-read_form headForm n fs d = read_constraint (length (last_rule d.rules).heads) max_heads with_head n fs d
-read_form bodyForm n fs d = read_constraint (length (last_rule d.rules).body) max_body with_body n fs d
-read_form equationForm n fs d = read_equation n fs d
-read_form goalForm n fs d = refused 3 n
-read_form noForm n fs d = refused 3 n
+read_form symbol_form n fs d = read_symbol n fs d
+read_form rule_form n fs d = read_rule n fs d
+read_form kept_form n fs d = read_constraint (length (last_rule d.rules).heads) max_heads with_kept n fs d
+read_form head_form n fs d = read_constraint (length (last_rule d.rules).heads) max_heads with_head n fs d
+read_form body_form n fs d = read_constraint (length (last_rule d.rules).body) max_body with_body n fs d
+read_form equation_form n fs d = read_equation n fs d
+read_form goal_form n fs d = refused 3 n
+read_form no_form n fs d = refused 3 n
 
 -- the fields of line n: number 3, then what its form asks
 unfoldable pub read_fields : ℕ → List (List ℕ) → Draft → Answer Draft

@@ -8,7 +8,7 @@ use Prim.Native.Nat.{ℕ, ◌≤◌, ◌<◌}
 use native.Mathlib.Omega.{arith}
 use borrow.Author.Tests.{leb-true, le-leb, lt-leb, eqb-true, ne_eqb}
 use lib.Dec.{leb, eqb}
-use Rattle.text.specs.Bytes.{Class, small, capital, digit, comma, lineFeed, other, between, class_of, class_number}
+use Rattle.text.specs.Bytes.{Class, small, capital, digit, comma, line_feed, other, between, class_of, class_number}
 use Rattle.text.specs.Bytes.{is_class, is_name_class}
 use Rattle.text.specs.Lines.{is_other}
 use Rattle.text.specs.Splits.{is_plain}
@@ -22,7 +22,7 @@ between-true a z b h =
 
 -- the class by the five tests
 abbrev chosen : Bool → Bool → Bool → Bool → Bool → Class
-chosen s c d k l = cond s small (cond c capital (cond d digit (cond k comma (cond l lineFeed other))))
+chosen s c d k l = cond s small (cond c capital (cond d digit (cond k comma (cond l line_feed other))))
 
 -- a class is told by which of the tests holds first
 module _ (b : ℕ) where
@@ -48,7 +48,7 @@ module _ (b : ℕ) where
       go capital h = refl
       go digit h = refl
       go comma h = absurd (let z : ◌≡◌ {A = ℕ} 0 1 = cc in omega arith)
-      go lineFeed h = absurd (let z : ◌≡◌ {A = ℕ} 0 1 = cc in omega arith)
+      go line_feed h = absurd (let z : ◌≡◌ {A = ℕ} 0 1 = cc in omega arith)
       go other h = absurd (let z : ◌≡◌ {A = ℕ} 0 1 = cc in omega arith)
 
   pub name-range : is_name_class (class_of b) ≡ true → (48 ≤ b) × (b ≤ 122)
@@ -78,7 +78,7 @@ module _ (b : ℕ) where
       go capital h = refl
       go digit h = refl
       go comma h = absurd (omega (arith, leb-true 3 2 h))
-      go lineFeed h = absurd (omega (arith, leb-true 4 2 h))
+      go line_feed h = absurd (omega (arith, leb-true 4 2 h))
       go other h = absurd (omega (arith, leb-true 5 2 h))
 
   pub plain-not : (x : ℕ) → is_plain x ≡ false → is_plain b ≡ true → b ≡ x → ⊥
@@ -153,7 +153,7 @@ class-other b h = go (class_of b) h
     go capital h = absurd (omega arith)
     go digit h = absurd (omega arith)
     go comma h = absurd (omega arith)
-    go lineFeed h = absurd (omega arith)
+    go line_feed h = absurd (omega arith)
     go other h = refl
 
 -- a byte that stands in a line before its line feed, if the line is not faulty: a letter, a digit or a comma

@@ -13,7 +13,7 @@ use native.Mathlib.Omega.{arith}
 use borrow.Author.Tests.{le-leb, lt-leb, ne_eqb, eq-eqb, eqb-false, not-true}
 use lib.Dec.{leb, eqb}
 use lib.ListN.{length}
-use Rattle.text.specs.Bytes.{Class, small, capital, digit, comma, lineFeed, other, between, class_of, class_number}
+use Rattle.text.specs.Bytes.{Class, small, capital, digit, comma, line_feed, other, between, class_of, class_number}
 use Rattle.text.specs.Bytes.{is_class, is_name_class}
 use Rattle.text.specs.Lists.{every}
 use Rattle.text.specs.Fields.{is_name, is_number, is_number_in, value_of, value_from}
@@ -103,7 +103,7 @@ digit-name b h = go (class_of b) h
     go capital h = h
     go digit h = refl
     go comma h = h
-    go lineFeed h = h
+    go line_feed h = h
     go other h = h
 
 low-key : (f : List ℕ) → is_name f ≡ false → key_of f ≤ 27

@@ -2,7 +2,7 @@
 use mathlib.Core.Path.{◌≡◌, sym}
 use mathlib.Core.Logic.{⊎_elim}
 use Prim.Native.Nat.{ℕ}
-use Rattle.syntax.specs.Forms.{noForm, form_of_byte}
+use Rattle.syntax.specs.Forms.{no_form, form_of_byte}
 use Rattle.lines.specs.Read.{form_meant}
 use Rattle.lines.proofs.Letters.{form-none}
 use Rattle.lines.proofs.forms.form_of_byte.Statement.{statement}
@@ -12,7 +12,7 @@ use Rattle.lines.proofs.forms.form_of_byte.Tie as tie
 other : (b : ℕ)
     → (((((((Unit {0} × (b ≡ 75 → ⊥)) × (b ≡ 82 → ⊥)) × (b ≡ 74 → ⊥)) × (b ≡ 72 → ⊥)) × (b ≡ 66 → ⊥)) × (b ≡ 69 → ⊥))
     × (b ≡ 71 → ⊥))
-    → noForm ≡ form_of_byte b
+    → no_form ≡ form_of_byte b
 other b (((((((_, k), r), j), h), o), e), g) = sym (form-none b k r j h o e g)
 
 returns : tie.Need-returns
