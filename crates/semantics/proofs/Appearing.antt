@@ -115,10 +115,10 @@ appearing-keeps y seen [] h = h
 appearing-keeps y seen (c ∷ cs) h = appearing-keeps y (appearing_in seen c.terms) cs (terms-keep y seen c.terms h)
 
 pub appearing-has :
-    (x : ℕ) (seen : List ℕ) {c : Constraint} {cs : List Constraint} → Member c cs → Member (var x) c.terms
+    (x : ℕ) {c : Constraint} (seen : List ℕ) {cs : List Constraint} → Member c cs → Member (var x) c.terms
     → has x (appearing seen cs) ≡ true
 unfolding appearing
-appearing-has x seen {c} (first {l}) k = appearing-keeps x (appearing_in seen c.terms) l (terms-has x seen k)
+appearing-has x {c} seen (first {l}) k = appearing-keeps x (appearing_in seen c.terms) l (terms-has x seen k)
 appearing-has x seen (later {b = d} i) k = appearing-has x (appearing_in seen d.terms) i k
 
 pub appearing-from :

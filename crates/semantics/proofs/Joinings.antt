@@ -132,7 +132,7 @@ unfolding partners_from
 partners-long k zero js = refl
 partners-long k (suc m) js = ap suc (partners-long (suc k) m js)
 
-partner-within : {l m n : ℕ} (k : ℕ) {js : List Joint} → Joints m n l js → partner_of k js ≤ n
+partner-within : {m n l : ℕ} (k : ℕ) {js : List Joint} → Joints m n l js → partner_of k js ≤ n
 unfolding partner_of
 partner-within k no_more = omega arith
 partner-within {n} k (one_more {j} {js} a b c d more) = go (eqb k j.left) (partner-within k more)

@@ -289,7 +289,7 @@ match_constraint-complete ϑ h c θ a r =
 
 -- where a replacement makes the heads the constraints at fresh positions, matching answers there
 pub match_at-complete :
-    (ϑ : ℕ → Term) {hs : List Constraint} {ps : List ℕ} (cs : List Constraint) {M : List Constraint} (chosen : List ℕ)
+    (ϑ : ℕ → Term) (cs : List Constraint) {hs : List Constraint} {ps : List ℕ} {M : List Constraint} (chosen : List ℕ)
     (θ : Assignment) → Agrees θ ϑ → Pointwise (Stands cs) ps M → Fresh chosen ps
     → Pointwise (ConstraintRel (λ s t. instantiate ϑ s ≡ t)) hs M
     → (θ' : Assignment) × (match_at hs ps cs chosen θ ≡ some θ') × Agrees θ' ϑ

@@ -350,11 +350,15 @@ multiset-pick {A} {B} {R} {l} {n} M L s p = chosen M (multiset-left (multiset-ba
         (y ∷ h.0, h.1, multiset-put refl i here h.2, each r h.3, h.4)
 
 -- an element taken out of one list in two ways leaves equal multisets
+inserted_alike :
+    {A : Type 0} {a b : A} {k l m : List A} → a ≡ b → Inserted a k m → Inserted b l m → SameMultiset ◌≡◌ k l
+inserted_alike {k = k} e here here = multiset-refl (λ x. refl) k
+inserted_alike e here (there {l} j) = multiset-back (put e j (multiset-refl (λ x. refl) l))
+inserted_alike e (there {l} i) here = put (sym e) i (multiset-refl (λ x. refl) l)
+inserted_alike e (there i) (there j) = put refl here (inserted_alike e i j)
+
 pub inserted_same : {A : Type 0} {a : A} {k l m : List A} → Inserted a k m → Inserted a l m → SameMultiset ◌≡◌ k l
-inserted_same {k} here here = multiset-refl (λ x. refl) k
-inserted_same here (there {l} j) = multiset-back (put refl j (multiset-refl (λ x. refl) l))
-inserted_same (there {l} i) here = put refl i (multiset-refl (λ x. refl) l)
-inserted_same (there i) (there j) = put refl here (inserted_same i j)
+inserted_same i j = inserted_alike refl i j
 
 -- what equal multisets have in front in common can be left out
 pub multiset-cancel :

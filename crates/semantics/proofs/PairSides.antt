@@ -51,9 +51,9 @@ built_ins-user (c ∷ cs) = built_ins-user cs
 
 -- an element and its image, of lists that are related element by element
 image-member :
-    {A B : Type 0} {R : A → B → Type 0} (f : A → B) {a : A} {l : List A} → Pointwise R l (map f l) → Member a l → R a (f a)
-image-member f (each r p) first = r
-image-member f (each r p) (later i) = image-member f p i
+    {A B : Type 0} {R : A → B → Type 0} (f : A → B) {a : A} {l : List A} → Member a l → Pointwise R l (map f l) → R a (f a)
+image-member f first (each r p) = r
+image-member f (later i) (each r p) = image-member f i p
 
 -- a rule's heads, renamed; a term of these or of others
 abbrev pub own_heads : Rule → (ℕ → ℕ) → List Constraint
@@ -78,11 +78,11 @@ module _ (r : Rule) (κ : ℕ → ℕ) (b : List Term) (es : List Equation) (L :
       → Eqv equations (sub new (lift s)) (sub old (lift (renamed κ s)))
   unfolding map_terms
   own_held i j =
-      image-member (renamed κ) (image-member (map_terms (renamed κ)) (fired-heads r κ b es own L
+      image-member (renamed κ) j (image-member (map_terms (renamed κ)) i (fired-heads r κ b es own L
       (pointwise-image (map_terms (renamed κ)) (λ h. record {
         symbols = refl;
         terms = pointwise-image {R = λ s t. Unit {0}} (renamed κ) (λ s. tt) h.terms;
-      }) r.heads)) i).terms j
+      }) r.heads))).terms
 
   -- so their terms are settled
   own-settled : Separates κ → AllLetters r → (t : Term) → Within own t → Fixed t

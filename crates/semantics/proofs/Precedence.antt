@@ -7,13 +7,16 @@ use native.Mathlib.Omega.{arith}
 use native.Mathlib.Decide.{dec_lt}
 use mathlib.Core.List.{List, [], ◌∷◌}
 use mathlib.Core.Logic.{◌⊎◌, inl, inr}
-use mathlib.Core.Path.{◌≡◌, refl, subst}
-use lib.ListN.{length}
+use mathlib.Core.Path.{◌≡◌, refl, ap, subst}
+use lib.ListN.{length, drop, get_or}
 use Rattle.semantics.specs.Runs.{Before, at_first, at_later}
 
+before-apart {ℓ} : {A : Type ℓ} {ps qs : List ℕ} → Before ps qs → ps ≡ qs → A
+before-apart (at_first {p} {q} l) e = let h : p ≡ q = ap (λ k. get_or k 0 0) e in absurd (omega arith)
+before-apart (at_later b) e = before-apart b (ap (drop 1) e)
+
 pub before-irreflexive {ℓ} : {A : Type ℓ} {ps : List ℕ} → Before ps ps → A
-before-irreflexive (at_first l) = absurd (omega arith)
-before-irreflexive (at_later b) = before-irreflexive b
+before-irreflexive b = before-apart b refl
 
 pub before-transitive : {ps qs rs : List ℕ} → Before ps qs → Before qs rs → Before ps rs
 before-transitive (at_first {p} l) (at_first {q = r} k) = let h : p < r = omega arith in at_first h

@@ -241,7 +241,7 @@ rep-steps {s} letters p stay = (s, arrived, p)
 rep-steps letters (has_failed n) (go k l) = (failed, arrived, has_failed (steps-inconsistent n (go k l)))
 rep-steps letters (is_live scoped I) (go k l) =
     let (r, ps, t, i, e, q) = rep_step letters (is_live scoped I) k in
-    let (u, more, h) = rep-steps letters q l in
+    let (u, more, h) = rep-steps {s = t} letters q l in
     (u, fires r ps i e more, h)
 
 -- a firing keeps every variable below the state's number
