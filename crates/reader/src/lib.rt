@@ -1,6 +1,8 @@
 // The line reader: it is lent a text and remembers where its line starts. Its functions are few and thin: each takes the reader
 // apart and hands the slice and the number to a function over these. The readers of programs and goals call `line_at`, whose
 // parameters are plain.
+#![tactic(auto)]
+
 ghost use Rattle.std.specs.Prelude.{◌≡◌, ◌≤◌, ◌<◌, length};
 ghost use Rattle.text.specs.Cursors.{class_table};
 ghost use Rattle.text.specs.Splits.{SplitAt};

@@ -1,5 +1,7 @@
 // The flat tables that the readers fill, the engine works on and the listings show: their layout, their names, and the numbers of
 // variables. The definitions in specs/ say what the cells stand for.
+#![tactic(auto)]
+
 pub mod layout;
 pub mod names;
 pub mod numbering;

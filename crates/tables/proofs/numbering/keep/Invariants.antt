@@ -1,0 +1,11 @@
+-- `tables::numbering::keep` meets its contract: each variable passed, from the last on, has its own cell. Assumes nothing.
+use borrow.Author.Rules.{rules}
+use mathlib.Core.Path.{refl}
+use Rattle.tables.proofs.NumberLaws.{Keeping, keeping_start, keeping-next, keeping-end}
+use Rattle.tables.proofs.numbering.keep.Given as goal
+
+abbrev pub invariant-loop-i : goal.invariant-loop-i
+invariant-loop-i l = Keeping l.initial.table l.n l.table l.i
+
+abbrev pub decreases-loop-i : goal.decreases-loop-i
+decreases-loop-i l = l.i
