@@ -1,5 +1,7 @@
 // The bytes of the listings, written into the lent output; where they might not fit, counted first by the same functions.
 // Each function equals the definition that its contract names, through the decodings of `tables`.
+#![tactic(auto)]
+
 pub mod ends;
 pub mod putting;
 pub mod writing;
@@ -19,7 +21,7 @@ pub enum Listed {
 }
 
 // The end of a run: whether its state lives, a number above every variable in use, and how often a rule fired.
-#[derive(Drop)]
+#[derive(Clone, Copy)]
 pub struct End {
     pub alive: bool,
     pub next: usize,

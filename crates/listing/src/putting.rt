@@ -17,7 +17,7 @@ use tables::numbering::used;
 use tables::wide;
 
 // The letter that a constraint's line begins with, and how many variables are the goal's.
-#[derive(Drop)]
+#[derive(Clone, Copy)]
 pub struct Mark {
     pub line: u8,
     pub variables: usize,

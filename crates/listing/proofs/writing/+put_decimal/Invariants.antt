@@ -1,0 +1,8 @@
+use Rattle.std.proofs.Common.{[], ◌∷◌, ◌≡◌, min, ◌<◌, ℕ, ◌+◌, ◌-◌, ◌*◌, ◌≤◌, length}
+use Rattle.text.specs.Fields.{decimal}
+use Rattle.listing.specs.Writing.{Countable, Writes}
+use Rattle.listing.proofs.writing.+put_decimal.Given as goal
+
+-- proposed from what the function passes where it calls itself
+abbrev pub decreases-put_decimal : goal.decreases-put_decimal
+decreases-put_decimal l = l.n
