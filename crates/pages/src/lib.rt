@@ -1,4 +1,6 @@
 // The pages of a listing, written into a lent output; where they might not fit, counted first by the same functions.
+#![tactic(auto)]
+
 mod page;
 mod rows;
 

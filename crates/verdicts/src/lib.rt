@@ -1,5 +1,7 @@
 // The listing of a check: the pass, or an unjoined overlap with its pairs of heads, its goal and both ends.
 // All names are in the program's text: the goal's is empty, and no letter stands for a variable of an overlap's goal.
+#![tactic(auto)]
+
 ghost use Rattle.std.specs.Prelude.{[], ◌∷◌, ◌<◌};
 ghost use Rattle.text.specs.Bytes.{ascii};
 ghost use Rattle.text.specs.Fields.{decimal};
@@ -19,7 +21,7 @@ use tables::names::name;
 
 // The overlap that is shown: the numbers of its rules, how many heads the first has, the partner of each of these (from 1, or 0),
 // how many variables its goal has, and both ends.
-#[derive(Drop)]
+#[derive(Clone, Copy)]
 pub struct Shown {
     pub first: usize,
     pub second: usize,

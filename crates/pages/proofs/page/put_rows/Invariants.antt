@@ -1,0 +1,12 @@
+-- `pages::page::put_rows` meets its contract: i lines are written, and the next row starts at `at`. Assumes nothing.
+use borrow.Author.Rules.{rules}
+use Prim.Native.Nat.{◌-◌}
+use native.Mathlib.Omega.{arith}
+use Rattle.pages.proofs.PageLaws.{Rowing, rowing_start, rowing-count, rowing-room, rowing-next, rowing-end}
+use Rattle.pages.proofs.page.put_rows.Given as goal
+
+abbrev pub invariant-loop-i : goal.invariant-loop-i
+invariant-loop-i l = Rowing l.listing l.start l.continued l.from l.initial.out l.out l.end l.at l.inside l.i
+
+abbrev pub decreases-loop-i : goal.decreases-loop-i
+decreases-loop-i l = 58 - l.i
