@@ -1,5 +1,7 @@
 // What the public functions answer. What an answer means and promises is in specs/; the functions are in the crates running, checking,
 // paging and roketuma.
+#![tactic(auto)]
+
 mod numbers;
 mod refusals;
 
