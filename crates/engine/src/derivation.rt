@@ -53,6 +53,7 @@ pub fn advance(
 {
     let m = stage.count;
     let gone = stage.gone;
+    let next = stage.next;
     let e = CONSTRAINT_SIZE * m;
     let mut positions = [0; 4];
     let mut bindings = [0; 26];
@@ -79,7 +80,7 @@ pub fn advance(
     let a = ROW_SIZE * number;
     let b = a + ROW_SIZE;
     let row = &rules[a..b];
-    let after = fire_front(row, &positions, &bindings, stage.next, bound, cells, m);
+    let after = fire_front(row, &positions, &bindings, next, bound, cells, m);
     let alive = after.alive;
     let count = after.count;
     let skip = after.skip;

@@ -2,20 +2,19 @@
 --   row-joined, row_apart         the heads at two places
 --   partner-…                     the next head and its partner
 -- Assumes nothing.
-use Prim.Native.Nat.{ℕ, zero, suc, ◌+◌, ◌-◌, ◌*◌, ◌≤◌, ◌<◌}
+use Prim.Native.Nat.{ℕ, zero, suc, ◌+◌, ◌-◌, ◌*◌, ◌≤◌}
 use native.Mathlib.Omega.{arith}
-use mathlib.Core.Bool.{Bool, true, false, cond}
+use mathlib.Core.Bool.{Bool, true, false}
 use mathlib.Core.List.{List, [], ◌∷◌}
 use mathlib.Core.Option.{Option, none, some}
 use mathlib.Core.Path.{◌≡◌, refl, sym, ap, ◌∙◌}
-use lib.Dec.{eqb}
 use lib.ListN.{length, take, drop, get_or, get_elem?, length-drop}
 use lib.Seq.{get_or-take, get_or-drop, drop-drop, length-take-le}
 use borrow.Author.Tests.{eq-eqb, ne_eqb}
-use Rattle.text.specs.Lists.{bind, every, has}
-use Rattle.semantics.specs.Terms.{Term, Constraint}
+use Rattle.text.specs.Lists.{has}
+use Rattle.semantics.specs.Terms.{Constraint}
 use Rattle.semantics.specs.Overlaps.{equate}
-use Rattle.tables.specs.Cells.{cell_terms, cell_constraints, row_constraint, is_low}
+use Rattle.tables.specs.Cells.{cell_terms, cell_constraints, row_constraint}
 use Rattle.tables.proofs.CellLaws.{constraints-at}
 use Rattle.overlaps.specs.Joins.{joined_terms, joined, join_next}
 use Rattle.overlaps.specs.Cells.{joined_of, terms_from, Heads, Partner}

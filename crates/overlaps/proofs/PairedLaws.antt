@@ -7,18 +7,18 @@
 -- Assumes nothing.
 use Prim.Native.Nat.{ℕ, zero, suc, ◌+◌, ◌≤◌, ◌<◌}
 use native.Mathlib.Omega.{arith}
-use mathlib.Core.Bool.{Bool, true, false, cond, not, ◌&&◌}
+use mathlib.Core.Bool.{Bool, true, false, cond, not}
 use mathlib.Core.List.{List, [], ◌∷◌, ◌++◌, map}
 use mathlib.Core.Option.{Option, none, some}
 use mathlib.Core.Path.{◌≡◌, refl, sym, ap, ◌∙◌}
 use lib.Dec.{eqb}
 use lib.ListN.{length, get_elem?, length-append, length-map}
 use Rattle.text.specs.Lists.{bind, every, has}
-use Rattle.semantics.specs.Terms.{Term, Constraint, map_terms}
+use Rattle.semantics.specs.Terms.{Constraint, map_terms}
 use Rattle.semantics.specs.Solving.{solve}
-use Rattle.semantics.specs.Overlaps.{join_equations, is_one_to_one, is_pairing, apart, Numbered, Overlap, overlap_of}
+use Rattle.semantics.specs.Overlaps.{is_one_to_one, is_pairing, apart, Numbered, overlap_of}
 use Rattle.semantics.proofs.Configurations.{Or, inl, inr}
-use Rattle.semantics.proofs.Options.{decide, none-some, cond-some}
+use Rattle.semantics.proofs.Options.{decide, cond-some}
 use Rattle.overlaps.specs.Joins.{joined, join_next, all_joined, paired, goal_from}
 use Rattle.overlaps.specs.Rests.{rest}
 use Rattle.overlaps.proofs.JoinLaws.{join-no-more, joined-none, joined-next, joined-cut, joined-parts, overlap-joined}

@@ -1,4 +1,6 @@
 // An overlap from two rules and a pairing of their heads; and whether two rules have a head symbol in common.
+#![tactic(auto)]
+
 pub mod finishing;
 pub mod joining;
 pub mod laying;

@@ -1,4 +1,6 @@
 // The sides of an overlap: from its goal and one of its rules, at that rule's positions, to the end.
+#![tactic(auto)]
+
 ghost use Rattle.std.specs.Prelude.{length};
 ghost use Rattle.sides.specs.Sides.{Sidable, Beginnable, Begun, Followable, Followed, Sided};
 ghost use Rattle.sides.specs.Sides.{SideTallying, SideTallied};

@@ -1,0 +1,12 @@
+-- `fit_free` meets its contract: a position that is taken fits nothing, and at a free one the match decides.
+-- Assumes nothing.
+use Rattle.fitting.proofs.SearchLaws.{fit-chosen, fit_free}
+use Rattle.fitting.proofs.matching.fit_free.Goals as goal
+
+pub returns-then-is_among : goal.returns-then-is_among
+returns-then-is_among c =
+    fit-chosen _ _ _ (rw c.if-is_among.true at c.is_among.ensures) c.requires.bindings-size
+
+pub returns : goal.returns
+returns c =
+    fit_free _ _ _ _ (rw c.if-is_among.false at c.is_among.ensures) c.match_constraint.ensures

@@ -1,0 +1,10 @@
+-- `leading` meets its contract.
+-- Assumes nothing.
+use borrow.Author.Tests.{eq-eqb, ne_eqb}
+use Rattle.fitting.proofs.search.leading.Goals as goal
+
+pub returns-then-row-eq0 : goal.returns-then-row-eq0
+returns-then-row-eq0 c = rw (eq-eqb _ 0 c.if-row-eq0.true)
+
+pub returns-else-row-eq0 : goal.returns-else-row-eq0
+returns-else-row-eq0 c = rw (ne_eqb _ 0 c.if-row-eq0.false)
