@@ -1,5 +1,7 @@
 // A line of a program or a goal, held as the keys of its fields: its form, its constraint and its terms as cells; and the weight
 // of constraints.
+#![tactic(auto)]
+
 pub mod constraints;
 pub mod forms;
 pub mod heads;
