@@ -31,11 +31,6 @@ returns-then-t c =
     _ _ _ c.read_terms-t.ensures
     c.if-full.false c.if-t.true)
 
-pub overflow_cast-result : goal.overflow_cast-result
-overflow_cast-result c =
-    let fits = rw c.in-Symbol.is at c.constraint_head.ensures.1 in
-    omega (arith, fits.2, c.requires.2)
-
 pub returns-in-Refused : goal.returns-in-Refused
 returns-in-Refused c =
     rw c.refused.ensures (constraint-refused _ _ _ _ _ _ _ c.requires.2 _

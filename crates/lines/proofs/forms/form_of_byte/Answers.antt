@@ -1,7 +1,7 @@
 -- `lines::forms::form_of_byte` meets its contract, at each letter and at all other bytes. Assumes nothing.
 use mathlib.Core.Path.{sym}
-use mathlib.Core.Logic.{⊎_elim}
 use native.Mathlib.Omega.{arith}
+use Rattle.std.proofs.lemmas.Bool.Decides.{nat_tests}
 use Rattle.syntax.specs.Forms.{form_of_byte}
 use Rattle.lines.specs.Read.{form_meant}
 use Rattle.lines.proofs.Letters.{form-none}
@@ -53,7 +53,7 @@ returns-in_default-3 c = sym (form-none c.args.b (λ e. omega arith) (λ e. omeg
 
 pub returns-in-65-to-90 : goal.returns-in-65-to-90
 unfolding form_of_byte form_meant
-returns-in-65-to-90 c = ⊎_elim (λ e. rw e) (⊎_elim (λ e. rw e) (λ e. rw e)) c.in-65-to-90.in-65-to-90-own.keys8
+returns-in-65-to-90 c = grind (arith, nat_tests)
 
 pub returns-in-65-to-90-2 : goal.returns-in-65-to-90-2
 unfolding form_meant

@@ -1,12 +1,9 @@
 -- `lines::heads::are_terms` meets its contract: the fields left answer for all. Assumes nothing.
-use mathlib.Core.Path.{refl, sym, ◌∙◌}
+use mathlib.Core.Path.{sym, ◌∙◌}
 use native.Mathlib.Numerals.{add-one}
 use native.Mathlib.Omega.{arith}
 use Rattle.lines.proofs.Held.{terms-fail, terms-step, terms-end}
 use Rattle.lines.proofs.heads.are_terms.Goals as goal
-
-pub loop-i-init : goal.loop-i-init
-loop-i-init c = λ fs e k. refl
 
 pub returns-then-keys-i-lt2 : goal.returns-then-keys-i-lt2
 returns-then-keys-i-lt2 c =

@@ -1,17 +1,12 @@
 -- `lines::rows::write_cells` meets its contract: the values passed are stored. Assumes nothing.
-use mathlib.Core.Path.{◌≡◌, refl, ap, ◌∙◌}
+use mathlib.Core.Path.{◌≡◌, ap, ◌∙◌}
 use mathlib.Core.List.{List}
 use Prim.Native.Nat.{ℕ, suc, ◌+◌}
 use native.Mathlib.Numerals.{add-one}
 use native.Mathlib.Omega.{arith}
 use lib.ListN.{length, get_or, set, length-set}
-use lib.Seq.{paste, paste-zero, paste-suc}
+use lib.Seq.{paste, paste-suc}
 use Rattle.lines.proofs.rows.write_cells.Goals as goal
-
-pub loop-i-init : goal.loop-i-init
-loop-i-init c =
-    let args' = c.args in
-    (refl, omega arith, paste-zero args'.cells.now args'.at args'.values.now)
 
 pub loop-i-preserved : goal.loop-i-preserved
 loop-i-preserved c =
@@ -25,9 +20,6 @@ loop-i-preserved c =
     ∙ paste-suc cells' args'.at values' loop'.i 0 (omega arith) (omega arith) in
     rw (add-one loop'.i)
     (length-set loop'.cells (args'.at + loop'.i) (get_or values' loop'.i 0) ∙ loop'.invariant.0, omega arith, e)
-
-pub shape_of-cells : goal.shape_of-cells
-shape_of-cells c = c.loop-i.invariant.0
 
 pub returns : goal.returns
 returns c =

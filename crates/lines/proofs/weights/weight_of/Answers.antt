@@ -9,35 +9,6 @@ use Rattle.tables.specs.Rows.{symbols_of}
 use Rattle.lines.proofs.Weighing.{weight-step, weight-end}
 use Rattle.lines.proofs.weights.weight_of.Goals as goal
 
-pub loop-at-init : goal.loop-at-init
-loop-at-init c = (omega arith, omega arith, λ names k e. omega arith)
-
-pub overflow_add-at : goal.overflow_add-at
-overflow_add-at c = record { fits = omega (arith, c.loop-at.invariant.0, c.requires) }
-
-pub offset_bounds-cells-at : goal.offset_bounds-cells-at
-offset_bounds-cells-at c = record { fits = omega (arith, c.loop-at-test.true, c.requires) }
-
-pub bounds-cells-at : goal.bounds-cells-at
-bounds-cells-at c = omega (arith, c.loop-at-test.true)
-
-pub weight_at-sum-requires : goal.weight_at-sum-requires
-weight_at-sum-requires c = c.wide-s.ensures.1
-
-pub overflow_add-sum : goal.overflow_add-sum
-overflow_add-sum c =
-    let pre' = c.requires in
-    let loop' = c.loop-at in
-    record { fits = omega (arith, loop'.invariant.0, loop'.invariant.1, c.weight_at-sum.ensures.1, pre') }
-
-pub overflow_add-at-in-loop-at : goal.overflow_add-at-in-loop-at
-overflow_add-at-in-loop-at c =
-    let pre' = c.requires in
-    record { fits = omega (arith, c.loop-at-test.true, pre') }
-
-pub loop-at-smaller : goal.loop-at-smaller
-loop-at-smaller c = omega (arith, c.loop-at-test.true)
-
 pub loop-at-preserved : goal.loop-at-preserved
 loop-at-preserved c =
     let args' = c.args in
