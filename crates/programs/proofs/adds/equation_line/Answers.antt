@@ -1,10 +1,7 @@
 -- `programs::adds::equation_line` meets its contract: the line is refused, or the last rule has one equation more.
 -- Assumes nothing.
-use borrow.Author.Rules.{rules}
 use mathlib.Core.Path.{sym, ◌∙◌}
-use mathlib.Core.List.{[]}
-use native.Mathlib.Omega.{arith}
-use Rattle.programs.proofs.AddLaws.{sides-faulty, sides-full, sides-many, sides-fit, sides-next}
+use Rattle.programs.proofs.AddLaws.{sides-faulty, sides-full, sides-many, sides-next}
 use Rattle.programs.proofs.adds.equation_line.Goals as goal
 
 pub returns-then-is_equation_faulty : goal.returns-then-is_equation_faulty
@@ -20,18 +17,6 @@ returns-then-h-ge4 c =
     c.is_equation_faulty.ensures.0 fs h)
     (c.is_equation_faulty.ensures.1 c.if-is_equation_faulty.false) _ c.wide-h.ensures.0 c.if-h-ge4.true
 
-pub read_terms-t-requires : goal.read_terms-t-requires
-read_terms-t-requires c = (
-  c.requires.0,
-  c.requires.2.few-constants,
-  omega (
-    arith,
-    c.is_equation_faulty.ensures.1
-        c.if-is_equation_faulty.false,
-  ),
-  omega (arith, c.is_equation_faulty.ensures.1 c.if-is_equation_faulty.false),
-)
-
 pub returns-then-t : goal.returns-then-t
 returns-then-t c =
     λ used.
@@ -40,14 +25,6 @@ returns-then-t c =
     (c.is_equation_faulty.ensures.1 c.if-is_equation_faulty.false) _ c.wide-h.ensures.0
     c.if-h-ge4.false _ _ _ c.read_terms-t.ensures
     c.if-t.true
-
-pub add_cells-requires : goal.add_cells-requires
-add_cells-requires c =
-    sides-fit _ _ _ _ _ c.requires.1 c.requires.2 c.requires.3 [] (λ fs h. sym c.if-is_equation_faulty.false ∙
-    c.is_equation_faulty.ensures.0 fs h)
-    (c.is_equation_faulty.ensures.1 c.if-is_equation_faulty.false) _ c.wide-h.ensures.0
-    c.if-h-ge4.false _ _ _ c.read_terms-t.ensures
-    c.if-t.false
 
 pub returns : goal.returns
 returns c =

@@ -1,6 +1,5 @@
 -- `programs::adds::is_equation_faulty` meets its contract, by the test that decides it.
 -- Assumes nothing.
-use borrow.Author.Rules.{rules}
 use mathlib.Core.Path.{◌≡◌, sym, ap, ◌∙◌}
 use mathlib.Core.Bool.{not}
 use Prim.Native.Nat.{ℕ}

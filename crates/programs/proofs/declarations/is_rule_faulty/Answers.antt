@@ -1,6 +1,5 @@
 -- `programs::declarations::is_rule_faulty` meets its contract, by the test that decides it.
 -- Assumes nothing.
-use borrow.Author.Rules.{rules}
 use mathlib.Core.Path.{sym, ◌∙◌}
 use native.Mathlib.Omega.{arith}
 use Rattle.programs.proofs.Drafts.{rule-few, rule-shape}

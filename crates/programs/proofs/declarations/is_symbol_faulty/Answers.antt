@@ -1,6 +1,5 @@
 -- `programs::declarations::is_symbol_faulty` meets its contract, by the test that decides it.
 -- Assumes nothing.
-use borrow.Author.Rules.{rules}
 use mathlib.Core.Path.{refl, sym, ◌∙◌}
 use native.Mathlib.Omega.{arith}
 use Rattle.programs.proofs.Drafts.{symbol-few, symbol-nameless, symbol-terms, symbol-light, symbol-weighed}

@@ -1,6 +1,5 @@
 -- `programs::declarations::rule_line` meets its contract: numbers 4, 5 and 7, or one rule more.
 -- Assumes nothing.
-use borrow.Author.Rules.{rules}
 use mathlib.Core.Path.{refl, sym, ◌∙◌}
 use native.Mathlib.Omega.{arith}
 use Rattle.programs.proofs.Drafts.{rule-faulty, rule-repeated, rule-full, rule-new}
@@ -22,10 +21,6 @@ returns-then-n-ge32 c =
     rule-full _ _ _ _ _ _ c.requires.0 c.requires.2 (λ fs h. sym c.if-is_rule_faulty.false ∙
     c.is_rule_faulty.ensures fs h) (λ i. omega (arith, c.slice_known-1.given i)) _
     c.find_key.ensures.0 c.if-find_key-n.false c.if-n-ge32.true
-
-pub overflow_cast-places : goal.overflow_cast-places
-overflow_cast-places c =
-    omega (arith, c.requires.0.near 1)
 
 pub returns : goal.returns
 returns c =

@@ -1,9 +1,7 @@
 -- `programs::declarations::symbol_line` meets its contract: numbers 4, 5 and 7, or one symbol more.
 -- Assumes nothing.
-use borrow.Author.Rules.{rules}
 use mathlib.Core.Path.{refl, sym, ◌∙◌}
 use native.Mathlib.Omega.{arith}
-use lib.Seq.{length-take-le}
 use Rattle.programs.proofs.Drafts.{symbol-faulty, symbol-repeated, symbol-full, symbol-new}
 use Rattle.programs.proofs.declarations.symbol_line.Goals as goal
 
@@ -11,10 +9,6 @@ pub returns-then-is_symbol_faulty : goal.returns-then-is_symbol_faulty
 returns-then-is_symbol_faulty c =
     symbol-faulty _ _ _ _ _ c.requires.0 (λ fs h. sym c.if-is_symbol_faulty.true ∙ c.is_symbol_faulty.ensures fs
     h)
-
-pub slice_bounds-find_key-end-2 : goal.slice_bounds-find_key-end-2
-slice_bounds-find_key-end-2 c =
-    sym (length-take-le _ c.args.names.now (omega (arith, c.requires.0.names-size, c.requires.2)))
 
 pub returns-then-find_key-n : goal.returns-then-find_key-n
 returns-then-find_key-n c =
@@ -27,10 +21,6 @@ returns-then-n-ge32 c =
     symbol-full _ _ _ _ _ c.requires.0 (λ fs h. sym c.if-is_symbol_faulty.false ∙ c.is_symbol_faulty.ensures
     fs h) (λ i. omega (arith, c.slice_known-1.given i)) _
     c.find_key.ensures.0 c.requires.2 c.if-find_key-n.false c.if-n-ge32.true
-
-pub overflow_cast-places : goal.overflow_cast-places
-overflow_cast-places c =
-    omega (arith, c.requires.0.near 1)
 
 pub returns : goal.returns
 returns c =

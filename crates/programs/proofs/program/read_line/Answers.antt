@@ -1,7 +1,6 @@
 -- `programs::program::read_line` meets its contract: the line may not stand there, or is what its form asks.
 -- Assumes nothing.
-use borrow.Author.Rules.{rules}
-use mathlib.Core.Path.{sym, ap}
+use mathlib.Core.Path.{ap}
 use native.Mathlib.Omega.{arith}
 use lib.Seq.{length-take-le}
 use Rattle.lines.specs.Read.{form_meant}
@@ -15,26 +14,6 @@ pub returns-then-section-gt4 : goal.returns-then-section-gt4
 returns-then-section-gt4 c =
     line-placeless _ _ _ _ _ _ _ _ _ c.form_of-form.ensures c.section_after-section.ensures c.if-section-gt4.true
 
-pub overflow_mul-used : goal.overflow_mul-used
-overflow_mul-used c =
-    record { fits = omega (arith, c.requires.3.few-symbols) }
-
-pub symbol_line-requires : goal.symbol_line-requires
-symbol_line-requires c =
-    (c.requires.0, c.requires.1, c.requires.3.few-symbols)
-
-pub rule_line-requires : goal.rule_line-requires
-rule_line-requires c =
-    (c.requires.0, c.requires.2, sound-moved _ _ _ c.requires.3)
-
-pub slice_bounds-kept_line-end : goal.slice_bounds-kept_line-end
-slice_bounds-kept_line-end c =
-    omega (arith, c.requires.1, c.requires.3.few-symbols)
-
-pub slice_bounds-kept_line-end-in-Kept : goal.slice_bounds-kept_line-end-in-Kept
-slice_bounds-kept_line-end-in-Kept c =
-    sym (length-take-le _ c.args.symbols.now (omega (arith, c.requires.1, c.requires.3.few-symbols)))
-
 pub kept_line-requires : goal.kept_line-requires
 unfolding form_meant
 kept_line-requires c = (
@@ -45,14 +24,6 @@ kept_line-requires c = (
   c.requires.4 (begun_kept _ _ _ c.section_after-section.ensures (omega (arith, c.if-section-gt4.false)) (ap form_meant
       c.in-Kept.is)),
 )
-
-pub slice_bounds-constraint_line-end : goal.slice_bounds-constraint_line-end
-slice_bounds-constraint_line-end c =
-    omega (arith, c.requires.1, c.requires.3.few-symbols)
-
-pub slice_bounds-constraint_line-end-in-Head : goal.slice_bounds-constraint_line-end-in-Head
-slice_bounds-constraint_line-end-in-Head c =
-    sym (length-take-le _ c.args.symbols.now (omega (arith, c.requires.1, c.requires.3.few-symbols)))
 
 pub constraint_line-requires : goal.constraint_line-requires
 unfolding form_meant part_form
@@ -65,14 +36,6 @@ constraint_line-requires c = (
       c.in-Head.is)),
   omega arith,
 )
-
-pub slice_bounds-constraint_line-end-in-Body : goal.slice_bounds-constraint_line-end-in-Body
-slice_bounds-constraint_line-end-in-Body c =
-    omega (arith, c.requires.1, c.requires.3.few-symbols)
-
-pub slice_bounds-constraint_line-end-in-Body-2 : goal.slice_bounds-constraint_line-end-in-Body-2
-slice_bounds-constraint_line-end-in-Body-2 c =
-    sym (length-take-le _ c.args.symbols.now (omega (arith, c.requires.1, c.requires.3.few-symbols)))
 
 pub constraint_line-requires-in-Body : goal.constraint_line-requires-in-Body
 unfolding form_meant part_form

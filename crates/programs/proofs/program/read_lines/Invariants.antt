@@ -1,10 +1,8 @@
 -- `programs::program::read_lines` meets its contract: what is left of the text, read from here, is the answer.
 -- Assumes nothing.
-use borrow.Author.Rules.{rules}
 use Prim.Native.Nat.{◌-◌}
-use native.Mathlib.Omega.{arith}
 use lib.ListN.{length}
-use Rattle.programs.proofs.Whole.{LinesSoFar, lines_start, lines-faulty, lines-refused, lines_next, lines_end}
+use Rattle.programs.proofs.Whole.{LinesSoFar}
 use Rattle.programs.proofs.program.read_lines.Given as goal
 
 abbrev pub invariant-loop-at : goal.invariant-loop-at

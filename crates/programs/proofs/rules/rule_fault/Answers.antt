@@ -1,8 +1,6 @@
 -- `programs::rules::rule_fault` meets its contract: number 8, number 9, or none.
 -- Assumes nothing.
-use borrow.Author.Rules.{rules}
-use native.Mathlib.Omega.{arith}
-use Rattle.programs.proofs.RuleLaws.{part-short, fault-eight, fault-nine, fault-none}
+use Rattle.programs.proofs.RuleLaws.{fault-eight, fault-nine, fault-none}
 use Rattle.programs.proofs.rules.rule_fault.Goals as goal
 
 pub returns-then-h-k : goal.returns-then-h-k
@@ -21,9 +19,3 @@ returns c =
     fault-none _ _ _ _ _ c.wide-k.ensures.0 c.wide-h.ensures.0 c.wide-b.ensures.0 c.requires.0
     c.requires.1 _ _ c.weight_of-heads.ensures c.weight_of-body.ensures c.if-h-k.false
     c.if-heads-body.false
-
-pub weight_of-heads-requires : goal.weight_of-heads-requires
-weight_of-heads-requires c = search part-short
-
-pub weight_of-body-requires : goal.weight_of-body-requires
-weight_of-body-requires c = search part-short
