@@ -1,4 +1,6 @@
 // The reader of a goal over a program as read: it fills flat tables that the caller lends.
+#![tactic(auto)]
+
 mod goal;
 mod letters;
 

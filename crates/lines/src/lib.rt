@@ -10,7 +10,7 @@ pub mod terms;
 pub mod weights;
 
 // The forms of a line, by its first letter.
-#[derive(Drop)]
+#[derive(Clone, Copy)]
 pub enum LineForm {
     Symbol,
     Rule,

@@ -39,7 +39,7 @@ use Rattle.lines.proofs.TermLaws.{constants-length}
 use Rattle.programs.specs.declared.Stage.{Stage}
 use Rattle.programs.specs.declared.LineRead.{LineRead}
 use Rattle.programs.specs.declared.LineRead.TheVariants.{Refused, Next}
-use Rattle.programs.specs.Read.{part_form, rules_read, draft_of, line_answer, RowFits, Sound, Begun, Kept, AddsIn, head_gained}
+use Rattle.programs.specs.Read.{part_form, rules_read, draft_of, line_answer, RowFits, Sound, Kept, AddsIn, head_gained}
 use Rattle.programs.proofs.Drafts.{row-cell, kept_same}
 use Rattle.programs.proofs.Grown.{grown, grown-length, cell-counted, other-count, rules-grown, sound-grown, sides-grown}
 use Rattle.programs.proofs.Grown.{constraints_in, with_constraint, constraint-grown, last-constraints, last-sides}

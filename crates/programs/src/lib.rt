@@ -1,4 +1,6 @@
 // The reader of a program: it fills flat tables that the caller lends; a name is kept by its key and its place.
+#![tactic(auto)]
+
 mod adds;
 mod declarations;
 mod program;

@@ -8,7 +8,7 @@ ghost use Rattle.text.specs.Splits.{seven_bytes, Passed, Stopped, SplitAt};
 use crate::table::{CAPITAL, DIGIT, LINE_FEED, OTHER, class_of};
 
 // A line's fields: how many there are, and of the first 8 the keys and where they start. Where the line is faulty, only that.
-#[derive(Drop)]
+#[derive(Clone, Copy)]
 pub struct Fields {
     pub faulty: bool,
     pub end: usize,
