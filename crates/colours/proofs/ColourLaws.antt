@@ -7,7 +7,7 @@
 use Rattle.std.proofs.Common.{◌≡◌, ℕ, suc, ◌+◌, ◌-◌, ◌*◌, ◌%◌, ◌<◌, ◌≤◌, true, false, eqb, ◌⊎◌, List, [], ◌∷◌, length, get_or, take, drop, set, refl, ap, ◌∙◌, inl, inr, ⊎_elim, mul-le-mul, add-one, arith, length-drop, length-set, drop_of_length-le, length-take-le, take_all, get_or-set_other, get_or-set_same, eqb-true}
 use lib.ListN.{get_or-eq_default}
 use borrow.Author.Tests.{eqb-false}
-use Rattle.semantics.specs.Terms.{Term}
+use Rattle.semantics.specs.Terms.{Term, same_term}
 use Rattle.tables.specs.Cells.{cell_term, cell_terms, cell_constraints}
 use Rattle.tables.specs.Cells.{row_constraint}
 use Rattle.tables.proofs.CellLaws.{either, le-or-lt, same-cell, terms-none, terms-more, constraints-at}
@@ -74,6 +74,15 @@ pub record Spreading (start : ℕ) (terms received₀ received : List ℕ) (s i 
 pub spread-start : (start : ℕ) (terms received : List ℕ) → Spreading start terms received received start 0
 spread-start start terms received = record { within = omega arith; size = refl; same = λ x h. refl }
 
+-- what a term gains where it stands first, and where another does
+gains-here : (t u : Term) (s : ℕ) (us : List Term) → same_term t u ≡ true → gains t s (u ∷ us) ≡ mixed s 1 ∷ gains t (mixed s 1) us
+unfolding gains
+gains-here t u s us h = rw h
+
+gains-other : (t u : Term) (s : ℕ) (us : List Term) → same_term t u ≡ false → gains t s (u ∷ us) ≡ gains t (mixed s 1) us
+unfolding gains
+gains-other t u s us h = rw h
+
 module _ (start : ℕ) (terms received₀ received : List ℕ) (s i : ℕ) (w : Spreading start terms received₀ received s i) where
   pub spread-done : length terms ≤ i → Spread start (cell_terms terms) received₀ received
   unfolding gains added
@@ -94,12 +103,22 @@ module _ (start : ℕ) (terms received₀ received : List ℕ) (s i : ℕ) (w : 
           (x : ℕ) (us : List Term) → (eqb x p ≡ true) ⊎ (eqb x p ≡ false)
           → added (get_or (set received p v) x 0) (gains (cell_term x) s' us)
           ≡ added (get_or received x 0) (gains (cell_term x) s (cell_term p ∷ us))
-      unfolding gains added
+      unfolding added
       one_more x us (inl y) =
           let q : x ≡ p = eqb-true x p y in
-          rw (same-cell x p, y, q, get_or-set_same received p v 0 (spread-room b p e), g, f)
+          rw (
+            gains-here (cell_term x) (cell_term p) s us (same-cell x p ∙ y),
+            q,
+            get_or-set_same received p v 0 (spread-room b p e),
+            g,
+            f,
+          )
       one_more x us (inr y) =
-          rw (same-cell x p, y, get_or-set_other received p x v 0 (λ q. eqb-false x p y q), f)
+          rw (
+            gains-other (cell_term x) (cell_term p) s us (same-cell x p ∙ y),
+            get_or-set_other received p x v 0 (λ q. eqb-false x p y q),
+            f,
+          )
 
       pub spread-next : Spreading start terms received₀ (set received p v) s' (i + 1)
       spread-next =

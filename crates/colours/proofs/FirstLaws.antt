@@ -5,10 +5,10 @@
 --   first-differs           nor are states whose digests differ
 --   clip-…, first-…, sum-…  one law for each way that the code goes
 -- Assumes nothing.
-use Rattle.std.proofs.Common.{◌≡◌, ℕ, suc, ◌+◌, ◌-◌, ◌*◌, ◌<◌, ◌≤◌, min, true, false, eqb, ltb, ◌⊎◌, List, [], ◌∷◌, map, length, get_or, take, drop, sym, refl, ap, ◌∙◌, inl, inr, ⊎_elim, add-one, arith, drop_of_length-le, le-ltb, lt-ltb, eq-eqb, eqb-true}
+use Rattle.std.proofs.Common.{◌≡◌, ℕ, suc, ◌+◌, ◌-◌, ◌*◌, ◌<◌, ◌≤◌, min, true, false, eqb, ◌⊎◌, List, [], ◌∷◌, map, length, get_or, take, drop, sym, refl, ap, ◌∙◌, inl, inr, ⊎_elim, add-one, arith, drop_of_length-le, eq-eqb, eqb-true}
 use borrow.Author.Tests.{eqb-false}
-use Rattle.semantics.specs.Terms.{Term, con, var, same_term}
-use Rattle.semantics.specs.Variants.{OneToOne, TermVariant, same_con, partners, Pointwise, empty, each, same_state}
+use Rattle.semantics.specs.Terms.{Term, var, same_term}
+use Rattle.semantics.specs.Variants.{OneToOne, TermVariant, same_con, partners, Pointwise, each, same_state}
 use Rattle.tables.specs.Cells.{cell_term, cell_terms, cell_constraints, row_constraint}
 use Rattle.tables.proofs.CellLaws.{either, le-or-lt, cell-low, cell-high, same-cell}
 use Rattle.tables.proofs.CellLaws.{terms-none, terms-more, constraints-at}

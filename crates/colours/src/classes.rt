@@ -12,7 +12,7 @@ use crate::keys::{colour, deep_keys, plain_keys, relabel, sum};
 const ROOM: usize = 2844;
 
 // How keys are made: by how many rounds, and whether each constraint is marked.
-#[derive(Drop)]
+#[derive(Clone, Copy)]
 pub struct Depth {
     pub rounds: usize,
     pub deep: bool,

@@ -8,7 +8,7 @@ use mathlib.Core.List.{map-append}
 use lib.ListN.{length-map}
 use Rattle.text.specs.Lists.{has}
 use Rattle.semantics.specs.Terms.{Term, con, var, Constraint, same_term}
-use Rattle.semantics.specs.Variants.{OneToOne, TermVariant, same_con, partners, Pointwise, empty, each, ConstraintVariant}
+use Rattle.semantics.specs.Variants.{OneToOne, TermVariant, partners, Pointwise, empty, each, ConstraintVariant}
 use Rattle.semantics.specs.Variants.{Inserted, here, there, SameMultiset, done, put, same_state}
 use Rattle.semantics.proofs.Configurations.{Or, inl, inr}
 use Rattle.semantics.proofs.Multisets.{pointwise-append, pointwise-parts}

@@ -7,7 +7,7 @@
 use Rattle.std.proofs.Common.{◌≡◌, ℕ, suc, ◌+◌, ◌*◌, ◌<◌, ◌≤◌, Bool, true, false, cond, ◌||◌, eqb, ◌⊎◌, List, ◌∷◌, length, get_or, take, drop, set, refl, ap, ◌∙◌, inl, inr, add-one, arith, length-set, drop_of_length-le, drop-cons, get_or-set_other, get_or-set_same, eqb-true}
 use borrow.Author.Tests.{eqb-false}
 use Rattle.text.specs.Lists.{has}
-use Rattle.semantics.specs.Terms.{Term}
+use Rattle.semantics.specs.Terms.{Term, same_term}
 use Rattle.tables.specs.Cells.{cell_term, cell_terms, cell_constraints, row_constraint}
 use Rattle.tables.proofs.CellLaws.{either, same-cell, terms-none, terms-more, constraints-at}
 use Rattle.colours.specs.Bounds.{Below}
@@ -26,6 +26,17 @@ pub record Weighing (terms weights₀ weights : List ℕ) (f i : ℕ) : Type 0 w
 
 pub weigh-start : (terms weights : List ℕ) → Weighing terms weights weights 1 0
 weigh-start terms weights = record { within = omega arith; size = refl; same = λ x. refl }
+
+-- what a term weighs more where it stands first, and where another does
+weighed-here :
+    (t u : Term) (f : ℕ) (us : List Term) (w : ℕ) → same_term t u ≡ true → weighed t f (u ∷ us) w ≡ weighed t (tripled f) us (plus w f)
+unfolding weighed
+weighed-here t u f us w h = rw h
+
+weighed-other :
+    (t u : Term) (f : ℕ) (us : List Term) (w : ℕ) → same_term t u ≡ false → weighed t f (u ∷ us) w ≡ weighed t (tripled f) us w
+unfolding weighed
+weighed-other t u f us w h = rw h
 
 module _ (terms weights₀ weights : List ℕ) (f i : ℕ) (w : Weighing terms weights₀ weights f i) where
   pub weigh-done : length terms ≤ i → RowWeighed terms weights₀ weights
@@ -46,12 +57,21 @@ module _ (terms weights₀ weights : List ℕ) (f i : ℕ) (w : Weighing terms w
       one_more :
           (x : ℕ) (us : List Term) → (eqb x p ≡ true) ⊎ (eqb x p ≡ false)
           → weighed (cell_term x) f' us (get_or (set weights p v) x 0) ≡ weighed (cell_term x) f (cell_term p ∷ us) (get_or weights x 0)
-      unfolding weighed
       one_more x us (inl y) =
           let q : x ≡ p = eqb-true x p y in
-          rw (same-cell x p, y, q, get_or-set_same weights p v 0 (weigh-room b p e), g, t)
+          rw (
+            weighed-here (cell_term x) (cell_term p) f us (get_or weights x 0) (same-cell x p ∙ y),
+            q,
+            get_or-set_same weights p v 0 (weigh-room b p e),
+            g,
+            t,
+          )
       one_more x us (inr y) =
-          rw (same-cell x p, y, get_or-set_other weights p x v 0 (λ q. eqb-false x p y q), t)
+          rw (
+            weighed-other (cell_term x) (cell_term p) f us (get_or weights x 0) (same-cell x p ∙ y),
+            get_or-set_other weights p x v 0 (λ q. eqb-false x p y q),
+            t,
+          )
 
       pub weigh-next : Weighing terms weights₀ (set weights p v) f' (i + 1)
       weigh-next =

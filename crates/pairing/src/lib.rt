@@ -1,6 +1,8 @@
 // Two terms, two constraints, or what the goal variables of two states became, made equal by a renaming.
 // The renaming is kept in two lent tables: `forth` has the partner of a cell of the first state, `back` that of the second;
 // 0 is none.
+#![tactic(auto)]
+
 ghost use Rattle.std.specs.Prelude.{map, ◌≡◌, ◌<◌, length, drop};
 ghost use Rattle.semantics.specs.Variants.{pair_term, pair_terms};
 ghost use Rattle.tables.specs.Cells.{cell_term, cell_terms};

@@ -10,10 +10,10 @@
 -- Assumes nothing.
 use Prim.Native.Nat.{ℕ}
 use mathlib.Core.Bool.{true}
-use mathlib.Core.List.{List, [], ◌∷◌, ◌++◌}
+use mathlib.Core.List.{List, ◌∷◌, ◌++◌}
 use mathlib.Core.Path.{◌≡◌, refl, sym, ◌∙◌, subst}
-use Rattle.semantics.specs.Terms.{Term, con, var, Constraint, live}
-use Rattle.semantics.specs.Variants.{OneToOne, TermVariant, same_con, partners, Pointwise, empty, each, ConstraintVariant}
+use Rattle.semantics.specs.Terms.{Term, var, Constraint, live}
+use Rattle.semantics.specs.Variants.{TermVariant, same_con, partners, Pointwise, empty, each, ConstraintVariant}
 use Rattle.semantics.specs.Variants.{Inserted, here, there, SameMultiset, done, put, Variant, same_state}
 use Rattle.semantics.proofs.Configurations.{Or, inl, inr, Member, first, later}
 use Rattle.semantics.proofs.Multisets.{pointwise-mono, pointwise-sym, multiset-refl, multiset-mono, multiset-sym, multiset-put}
@@ -140,7 +140,7 @@ terms-back {ρ} p = pointwise-mono turn (pointwise-sym p)
 
 -- a variable of a list of terms has the same partner by every renaming that makes it equal to the other list
 partner-both :
-    {ρ σ : ℕ → ℕ → Type 0} {f g : List Term} {x : ℕ} → Member (var x) f → Pointwise (TermVariant ρ) f g
+    {ρ σ : ℕ → ℕ → Type 0} {x : ℕ} {f g : List Term} → Member (var x) f → Pointwise (TermVariant ρ) f g
     → Pointwise (TermVariant σ) f g → (y : ℕ) × ρ x y × σ x y
 partner-both first (each (partners {y} r) p) (each (partners s) q) = (y, r, s)
 partner-both (later i) (each r p) (each s q) = partner-both i p q

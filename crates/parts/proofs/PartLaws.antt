@@ -157,6 +157,7 @@ parted cells k bound marks₀ marks marks' m n r u =
 
 -- a number of a list, and its position
 member-index : {y : ℕ} (l : List ℕ) → Member y l → (i : ℕ) × (i < length l) × (get_or l i 0 ≡ y)
+member-index {y = y} [] x' = elim x' [ ]
 member-index (x ∷ l) first = (0, omega arith, refl)
 member-index (x ∷ l) (later m) = let (i, h, e) = member-index l m in (suc i, omega arith, e)
 

@@ -1,0 +1,23 @@
+-- `first_sign` meets its contract: the terms from i on, from the number by now, give the answer for all.
+-- Assumes nothing.
+use Rattle.colours.proofs.FirstLaws.{first-start, first-end, first_next, first_done}
+use Rattle.colours.proofs.first.first_sign.Goals as goal
+
+pub loop-i-init : goal.loop-i-init
+loop-i-init c = first-start _ _ _
+
+pub returns-then-x-eq0 : goal.returns-then-x-eq0
+returns-then-x-eq0 c =
+    let loop' = c.loop-i in
+    let loop-test' = c.loop-i-test in
+    let if1' = c.if-x-eq0 in
+    first-end _ _ _ _ _ loop'.invariant loop-test'.true if1'.true
+
+pub loop-i-preserved : goal.loop-i-preserved
+loop-i-preserved c = search first_next
+
+pub returns : goal.returns
+returns c =
+    let loop' = c.loop-i in
+    let loop-test' = c.loop-i-test in
+    first_done _ _ _ _ _ loop'.invariant loop-test'.false
