@@ -17,7 +17,8 @@ use lib.ListN.{length, get_or, get_elem?, take, drop, length-drop}
 use lib.Seq.{length-take-le}
 use borrow.Author.Tests.{lt-ltb, ltb-true}
 use Rattle.text.specs.Lists.{every, tabled}
-use Rattle.semantics.specs.Terms.{Term, con, var, Constraint, Equation, Symbol, Program, Goal, no_symbol, symbol_at, weight, weight_by, removed_heads}
+use Rattle.semantics.specs.Terms.{Term, con, var, Constraint, Equation, Symbol, Program, Goal, no_symbol, symbol_at}
+use Rattle.semantics.specs.Terms.{weight, weight_by, removed_heads}
 use Rattle.semantics.specs.Terms.{is_declared, is_below, is_goal_of, alphabet, is_of_rule, is_rule_of, is_well_formed}
 use Rattle.semantics.specs.Strategy.{goal_state, run}
 use Rattle.tables.specs.Layout.{first_rule}

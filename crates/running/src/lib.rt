@@ -1,5 +1,7 @@
 // The run of a goal over a program, from their texts to the listing: reading both, the derivation, and its listing.
 // Its promise is the definition of crates/replies/specs/Replies.antt, through crates/answers/specs/Answers.antt.
+#![tactic(auto)]
+
 ghost use Rattle.std.specs.Prelude.{◌≤◌, length};
 ghost use Rattle.engine.specs.Runs.{Startable};
 ghost use Rattle.listing.specs.Ends.{end_bytes, Listable};

@@ -32,7 +32,8 @@ returns-then-not-match_term c = search walk-fails
 
 pub loop-i-preserved : goal.loop-i-preserved
 loop-i-preserved c =
-    walk-fits _ _ _ _ _ c.loop-i.invariant c.loop-i-test.true c.if-h-eq0.false c.if-t-eq0.false _ _ c.match_term.ensures c.if-not-match_term.false
+    walk-fits _ _ _ _ _ c.loop-i.invariant c.loop-i-test.true c.if-h-eq0.false c.if-t-eq0.false
+    _ _ c.match_term.ensures c.if-not-match_term.false
 
 pub returns : goal.returns
 returns c = search walk_end

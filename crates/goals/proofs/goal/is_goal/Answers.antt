@@ -1,10 +1,7 @@
 -- `goals::goal::is_goal` meets its contract, at each form.
 -- Assumes nothing.
-use borrow.Author.Rules.{rules}
-use mathlib.Core.List.{List}
 use mathlib.Core.Path.{◌≡◌, sym, ap, ◌∙◌}
-use Prim.Native.Nat.{ℕ}
-use Rattle.syntax.specs.Forms.{Form, form_of}
+use Rattle.syntax.specs.Forms.{Form}
 use Rattle.syntax.specs.Goals.{is_goal_form}
 use Rattle.lines.specs.declared.LineForm.{LineForm}
 use Rattle.lines.specs.Read.{form_meant}

@@ -1,19 +1,12 @@
 -- `goals::letters::find_letter` meets its contract: no letter passed is the one sought.
 -- Assumes nothing.
-use borrow.Author.Rules.{rules}
-use mathlib.Core.Path.{◌≡◌, refl, sym, ◌∙◌}
-use Prim.Native.Nat.{◌≤◌, ◌-◌}
+use mathlib.Core.Path.{sym, ◌∙◌}
 use native.Mathlib.Numerals.{add-one}
 use native.Mathlib.Omega.{arith}
 use borrow.Author.Tests.{eq-eqb, ne_eqb}
 use lib.Dec.{eqb}
-use lib.ListN.{length, drop}
-use Rattle.text.specs.Lists.{index_from}
 use Rattle.syntax.proofs.Tabled.{index-here, index-step, index-end}
 use Rattle.goals.proofs.letters.find_letter.Goals as goal
-
-pub loop-i-init : goal.loop-i-init
-loop-i-init c = (omega arith, refl)
 
 pub returns-then-b-letters : goal.returns-then-b-letters
 returns-then-b-letters c = (

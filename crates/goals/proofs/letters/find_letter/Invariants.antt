@@ -1,15 +1,10 @@
 -- `goals::letters::find_letter` meets its contract: no letter passed is the one sought.
 -- Assumes nothing.
-use borrow.Author.Rules.{rules}
-use mathlib.Core.Path.{◌≡◌, refl, sym, ◌∙◌}
+use mathlib.Core.Path.{◌≡◌}
 use Prim.Native.Nat.{◌≤◌, ◌-◌}
-use native.Mathlib.Numerals.{add-one}
-use native.Mathlib.Omega.{arith}
-use borrow.Author.Tests.{eq-eqb, ne_eqb}
 use lib.Dec.{eqb}
 use lib.ListN.{length, drop}
 use Rattle.text.specs.Lists.{index_from}
-use Rattle.syntax.proofs.Tabled.{index-here, index-step, index-end}
 use Rattle.goals.proofs.letters.find_letter.Given as goal
 
 abbrev pub invariant-loop-i : goal.invariant-loop-i

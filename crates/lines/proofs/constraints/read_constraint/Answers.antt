@@ -19,11 +19,6 @@ returns-then-full c =
     rw c.refused-then-full.ensures (constraint-full _ _ _ _ _ _ _ c.requires.2 _
     c.constraint_head.ensures.0 _ c.in-Symbol.is c.if-full.true)
 
-pub read_terms-t-requires : goal.read_terms-t-requires
-read_terms-t-requires c =
-    let fits = rw c.in-Symbol.is at c.constraint_head.ensures.1 in
-    (c.requires.0, c.requires.1, omega (arith, fits.1), fits.1)
-
 pub returns-then-t : goal.returns-then-t
 returns-then-t c =
     rw c.refused-then-t.ensures

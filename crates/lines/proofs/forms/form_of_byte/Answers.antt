@@ -1,5 +1,4 @@
 -- `lines::forms::form_of_byte` meets its contract, at each letter and at all other bytes. Assumes nothing.
-use mathlib.Core.Path.{sym}
 use native.Mathlib.Omega.{arith}
 use Rattle.std.proofs.lemmas.Bool.Decides.{nat_tests}
 use Rattle.syntax.specs.Forms.{form_of_byte}
@@ -37,19 +36,19 @@ returns-in-71 c = rw c.in-71.is
 
 pub returns-in-97-to-122 : goal.returns-in-97-to-122
 unfolding form_meant
-returns-in-97-to-122 c = sym (form-none c.args.b (λ e. omega arith) (λ e. omega arith) (λ e. omega arith) (λ e. omega arith) (λ e. omega arith) (λ e. omega arith) (λ e. omega arith))
+returns-in-97-to-122 c = grind (arith, form-none)
 
 pub returns-in_default : goal.returns-in_default
 unfolding form_meant
-returns-in_default c = sym (form-none c.args.b (λ e. omega arith) (λ e. omega arith) (λ e. omega arith) (λ e. omega arith) (λ e. omega arith) (λ e. omega arith) (λ e. omega arith))
+returns-in_default c = grind (arith, form-none)
 
 pub returns-in_default-2 : goal.returns-in_default-2
 unfolding form_meant
-returns-in_default-2 c = sym (form-none c.args.b (λ e. omega arith) (λ e. omega arith) (λ e. omega arith) (λ e. omega arith) (λ e. omega arith) (λ e. omega arith) (λ e. omega arith))
+returns-in_default-2 c = grind (arith, form-none)
 
 pub returns-in_default-3 : goal.returns-in_default-3
 unfolding form_meant
-returns-in_default-3 c = sym (form-none c.args.b (λ e. omega arith) (λ e. omega arith) (λ e. omega arith) (λ e. omega arith) (λ e. omega arith) (λ e. omega arith) (λ e. omega arith))
+returns-in_default-3 c = grind (arith, form-none)
 
 pub returns-in-65-to-90 : goal.returns-in-65-to-90
 unfolding form_of_byte form_meant
@@ -57,4 +56,4 @@ returns-in-65-to-90 c = grind (arith, nat_tests)
 
 pub returns-in-65-to-90-2 : goal.returns-in-65-to-90-2
 unfolding form_meant
-returns-in-65-to-90-2 c = sym (form-none c.args.b (λ e. omega arith) (λ e. omega arith) (λ e. omega arith) (λ e. omega arith) (λ e. omega arith) (λ e. omega arith) (λ e. omega arith))
+returns-in-65-to-90-2 c = grind (arith, form-none)

@@ -26,11 +26,6 @@ returns-then-count-ge64 c =
     )) c.constant-c.ensures.0 c.find_key-k.ensures.0
     c.if-k-count.false (omega (arith, c.if-count-ge64.true))
 
--- the place of the name
-pub overflow_add-at : goal.overflow_add-at
-overflow_add-at c =
-    record { fits = omega (arith, c.requires.3, c.constant-c.ensures.1) }
-
 pub returns : goal.returns
 returns c =
     term-new _ _ _ _ _ c.requires.0 c.requires.1 c.requires.2 _ c.constant-c.result

@@ -2,7 +2,6 @@
 -- Assumes nothing.
 use mathlib.Core.Path.{refl}
 use native.Mathlib.Numerals.{add-one}
-use native.Mathlib.Omega.{arith}
 use Rattle.lines.proofs.TermLaws.{walk_start, walk-next, walk-full, walk_end, terms-held}
 use Rattle.lines.proofs.terms.read_terms.Goals as goal
 
@@ -10,22 +9,6 @@ pub loop-i-init : goal.loop-i-init
 loop-i-init c =
     let pre = c.requires in
     walk_start _ _ _ _ _ _ pre.1 pre.0.names-size pre.0.places-size
-
-pub overflow_add-place : goal.overflow_add-place
-overflow_add-place c =
-    let lent = c.requires.0 in
-    record { fits = omega (arith, lent.near c.loop-i.i, lent.low) }
-
-pub overflow_cast-place : goal.overflow_cast-place
-overflow_cast-place c =
-    let lent = c.requires.0 in
-    omega (arith, lent.near c.loop-i.i, lent.low)
-
-pub read_term-t-requires : goal.read_term-t-requires
-read_term-t-requires c =
-    let walk = c.loop-i.invariant in
-    let lent = c.requires.0 in
-    (walk.few, walk.names-size, walk.places-size, omega (arith, lent.near c.loop-i.i, lent.low))
 
 pub returns-then-t-eq0 : goal.returns-then-t-eq0
 returns-then-t-eq0 c =
