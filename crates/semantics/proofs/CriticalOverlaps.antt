@@ -18,7 +18,7 @@ use Rattle.semantics.specs.CriticalPairs.{shifted_heads, pair_of, Critical, crit
 use Rattle.semantics.specs.Published.{EquatedAll}
 use Rattle.semantics.specs.Correspondence.{JoiningsArePairings, OverlapsAreCriticalPairs}
 use Rattle.semantics.specs.Rewriting.{rewritten}
-use Rattle.semantics.proofs.Configurations.{first, All}
+use Rattle.semantics.proofs.Configurations.{All}
 use Rattle.semantics.proofs.Options.{none-some}
 use Rattle.semantics.proofs.Precedence.{before-irreflexive}
 use Rattle.semantics.proofs.Listings.{at-member, member-at, ascending-once}

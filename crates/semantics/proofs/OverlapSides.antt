@@ -20,7 +20,7 @@ use Rattle.semantics.specs.CriticalPairs.{lefts, rights, joints_of, picked, shif
 use Rattle.semantics.specs.CriticalPairs.{critical, left_state, right_state, joined, goal_terms, with_terms}
 use Rattle.semantics.specs.Correspondence.{Sides}
 use Rattle.semantics.specs.Rewriting.{rewritten}
-use Rattle.semantics.proofs.Configurations.{Or, inl, inr, Member, first, TermBelow, All, Rep, lift_atom, fire_c, conf_of}
+use Rattle.semantics.proofs.Configurations.{Or, inl, inr, Member, TermBelow, All, Rep, lift_atom, fire_c, conf_of}
 use Rattle.semantics.proofs.Options.{true-false}
 use Rattle.semantics.proofs.Multisets.{member-map, member-unmap, member-append, member-append-left, member-append-right}
 use Rattle.semantics.proofs.Multisets.{all-member, all_map, all-mono, all-of-members}

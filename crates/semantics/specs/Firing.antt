@@ -3,10 +3,10 @@
 --   fired        the state after firing under an assignment of the rule's variables
 --   fire_at       firing at stated positions, where the rule fits there
 -- Assumes nothing.
-use Rattle.std.specs.Prelude.{ℕ, suc, ◌+◌, Bool, true, false, cond, List, [], ◌∷◌, ◌++◌, map, drop}
+use Rattle.std.specs.Prelude.{ℕ, suc, ◌+◌, cond, List, [], ◌∷◌, ◌++◌, map, drop}
 use Rattle.std.proofs.Math.Option.{Option, none, some}
 use Rattle.text.specs.Lists.{onward, bind, has}
-use Rattle.semantics.specs.Terms.{Term, con, var, Constraint, Equation, Rule, State, failed, live, map_terms, map_sides}
+use Rattle.semantics.specs.Terms.{Term, con, var, Constraint, Rule, State, failed, live, map_terms, map_sides}
 use Rattle.semantics.specs.Terms.{alphabet}
 use Rattle.semantics.specs.Matching.{Assignment, unassigned, match_at}
 use Rattle.semantics.specs.Solving.{solve}

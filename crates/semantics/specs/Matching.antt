@@ -3,7 +3,7 @@
 --   match_constraint         one head against one constraint
 --   match_at                 the heads, in written order, against the constraints at distinct positions
 -- Assumes nothing.
-use Rattle.std.specs.Prelude.{ℕ, Bool, true, false, cond, List, [], ◌∷◌, ◌++◌, eqb}
+use Rattle.std.specs.Prelude.{ℕ, cond, List, [], ◌∷◌, ◌++◌, eqb}
 use Rattle.std.proofs.Math.Option.{Option, none, some}
 use Rattle.std.proofs.Math.ListN.{get_elem?}
 use Rattle.text.specs.Lists.{onward, bind, has}

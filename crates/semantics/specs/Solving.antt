@@ -3,7 +3,7 @@
 --   unify        one equation: of two variables the one with the smaller number stays
 --   solve        equations one after the other
 -- Assumes nothing.
-use Rattle.std.specs.Prelude.{ℕ, Bool, true, false, cond, List, [], ◌∷◌, leb, eqb}
+use Rattle.std.specs.Prelude.{ℕ, cond, List, [], ◌∷◌, leb, eqb}
 use Rattle.std.proofs.Math.Option.{Option, none, some}
 use Rattle.text.specs.Lists.{bind}
 use Rattle.semantics.specs.Terms.{Term, con, var, Equation}

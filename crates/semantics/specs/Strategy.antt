@@ -3,7 +3,7 @@
 --   choose       the first rule that has positions
 --   normalise    the derivation by that choice to its end
 -- Assumes nothing.
-use Rattle.std.specs.Prelude.{ℕ, zero, suc, Bool, true, false, cond, List, [], ◌∷◌, ◌++◌}
+use Rattle.std.specs.Prelude.{ℕ, zero, suc, cond, List, [], ◌∷◌, ◌++◌}
 use Rattle.std.proofs.Math.Option.{Option, none, some, map}
 use Rattle.text.specs.Lists.{onward, bind, or_else, has, tabled}
 use Rattle.semantics.specs.Terms.{var, Constraint, Rule, Program, Goal, State, failed, live, weight}

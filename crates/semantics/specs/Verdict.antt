@@ -1,6 +1,6 @@
 -- The verdict on a program: confluent, with the number of its overlaps, or the first overlap that does not join.
 -- Assumes nothing.
-use Rattle.std.specs.Prelude.{ℕ, suc, Bool, true, false, cond, List, [], ◌∷◌}
+use Rattle.std.specs.Prelude.{ℕ, suc, Bool, cond, List, [], ◌∷◌}
 use Rattle.semantics.specs.Terms.{Program}
 use Rattle.semantics.specs.Strategy.{Final}
 use Rattle.semantics.specs.Variants.{same_state}

@@ -1,7 +1,7 @@
 -- The kept heads of a rule are those of its J lines: `kept-first`. Wherever a J line may stand, all heads of the rule so far are
 -- kept, so that a J line's head stands behind the other kept ones, and H lines add behind these.
 -- Assumes nothing.
-use Prim.Native.Nat.{ℕ, suc, ◌+◌}
+use Prim.Native.Nat.{ℕ, suc}
 use native.Mathlib.Omega.{arith}
 use mathlib.Core.Bool.{◌||◌}
 use mathlib.Core.List.{List, [], ◌∷◌, ◌++◌, map}

@@ -30,4 +30,4 @@ normalise-requires c = (
 )
 
 pub overflow_mul-e : goal.overflow_mul-e
-overflow_mul-e c = omega (arith, there c)
+overflow_mul-e c = omega (arith, goal-there _ _ _ _ _ c.requires.0)

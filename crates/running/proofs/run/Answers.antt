@@ -7,8 +7,7 @@ use Rattle.running.proofs.run.Goals as goal
 
 pub run_goal-requires : goal.run_goal-requires
 run_goal-requires c =
-    let counts' = c.counts-1 in
-    program-ready c.read_program.ensures counts'.given.0.0 counts'.given.1 refl
+    program-ready c.read_program.ensures _ c.in-Accepted.is refl
 
 pub returns-in-Refused : goal.returns-in-Refused
 returns-in-Refused c = search (rules, program-refused)

@@ -22,20 +22,18 @@ read_goal-requires c =
 
 pub slice_bounds-letters-end : goal.slice_bounds-letters-end
 slice_bounds-letters-end c =
-    few-letters c.requires c.args.goal.now c.read_goal.ensures c.found-1.given.1
+    few-letters c.requires c.args.goal.now c.read_goal.ensures c.in-Accepted.is
 
 pub slice_bounds-run_read-end : goal.slice_bounds-run_read-end
 slice_bounds-run_read-end c =
     sym (length-take-le _ _
-    (few-letters c.requires c.args.goal.now c.read_goal.ensures c.found-1.given.1))
+    (few-letters c.requires c.args.goal.now c.read_goal.ensures c.in-Accepted.is))
 
 pub run_read-requires : goal.run_read-requires
 run_read-requires c =
-    goal-ready c.requires c.args.goal.now c.read_goal.ensures c.found-1.given.1
-    c.read_goal.auto.1.1.1.1.1.0
+    goal-ready c.requires c.args.goal.now c.read_goal.ensures c.in-Accepted.is
+    c.read_goal.auto.cells
 
 pub returns-in-Refused : goal.returns-in-Refused
 returns-in-Refused c =
-    let number' = c.number-1 in
-    goal-refused c.requires c.args.goal.now c.read_goal.ensures number'.given.0.0
-    number'.given.0.1.0 number'.given.1
+    goal-refused c.requires c.args.goal.now c.read_goal.ensures _ _ c.in-Refused.is

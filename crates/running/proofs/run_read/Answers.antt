@@ -19,17 +19,17 @@ derive-end-requires c =
 
 pub slice_bounds-bound-end-2 : goal.slice_bounds-bound-end-2
 slice_bounds-bound-end-2 c =
-    back-few c.requires _ refl c.derive-end.auto.cells _ c.derive-end.ensures
+    back-few c.requires _ refl c.derive-end.auto.bound _ c.derive-end.ensures
 
 pub slice_bounds-list_final-end : goal.slice_bounds-list_final-end
 slice_bounds-list_final-end c =
-    back-size c.requires _ refl c.derive-end.auto.cells _ c.derive-end.ensures
+    back-size c.requires _ refl c.derive-end.auto.bound _ c.derive-end.ensures
 
 pub list_final-requires : goal.list_final-requires
 list_final-requires c =
-    back-listable c.requires _ refl c.derive-end.auto.cells _ c.derive-end.ensures
-    c.derive-end.auto.1.1.0
+    back-listable c.requires _ refl c.derive-end.auto.bound _ c.derive-end.ensures
+    c.derive-end.auto.cells
 
 pub returns : goal.returns
 returns c =
-    back-replies c.requires _ refl c.derive-end.auto.cells _ c.derive-end.ensures c.list_final.ensures
+    back-replies c.requires _ refl c.derive-end.auto.bound _ c.derive-end.ensures c.list_final.ensures

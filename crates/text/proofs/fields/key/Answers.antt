@@ -1,5 +1,4 @@
 -- `text::fields::key` meets its contract: the key by what is known of a field. Assumes nothing.
-use borrow.Author.Rules.{rules}
 use native.Mathlib.Omega.{arith}
 use Rattle.text.proofs.Passing.{key-letter, key-capital, key-long, key-name}
 use Rattle.text.proofs.fields.key.Goals as goal

@@ -1,9 +1,6 @@
 -- `text::fields::next_field` meets its contract: what is known of the bytes passed, one byte on. Assumes nothing.
-use borrow.Author.Rules.{rules}
 use Prim.Native.Nat.{◌≤◌, ◌-◌}
-use native.Mathlib.Omega.{arith}
 use Rattle.text.specs.Splits.{Passed, part}
-use Rattle.text.proofs.Passing.{passed_start, passed-step}
 use Rattle.text.proofs.fields.next_field.Given as goal
 
 abbrev pub invariant-loop-i : goal.invariant-loop-i

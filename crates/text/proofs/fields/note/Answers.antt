@@ -1,5 +1,4 @@
 -- `text::fields::note` meets its contract: behind the last place nothing is set. Assumes nothing.
-use borrow.Author.Rules.{rules}
 use mathlib.Core.Path.{sym}
 use native.Mathlib.Omega.{arith}
 use lib.Seq.{set_out}

@@ -1,5 +1,4 @@
 -- `text::fields::number_of` meets its contract: a key of one digit, of two, or neither. Assumes nothing.
-use borrow.Author.Rules.{rules}
 use mathlib.Core.Path.{◌≡◌, sym, ◌∙◌}
 use mathlib.Core.Bool.{true, false}
 use Prim.Native.Nat.{◌/◌, ◌%◌}

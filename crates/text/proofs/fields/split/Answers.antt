@@ -1,8 +1,6 @@
 -- `text::fields::split` meets its contract: the fields so far, one field on. Assumes nothing.
-use borrow.Author.Rules.{rules}
 use native.Mathlib.Omega.{arith}
-use Prim.Native.Nat.{suc, ◌-◌}
-use Rattle.text.proofs.Splitting.{Walk, walk_start, walk-comma, walk-feed, walk-fault}
+use Rattle.text.proofs.Splitting.{walk_start, walk-comma, walk-feed, walk-fault}
 use Rattle.text.proofs.fields.split.Goals as goal
 
 pub loop-found-init : goal.loop-found-init

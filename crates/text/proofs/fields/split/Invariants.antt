@@ -1,8 +1,6 @@
 -- `text::fields::split` meets its contract: the fields so far, one field on. Assumes nothing.
-use borrow.Author.Rules.{rules}
-use native.Mathlib.Omega.{arith}
 use Prim.Native.Nat.{suc, ◌-◌}
-use Rattle.text.proofs.Splitting.{Walk, walk_start, walk-comma, walk-feed, walk-fault}
+use Rattle.text.proofs.Splitting.{Walk}
 use Rattle.text.proofs.fields.split.Given as goal
 
 abbrev pub invariant-loop-found : goal.invariant-loop-found

@@ -1,5 +1,4 @@
 -- `text::fields::with_class` meets its contract. Assumes nothing.
-use borrow.Author.Rules.{rules}
 use Rattle.text.proofs.fields.with_class.Goals as goal
 
 pub returns-else-capital : goal.returns-else-capital

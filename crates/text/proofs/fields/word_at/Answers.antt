@@ -1,5 +1,4 @@
 -- `text::fields::word_at` meets its contract: the word as a part of the text. Assumes nothing.
-use borrow.Author.Rules.{rules}
 use Rattle.text.proofs.Words.{word-part, word_none}
 use Rattle.text.proofs.fields.word_at.Goals as goal
 

@@ -1,11 +1,7 @@
 -- `text::fields::word_end` meets its contract: no byte passed ends the word, so it ends at the same place from each.
 -- Assumes nothing.
-use borrow.Author.Rules.{rules}
-use mathlib.Core.Path.{◌≡◌, refl}
-use Prim.Native.Nat.{◌≤◌, ◌+◌, ◌-◌}
+use mathlib.Core.Path.{refl}
 use native.Mathlib.Omega.{arith}
-use lib.ListN.{length, drop}
-use Rattle.text.specs.Keys.{word_length}
 use Rattle.text.proofs.Words.{word-comma, word-feed, word-step, word_end}
 use Rattle.text.proofs.fields.word_end.Goals as goal
 

@@ -1,12 +1,9 @@
 -- `text::fields::word_end` meets its contract: no byte passed ends the word, so it ends at the same place from each.
 -- Assumes nothing.
-use borrow.Author.Rules.{rules}
-use mathlib.Core.Path.{◌≡◌, refl}
+use mathlib.Core.Path.{◌≡◌}
 use Prim.Native.Nat.{◌≤◌, ◌+◌, ◌-◌}
-use native.Mathlib.Omega.{arith}
 use lib.ListN.{length, drop}
 use Rattle.text.specs.Keys.{word_length}
-use Rattle.text.proofs.Words.{word-comma, word-feed, word-step, word_end}
 use Rattle.text.proofs.fields.word_end.Given as goal
 
 abbrev pub invariant-loop-i : goal.invariant-loop-i

@@ -1,5 +1,4 @@
 -- `text::parting::is_goal_line` meets its contract: with fewer than 5 bytes left no such line stands there. Assumes nothing.
-use borrow.Author.Rules.{rules}
 use mathlib.Core.Path.{◌≡◌, ap, sym, ◌∙◌}
 use mathlib.Core.List.{List}
 use Prim.Native.Nat.{ℕ, ◌+◌, ◌-◌}
@@ -10,7 +9,6 @@ use Rattle.text.specs.Lists.{same_bytes}
 use Rattle.text.specs.Lines.{goal_line}
 use Rattle.text.proofs.Laws.{same-lengths}
 use Rattle.text.proofs.PartingLaws.{goal-length}
-use borrow.Author.Rules.{rules}
 use Rattle.text.proofs.parting.is_goal_line.Goals as goal
 
 pub returns-then-s-at-lt5 : goal.returns-then-s-at-lt5

@@ -1,11 +1,7 @@
 -- `text::parting::same_bytes` meets its contract: the bytes passed are equal, so the rest decides. Assumes nothing.
-use borrow.Author.Rules.{rules}
-use mathlib.Core.Path.{◌≡◌, refl, sym, ◌∙◌}
-use Prim.Native.Nat.{◌≤◌, ◌-◌}
+use mathlib.Core.Path.{refl, sym, ◌∙◌}
 use native.Mathlib.Numerals.{add-one}
 use native.Mathlib.Omega.{arith}
-use lib.ListN.{length, drop}
-use Rattle.text.specs.Lists.{same_bytes}
 use Rattle.text.proofs.Laws.{same-lengths, same-fails, same_step, same_end}
 use Rattle.text.proofs.parting.same_bytes.Goals as goal
 

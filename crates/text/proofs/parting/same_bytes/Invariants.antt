@@ -1,12 +1,8 @@
 -- `text::parting::same_bytes` meets its contract: the bytes passed are equal, so the rest decides. Assumes nothing.
-use borrow.Author.Rules.{rules}
-use mathlib.Core.Path.{◌≡◌, refl, sym, ◌∙◌}
+use mathlib.Core.Path.{◌≡◌}
 use Prim.Native.Nat.{◌≤◌, ◌-◌}
-use native.Mathlib.Numerals.{add-one}
-use native.Mathlib.Omega.{arith}
 use lib.ListN.{length, drop}
 use Rattle.text.specs.Lists.{same_bytes}
-use Rattle.text.proofs.Laws.{same-lengths, same-fails, same_step, same_end}
 use Rattle.text.proofs.parting.same_bytes.Given as goal
 
 abbrev pub invariant-loop-i : goal.invariant-loop-i

@@ -1,14 +1,12 @@
 -- `text::parting::split_goal` meets its contract: what was passed is the program's, and the rest is parted from here on.
 -- Assumes nothing.
-use borrow.Author.Rules.{rules}
 use mathlib.Core.Path.{◌≡◌, ap, sym, refl, ◌∙◌}
 use mathlib.Core.Bool.{Bool, true, false, ◌&&◌}
-use Prim.Native.Nat.{◌≤◌, ◌-◌}
 use native.Mathlib.Numerals.{add-one}
 use native.Mathlib.Omega.{arith}
-use lib.ListN.{length, take, drop}
+use lib.ListN.{take, drop}
 use Rattle.text.specs.Lists.{same_bytes}
-use Rattle.text.specs.Lines.{goal_line, parted_from, parted}
+use Rattle.text.specs.Lines.{goal_line, parted}
 use Rattle.text.specs.Cursors.{behind}
 use Rattle.text.proofs.PartingLaws.{parted-step, parted-found, parted-end, goal-room}
 use Rattle.text.proofs.parting.split_goal.Goals as goal
