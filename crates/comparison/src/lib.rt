@@ -2,6 +2,8 @@
 // Placing a constraint and trying its partners call one another (`placing`). Before it is decided what they would take very
 // long for: states in the same order, and states that differ in what a renaming cannot change. Equal parts are left out
 // (`parting`).
+#![tactic(auto)]
+
 pub mod narrowing;
 pub mod parting;
 pub mod placing;

@@ -1,6 +1,5 @@
 -- `numerals::naming::constant` meets its contract: only a numeral is not always its own name.
 -- Assumes nothing.
-use borrow.Author.Rules.{rules}
 use mathlib.Core.Path.{sym, ◌∙◌}
 use native.Mathlib.Omega.{arith}
 use Rattle.numerals.proofs.NumeralLaws.{own-other}

@@ -1,15 +1,12 @@
 -- `numerals::naming::without_zeros` meets its contract: the digits are seen from the last one on.
 -- Assumes nothing.
-use borrow.Author.Rules.{rules}
 use mathlib.Core.Path.{◌≡◌}
 use mathlib.Core.Bool.{true}
 use mathlib.Core.List.{List}
 use Prim.Native.Nat.{ℕ, ◌*◌, ◌^◌, ◌≤◌}
-use native.Mathlib.Omega.{arith}
 use Rattle.text.specs.Fields.{is_name}
 use Rattle.text.specs.Keys.{key_of}
-use Rattle.numerals.proofs.NumeralLaws.{unit-some, unit-fits, rest-fits, kept-fits, zeros-fit, zeros-next, Seen}
-use Rattle.numerals.proofs.NumeralLaws.{seen_start, seen-zero, seen-digit, seen_all}
+use Rattle.numerals.proofs.NumeralLaws.{Seen}
 use Rattle.numerals.proofs.naming.without_zeros.Given as goal
 
 abbrev pub invariant-loop-rest : goal.invariant-loop-rest
