@@ -13,7 +13,7 @@ use tables::wide;
 
 // An overlap that does not join: the numbers of its rules, how many heads the first has, the partner of each of these (from 1,
 // or 0), how many constraints and variables its goal has, and both ends.
-#[derive(Drop)]
+#[derive(Clone, Copy)]
 pub struct Shown {
     pub first: usize,
     pub second: usize,

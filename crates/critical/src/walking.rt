@@ -13,7 +13,7 @@ use tables::layout::{CONSTRAINT_SIZE, HEADS_CELL, ROW_SIZE};
 use tables::wide;
 
 // Two rules of a table of `rules`, by their numbers, and how many heads they have.
-#[derive(Drop)]
+#[derive(Clone, Copy)]
 pub struct Pair {
     pub rules: usize,
     pub first: usize,

@@ -13,7 +13,7 @@ use fitting::search::choose;
 use tables::layout::{CONSTRAINT_SIZE, MAX_SYMBOLS, ROW_SIZE};
 
 // Whether a rule fired, whether the state lives on, and how many constraints it has then.
-#[derive(Drop)]
+#[derive(Clone, Copy)]
 pub struct Step {
     pub fired: bool,
     pub alive: bool,
@@ -53,7 +53,6 @@ pub fn advance(
 {
     let m = stage.count;
     let gone = stage.gone;
-    let next = stage.next;
     let e = CONSTRAINT_SIZE * m;
     let mut positions = [0; 4];
     let mut bindings = [0; 26];
@@ -80,7 +79,7 @@ pub fn advance(
     let a = ROW_SIZE * number;
     let b = a + ROW_SIZE;
     let row = &rules[a..b];
-    let after = fire_front(row, &positions, &bindings, next, bound, cells, m);
+    let after = fire_front(row, &positions, &bindings, stage.next, bound, cells, m);
     let alive = after.alive;
     let count = after.count;
     let skip = after.skip;
@@ -96,7 +95,7 @@ pub fn advance(
 }
 
 // The end of a derivation: whether the state lives, how many constraints it has, the next variable, and how often a rule fired.
-#[derive(Drop)]
+#[derive(Clone, Copy)]
 pub struct Final {
     pub alive: bool,
     pub count: usize,

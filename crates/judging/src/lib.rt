@@ -1,4 +1,6 @@
 // Judging an overlap: its two sides are run to their ends, and these are compared.
+#![tactic(auto)]
+
 pub mod tidying;
 
 ghost use Rattle.std.specs.Prelude.{◌≡◌, ◌≤◌, length};
@@ -15,7 +17,7 @@ use tables::layout::CONSTRAINT_SIZE;
 
 // An overlap of two rules of a table, by their numbers: how many rules the table has, where the second one's heads stand in the
 // goal, and how many constraints and variables the goal has.
-#[derive(Drop)]
+#[derive(Clone, Copy)]
 pub struct Peak {
     pub rules: usize,
     pub first: usize,
@@ -26,7 +28,7 @@ pub struct Peak {
 }
 
 // The two sides' own firings.
-#[derive(Drop)]
+#[derive(Clone, Copy)]
 pub struct Steps {
     pub first: Step,
     pub second: Step,

@@ -1,5 +1,4 @@
 -- `listing::list_end` meets its contract: its variables are numbered, and it is listed as it was before. Assumes nothing.
-use borrow.Author.Rules.{rules}
 use native.Mathlib.Omega.{arith}
 use Rattle.tables.proofs.NameLaws.{name-short}
 use Rattle.listing.proofs.EndLaws.{end-numbered, listed-is}

@@ -1,6 +1,5 @@
 -- `listing::list_numbered` meets its contract: an ample output holds the listing; for any other it is counted into no output and
 -- then written. Assumes nothing.
-use borrow.Author.Rules.{rules}
 use native.Mathlib.Omega.{arith}
 use Rattle.tables.proofs.NameLaws.{name-short}
 use Rattle.listing.proofs.EndLaws.{listed-short, listed-written}

@@ -1,5 +1,4 @@
 -- `listing::ends::number_end` meets its contract. Assumes nothing.
-use borrow.Author.Rules.{rules}
 use borrow.Author.Tests.{not-true, not-false}
 use Rattle.listing.proofs.EndLaws.{end-failed}
 use Rattle.listing.proofs.ends.number_end.Goals as goal

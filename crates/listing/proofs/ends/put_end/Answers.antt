@@ -1,5 +1,4 @@
 -- `listing::ends::put_end` meets its contract: the line of a failed state, or the lines of a live one. Assumes nothing.
-use borrow.Author.Rules.{rules}
 use mathlib.Core.Path.{sym}
 use borrow.Author.Tests.{not-true, not-false}
 use Rattle.listing.proofs.WriteLaws.{wrote-is, count-is}

@@ -1,5 +1,4 @@
 -- `listing::ends::put_live` meets its contract: the first line, the A lines and the S lines. Assumes nothing.
-use borrow.Author.Rules.{rules}
 use Rattle.listing.proofs.EndLaws.{live-head, live-bounds, live-rows, live-wrote}
 use Rattle.listing.proofs.ends.put_live.Goals as goal
 

@@ -1,5 +1,4 @@
 -- `listing::putting::put_bound` meets its contract: the letter A, its name, what it became and the line feed. Assumes nothing.
-use borrow.Author.Rules.{rules}
 use Rattle.listing.proofs.LineLaws.{bound-front, bound-name, bound-comma, bound-cell, bound-feed, bound-wrote}
 use Rattle.listing.proofs.putting.put_bound.Goals as goal
 

@@ -1,16 +1,13 @@
 -- `listing::putting::put_bounds` meets its contract: the lines before i are written. Assumes nothing.
-use borrow.Author.Rules.{rules}
 use mathlib.Core.List.{map}
 use Prim.Native.Nat.{◌≤◌, ◌-◌}
-use native.Mathlib.Omega.{arith}
 use lib.ListN.{length}
 use Rattle.tables.specs.Cells.{cell_term}
 use Rattle.tables.specs.Names.{name_in}
 use Rattle.listing.specs.Listing.{variable_name, bound_lines}
 use Rattle.listing.specs.Ends.{placed}
-use Rattle.listing.proofs.WriteLaws.{Writing, writing_start, writing-first, writing-room, writing-line, writing-end}
-use Rattle.listing.proofs.WriteLaws.{count-front}
-use Rattle.listing.proofs.LineLaws.{bounds_from, bounds-here, bounds-done}
+use Rattle.listing.proofs.WriteLaws.{Writing}
+use Rattle.listing.proofs.LineLaws.{bounds_from}
 use Rattle.listing.proofs.putting.put_bounds.Given as goal
 
 abbrev pub invariant-loop-i : goal.invariant-loop-i

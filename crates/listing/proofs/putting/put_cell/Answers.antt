@@ -1,5 +1,4 @@
 -- `listing::putting::put_cell` meets its contract: a constant by its name, a variable by the name of its place. Assumes nothing.
-use borrow.Author.Rules.{rules}
 use Rattle.listing.proofs.LineLaws.{name-count, name-wrote, place-count, place-wrote}
 use Rattle.listing.proofs.putting.put_cell.Goals as goal
 

@@ -1,14 +1,7 @@
 -- `listing::putting::put_fields` meets its contract: the fields before i are written. Assumes nothing.
-use borrow.Author.Rules.{rules}
-use mathlib.Core.List.{map}
-use Prim.Native.Nat.{◌≤◌, ◌-◌}
 use native.Mathlib.Omega.{arith}
-use lib.ListN.{length}
-use Rattle.tables.specs.Names.{name_in}
-use Rattle.listing.specs.Listing.{fields_behind}
-use Rattle.listing.specs.Ends.{cell_shown}
-use Rattle.listing.proofs.WriteLaws.{Writing, writing_start}
-use Rattle.listing.proofs.LineLaws.{fields_from, comma-count, field-count, fields-next, feed-count, fields-wrote}
+use Rattle.listing.proofs.WriteLaws.{writing_start}
+use Rattle.listing.proofs.LineLaws.{comma-count, field-count, fields-next, feed-count, fields-wrote}
 use Rattle.listing.proofs.putting.put_fields.Goals as goal
 
 pub loop-i-init : goal.loop-i-init

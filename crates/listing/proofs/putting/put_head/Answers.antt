@@ -1,5 +1,4 @@
 -- `listing::putting::put_head` meets its contract. Assumes nothing.
-use borrow.Author.Rules.{rules}
 use Rattle.listing.proofs.WriteLaws.{wrote_then, count-first, count_next}
 use Rattle.listing.proofs.putting.put_head.Goals as goal
 

@@ -1,6 +1,5 @@
 -- `listing::putting::put_placed` meets its contract: a goal variable's own name, or U and the number among the others.
 -- Assumes nothing.
-use borrow.Author.Rules.{rules}
 use mathlib.Core.Path.{refl}
 use Rattle.listing.proofs.LineLaws.{own-count, own-wrote, other-count, other-next, other-wrote}
 use Rattle.listing.proofs.putting.put_placed.Goals as goal

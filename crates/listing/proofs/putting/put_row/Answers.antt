@@ -1,7 +1,6 @@
 -- `listing::putting::put_row` meets its contract: its letter, a comma, its name and its terms. Assumes nothing.
-use borrow.Author.Rules.{rules}
 use native.Mathlib.Omega.{arith}
-use Rattle.listing.proofs.LineLaws.{line-count, line-comma, line-name, line-fields, line_wrote, used-within}
+use Rattle.listing.proofs.LineLaws.{line-count, line-comma, line-name, line-fields, line_wrote}
 use Rattle.listing.proofs.putting.put_row.Goals as goal
 
 pub put_byte-comma-requires : goal.put_byte-comma-requires

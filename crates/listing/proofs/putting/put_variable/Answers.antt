@@ -1,5 +1,4 @@
 -- `listing::putting::put_variable` meets its contract: its letter, or V and its number. Assumes nothing.
-use borrow.Author.Rules.{rules}
 use Rattle.listing.proofs.LineLaws.{lettered-count, lettered-wrote}
 use Rattle.listing.proofs.LineLaws.{unlettered-count, unlettered-next, unlettered-wrote}
 use Rattle.listing.proofs.putting.put_variable.Goals as goal

@@ -1,7 +1,5 @@
 -- `listing::writing::put_decimal` meets its contract: a tenth of a number is less. Assumes nothing.
-use Rattle.std.proofs.Common.{arith, rules, [], ◌∷◌, ◌≡◌, min, ◌<◌, ℕ, ◌+◌, ◌-◌, ◌*◌, ◌≤◌, length, ◌/◌, ◌%◌, Bool, true, false, nat_eq, nat_lt, List, ◌++◌, slice_index_or, slice_set, bit_and, bit_or, Fits, w8, w32, w64, Bor, MutBor}
-use Rattle.text.specs.Fields.{decimal}
-use Rattle.listing.specs.Writing.{Countable, Writes}
+use Rattle.std.proofs.Common.{arith}
 use Rattle.listing.proofs.LineLaws.{tenth-count, last-count, digits-wrote}
 use Rattle.listing.proofs.writing.+put_decimal.Goals as goal
 

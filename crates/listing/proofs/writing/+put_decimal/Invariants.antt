@@ -1,6 +1,3 @@
-use Rattle.std.proofs.Common.{[], ◌∷◌, ◌≡◌, min, ◌<◌, ℕ, ◌+◌, ◌-◌, ◌*◌, ◌≤◌, length}
-use Rattle.text.specs.Fields.{decimal}
-use Rattle.listing.specs.Writing.{Countable, Writes}
 use Rattle.listing.proofs.writing.+put_decimal.Given as goal
 
 -- proposed from what the function passes where it calls itself

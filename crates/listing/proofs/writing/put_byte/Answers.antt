@@ -1,5 +1,4 @@
 -- `listing::writing::put_byte` meets its contract. Assumes nothing.
-use borrow.Author.Rules.{rules}
 use native.Mathlib.Omega.{arith}
 use Rattle.listing.proofs.WriteLaws.{wrote-byte, wrote-over}
 use Rattle.listing.proofs.writing.put_byte.Goals as goal

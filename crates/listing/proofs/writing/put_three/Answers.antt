@@ -1,6 +1,5 @@
 -- `listing::writing::put_three` meets its contract. Assumes nothing.
 use native.Mathlib.Omega.{arith}
-use borrow.Author.Rules.{rules}
 use Rattle.listing.proofs.LineLaws.{tenth-count, last-count, digits-wrote}
 use Rattle.listing.proofs.writing.put_three.Goals as goal
 

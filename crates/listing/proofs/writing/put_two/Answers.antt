@@ -1,6 +1,5 @@
 -- `listing::writing::put_two` meets its contract. Assumes nothing.
 use native.Mathlib.Omega.{arith}
-use borrow.Author.Rules.{rules}
 use Rattle.listing.proofs.LineLaws.{digit-count, tenth-count, last-count, digit-wrote, digits-wrote}
 use Rattle.listing.proofs.writing.put_two.Goals as goal
 

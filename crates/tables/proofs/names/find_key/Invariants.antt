@@ -1,14 +1,9 @@
 -- `tables::names::find_key` meets its contract: no key passed is the one sought. Assumes nothing.
-use borrow.Author.Rules.{rules}
-use mathlib.Core.Path.{◌≡◌, refl, sym, ◌∙◌}
+use mathlib.Core.Path.{◌≡◌}
 use Prim.Native.Nat.{◌≤◌, ◌-◌}
-use native.Mathlib.Numerals.{add-one}
-use native.Mathlib.Omega.{arith}
-use borrow.Author.Tests.{eq-eqb, ne_eqb}
 use lib.Dec.{eqb}
 use lib.ListN.{length, drop}
 use Rattle.text.specs.Lists.{index_from}
-use Rattle.syntax.proofs.Tabled.{index-here, index-step, index-end}
 use Rattle.tables.proofs.names.find_key.Given as goal
 
 abbrev pub invariant-loop-i : goal.invariant-loop-i

@@ -1,5 +1,4 @@
 -- `tables::names::name_at` meets its contract. Assumes nothing.
-use borrow.Author.Rules.{rules}
 use mathlib.Core.Path.{sym}
 use lib.Seq.{length-take-le}
 use Rattle.tables.proofs.NameLaws.{name-cut, name-none}

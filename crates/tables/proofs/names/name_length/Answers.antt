@@ -1,11 +1,6 @@
 -- `tables::names::name_length` meets its contract: no byte passed is a comma or a line feed. Assumes nothing.
-use borrow.Author.Rules.{rules}
-use mathlib.Core.Path.{◌≡◌}
-use Prim.Native.Nat.{◌≤◌, ◌+◌, ◌-◌}
 use native.Mathlib.Numerals.{add-one}
 use native.Mathlib.Omega.{arith}
-use lib.ListN.{length, drop}
-use Rattle.text.specs.Keys.{word_length}
 use Rattle.tables.proofs.NameLaws.{word-comma, word-feed, word_end, word-step}
 use Rattle.tables.proofs.names.name_length.Goals as goal
 

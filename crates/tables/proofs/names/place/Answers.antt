@@ -1,5 +1,4 @@
 -- `tables::names::place` meets its contract: behind the last entry stands 0. Assumes nothing.
-use borrow.Author.Rules.{rules}
 use Rattle.tables.proofs.NameLaws.{no-entry}
 use Rattle.tables.proofs.names.place.Goals as goal
 

@@ -1,7 +1,6 @@
 -- `tables::numbering::keep` meets its contract: each variable passed, from the last on, has its own cell. Assumes nothing.
-use borrow.Author.Rules.{rules}
 use mathlib.Core.Path.{refl}
-use Rattle.tables.proofs.NumberLaws.{Keeping, keeping_start, keeping-next, keeping-end}
+use Rattle.tables.proofs.NumberLaws.{keeping_start, keeping-next, keeping-end}
 use Rattle.tables.proofs.numbering.keep.Goals as goal
 
 pub loop-i-init : goal.loop-i-init

@@ -1,7 +1,5 @@
 -- `tables::numbering::keep` meets its contract: each variable passed, from the last on, has its own cell. Assumes nothing.
-use borrow.Author.Rules.{rules}
-use mathlib.Core.Path.{refl}
-use Rattle.tables.proofs.NumberLaws.{Keeping, keeping_start, keeping-next, keeping-end}
+use Rattle.tables.proofs.NumberLaws.{Keeping}
 use Rattle.tables.proofs.numbering.keep.Given as goal
 
 abbrev pub invariant-loop-i : goal.invariant-loop-i

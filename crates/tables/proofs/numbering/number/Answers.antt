@@ -1,5 +1,4 @@
 -- `tables::numbering::number` meets its contract. Assumes nothing.
-use borrow.Author.Rules.{rules}
 use Rattle.tables.proofs.Renumbering.{renumbers, rows-asks}
 use Rattle.tables.proofs.numbering.number.Goals as goal
 

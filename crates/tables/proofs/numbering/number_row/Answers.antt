@@ -1,10 +1,7 @@
 -- `tables::numbering::number_row` meets its contract: the terms passed are rewritten, and those left lead to the whole order.
 -- Assumes nothing.
-use borrow.Author.Rules.{rules}
-use Prim.Native.Nat.{◌-◌}
 use native.Mathlib.Omega.{arith}
-use lib.ListN.{length}
-use Rattle.tables.proofs.RowLaws.{Passing, passing-start, passing-zero, passing-inside, passing-next, passing-end}
+use Rattle.tables.proofs.RowLaws.{passing-start, passing-zero, passing-inside, passing-next, passing-end}
 use Rattle.tables.proofs.numbering.number_row.Goals as goal
 
 pub loop-i-init : goal.loop-i-init

@@ -1,10 +1,8 @@
 -- `tables::numbering::number_rows` meets its contract: the constraints passed are rewritten, and those left lead to the whole
 -- order. Assumes nothing.
-use borrow.Author.Rules.{rules}
 use Prim.Native.Nat.{◌-◌}
-use native.Mathlib.Omega.{arith}
 use lib.ListN.{length}
-use Rattle.tables.proofs.RowLaws.{PassingRows, rows_start, rows-asked, lent-size, rows_next, rows_end}
+use Rattle.tables.proofs.RowLaws.{PassingRows}
 use Rattle.tables.proofs.numbering.number_rows.Given as goal
 
 abbrev pub invariant-loop-i : goal.invariant-loop-i

@@ -1,6 +1,5 @@
 -- `tables::numbering::number_term` meets its contract. Assumes nothing.
-use borrow.Author.Rules.{rules}
-use Prim.Native.Nat.{◌-◌, ◌<◌}
+use Prim.Native.Nat.{◌<◌}
 use native.Mathlib.Omega.{arith}
 use lib.ListN.{length}
 use Rattle.tables.proofs.NumberLaws.{numbered-constant, numbered-old, numbered-new}

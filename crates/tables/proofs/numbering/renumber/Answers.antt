@@ -1,5 +1,4 @@
 -- `tables::numbering::renumber` meets its contract: either table has an entry for each variable. Assumes nothing.
-use borrow.Author.Rules.{rules}
 use mathlib.Core.Path.{◌≡◌, sym, subst, refl}
 use mathlib.Core.Bool.{true}
 use mathlib.Core.List.{List, []}

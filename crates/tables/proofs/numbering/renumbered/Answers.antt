@@ -1,5 +1,4 @@
 -- `tables::numbering::renumbered` meets its contract. Assumes nothing.
-use borrow.Author.Rules.{rules}
 use Rattle.tables.proofs.NumberLaws.{cell_below, cell-outside, cell-unnumbered, cell-new}
 use Rattle.tables.proofs.numbering.renumbered.Goals as goal
 

@@ -1,12 +1,8 @@
 -- `tables::numbering::used` meets its contract: no cell passed is 0. Assumes nothing.
-use borrow.Author.Rules.{rules}
 use mathlib.Core.Path.{◌≡◌}
 use Prim.Native.Nat.{◌≤◌, ◌+◌, ◌-◌}
-use native.Mathlib.Numerals.{add-one}
-use native.Mathlib.Omega.{arith}
 use lib.ListN.{length, drop}
 use Rattle.tables.specs.Numbers.{used_cells}
-use Rattle.tables.proofs.NumberLaws.{used-here, used_step, used-end}
 use Rattle.tables.proofs.numbering.used.Given as goal
 
 abbrev pub invariant-loop-i : goal.invariant-loop-i
