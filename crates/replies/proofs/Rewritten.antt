@@ -1,7 +1,7 @@
 -- A text whose program is that of another with its kept heads on both sides: `check-rewritten`. Wherever both listings fit, one is
 -- passed exactly when the other is, with the same number.
 -- Assumes nothing.
-use Prim.Native.Nat.{ℕ, ◌≤◌}
+use Prim.Native.Nat.{ℕ}
 use mathlib.Core.List.{List}
 use mathlib.Core.Path.{◌≡◌, refl, sym, ap, subst, ◌∙◌}
 use lib.ListN.{length, length-map}
@@ -14,7 +14,7 @@ use Rattle.semantics.proofs.Rewritten.{rewritten_overlap, one-outcome-rewritten,
 use Rattle.syntax.specs.Answers.{accepted}
 use Rattle.syntax.specs.Programs.{Reading, read_program}
 use Rattle.verdicts.specs.Verdicts.{verdict_listing}
-use Rattle.replies.specs.Replies.{check_listing, check_reply}
+use Rattle.replies.specs.Replies.{check_reply}
 use Rattle.replies.specs.Claims.{verdict_reply, Checked, PassTogether}
 use Rattle.replies.proofs.Demand3.{check-exact}
 
