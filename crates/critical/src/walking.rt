@@ -207,7 +207,7 @@ pub fn walk_pair(
 }
 
 // Whether an overlap that does not join was met, its rules and its partners, and how many have joined.
-#[derive(Drop)]
+#[derive(Clone, Copy)]
 pub struct Reply {
     pub stopped: bool,
     pub count: usize,

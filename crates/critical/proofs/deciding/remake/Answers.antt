@@ -1,0 +1,41 @@
+-- `remake` meets its contract: the overlap of the pairing that was met.
+-- Assumes nothing.
+use native.Mathlib.Omega.{arith}
+use Rattle.critical.proofs.TableLaws.{lent-few, pair-room, pair-lent, pair-lays}
+use Rattle.critical.proofs.VerdictLaws.{remake-partners, remake-lent}
+use borrow.Author.Rules.{rules}
+use Rattle.overlaps.proofs.finishing.second_positions.Reads as second-positions-reads
+use Rattle.overlaps.proofs.overlapping.overlap_by.Reads as overlap-by-reads
+use Rattle.tables.proofs.wide.Reads as wide-reads
+use Rattle.critical.proofs.deciding.remake.Goals as goal
+
+pub slice_bounds-overlap_by-end : goal.slice_bounds-overlap_by-end
+slice_bounds-overlap_by-end c =
+    let room = pair-room _ _ _ _ c.requires.check c.requires.first c.requires.second _ _
+    c.wide-heads.ensures.0 c.wide-others.ensures.0 in
+    omega (arith, room, c.requires.goal-size)
+
+pub slice_bounds-overlap_by-end-2 : goal.slice_bounds-overlap_by-end-2
+slice_bounds-overlap_by-end-2 c =
+    pair-lent _ _ _ _ c.requires.check c.requires.first c.requires.second _ _ c.wide-heads.ensures.0
+    c.wide-others.ensures.0 _ c.requires.goal-size
+
+pub overlap_by-made-requires : goal.overlap_by-made-requires
+overlap_by-made-requires c = (
+  pair-lays _ _ _ _ c.requires.check c.requires.first c.requires.second _ _
+      c.wide-heads.ensures.0 c.wide-others.ensures.0 _ c.requires.goal-size,
+  c.requires.partners-size,
+  remake-partners _ _ _ _ c.requires,
+)
+
+pub second_positions-positions-requires : goal.second_positions-positions-requires
+second_positions-positions-requires c =
+    let few = lent-few _ _ _ _ c.requires.check c.requires.first c.requires.second _ _
+    c.wide-heads.ensures.0 c.wide-others.ensures.0 in
+    (few.0, few.1, c.requires.partners-size)
+
+pub returns : goal.returns
+returns c =
+    remake-lent _ _ _ _ c.requires _ _ c.wide-heads.ensures.0 c.wide-others.ensures.0 _ _ _ _
+    c.overlap_by-made.ensures _ c.overlap_by-made.auto.cells _ c.second_positions-positions.ensures.0
+    c.second_positions-positions.ensures.1

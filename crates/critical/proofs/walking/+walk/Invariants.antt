@@ -1,0 +1,25 @@
+-- `walk` meets its contract: of the overlaps whose partners begin so, those with partner d or a later one are left. The heads
+-- that are left fall at each call.
+-- Assumes nothing.
+use Prim.Native.Nat.{ℕ, suc, ◌<◌, ◌-◌}
+use native.Mathlib.Omega.{arith}
+use mathlib.Core.Path.{◌≡◌, refl, ◌∙◌}
+use lib.ListN.{length}
+use borrow.Author.Rules.{rules}
+use Rattle.critical.proofs.StandLaws.{pair-few}
+use Rattle.critical.proofs.StepLaws.{Steps, room-kept, leaf-start, leaf_walked, step_room, step-lent}
+use Rattle.critical.proofs.StepLaws.{step-partner, step_start}
+use Rattle.critical.proofs.StepLaws.{step_cut, step-next, step-stop, step-on, step_end}
+use Rattle.critical.proofs.walking.+walk.Given as goal
+
+abbrev pub invariant-loop-d : goal.invariant-loop-d
+invariant-loop-d l =
+    Steps l.rules l.pair.rules l.pair.first l.pair.second l.pair.m l.pair.n l.left l.partners l.count l.seen l.d
+    × (length l.one ≡ length l.initial.one) × (length l.two ≡ length l.initial.two)
+
+abbrev pub decreases-loop-d : goal.decreases-loop-d
+decreases-loop-d l = suc l.pair.n - l.d
+
+-- the heads that are left
+abbrev pub decreases-walk : goal.decreases-walk
+decreases-walk l = l.left
