@@ -1,10 +1,7 @@
 -- `compare_numbered` meets its contract: each test says what it says of the answer.
 -- Assumes nothing.
-use Rattle.comparison.proofs.DecideLaws.{numbered-bound, numbered-ready, numbered-straight, numbered-digest}
+use Rattle.comparison.proofs.DecideLaws.{numbered-bound, numbered-straight, numbered-digest}
 use Rattle.comparison.proofs.compare_numbered.Goals as goal
-
-pub same_cells-requires : goal.same_cells-requires
-same_cells-requires c = c.requires.bounds
 
 pub returns-then-not-same_cells : goal.returns-then-not-same_cells
 returns-then-not-same_cells c =
@@ -15,22 +12,7 @@ returns-then-same_cells c =
     numbered-straight _ _ _ _ _ _ _ c.requires _ c.same_cells.ensures c.if-not-same_cells.false _
     c.same_cells-2.ensures c.if-same_cells.true
 
-pub first_digest-requires : goal.first_digest-requires
-first_digest-requires c =
-    c.requires.first.count
-
-pub first_digest-requires-2 : goal.first_digest-requires-2
-first_digest-requires-2 c =
-    c.requires.second.count
-
 pub returns-then-first_digest : goal.returns-then-first_digest
 returns-then-first_digest c =
     numbered-digest _ _ _ _ _ _ _ c.requires _ c.same_cells.ensures c.if-not-same_cells.false _ _
     c.first_digest.ensures c.first_digest-2.ensures c.if-first_digest.true
-
-pub decide-requires : goal.decide-requires
-decide-requires c =
-    numbered-ready _ _ _ _ _ _ _ c.requires
-
-pub returns : goal.returns
-returns c = c.decide.ensures

@@ -1,14 +1,8 @@
 -- `pairing::pair_rows` meets its contract. Assumes nothing.
 use borrow.Author.Tests.{not-true, not-false}
-use Rattle.pairing.proofs.PairLaws.{columns-start, columns-end, columns-short, columns-left, columns-right}
+use Rattle.pairing.proofs.PairLaws.{columns-start, columns-end, columns-short}
 use Rattle.pairing.proofs.PairLaws.{columns-apart, columns-next, columns-done}
 use Rattle.pairing.proofs.pair_rows.Goals as goal
-
-pub pair-link-requires : goal.pair-link-requires
-pair-link-requires c = (
-  columns-left _ _ _ _ _ _ _ _ c.requires c.loop-i.invariant c.loop-i-test.true c.if-x-eq0.false,
-  columns-right _ _ _ _ _ _ _ _ c.requires c.loop-i.invariant c.loop-i-test.true c.if-x-eq0.false,
-)
 
 pub returns-then-not-link : goal.returns-then-not-link
 returns-then-not-link c =

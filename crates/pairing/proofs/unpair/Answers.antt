@@ -1,20 +1,11 @@
 -- `pairing::unpair` meets its contract. Assumes nothing.
-use Rattle.pairing.proofs.PairLaws.{clearing-start, clearing-left, clearing-right, clearing-made}
+use Rattle.pairing.proofs.PairLaws.{clearing-made}
 use Rattle.pairing.proofs.PairLaws.{clearing-kept, clearing-end}
 use Rattle.pairing.proofs.unpair.Goals as goal
 
 pub returns : goal.returns
 returns c =
     clearing-end _ _ _ _ _ _ _ _ c.requires.0 c.requires.1 c.loop-i.invariant c.loop-i-test.false
-
-pub loop-i-init : goal.loop-i-init
-loop-i-init c = search clearing-start
-
-pub bounds-forth-x : goal.bounds-forth-x
-bounds-forth-x c = search clearing-left
-
-pub bounds-back-y : goal.bounds-back-y
-bounds-back-y c = search clearing-right
 
 pub loop-i-preserved-then-fresh-i : goal.loop-i-preserved-then-fresh-i
 loop-i-preserved-then-fresh-i c = search clearing-made

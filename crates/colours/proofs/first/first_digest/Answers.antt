@@ -1,23 +1,11 @@
 -- `first_digest` meets its contract: the constraints from i on, from the sum by now, give the answer for all.
 -- Assumes nothing.
-use Rattle.std.proofs.Common.{◌≡◌, length, arith}
 use Rattle.colours.specs.Colours.{plus}
-use Rattle.colours.proofs.ColourLaws.{lent, lent_length}
 use Rattle.colours.proofs.FirstLaws.{sum-start, sum-next, sum_done}
 use Rattle.colours.proofs.first.first_digest.Goals as goal
 
 pub loop-i-init : goal.loop-i-init
 loop-i-init c = sum-start _ _ _
-
-pub bounds-row-0 : goal.bounds-row-0
-bounds-row-0 c =
-    let row-length : length (lent c.args.cells.now c.loop-i.i) ≡ 5 = lent_length c.args.cells.now c.loop-i.i _ c.requires c.loop-i-test.true in
-    omega (arith, row-length)
-
-pub slice_bounds-first_sign-count : goal.slice_bounds-first_sign-count
-slice_bounds-first_sign-count c =
-    let row-length : length (lent c.args.cells.now c.loop-i.i) ≡ 5 = lent_length c.args.cells.now c.loop-i.i _ c.requires c.loop-i-test.true in
-    omega (arith, row-length)
 
 pub loop-i-preserved : goal.loop-i-preserved
 unfolding plus

@@ -1,10 +1,7 @@
 -- `first_sign` meets its contract: the terms from i on, from the number by now, give the answer for all.
 -- Assumes nothing.
-use Rattle.colours.proofs.FirstLaws.{first-start, first-end, first_next, first_done}
+use Rattle.colours.proofs.FirstLaws.{first-end, first_next, first_done}
 use Rattle.colours.proofs.first.first_sign.Goals as goal
-
-pub loop-i-init : goal.loop-i-init
-loop-i-init c = first-start _ _ _
 
 pub returns-then-x-eq0 : goal.returns-then-x-eq0
 returns-then-x-eq0 c =

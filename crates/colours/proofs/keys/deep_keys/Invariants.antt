@@ -8,7 +8,8 @@ use Rattle.colours.proofs.keys.deep_keys.Given as goal
 abbrev pub invariant-loop-i : goal.invariant-loop-i
 invariant-loop-i l =
     Keying l.t true l.cells l.n l.colours l.initial.keys l.keys l.i
-    × Ready l.cells l.n l.colours l.received × (length l.scratch ≡ length l.initial.scratch) × (length l.received ≡ length l.initial.received)
+    × Ready l.cells l.n l.colours l.received × (length l.scratch ≡ length l.initial.scratch)
+    × (length l.received ≡ length l.initial.received)
 
 abbrev pub decreases-loop-i : goal.decreases-loop-i
 decreases-loop-i l = l.n - l.i

@@ -1,10 +1,7 @@
 -- `sum` meets its contract: the keys from i on, from the sum by now, give the sum of all.
 -- Assumes nothing.
-use Rattle.colours.proofs.KeyLaws.{sum-start, sum-next, sum_done}
+use Rattle.colours.proofs.KeyLaws.{sum-next, sum_done}
 use Rattle.colours.proofs.keys.sum.Goals as goal
-
-pub loop-i-init : goal.loop-i-init
-loop-i-init c = sum-start _
 
 pub returns : goal.returns
 returns c = sum_done _ _ _ c.loop-i.invariant c.loop-i-test.false

@@ -18,9 +18,6 @@ number_in-requires c =
       pre'.5,
     )
 
-pub returns-then-all_below-2 : goal.returns-then-all_below-2
-returns-then-all_below-2 c = c.number_in.ensures
-
 pub number_in-requires-2 : goal.number_in-requires-2
 number_in-requires-2 c =
     let pre' = c.requires in (
@@ -32,6 +29,3 @@ number_in-requires-2 c =
       pre'.4,
       pre'.5,
     )
-
-pub returns : goal.returns
-returns c = c.number_in-2.ensures

@@ -1,56 +1,20 @@
 -- `see` meets its contract: each term has its mark and its count.
 -- Assumes nothing.
-use Rattle.std.proofs.Common.{◌<◌, length, refl, arith, length-set}
+use Rattle.std.proofs.Common.{arith}
 use Rattle.colours.proofs.OrderLaws.{term-room}
 use Rattle.colours.proofs.order.see.Goals as goal
 
-pub loop-j-init : goal.loop-j-init
-loop-j-init c = (omega arith, refl, refl)
-
-pub loop-j-preserved : goal.loop-j-preserved
-loop-j-preserved c =
-    (omega arith, simp length-set c.loop-j.invariant.1, simp length-set c.loop-j.invariant.2)
-
-pub shape_of-seen : goal.shape_of-seen
-shape_of-seen c = c.loop-j.invariant.1
-
-pub shape_of-counts : goal.shape_of-counts
-shape_of-counts c = c.loop-j.invariant.2
-
-pub returns : goal.returns
-returns c = (c.loop-j.invariant.1, c.loop-j.invariant.2)
-
 pub bounds-seen-x : goal.bounds-seen-x
-bounds-seen-x c = let room : (c.wide-x.result < length c.loop-j.seen) × (c.wide-x.result < length c.loop-j.counts) = let below : c.wide-x.result < length c.args.seen.now =
-    term-room _ _ c.args.i c.loop-j.j _ c.requires.0 c.loop-j-test.true
-    c.wide-x.ensures.0 in
-    (omega (arith, below, c.loop-j.invariant.1), omega (arith, below, c.loop-j.invariant.2, c.requires.2)) in
-    (room).0
-
-pub offset_bounds-counts-x : goal.offset_bounds-counts-x
-offset_bounds-counts-x c = let room : (c.wide-x.result < length c.loop-j.seen) × (c.wide-x.result < length c.loop-j.counts) = let below : c.wide-x.result < length c.args.seen.now =
-    term-room _ _ c.args.i c.loop-j.j _ c.requires.0 c.loop-j-test.true
-    c.wide-x.ensures.0 in
-    (omega (arith, below, c.loop-j.invariant.1), omega (arith, below, c.loop-j.invariant.2, c.requires.2)) in
-    omega (arith, (room).1)
+bounds-seen-x c =
+    let below = term-room _ _ c.args.i c.loop-j.j _ c.requires.0 c.loop-j-test.true c.wide-x.ensures.0 in
+    omega (arith, below, c.loop-j.invariant.1)
 
 pub bounds-counts-x : goal.bounds-counts-x
-bounds-counts-x c = let room : (c.wide-x.result < length c.loop-j.seen) × (c.wide-x.result < length c.loop-j.counts) = let below : c.wide-x.result < length c.args.seen.now =
-    term-room _ _ c.args.i c.loop-j.j _ c.requires.0 c.loop-j-test.true
-    c.wide-x.ensures.0 in
-    (omega (arith, below, c.loop-j.invariant.1), omega (arith, below, c.loop-j.invariant.2, c.requires.2)) in
-    (room).1
-
-pub offset_bounds-counts-x-in-loop-j : goal.offset_bounds-counts-x-in-loop-j
-offset_bounds-counts-x-in-loop-j c = let room : (c.wide-x.result < length c.loop-j.seen) × (c.wide-x.result < length c.loop-j.counts) = let below : c.wide-x.result < length c.args.seen.now =
-    term-room _ _ c.args.i c.loop-j.j _ c.requires.0 c.loop-j-test.true
-    c.wide-x.ensures.0 in
-    (omega (arith, below, c.loop-j.invariant.1), omega (arith, below, c.loop-j.invariant.2, c.requires.2)) in
-    omega (arith, (room).1)
+bounds-counts-x c =
+    let below = term-room _ _ c.args.i c.loop-j.j _ c.requires.0 c.loop-j-test.true c.wide-x.ensures.0 in
+    omega (arith, below, c.loop-j.invariant.2, c.requires.2)
 
 pub bounds-counts-x-in-loop-j : goal.bounds-counts-x-in-loop-j
-bounds-counts-x-in-loop-j c = let room : (c.wide-x.result < length c.loop-j.seen) × (c.wide-x.result < length c.loop-j.counts) = let below : c.wide-x.result < length c.args.seen.now =
-    term-room _ _ c.args.i c.loop-j.j _ c.requires.0 c.loop-j-test.true
-    c.wide-x.ensures.0 in
-    (omega (arith, below, c.loop-j.invariant.1), omega (arith, below, c.loop-j.invariant.2, c.requires.2)) in
-    (room).1
+bounds-counts-x-in-loop-j c =
+    let below = term-room _ _ c.args.i c.loop-j.j _ c.requires.0 c.loop-j-test.true c.wide-x.ensures.0 in
+    omega (arith, below, c.loop-j.invariant.2, c.requires.2)

@@ -1,26 +1,9 @@
 -- `part` meets its contract: both states in another order answer for those at the start, and so does what is left of them.
 -- Assumes nothing.
 use native.Mathlib.Omega.{arith}
-use Rattle.comparison.proofs.NarrowLaws.{Narrowing, narrowing-left, narrowing-right, narrowing-answer}
+use Rattle.comparison.proofs.NarrowLaws.{Narrowing, narrowing-answer}
 use Rattle.comparison.proofs.PartingLaws.{rest-colourable, lined-up, parting-rest}
 use Rattle.comparison.proofs.parting.part.Goals as goal
-
-pub cancels-requires : goal.cancels-requires
-cancels-requires c =
-    let lined : Narrowing c.args.bound_a.now c.args.a.now c.args.bound_b.now c.args.b.now c.line_up-k.new.a c.line_up-k.new.b c.args.size c.args.n = lined-up _ _ _ _ _ _ c.requires.0 c.requires.1 _ _ c.line_up-k.auto.a c.line_up-k.ensures.0 c.line_up-k.auto.b
-    c.line_up-k.ensures.1 in (
-      narrowing-left _ _ _ _ _ _ _ _ lined,
-      narrowing-right _ _ _ _ _ _ _ _ lined,
-      c.requires.2,
-      c.requires.3,
-      c.line_up-k.ensures.2,
-    )
-
-pub narrow-requires : goal.narrow-requires
-narrow-requires c =
-    let lined : Narrowing c.args.bound_a.now c.args.a.now c.args.bound_b.now c.args.b.now c.line_up-k.new.a c.line_up-k.new.b c.args.size c.args.n = lined-up _ _ _ _ _ _ c.requires.0 c.requires.1 _ _ c.line_up-k.auto.a c.line_up-k.ensures.0 c.line_up-k.auto.b
-    c.line_up-k.ensures.1 in
-    (lined.left, lined.right, c.requires.2, c.requires.3)
 
 pub returns-then-not-cancels : goal.returns-then-not-cancels
 returns-then-not-cancels c =

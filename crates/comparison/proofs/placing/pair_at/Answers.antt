@@ -1,7 +1,6 @@
 -- `pair_at` meets its contract: one law for each way out.
 -- Assumes nothing.
-use mathlib.Core.Path.{refl, sym}
-use lib.Seq.{length-take-le}
+use mathlib.Core.Path.{refl}
 use borrow.Author.Tests.{not-true, not-false}
 use Rattle.comparison.proofs.PlaceLaws.{try-rows, try-rows-in, pair-used, pair-symbol, pair-apart, pair-done}
 use Rattle.comparison.proofs.placing.pair_at.Goals as goal
@@ -13,10 +12,6 @@ returns-then-used-j c =
 pub returns-then-a-b : goal.returns-then-a-b
 returns-then-a-b c =
     pair-symbol _ _ _ _ _ _ c.requires.0 c.requires.1 c.requires.2 c.if-used-j.false c.if-a-b.true _ refl
-
-pub slice_bounds-row-end : goal.slice_bounds-row-end
-slice_bounds-row-end c =
-    sym (length-take-le 5 c.args.a.now c.requires.2)
 
 pub pair_rows-links-requires : goal.pair_rows-links-requires
 pair_rows-links-requires c =

@@ -1,7 +1,7 @@
 -- `search` meets its contract: it starts with no partners and no position used.
 -- Assumes nothing.
-use mathlib.Core.Path.{sym, refl}
-use Rattle.comparison.proofs.SearchLaws.{search-apart, search-places, search-answer, unused-length}
+use mathlib.Core.Path.{refl}
+use Rattle.comparison.proofs.SearchLaws.{search-apart, search-answer}
 use Rattle.comparison.proofs.search.search.Goals as goal
 
 pub returns-then-not-pair_bound : goal.returns-then-not-pair_bound
@@ -9,17 +9,6 @@ returns-then-not-pair_bound c =
     search-apart c.args.a.now _ c.args.bound_a.now c.args.b.now _ c.args.bound_b.now c.requires.0.count
     c.requires.1.count 2844
     _ _ _ c.pair_bound.ensures c.if-not-pair_bound.true
-
-pub slice_bounds-place-end : goal.slice_bounds-place-end
-slice_bounds-place-end c =
-    sym (unused-length _ c.requires.3)
-
-pub place-requires : goal.place-requires
-place-requires c =
-    search-places c.args.a.now _ c.args.bound_a.now c.args.b.now _ c.args.bound_b.now c.requires.0.count
-    c.requires.1.count 2844
-    _ _ _ c.pair_bound.ensures c.if-not-pair_bound.false refl
-    c.pair_bound.auto.forth c.pair_bound.auto.back c.requires.3 c.requires.0.terms c.requires.1.terms
 
 pub returns : goal.returns
 returns c =

@@ -1,19 +1,11 @@
 -- `settle_all` meets its contract: the constraints from i on answer for all.
 -- Assumes nothing.
-use Rattle.comparison.proofs.SettleLaws.{all_start, all-stuck, all_done, all-asks, all-next}
+use Rattle.comparison.proofs.SettleLaws.{all_done, all-asks, all-next}
 use Rattle.comparison.proofs.settling.settle_all.Goals as goal
-
-pub loop-i-init : goal.loop-i-init
-loop-i-init c =
-    all_start _ _ _ _ _ _ c.requires.0 c.requires.1
 
 pub settle-requires : goal.settle-requires
 settle-requires c =
     all-asks _ _ _ _ _ _ c.requires.0 c.requires.1 _ _ _ _ c.loop-i.invariant c.loop-i-test.true
-
-pub returns-then-not-settle : goal.returns-then-not-settle
-returns-then-not-settle c =
-    all-stuck _ _ _ _ _ _ c.requires.0 c.requires.1
 
 pub loop-i-preserved : goal.loop-i-preserved
 loop-i-preserved c =

@@ -19,9 +19,3 @@ loop-i-preserved c =
           (omega (arith, c.loop-i-test.true, pre'.0, pre'.1))
           (omega (arith, c.loop-i-test.true, pre'.0, pre'.1)) swap.auto.cells swap.ensures,
     )
-
-pub shape_of-a : goal.shape_of-a
-shape_of-a c = c.loop-i.invariant.1
-
-pub returns : goal.returns
-returns c = c.loop-i.invariant.2
