@@ -1,5 +1,7 @@
 // The check of a program, from its text to the listing: reading it, deciding on it, and the listing of the verdict.
 // Its promises are CheckReplied and Demand3Of of crates/answers/specs/Promises.antt.
+#![tactic(auto)]
+
 ghost use Rattle.std.specs.Prelude.{true, ◌≡◌, ◌*◌, ◌≤◌, length};
 ghost use Rattle.tables.specs.Layout.{constraint_size};
 ghost use Rattle.verdicts.specs.Checks.{OverlapListable};

@@ -1,0 +1,18 @@
+-- `checking::check` meets its contract: the program is refused, or read and decided on; demand 3 of the answer.
+-- Assumes nothing.
+use borrow.Author.Rules.{rules}
+use mathlib.Core.Path.{refl}
+use Rattle.inputs.proofs.ProgramLaws.{program-ready}
+use Rattle.checking.proofs.CheckingLaws.{check-ready, check-refused, checked-demand}
+use Rattle.checking.proofs.check.Goals as goal
+
+pub check_read-requires : goal.check_read-requires
+check_read-requires c =
+    check-ready (program-ready c.read_program.ensures _ c.in-Accepted.is refl)
+
+pub returns-in-Refused : goal.returns-in-Refused
+returns-in-Refused c =
+    checked-demand (check-refused c.read_program.ensures _ _ c.in-Refused.is)
+
+pub returns-in-Accepted : goal.returns-in-Accepted
+returns-in-Accepted c = checked-demand c.check_read.ensures
