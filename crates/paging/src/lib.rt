@@ -1,5 +1,7 @@
 // The pages of a check, from a program's text into the lent output: the check into a listing of its own, and its pages.
 // Its promises are CheckReplied and Demand3Of of crates/answers/specs/Promises.antt, in the layout `paged`.
+#![tactic(auto)]
+
 ghost use Rattle.std.specs.Prelude.{◌*◌, ◌≤◌, length};
 ghost use Rattle.pages.specs.Pages.{pages_of, page_size, max_pages};
 ghost use Rattle.replies.specs.Replies.{paged, laid_reply};

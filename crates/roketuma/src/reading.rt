@@ -75,8 +75,7 @@ pub fn read(program: &[u8], goal: &[u8]) -> ReadReply
 }
 
 // Reading for C: 0 where both texts can be read, or a refusal as `roketuma_run` has it.
-#[unsafe(no_mangle)]
-pub extern "C" fn roketuma_read(program: &[u8], goal: &[u8]) -> u64
+pub fn roketuma_read(program: &[u8], goal: &[u8]) -> u64
     ensures { result ≡ judgement_number (read_reply program.now goal.now) }
 {
     match read(program, goal) {

@@ -1,15 +1,19 @@
 // `sheetrun`: runs the goal over the program that standard input holds, and prints the listing or the refusal.
 // 40,000 bytes decide every longer input (`prefix-decides`, crates/replies/proofs/Prefix.antt).
+#![tactic(auto)]
+
+use std::io;
+use std::io::Write;
 
 // Writes what is printed on an input.
-fn answer(input: &[u8]) {
+fn answer(rt: &impl Print, input: &[u8]) -> io::Result<()> {
     let mut out = [0u8; 32768];
     let n = roketuma::put_run(input, &mut out);
-    io::write_all(1, &out[..n]);
+    io::writer(rt).write_all(&out[..n])
 }
 
-fn main() {
+fn main(rt: HostRuntime) -> io::Result<()> {
     let mut input = [0u8; 40000];
-    let n = io::read_full(0, &mut input);
-    answer(&input[..n])
+    let n = streams::read_full(&mut rt.reader(), &mut input)?;
+    answer(&rt, &input[..n])
 }
