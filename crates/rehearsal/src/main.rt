@@ -2,12 +2,17 @@
 // An input whose name begins with r is a program and a goal, as `sheetrun` gets them; any other is a program, as `sheetcheck` gets
 // it, and where the name begins with p the pages of its check are printed. Then it puts each of the 256 bytes at each place of a
 // program and of a goal, and prints the number that each meets.
+#![tactic(auto)]
+
 mod sweep;
 
 ghost use Rattle.answers.specs.Answers.{Printed};
 ghost use Rattle.rehearsal.specs.Answered.{answer_bytes};
 
 use roketuma::{CheckReply, Refusal, pages, put_check, put_refusal, put_run};
+use std::io::Write;
+use std::rt::{Env, Files};
+use std::{env, fs, io};
 use sweep::swept;
 
 // What `sheetrun` prints on an input, or `sheetcheck`, into the front of an output; answers how many bytes.
@@ -20,96 +25,89 @@ fn put_answer(input: &[u8], with_goal: bool, out: &mut [u8; 32768]) -> usize
     put_check(input, out)
 }
 
+// Writes bytes as they stand.
+fn print_bytes(rt: &impl Print, bytes: &[u8]) -> io::Result<()> {
+    io::writer(rt).write_all(bytes)
+}
+
 // Writes the line of a refusal.
-fn print_refusal(refusal: Refusal) {
+fn print_refusal(rt: &impl Print, refusal: Refusal) -> io::Result<()> {
     let mut line = [0u8; 32768];
     let text = refusal.text;
     let n = put_refusal(&mut line, refusal.number, text, refusal.line);
-    io::write_all(1, &line[..n]);
+    print_bytes(rt, &line[..n])
 }
 
 // Writes the pages of the check of a program.
-fn print_pages(program: &[u8]) {
+fn print_pages(rt: &impl Print, program: &[u8]) -> io::Result<()> {
     let mut out = [0u8; 41820];
     match pages(program, &mut out) {
-        CheckReply::Refused(refusal) => print_refusal(refusal),
-        CheckReply::Confluent(n) => {
-            io::write_all(1, &out[..n]);
-        }
-        CheckReply::Unjoined(n) => {
-            io::write_all(1, &out[..n]);
-        }
+        CheckReply::Refused(refusal) => print_refusal(rt, refusal),
+        CheckReply::Confluent(n) => print_bytes(rt, &out[..n]),
+        CheckReply::Unjoined(n) => print_bytes(rt, &out[..n]),
     }
 }
 
 // Writes what is printed on an input of a kind.
-fn answer(input: &[u8], kind: u8) {
+fn answer(rt: &impl Print, input: &[u8], kind: u8) -> io::Result<()> {
     if kind == b'p' {
-        print_pages(input);
-        return;
+        return print_pages(rt, input);
     }
     let mut out = [0u8; 32768];
     let n = put_answer(input, kind == b'r', &mut out);
-    io::write_all(1, &out[..n]);
+    print_bytes(rt, &out[..n])
 }
 
 // The reply to the input of a file.
-fn rehearse(path: &[u8], kind: u8) {
-    let fd = os::open_read(path);
-    if fd < 0 {
-        os::fail(path);
-        return;
-    }
+fn rehearse(rt: &(impl Print + Files), path: &str, kind: u8) -> io::Result<()> {
+    let mut file = fs::open(rt, path)?;
     let mut input = [0u8; 40000];
-    let n = io::read_full(fd, &mut input);
-    libc::close(fd);
-    answer(&input[..n], kind)
+    let n = streams::read_full(&mut file, &mut input)?;
+    answer(rt, &input[..n], kind)
 }
 
-// The reply to the input that argument i names.
-fn rehearse_argument(i: usize) {
-    let mut path = io::buffer();
-    let length = os::arg(i, &mut path);
-    if length == 0 {
-        return;
+// The reply to the input that an argument names.
+fn rehearse_argument(rt: &(impl Print + Files), path: &str) -> io::Result<()> {
+    let name = path.as_bytes();
+    if name.is_empty() {
+        return Ok(());
     }
-    io::write_all(1, &path[..length]);
-    io::write_all(1, b"\n");
-    let first = path[0];
-    rehearse(&path[..length], first)
+    print_bytes(rt, name)?;
+    print_bytes(rt, b"\n")?;
+    rehearse(rt, path, name[0])
 }
 
 // The digit of a text swept, printed.
-fn print_digit(i: usize, b: u8) {
+fn print_digit(rt: &impl Print, i: usize, b: u8) -> io::Result<()> {
     let digits = [swept(i, b)];
-    io::write_all(1, &digits);
+    print_bytes(rt, &digits)
 }
 
 // All bytes at place i.
-fn sweep_place(i: usize) {
-    let mut b: usize = 0;
-    while b < 256 {
-        print_digit(i, b as u8);
-        b += 1;
+fn sweep_place(rt: &impl Print, i: usize) -> io::Result<()> {
+    for b in 0..=255 {
+        print_digit(rt, i, b)?;
     }
-    io::write_all(1, b"\n");
+    print_bytes(rt, b"\n")
 }
 
 // All places of both texts.
-fn sweep_all() {
-    let mut i = 0;
-    while i < 42 {
-        sweep_place(i);
-        i += 1;
+fn sweep_all(rt: &impl Print) -> io::Result<()> {
+    for i in 0..42 {
+        sweep_place(rt, i)?;
     }
+    Ok(())
 }
 
-fn main() {
-    let count = os::arg_count();
-    let mut i = 1;
-    while i < count {
-        rehearse_argument(i);
-        i += 1;
+// The replies to the inputs that the arguments name.
+fn rehearse_all(rt: &(impl Print + Files + Env + Alloc)) -> io::Result<()> {
+    for path in env::args(rt)?.skip(1) {
+        rehearse_argument(rt, path.as_str())?;
     }
-    sweep_all();
+    Ok(())
+}
+
+fn main(rt: HostRuntime) -> io::Result<()> {
+    rehearse_all(&rt)?;
+    sweep_all(&rt)
 }
