@@ -28,7 +28,7 @@ use Rattle.engine.proofs.GoalLaws.{weigh, rule-stands, read_table, read-lowers}
 use Rattle.overlaps.specs.Cells.{RuleRow}
 use Rattle.critical.specs.Walks.{Checkable, Holds}
 use Rattle.inputs.specs.Inputs.{program_table, ProgramReady}
-use Rattle.inputs.proofs.ProgramLaws.{few-symbols, as_read}
+use Rattle.inputs.proofs.ProgramLaws.{as_read}
 
 -- a constraint of a rule has a low symbol, where there are few
 of-rule-low : (symbols : List Symbol) → length symbols ≤ 32 → (c : Constraint) → is_of_rule symbols c ≡ true → is_low c ≡ true

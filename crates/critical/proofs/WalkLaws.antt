@@ -3,24 +3,22 @@
 --   Walking                              the overlaps of the partners from d on are left
 --   walking_start … walking-end          the loop over the partners of one head
 -- Assumes nothing.
-use Prim.Native.Nat.{ℕ, zero, suc, ◌+◌, ◌≤◌, ◌<◌}
-use native.Mathlib.Omega.{arith}
-use mathlib.Core.Bool.{Bool, true, false, cond, not}
-use mathlib.Core.List.{List, [], ◌∷◌, ◌++◌, map, append_assoc, append-nil}
+use Prim.Native.Nat.{ℕ, suc, ◌≤◌, ◌<◌}
+use mathlib.Core.Bool.{true, false}
+use mathlib.Core.List.{List, [], ◌∷◌, ◌++◌, map, append_assoc}
 use mathlib.Core.Option.{Option, none, some}
-use mathlib.Core.Path.{◌≡◌, refl, sym, ap, subst, ◌∙◌}
+use mathlib.Core.Path.{◌≡◌, refl, ap, ◌∙◌}
 use lib.Dec.{eqb}
 use lib.ListN.{length}
-use Rattle.text.specs.Lists.{onward, every}
+use Rattle.text.specs.Lists.{every}
 use Rattle.semantics.specs.Terms.{Constraint, Program, map_terms}
-use Rattle.semantics.specs.Overlaps.{is_pairing, apart, Numbered, Overlap, overlap_of, first_end, second_end}
-use Rattle.semantics.specs.Verdict.{unjoined, judge}
+use Rattle.semantics.specs.Overlaps.{apart, Numbered, Overlap}
+use Rattle.semantics.specs.Verdict.{judge}
 use Rattle.semantics.proofs.Options.{true-false}
 use Rattle.overlaps.specs.Joins.{paired, goal_from}
 use Rattle.overlaps.specs.Rests.{rest, rest_from, Judged}
 use Rattle.overlaps.proofs.RestLaws.{rest_more, rest-next, rest-past, rest-done}
 use Rattle.overlaps.proofs.PairedLaws.{paired_none, paired-overlap, paired-pairing}
-use Rattle.critical.proofs.JudgeLaws.{judged-none}
 
 module _ (i j : Numbered) where
   abbrev hs : List Constraint

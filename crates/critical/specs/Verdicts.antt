@@ -6,7 +6,7 @@
 --   ShownIn, UnjoinedIn      the overlap that is shown
 --   VerdictIn                what deciding promises
 -- What the goal's variables became is in `bounds`: for the first end, then for the second. Assumes nothing.
-use Rattle.std.specs.Prelude.{ℕ, ◌*◌, ◌≤◌, ◌<◌, true, false, List, ◌≡◌, length, take, drop, get_or}
+use Rattle.std.specs.Prelude.{ℕ, ◌*◌, ◌≤◌, ◌<◌, true, List, ◌≡◌, length, take, drop, get_or}
 use Rattle.std.proofs.Math.Option.{some}
 use Rattle.semantics.specs.Terms.{Program}
 use Rattle.semantics.specs.Strategy.{Final as End}

@@ -2,7 +2,7 @@
 --   program-refused                    the reply to a program that is refused
 --   goal-refused, goal-ready           the same for a goal over a program as read; a goal as read
 -- Assumes nothing.
-use Prim.Native.Nat.{ℕ, ◌-◌, ◌*◌, ◌≤◌, ◌<◌}
+use Prim.Native.Nat.{ℕ, ◌*◌, ◌≤◌, ◌<◌}
 use native.Mathlib.Omega.{arith}
 use mathlib.Core.Bool.{true}
 use mathlib.Core.List.{List}

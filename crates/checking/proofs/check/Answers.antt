@@ -1,6 +1,5 @@
 -- `checking::check` meets its contract: the program is refused, or read and decided on; demand 3 of the answer.
 -- Assumes nothing.
-use borrow.Author.Rules.{rules}
 use mathlib.Core.Path.{refl}
 use Rattle.inputs.proofs.ProgramLaws.{program-ready}
 use Rattle.checking.proofs.CheckingLaws.{check-ready, check-refused, checked-demand}

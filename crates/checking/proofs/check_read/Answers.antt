@@ -1,5 +1,4 @@
 -- `checking::check_read` meets its contract: the verdict on the program is listed. Assumes nothing.
-use borrow.Author.Rules.{rules}
 use mathlib.Core.Path.{refl}
 use Rattle.checking.proofs.CheckingLaws.{decidable, show-ready, holds, pass-replies}
 use Rattle.checking.proofs.check_read.Goals as goal

@@ -1,5 +1,4 @@
 -- `checking::end_shown` meets its contract: a live end with its variables, and a failed one without. Assumes nothing.
-use borrow.Author.Rules.{rules}
 use Rattle.checking.proofs.CheckingLaws.{end_live, end-failed}
 use Rattle.checking.proofs.end_shown.Goals as goal
 

@@ -1,5 +1,4 @@
 -- `checking::fail` meets its contract: the overlap is listed, or number 11. Assumes nothing.
-use borrow.Author.Rules.{rules}
 use Rattle.checking.proofs.CheckingLaws.{overlap-short, overlap-written}
 use Rattle.checking.proofs.fail.Goals as goal
 

@@ -1,5 +1,4 @@
 -- `checking::pass` meets its contract: the line is written, or number 11. Assumes nothing.
-use borrow.Author.Rules.{rules}
 use Rattle.checking.proofs.CheckingLaws.{pass-short, pass-written}
 use Rattle.checking.proofs.pass.Goals as goal
 

@@ -1,6 +1,5 @@
 -- `checking::show` meets its contract: the used cells and both ends are handed to the listing. Assumes nothing.
 use native.Mathlib.Omega.{arith}
-use borrow.Author.Rules.{rules}
 use Rattle.checking.proofs.CheckingLaws.{cells-few, listed-within, front-few, show-listable, show-replies}
 use Rattle.inputs.proofs.TabledLaws.{front_length}
 use Rattle.checking.proofs.show.Goals as goal

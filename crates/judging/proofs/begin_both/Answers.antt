@@ -1,7 +1,6 @@
 -- `begin_both` meets its contract: each side fires.
 -- Assumes nothing.
 use Rattle.judging.proofs.EndLaws.{side-begins, both-begun}
-use borrow.Author.Rules.{rules}
 use native.Mathlib.Omega.{arith}
 use mathlib.Core.Path.{refl}
 use Rattle.judging.proofs.begin_both.Goals as goal

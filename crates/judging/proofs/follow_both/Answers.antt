@@ -3,7 +3,6 @@
 use native.Mathlib.Omega.{arith}
 use mathlib.Core.Path.{refl}
 use Rattle.judging.proofs.EndLaws.{begun-follows, first_ends, second-ends}
-use borrow.Author.Rules.{rules}
 use Rattle.judging.proofs.follow_both.Goals as goal
 
 pub follow-first-requires : goal.follow-first-requires

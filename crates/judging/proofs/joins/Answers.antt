@@ -2,7 +2,6 @@
 -- Assumes nothing.
 use mathlib.Core.Path.{sym}
 use Rattle.judging.proofs.JoinLaws.{lent_length}
-use borrow.Author.Rules.{rules}
 use Rattle.judging.proofs.joins.Goals as goal
 
 pub slice_bounds-judge-end : goal.slice_bounds-judge-end

@@ -2,7 +2,6 @@
 -- Assumes nothing.
 use Rattle.judging.proofs.EndLaws.{lent-kept}
 use Rattle.judging.proofs.StepLaws.{steps-ask, step-joins}
-use borrow.Author.Rules.{rules}
 use Rattle.judging.proofs.judge.Goals as goal
 
 pub begin_both-steps-requires : goal.begin_both-steps-requires

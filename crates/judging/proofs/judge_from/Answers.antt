@@ -4,7 +4,6 @@ use native.Mathlib.Omega.{arith}
 use borrow.Author.Tests.{not-true, not-false}
 use mathlib.Core.Path.{sym}
 use Rattle.judging.proofs.JoinLaws.{live-by, live-room, joins-failed, joins-apart, joins-counts, joins-compared}
-use borrow.Author.Rules.{rules}
 use Rattle.judging.proofs.judge_from.Goals as goal
 
 pub returns-then-not-first : goal.returns-then-not-first

@@ -1,7 +1,6 @@
 -- `same_ends` meets its contract: ends in the same cells are equal; others are tidied and compared.
 -- Assumes nothing.
 use Rattle.judging.proofs.JoinLaws.{ends-alike, ends-side, ends-answer}
-use borrow.Author.Rules.{rules}
 use Rattle.judging.proofs.same_ends.Goals as goal
 
 pub returns-then-same_cells-2 : goal.returns-then-same_cells-2

@@ -4,7 +4,6 @@ use borrow.Author.Tests.{not-true, not-false}
 use mathlib.Core.Path.{sym, ◌∙◌}
 use lib.Seq.{length-take-le}
 use Rattle.judging.proofs.StepLaws.{second-room, step-apart, step-failed, step_same}
-use borrow.Author.Rules.{rules}
 use Rattle.judging.proofs.same_step.Goals as goal
 
 pub slice_bounds-same_cells-end : goal.slice_bounds-same_cells-end

@@ -1,6 +1,5 @@
 -- `pages::list_pages` meets its contract: an ample output holds the pages; for any other they are counted into no output and then
 -- written. Assumes nothing.
-use borrow.Author.Rules.{rules}
 use Rattle.listing.proofs.EndLaws.{listed-short, listed-written}
 use Rattle.pages.proofs.PageLaws.{pages-count, pages-ample}
 use Rattle.pages.proofs.list_pages.Goals as goal

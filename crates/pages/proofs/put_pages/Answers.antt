@@ -1,9 +1,6 @@
 -- `pages::put_pages` meets its contract: the pages before a number are written. Assumes nothing.
-use borrow.Author.Rules.{rules}
-use Prim.Native.Nat.{◌-◌}
 use native.Mathlib.Omega.{arith}
-use lib.ListN.{length}
-use Rattle.pages.proofs.PageLaws.{Paging, paging-start, paging-count, paging-number, paging-room, paging-next, paging-end}
+use Rattle.pages.proofs.PageLaws.{paging-start, paging-count, paging-number, paging-room, paging-next, paging-end}
 use Rattle.pages.proofs.put_pages.Goals as goal
 
 pub loop-at-init : goal.loop-at-init

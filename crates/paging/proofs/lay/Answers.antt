@@ -1,5 +1,4 @@
 -- `paging::lay` meets its contract: the pages are written, or number 11. Assumes nothing.
-use borrow.Author.Rules.{rules}
 use Rattle.paging.proofs.PagingLaws.{lay-short, lay-passed, lay-failed}
 use Rattle.paging.proofs.lay.Goals as goal
 

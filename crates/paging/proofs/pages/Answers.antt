@@ -2,7 +2,6 @@
 use mathlib.Core.Path.{refl, sym}
 use native.Mathlib.Omega.{arith}
 use lib.Seq.{length-take-le}
-use borrow.Author.Rules.{rules}
 use Rattle.replies.specs.Replies.{ample}
 use Rattle.answers.proofs.CheckLaws.{pass-within, fail-within}
 use Rattle.paging.proofs.PagingLaws.{ask-passed, ask-failed}

@@ -1,5 +1,4 @@
 -- `rehearsal::put_answer` meets its contract. Assumes nothing.
-use borrow.Author.Rules.{rules}
 use Rattle.rehearsal.proofs.AnswerLaws.{run-answered, check-answered}
 use Rattle.rehearsal.proofs.put_answer.Goals as goal
 

@@ -1,5 +1,4 @@
 -- `running::list_final` meets its contract: the used part of the cells, or nothing of a failed end. Assumes nothing.
-use borrow.Author.Rules.{rules}
 use mathlib.Core.Path.{sym}
 use native.Mathlib.Omega.{arith}
 use lib.Seq.{length-take-le}

@@ -1,6 +1,5 @@
 -- `running::run_read` meets its contract: the goal can be run, its end can be listed, and the reply is the definition's.
 -- Assumes nothing.
-use borrow.Author.Rules.{rules}
 use mathlib.Core.Path.{refl}
 use Rattle.running.proofs.ReadyLaws.{few-variables, front-size, front-starts, back-few, back-size, back-listable, back-replies}
 use Rattle.running.proofs.run_read.Goals as goal

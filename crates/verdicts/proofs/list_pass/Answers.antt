@@ -1,5 +1,4 @@
 -- `verdicts::list_pass` meets its contract: counted into no output, and then written. Assumes nothing.
-use borrow.Author.Rules.{rules}
 use native.Mathlib.Omega.{arith}
 use Rattle.listing.proofs.WriteLaws.{wrote-is}
 use Rattle.listing.proofs.EndLaws.{listed-short, listed-written}

@@ -1,5 +1,4 @@
 -- `verdicts::list_shown` meets its contract: it is counted into no output and then written. Assumes nothing.
-use borrow.Author.Rules.{rules}
 use Rattle.listing.proofs.EndLaws.{listed-short, listed-written}
 use Rattle.verdicts.proofs.list_shown.Goals as goal
 

@@ -1,5 +1,4 @@
 -- `verdicts::put_ends` meets its contract: one end behind the other. Assumes nothing.
-use borrow.Author.Rules.{rules}
 use mathlib.Core.Path.{sym}
 use native.Mathlib.Omega.{arith}
 use lib.Seq.{length-take-le}

@@ -1,5 +1,4 @@
 -- `verdicts::put_overlap` meets its contract: the ends behind the lines in front of them. Assumes nothing.
-use borrow.Author.Rules.{rules}
 use mathlib.Core.Path.{sym}
 use Rattle.listing.proofs.WriteLaws.{wrote_then, wrote-is, count-is, count-first, count_next}
 use Rattle.verdicts.proofs.CheckLaws.{shown-is}

@@ -1,5 +1,4 @@
 -- `verdicts::put_pair` meets its contract: nothing, or its letter, the two numbers and the line feed. Assumes nothing.
-use borrow.Author.Rules.{rules}
 use mathlib.Core.Path.{sym}
 use Rattle.listing.proofs.WriteLaws.{wrote_then, wrote-is, count-is, count-first, count_next}
 use Rattle.verdicts.proofs.CheckLaws.{pair-none, pair_is}

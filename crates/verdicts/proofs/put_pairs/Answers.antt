@@ -1,11 +1,7 @@
 -- `verdicts::put_pairs` meets its contract: the lines of the heads before i are written. Assumes nothing.
-use borrow.Author.Rules.{rules}
-use Prim.Native.Nat.{◌≤◌, ◌-◌}
 use native.Mathlib.Omega.{arith}
-use lib.ListN.{length}
-use Rattle.verdicts.specs.Verdicts.{pair_lines}
-use Rattle.listing.proofs.WriteLaws.{Writing, writing_start, writing-first, writing-room, writing-line, writing-end, count-front}
-use Rattle.verdicts.proofs.CheckLaws.{pairs_from, pairs-here, pairs-done}
+use Rattle.listing.proofs.WriteLaws.{writing_start, writing-first, writing-room, writing-line, writing-end, count-front}
+use Rattle.verdicts.proofs.CheckLaws.{pairs-here, pairs-done}
 use Rattle.verdicts.proofs.put_pairs.Goals as goal
 
 pub loop-i-init : goal.loop-i-init

@@ -1,11 +1,9 @@
 -- `verdicts::put_pairs` meets its contract: the lines of the heads before i are written. Assumes nothing.
-use borrow.Author.Rules.{rules}
 use Prim.Native.Nat.{◌≤◌, ◌-◌}
-use native.Mathlib.Omega.{arith}
 use lib.ListN.{length}
 use Rattle.verdicts.specs.Verdicts.{pair_lines}
-use Rattle.listing.proofs.WriteLaws.{Writing, writing_start, writing-first, writing-room, writing-line, writing-end, count-front}
-use Rattle.verdicts.proofs.CheckLaws.{pairs_from, pairs-here, pairs-done}
+use Rattle.listing.proofs.WriteLaws.{Writing}
+use Rattle.verdicts.proofs.CheckLaws.{pairs_from}
 use Rattle.verdicts.proofs.put_pairs.Given as goal
 
 abbrev pub invariant-loop-i : goal.invariant-loop-i

@@ -1,5 +1,4 @@
 -- `verdicts::put_rules` meets its contract: the word, the two names and the line feed. Assumes nothing.
-use borrow.Author.Rules.{rules}
 use mathlib.Core.Path.{sym}
 use Rattle.listing.proofs.WriteLaws.{wrote_then, wrote-is, count-is, count-first, count_next}
 use Rattle.verdicts.proofs.CheckLaws.{rules-is}

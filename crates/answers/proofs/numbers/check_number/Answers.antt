@@ -1,6 +1,5 @@
 -- `answers::check_number` meets its contract: the number of each form of answer. Assumes nothing.
 use native.Mathlib.Omega.{arith}
-use borrow.Author.Rules.{rules}
 use Rattle.answers.proofs.NumberLaws.{number-refused, number_passed, number-failed, failed-few}
 use Rattle.answers.proofs.numbers.check_number.Goals as goal
 

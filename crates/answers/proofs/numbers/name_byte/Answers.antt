@@ -1,5 +1,4 @@
 -- `roketuma::name_byte` meets its contract. Assumes nothing.
-use borrow.Author.Rules.{rules}
 use Rattle.answers.specs.Answers.{name_byte}
 use Rattle.answers.proofs.numbers.name_byte.Goals as goal
 

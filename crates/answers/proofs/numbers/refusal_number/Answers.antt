@@ -1,5 +1,4 @@
 -- `roketuma::refusal_number` meets its contract. Assumes nothing.
-use borrow.Author.Rules.{rules}
 use native.Mathlib.Omega.{arith}
 use Rattle.answers.proofs.ReplyLaws.{byte-few}
 use Rattle.answers.proofs.numbers.refusal_number.Goals as goal

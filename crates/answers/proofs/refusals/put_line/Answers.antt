@@ -1,6 +1,5 @@
 -- `answers::put_line` meets its contract: the word, the number behind it, the rest behind that. Assumes nothing.
 use native.Mathlib.Omega.{arith}
-use borrow.Author.Rules.{rules}
 use Rattle.answers.proofs.PrintLaws.{number-counted, rest-within, rest-counted, line-printed, line-few}
 use Rattle.answers.proofs.refusals.put_line.Goals as goal
 

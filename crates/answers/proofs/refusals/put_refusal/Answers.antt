@@ -1,5 +1,4 @@
 -- `answers::put_refusal` meets its contract: the line with the letter of its text. Assumes nothing.
-use borrow.Author.Rules.{rules}
 use Rattle.answers.proofs.PrintLaws.{refusal-program, refusal-goal}
 use Rattle.answers.proofs.refusals.put_refusal.Goals as goal
 

@@ -1,10 +1,6 @@
 -- `decide` meets its contract: all overlaps judged, and the one shown that does not join.
 -- Assumes nothing.
 use Rattle.critical.proofs.VerdictLaws.{walked-stopped, verdict-kept, verdict-shown, verdict-passed}
-use borrow.Author.Rules.{rules}
-use Rattle.critical.proofs.deciding.show.Reads as show-reads
-use Rattle.critical.proofs.deciding.show_none.Reads as show-none-reads
-use Rattle.critical.proofs.walking.walk_all.Reads as walk-all-reads
 use Rattle.critical.proofs.deciding.decide.Goals as goal
 
 pub show-shown-requires : goal.show-shown-requires

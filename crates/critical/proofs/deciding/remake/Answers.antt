@@ -3,10 +3,6 @@
 use native.Mathlib.Omega.{arith}
 use Rattle.critical.proofs.TableLaws.{lent-few, pair-room, pair-lent, pair-lays}
 use Rattle.critical.proofs.VerdictLaws.{remake-partners, remake-lent}
-use borrow.Author.Rules.{rules}
-use Rattle.overlaps.proofs.finishing.second_positions.Reads as second-positions-reads
-use Rattle.overlaps.proofs.overlapping.overlap_by.Reads as overlap-by-reads
-use Rattle.tables.proofs.wide.Reads as wide-reads
 use Rattle.critical.proofs.deciding.remake.Goals as goal
 
 pub slice_bounds-overlap_by-end : goal.slice_bounds-overlap_by-end

@@ -1,8 +1,6 @@
 -- `run_sides` meets its contract: each side is run to its end, in its part of the bounds.
 -- Assumes nothing.
 use Rattle.critical.proofs.VerdictLaws.{run-bound, run-first, run-second, run_ends}
-use borrow.Author.Rules.{rules}
-use Rattle.sides.proofs.side.Reads as side-reads
 use Rattle.critical.proofs.deciding.run_sides.Goals as goal
 
 pub slice_bounds-side-end-2 : goal.slice_bounds-side-end-2

@@ -1,13 +1,11 @@
 -- `walk` meets its contract: of the overlaps whose partners begin so, those with partner d or a later one are left. The heads
 -- that are left fall at each call.
 -- Assumes nothing.
-use Prim.Native.Nat.{ℕ, suc, ◌<◌, ◌-◌}
 use native.Mathlib.Omega.{arith}
-use mathlib.Core.Path.{◌≡◌, refl, ◌∙◌}
-use lib.ListN.{length}
+use mathlib.Core.Path.{refl, ◌∙◌}
 use borrow.Author.Rules.{rules}
 use Rattle.critical.proofs.StandLaws.{pair-few}
-use Rattle.critical.proofs.StepLaws.{Steps, room-kept, leaf-start, leaf_walked, step_room, step-lent}
+use Rattle.critical.proofs.StepLaws.{room-kept, leaf-start, leaf_walked, step_room, step-lent}
 use Rattle.critical.proofs.StepLaws.{step-partner, step_start}
 use Rattle.critical.proofs.StepLaws.{step_cut, step-next, step-stop, step-on, step_end}
 use Rattle.critical.proofs.walking.+walk.Goals as goal

@@ -1,15 +1,10 @@
 -- `walk` meets its contract: of the overlaps whose partners begin so, those with partner d or a later one are left. The heads
 -- that are left fall at each call.
 -- Assumes nothing.
-use Prim.Native.Nat.{ℕ, suc, ◌<◌, ◌-◌}
-use native.Mathlib.Omega.{arith}
-use mathlib.Core.Path.{◌≡◌, refl, ◌∙◌}
+use Prim.Native.Nat.{suc, ◌-◌}
+use mathlib.Core.Path.{◌≡◌}
 use lib.ListN.{length}
-use borrow.Author.Rules.{rules}
-use Rattle.critical.proofs.StandLaws.{pair-few}
-use Rattle.critical.proofs.StepLaws.{Steps, room-kept, leaf-start, leaf_walked, step_room, step-lent}
-use Rattle.critical.proofs.StepLaws.{step-partner, step_start}
-use Rattle.critical.proofs.StepLaws.{step_cut, step-next, step-stop, step-on, step_end}
+use Rattle.critical.proofs.StepLaws.{Steps}
 use Rattle.critical.proofs.walking.+walk.Given as goal
 
 abbrev pub invariant-loop-d : goal.invariant-loop-d

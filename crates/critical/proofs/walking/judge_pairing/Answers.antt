@@ -4,11 +4,6 @@ use native.Mathlib.Omega.{arith}
 use Rattle.critical.proofs.StandLaws.{pair-few}
 use Rattle.critical.proofs.StepLaws.{leaf-count, leaf_room, leaf-lent, leaf-nothing, leaf-whole}
 use Rattle.critical.proofs.StepLaws.{leaf-used, leaf-share, leaf-goal, leaf-judged, leaf-joins, leaf-parts}
-use borrow.Author.Rules.{rules}
-use Rattle.overlaps.proofs.finishing.finish.Reads as finish-reads
-use Rattle.overlaps.proofs.finishing.second_positions.Reads as second-positions-reads
-use Rattle.critical.proofs.walking.is_alone.Reads as is-alone-reads
-use Rattle.judging.proofs.joins.Reads as joins-reads
 use Rattle.critical.proofs.walking.judge_pairing.Goals as goal
 
 pub is_alone-requires : goal.is_alone-requires

@@ -1,13 +1,9 @@
 -- `walk_all` meets its contract: the overlaps of rule i and the later first rules are left.
 -- Assumes nothing.
 use Prim.Native.Nat.{◌-◌}
-use native.Mathlib.Omega.{arith}
-use mathlib.Core.Path.{◌≡◌, refl}
+use mathlib.Core.Path.{◌≡◌}
 use lib.ListN.{length}
-use borrow.Author.Rules.{rules}
-use Rattle.critical.proofs.StepLaws.{room-kept}
-use Rattle.critical.proofs.TableLaws.{Table, table-start, table-next, table-stop, table-end}
-use Rattle.critical.proofs.walking.walk_row.Reads as walk-row-reads
+use Rattle.critical.proofs.TableLaws.{Table}
 use Rattle.critical.proofs.walking.walk_all.Given as goal
 
 abbrev pub invariant-loop-i : goal.invariant-loop-i

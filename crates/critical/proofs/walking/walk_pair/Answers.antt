@@ -2,9 +2,6 @@
 -- Assumes nothing.
 use Rattle.critical.proofs.TableLaws.{pair-unshared}
 use Rattle.critical.proofs.TableLaws.{lent-rule}
-use borrow.Author.Rules.{rules}
-use Rattle.overlaps.proofs.sharing.share_symbol.Reads as share-symbol-reads
-use Rattle.critical.proofs.walking.walk_pairings.Reads as walk-pairings-reads
 use Rattle.critical.proofs.walking.walk_pair.Goals as goal
 
 pub share_symbol-requires : goal.share_symbol-requires

@@ -3,10 +3,6 @@
 use mathlib.Core.Path.{refl}
 use lib.ListN.{replicate}
 use Rattle.critical.proofs.TableLaws.{pair-room, pair-lent, pair-lays, pair-walkable, pair-walked}
-use borrow.Author.Rules.{rules}
-use Rattle.overlaps.proofs.laying.lay_heads.Reads as lay-heads-reads
-use Rattle.critical.proofs.walking.walk.Reads as walk-reads
-use Rattle.tables.proofs.wide.Reads as wide-reads
 use Rattle.critical.proofs.walking.walk_pairings.Goals as goal
 
 pub slice_bounds-cells-end : goal.slice_bounds-cells-end

@@ -1,13 +1,10 @@
 -- `walk_row` meets its contract: the overlaps with the rules from so far behind rule i on are left.
 -- Assumes nothing.
-use Prim.Native.Nat.{◌+◌, ◌-◌}
 use native.Mathlib.Omega.{arith}
-use mathlib.Core.Path.{◌≡◌, refl}
-use lib.ListN.{length}
+use mathlib.Core.Path.{refl}
 use borrow.Author.Rules.{rules}
 use Rattle.critical.proofs.StepLaws.{room-kept}
-use Rattle.critical.proofs.TableLaws.{Row, row-start, row-further, row_next, row-stop, row-end}
-use Rattle.critical.proofs.walking.walk_pair.Reads as walk-pair-reads
+use Rattle.critical.proofs.TableLaws.{row-start, row-further, row_next, row-stop, row-end}
 use Rattle.critical.proofs.walking.walk_row.Goals as goal
 
 pub overflow_sub-rest : goal.overflow_sub-rest

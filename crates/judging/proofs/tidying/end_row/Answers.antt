@@ -1,8 +1,6 @@
 -- `end_row` meets its contract: the columns before j are done.
 -- Assumes nothing.
-use native.Mathlib.Omega.{arith}
-use Prim.Native.Nat.{◌-◌}
-use Rattle.judging.proofs.TidyLaws.{Ending, ending-start, ending-next, ending-done}
+use Rattle.judging.proofs.TidyLaws.{ending-start, ending-next, ending-done}
 use Rattle.judging.proofs.tidying.end_row.Goals as goal
 
 pub loop-j-init : goal.loop-j-init

@@ -1,8 +1,7 @@
 -- `end_row` meets its contract: the columns before j are done.
 -- Assumes nothing.
-use native.Mathlib.Omega.{arith}
 use Prim.Native.Nat.{◌-◌}
-use Rattle.judging.proofs.TidyLaws.{Ending, ending-start, ending-next, ending-done}
+use Rattle.judging.proofs.TidyLaws.{Ending}
 use Rattle.judging.proofs.tidying.end_row.Given as goal
 
 abbrev pub invariant-loop-j : goal.invariant-loop-j

@@ -1,8 +1,7 @@
 -- `tidy` meets its contract: the constraints before i are done.
 -- Assumes nothing.
-use native.Mathlib.Omega.{arith}
 use Prim.Native.Nat.{◌-◌}
-use Rattle.judging.proofs.TidyLaws.{Tidying, tidying-start, tidying-room, tidying-next, tidying-done}
+use Rattle.judging.proofs.TidyLaws.{Tidying}
 use Rattle.judging.proofs.tidying.tidy.Given as goal
 
 abbrev pub invariant-loop-i : goal.invariant-loop-i

@@ -1,9 +1,6 @@
 -- `pages::page::fill` meets its contract: the spaces before `end` are written. Assumes nothing.
-use borrow.Author.Rules.{rules}
-use Prim.Native.Nat.{◌-◌}
 use native.Mathlib.Omega.{arith}
-use Rattle.listing.proofs.WriteLaws.{Writing, writing_start}
-use Rattle.pages.specs.Pages.{spaces}
+use Rattle.listing.proofs.WriteLaws.{writing_start}
 use Rattle.pages.proofs.PageLaws.{fill-next, fill_end}
 use Rattle.pages.proofs.page.fill.Goals as goal
 

@@ -1,10 +1,7 @@
 -- `pages::page::fill` meets its contract: the spaces before `end` are written. Assumes nothing.
-use borrow.Author.Rules.{rules}
 use Prim.Native.Nat.{◌-◌}
-use native.Mathlib.Omega.{arith}
-use Rattle.listing.proofs.WriteLaws.{Writing, writing_start}
+use Rattle.listing.proofs.WriteLaws.{Writing}
 use Rattle.pages.specs.Pages.{spaces}
-use Rattle.pages.proofs.PageLaws.{fill-next, fill_end}
 use Rattle.pages.proofs.page.fill.Given as goal
 
 abbrev pub invariant-loop-end : goal.invariant-loop-end

@@ -1,5 +1,4 @@
 -- `pages::page::put_aligned` meets its contract: the spaces, then the digits. Assumes nothing.
-use borrow.Author.Rules.{rules}
 use native.Mathlib.Omega.{arith}
 use Rattle.pages.proofs.PageLaws.{aligned-room, aligned-count, aligned-wrote}
 use Rattle.pages.proofs.page.put_aligned.Goals as goal

@@ -1,5 +1,4 @@
 -- `pages::page::put_first` meets its contract: the field, spaces, the number, and the line's end. Assumes nothing.
-use borrow.Author.Rules.{rules}
 use mathlib.Core.Path.{refl, ◌∙◌}
 use Rattle.pages.specs.Pages.{head_line}
 use Rattle.pages.proofs.PageLaws.{line-feed, line_wrote, head-field, head-number, head-wrote}

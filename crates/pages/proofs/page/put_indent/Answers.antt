@@ -1,5 +1,4 @@
 -- `pages::page::put_indent` meets its contract: two spaces, or nothing. Assumes nothing.
-use borrow.Author.Rules.{rules}
 use native.Mathlib.Omega.{arith}
 use Rattle.pages.proofs.PageLaws.{indent-put, indent-none}
 use Rattle.pages.proofs.page.put_indent.Goals as goal

@@ -1,5 +1,4 @@
 -- `pages::page::put_page` meets its contract: line 1, a blank line, and 58 lines with rows. Assumes nothing.
-use borrow.Author.Rules.{rules}
 use native.Mathlib.Omega.{arith}
 use Rattle.pages.proofs.PageLaws.{page-head, page-blank, page-rows, page-room, page-put}
 use Rattle.pages.proofs.page.put_page.Goals as goal

@@ -1,5 +1,4 @@
 -- `pages::page::put_row` meets its contract: what stands before the bytes, the bytes, spaces and the line feed. Assumes nothing.
-use borrow.Author.Rules.{rules}
 use mathlib.Core.Path.{refl, ◌∙◌}
 use Rattle.listing.proofs.WriteLaws.{wrote_then, count_next}
 use Rattle.pages.proofs.PageLaws.{line-bytes, line-feed, line_wrote}

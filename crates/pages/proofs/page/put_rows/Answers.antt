@@ -1,8 +1,6 @@
 -- `pages::page::put_rows` meets its contract: i lines are written, and the next row starts at `at`. Assumes nothing.
-use borrow.Author.Rules.{rules}
-use Prim.Native.Nat.{◌-◌}
 use native.Mathlib.Omega.{arith}
-use Rattle.pages.proofs.PageLaws.{Rowing, rowing_start, rowing-count, rowing-room, rowing-next, rowing-end}
+use Rattle.pages.proofs.PageLaws.{rowing_start, rowing-count, rowing-room, rowing-next, rowing-end}
 use Rattle.pages.proofs.page.put_rows.Goals as goal
 
 pub returns : goal.returns

@@ -1,11 +1,7 @@
 -- `pages::rows::line_end` meets its contract: no byte passed is a line feed, so the line ends at the same place from each.
 -- Assumes nothing.
-use borrow.Author.Rules.{rules}
-use mathlib.Core.Path.{◌≡◌, refl}
-use Prim.Native.Nat.{◌≤◌, ◌+◌, ◌-◌}
+use mathlib.Core.Path.{refl}
 use native.Mathlib.Omega.{arith}
-use lib.ListN.{length, drop}
-use Rattle.text.specs.Cursors.{before}
 use Rattle.pages.proofs.PlaceLaws.{feed-here, feed-step, feed-none}
 use Rattle.pages.proofs.rows.line_end.Goals as goal
 

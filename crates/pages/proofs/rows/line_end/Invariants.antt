@@ -1,12 +1,9 @@
 -- `pages::rows::line_end` meets its contract: no byte passed is a line feed, so the line ends at the same place from each.
 -- Assumes nothing.
-use borrow.Author.Rules.{rules}
-use mathlib.Core.Path.{◌≡◌, refl}
+use mathlib.Core.Path.{◌≡◌}
 use Prim.Native.Nat.{◌≤◌, ◌+◌, ◌-◌}
-use native.Mathlib.Omega.{arith}
 use lib.ListN.{length, drop}
 use Rattle.text.specs.Cursors.{before}
-use Rattle.pages.proofs.PlaceLaws.{feed-here, feed-step, feed-none}
 use Rattle.pages.proofs.rows.line_end.Given as goal
 
 abbrev pub invariant-loop-i : goal.invariant-loop-i

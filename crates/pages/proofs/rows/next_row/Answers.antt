@@ -1,6 +1,4 @@
 -- `pages::rows::next_row` meets its contract: the row is cut, ends with its line, or ends with the listing. Assumes nothing.
-use borrow.Author.Rules.{rules}
-use native.Mathlib.Omega.{arith}
 use Rattle.pages.proofs.PlaceLaws.{feed-behind, row_cut, row-ended, row_last}
 use Rattle.pages.proofs.rows.next_row.Goals as goal
 

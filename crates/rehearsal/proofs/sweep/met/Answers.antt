@@ -1,5 +1,4 @@
 -- `rehearsal::sweep::met` meets its contract: the number of the answer of `run`. Assumes nothing.
-use borrow.Author.Rules.{rules}
 use Rattle.replies.specs.Replies.{ample}
 use Rattle.rehearsal.proofs.SweepLaws.{refused-digit, listed-digit}
 use Rattle.rehearsal.proofs.sweep.met.Goals as goal

@@ -1,5 +1,4 @@
 -- `rehearsal::sweep::swept_goal` meets its contract. Assumes nothing.
-use borrow.Author.Rules.{rules}
 use Rattle.text.specs.Bytes.{ascii}
 use Rattle.rehearsal.specs.Sweep.{swept_goal, goal_program}
 use Rattle.rehearsal.proofs.sweep.swept_goal.Goals as goal

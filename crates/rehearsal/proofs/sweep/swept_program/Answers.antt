@@ -1,5 +1,4 @@
 -- `rehearsal::sweep::swept_program` meets its contract. Assumes nothing.
-use borrow.Author.Rules.{rules}
 use Rattle.text.specs.Bytes.{ascii}
 use Rattle.rehearsal.specs.Sweep.{swept_program}
 use Rattle.rehearsal.proofs.sweep.swept_program.Goals as goal

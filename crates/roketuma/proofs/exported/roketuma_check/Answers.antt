@@ -1,5 +1,4 @@
 -- `roketuma::roketuma_check` meets its contract: the answer of `check`, as a number. Assumes nothing.
-use borrow.Author.Rules.{rules}
 use Rattle.answers.proofs.NumberLaws.{check-few, check-returned}
 use Rattle.roketuma.proofs.exported.roketuma_check.Goals as goal
 

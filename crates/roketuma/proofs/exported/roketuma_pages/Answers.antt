@@ -1,5 +1,4 @@
 -- `roketuma::roketuma_pages` meets its contract: the answer of `pages`, as a number. Assumes nothing.
-use borrow.Author.Rules.{rules}
 use Rattle.paging.proofs.PagingLaws.{answer-small, pages-returned}
 use Rattle.roketuma.proofs.exported.roketuma_pages.Goals as goal
 

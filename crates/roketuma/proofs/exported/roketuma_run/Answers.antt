@@ -1,5 +1,4 @@
 -- `roketuma::roketuma_run` meets its contract: the answer of `run`, as a number. Assumes nothing.
-use borrow.Author.Rules.{rules}
 use Rattle.answers.proofs.NumberLaws.{returned-refused, returned-listed}
 use Rattle.roketuma.proofs.exported.roketuma_run.Goals as goal
 

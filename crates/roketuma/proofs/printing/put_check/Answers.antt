@@ -1,5 +1,4 @@
 -- `roketuma::put_check` meets its contract: the refusal's line, or the listing that `check` wrote. Assumes nothing.
-use borrow.Author.Rules.{rules}
 use mathlib.Core.Logic.{inl, inr}
 use Rattle.answers.proofs.PrintLaws.{check-turned, check-listed}
 use Rattle.roketuma.proofs.printing.put_check.Goals as goal

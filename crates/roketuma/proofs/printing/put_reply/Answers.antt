@@ -1,5 +1,4 @@
 -- `roketuma::put_reply` meets its contract: the refusal's line, or the listing that `run` has written. Assumes nothing.
-use borrow.Author.Rules.{rules}
 use Rattle.answers.proofs.PrintLaws.{refusal-printed, listing-printed}
 use Rattle.roketuma.proofs.printing.put_reply.Goals as goal
 

@@ -2,7 +2,6 @@
 use native.Mathlib.Omega.{arith}
 use mathlib.Core.Path.{sym, ◌∙◌}
 use lib.Seq.{length-take-le}
-use borrow.Author.Rules.{rules}
 use Rattle.inputs.proofs.TabledLaws.{tabled-used, tabled-room}
 use Rattle.roketuma.proofs.ReadLaws.{goal-unreadable, goal-readable}
 use Rattle.roketuma.proofs.reading.judge_goal.Goals as goal

@@ -1,7 +1,6 @@
 -- `roketuma::read` meets its contract: the program is refused, or the goal's judgement is that of both.
 -- Assumes nothing.
 use mathlib.Core.Path.{◌∙◌}
-use borrow.Author.Rules.{rules}
 use Rattle.roketuma.proofs.ReadLaws.{program-unreadable, program-goes-on}
 use Rattle.inputs.proofs.TabledLaws.{program-tabled}
 use Rattle.roketuma.proofs.reading.read.Goals as goal

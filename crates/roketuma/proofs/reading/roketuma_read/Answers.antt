@@ -1,5 +1,4 @@
 -- `roketuma::roketuma_read` meets its contract: the answer of `read`, as a number. Assumes nothing.
-use borrow.Author.Rules.{rules}
 use Rattle.roketuma.proofs.ReadLaws.{returned-unreadable, returned-readable}
 use Rattle.roketuma.proofs.reading.roketuma_read.Goals as goal
 
