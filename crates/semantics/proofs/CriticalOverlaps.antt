@@ -23,7 +23,8 @@ use Rattle.semantics.proofs.Options.{none-some}
 use Rattle.semantics.proofs.Precedence.{before-irreflexive}
 use Rattle.semantics.proofs.Listings.{at-member, member-at, ascending-once}
 use Rattle.semantics.proofs.Enumeration.{IsPairing, member-pairings, pairings-member, pairings-ascend, OverlapParts}
-use Rattle.semantics.proofs.Enumeration.{overlap-parts, Listed, member-overlaps, overlaps-member, overlaps-ascend}
+use Rattle.semantics.proofs.Enumeration.{overlap-parts, Listed, member-overlaps, overlaps-member}
+use Rattle.semantics.proofs.EnumerationOrder.{overlaps-ascend}
 use Rattle.semantics.proofs.OverlapOrder.{same-rule, same-overlap, earlier-irreflexive}
 use Rattle.semantics.proofs.Valuations.{satisfiable-solved}
 use Rattle.semantics.proofs.Joinings.{joints-partners, partners-joints, joining-pairing, pairing-joining}

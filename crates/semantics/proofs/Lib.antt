@@ -52,6 +52,7 @@ pub mod Pairings
 pub mod OverlapPositions
 pub mod Partners
 pub mod Enumeration
+pub mod EnumerationOrder
 pub mod OverlapOrder
 pub mod Verdicts
 pub mod Appearing

@@ -17,7 +17,8 @@ use Rattle.semantics.specs.Order.{IsOverlapOf, Earlier, by_first, by_second, by_
 use Rattle.semantics.proofs.Precedence.{before-irreflexive, before-transitive, before-compare}
 use Rattle.semantics.proofs.Indices.{some-equal}
 use Rattle.semantics.proofs.Listings.{at-member, ascending-before}
-use Rattle.semantics.proofs.Enumeration.{pairings-member, Listed, overlaps-member, overlaps-ascend}
+use Rattle.semantics.proofs.Enumeration.{pairings-member, Listed, overlaps-member}
+use Rattle.semantics.proofs.EnumerationOrder.{overlaps-ascend}
 
 -- rules of the same number are the same
 pub same-rule :
