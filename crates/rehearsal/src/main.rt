@@ -58,16 +58,20 @@ fn answer(rt: &impl Print, input: &[u8], kind: u8) -> io::Result<()> {
     print_bytes(rt, &out[..n])
 }
 
-// The reply to the input of a file.
-fn rehearse(rt: &(impl Print + Files), path: &str, kind: u8) -> io::Result<()> {
-    let mut file = fs::open(rt, path)?;
-    let mut input = [0u8; 40000];
-    let n = streams::read_full(&mut file, &mut input)?;
-    answer(rt, &input[..n], kind)
+// The reply to the input of a file; where it cannot be opened, a line on standard error.
+fn rehearse(rt: &(impl Print + Eprint + Files), path: &str, kind: u8) -> io::Result<()> {
+    match fs::open(rt, path) {
+        Ok(mut file) => {
+            let mut input = [0u8; 40000];
+            let n = streams::read_full(&mut file, &mut input)?;
+            answer(rt, &input[..n], kind)
+        }
+        Err(error) => eprintln!(rt; "{path}: {error}"),
+    }
 }
 
 // The reply to the input that an argument names.
-fn rehearse_argument(rt: &(impl Print + Files), path: &str) -> io::Result<()> {
+fn rehearse_argument(rt: &(impl Print + Eprint + Files), path: &str) -> io::Result<()> {
     let name = path.as_bytes();
     if name.is_empty() {
         return Ok(());
@@ -100,7 +104,7 @@ fn sweep_all(rt: &impl Print) -> io::Result<()> {
 }
 
 // The replies to the inputs that the arguments name.
-fn rehearse_all(rt: &(impl Print + Files + Env + Alloc)) -> io::Result<()> {
+fn rehearse_all(rt: &(impl Print + Eprint + Files + Env + Alloc)) -> io::Result<()> {
     for path in env::args(rt)?.skip(1) {
         rehearse_argument(rt, path.as_str())?;
     }

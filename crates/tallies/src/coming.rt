@@ -18,12 +18,12 @@ pub fn last_at(last: &[u16], symbol: u16, whole: usize) -> usize
 pub fn is_concerned(heads: &[u16], last: &[u16], v: usize, whole: usize) -> bool
     ensures { result ≡ is_concerned last.now whole v (cell_constraints heads.now) }
 {
-    let mut i = 0;
-    while CONSTRAINT_SIZE * i + CONSTRAINT_SIZE <= heads.len() {
-        if v < last_at(last, heads[CONSTRAINT_SIZE * i], whole) {
+    let mut at = 0;
+    while at + CONSTRAINT_SIZE <= heads.len() {
+        if v < last_at(last, heads[at], whole) {
             return true;
         }
-        i += 1;
+        at += CONSTRAINT_SIZE;
     }
     false
 }
