@@ -1,5 +1,6 @@
 /* Roketuma: checks Constraint Handling Rules programs for confluence, and runs goals over them. The static library is
-   target/staticlib/libroketuma.a, which `rt staticlib roketuma` writes; what a call does is proved, see README.md. x86-64 Linux.
+   crates/roketuma_c/out/libroketuma_c.a, which `rt lib` in crates/roketuma_c writes; what a call does is proved, see README.md.
+   x86-64 Linux.
 
    In every call any bytes of any length may be handed in. Each pointer must be valid for its length, and not null; the output
    must overlap no text. A call uses no heap and keeps nothing between calls.
