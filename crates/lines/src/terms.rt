@@ -30,7 +30,8 @@ fn read_term(key: u64, place: u16, count: usize, names: &mut [u64], places: &mut
             count: count,
         };
     }
-    if 64 <= count {
+    let full = 64 <= count;
+    if full {
         return TermRead {
             cell: 0,
             count: count,

@@ -17,14 +17,14 @@ returns-then-k-count c =
     )) c.constant-c.ensures.0 c.find_key-k.ensures.0
     c.if-k-count.true
 
-pub returns-then-count-ge64 : goal.returns-then-count-ge64
-returns-then-count-ge64 c =
+pub returns-then-full : goal.returns-then-full
+returns-then-full c =
     term-full _ _ _ _ _ c.requires.0 c.requires.1 c.requires.2 _ c.constant-c.result
     c.if-key-lt28.false (λ i. omega (
       arith,
       c.slice_known-1.given i,
     )) c.constant-c.ensures.0 c.find_key-k.ensures.0
-    c.if-k-count.false (omega (arith, c.if-count-ge64.true))
+    c.if-k-count.false (omega (arith, c.if-full.true))
 
 pub returns : goal.returns
 returns c =
@@ -33,4 +33,4 @@ returns c =
       arith,
       c.slice_known-1.given i,
     )) c.constant-c.ensures.0 c.find_key-k.ensures.0
-    c.if-k-count.false c.if-count-ge64.false
+    c.if-k-count.false c.if-full.false
