@@ -166,7 +166,8 @@ pub fn judge_from(
     if !first.alive {
         return !second.alive;
     }
-    if !second.alive {
+    let lives = second.alive;
+    if !lives {
         return false;
     }
     let n = first.count;
