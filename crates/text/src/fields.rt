@@ -39,7 +39,7 @@ fn with_byte(value: u64, b: u8) -> u64
 fn with_class(capital: bool, class: u8) -> bool
     ensures { result ≡ (capital || eqb class 1) }
 {
-    if capital { true } else { class == CAPITAL }
+    capital || class == CAPITAL
 }
 
 // The key of a field by what was seen of its bytes. The letters from A on are 65 and on, and their keys are 2 and on.
@@ -63,10 +63,9 @@ fn next_field(classes: &[u8], s: &[u8], at: usize, limit: usize) -> Field
     requires { (classes.now ≡ class_table) × (at ≤ limit) × (limit ≤ length s.now) }
     ensures { Stopped s.now at limit result }
 {
-    let mut i = at;
     let mut value = 0;
     let mut capital = false;
-    while i < limit {
+    for i in at..limit {
         let b = s[i];
         let class = class_of(classes, b);
         if DIGIT < class {
@@ -78,10 +77,9 @@ fn next_field(classes: &[u8], s: &[u8], at: usize, limit: usize) -> Field
         }
         capital = with_class(capital, class);
         value = with_byte(value, b);
-        i += 1;
     }
     Field {
-        end: i,
+        end: limit,
         key: 0,
         stop: OTHER,
     }
@@ -151,10 +149,7 @@ pub fn split(classes: &[u8], s: &[u8], at: usize) -> Fields
 fn is_digit(b: u64, least: u64) -> bool
     ensures { result ≡ between least 57 b }
 {
-    if b < least {
-        return false;
-    }
-    b <= 57
+    least <= b && b <= 57
 }
 
 // The value of a key that is a number of one or two digits without a leading zero; 100 for any other.
@@ -180,17 +175,12 @@ fn word_end(s: &[u8], at: usize) -> usize
     requires { at ≤ length s.now }
     ensures { (result ≡ at + word_length (drop at s.now)) × (at ≤ result) × (result ≤ length s.now) }
 {
-    let mut i = at;
-    while i < s.len() {
-        if s[i] == 44 {
+    for i in at..s.len() {
+        if s[i] == b',' || s[i] == b'\n' {
             return i;
         }
-        if s[i] == 10 {
-            return i;
-        }
-        i += 1;
     }
-    i
+    s.len()
 }
 
 // The word that starts at `at`: the bytes up to the next comma or line feed; none behind the text's end.
