@@ -19,7 +19,8 @@ use lib.Bits.{bit_and, and_block, and_zero_l, and_zero_r}
 use lib.Dec.{eqb}
 use lib.ListN.{length, take, drop, get_or, length-take}
 use lib.Seq.{append_snoc}
-use Rattle.text.specs.Bytes.{small, capital, digit, comma, line_feed, other, between, class_of, is_class, is_name_class}
+use Rattle.text.specs.declared.table.Class.TheVariants.{Small, Capital, Digit, Comma, LineFeed, Other}
+use Rattle.text.specs.Bytes.{between, class_of, is_class, is_name_class}
 use Rattle.text.specs.Lists.{every}
 use Rattle.text.specs.Fields.{is_name}
 use Rattle.text.specs.Constants.{is_numeral, constant_name}
@@ -93,12 +94,12 @@ unfolding packed packed_from
 packed-one b = omega arith
 
 -- a byte of a name that is no digit is a small letter
-letter-high : (b : ℕ) → name_byte b ≡ true → is_class digit b ≡ false → 97 ≤ b
+letter-high : (b : ℕ) → name_byte b ≡ true → is_class Digit b ≡ false → 97 ≤ b
 unfolding class_of is_name_class
 letter-high b h k = go (between 97 122 b) (between 65 90 b) (between 48 57 b) (eqb b 44) (eqb b 10) refl (sym (is_digit b) ∙ k) h
   where
     go : (s c d m l : Bool) → between 97 122 b ≡ s → d ≡ false
-        → is_name_class (cond s small (cond c capital (cond d digit (cond m comma (cond l line_feed other))))) ≡ true → 97 ≤ b
+        → is_name_class (cond s Small (cond c Capital (cond d Digit (cond m Comma (cond l LineFeed Other))))) ≡ true → 97 ≤ b
     go true c d m l p q n = (between-true 97 122 b p).0
     go false true d m l p q n = absurd (never (sym n))
     go false false true m l p q n = absurd (never q)
@@ -112,7 +113,7 @@ letter_bits zero = 0
 letter_bits (suc n) = letter_bits n * 256 + 64
 
 -- a numeral is made only of digits
-numeral-all : (f : List ℕ) → 1 ≤ length f → is_numeral f ≡ every (is_class digit) f
+numeral-all : (f : List ℕ) → 1 ≤ length f → is_numeral f ≡ every (is_class Digit) f
 unfolding is_numeral
 numeral-all [] h = absurd (not-suc-le-zero h)
 numeral-all (b ∷ s) h = refl
@@ -144,7 +145,7 @@ bits-last n g c h =
 
 -- a name is a numeral exactly if none of its bytes has the bit
 letters-met : (n : ℕ) (f : List ℕ) → length f ≤ n → every name_byte f ≡ true
-    → eqb (bit_and (packed f) (letter_bits n)) 0 ≡ every (is_class digit) f
+    → eqb (bit_and (packed f) (letter_bits n)) 0 ≡ every (is_class Digit) f
 unfolding packed packed_from
 letters-met zero [] h e = refl
 letters-met zero (b ∷ s) h e = absurd (not-suc-le-zero h)
@@ -159,14 +160,14 @@ letters-met (suc n) (b ∷ s) h e =
     let short : length g ≤ n = omega (arith, h, length-take (length s) (b ∷ s)) in
     ap (λ (l : List ℕ). eqb (bit_and (packed l) (letter_bits (suc n))) 0) is
     ∙ ap (λ (v : ℕ). eqb v 0) (bits-last n g c (omega (arith, (name-range c one).1)))
-    ∙ last (bit_and (packed g) (letter_bits n)) c (every (is_class digit) g) one (letters-met n g short both.0)
-    ∙ sym (ap (every (is_class digit)) is ∙ every_append (is_class digit) g (c ∷ []))
+    ∙ last (bit_and (packed g) (letter_bits n)) c (every (is_class Digit) g) one (letters-met n g short both.0)
+    ∙ sym (ap (every (is_class Digit)) is ∙ every_append (is_class Digit) g (c ∷ []))
   where
     last : (v c : ℕ) (t : Bool) → name_byte c ≡ true → eqb v 0 ≡ t
-        → eqb (v * 256 + bit_and c 64) 0 ≡ (t && (is_class digit c && true))
-    last v c t n q = go (is_class digit c) refl
+        → eqb (v * 256 + bit_and c 64) 0 ≡ (t && (is_class Digit c && true))
+    last v c t n q = go (is_class Digit c) refl
       where
-        go : (d : Bool) → is_class digit c ≡ d → eqb (v * 256 + bit_and c 64) 0 ≡ (t && (d && true))
+        go : (d : Bool) → is_class Digit c ≡ d → eqb (v * 256 + bit_and c 64) 0 ≡ (t && (d && true))
         go true k =
             let none = bit-digit c (between-true 48 57 c (sym (is_digit c) ∙ k)).1 in
             rw none (more (eqb v 0) refl)

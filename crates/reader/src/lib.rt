@@ -1,40 +1,42 @@
-// The line reader: it is lent a text and remembers where its line starts. Its functions are few and thin: each takes the reader
-// apart and hands the slice and the number to a function over these. The readers of programs and goals call `line_at`, whose
-// parameters are plain.
+// The line reader: it is lent a text and remembers where its line starts. The readers of programs and goals call `line_at`.
 #![tactic(auto)]
 
 ghost use Rattle.std.specs.Prelude.{◌≡◌, ◌≤◌, ◌<◌, length};
 ghost use Rattle.text.specs.Cursors.{class_table};
 ghost use Rattle.text.specs.Splits.{SplitAt};
 
+use text::Class;
 use text::fields::{Fields, split};
 
 // A lent text, and where a line of it starts.
-#[derive(Drop)]
+#[derive(Clone, Copy)]
 pub struct LineReader<'a> {
     pub text: &'a [u8],
     pub start: usize,
 }
 
-// The reader of the line that starts at `start`.
-pub fn line_reader<'a>(text: &'a [u8], start: usize) -> LineReader<'a>
-    ensures { (result.text ≡ text.entry) × (result.start ≡ start) }
-{
-    LineReader { text, start }
-}
+impl<'a> LineReader<'a> {
+    // The reader of the line that starts at `start`.
+    pub fn new(text: &'a [u8], start: usize) -> LineReader<'a>
+        ensures { (result.text ≡ text.entry) × (result.start ≡ start) }
+    {
+        LineReader { text, start }
+    }
 
-// The reader's line, split into its fields.
-pub fn line<'c, 'a>(classes: &'c [u8], r: LineReader<'a>) -> Fields
-    requires { (classes.now ≡ class_table) × (r.start < length r.text.now) × (length r.text.now ≤ 16384) }
-    ensures { SplitAt r.entry.text.now r.entry.start result }
-{
-    split(classes, r.text, r.start)
+    // The reader's line, split into its fields.
+    pub fn line(self, classes: &[Class]) -> Fields
+        requires { (classes.now ≡ class_table) × (self.start < length self.text.now)
+            × (length self.text.now ≤ 16384) }
+        ensures { SplitAt self.entry.text.now self.entry.start result }
+    {
+        split(classes, self.text, self.start)
+    }
 }
 
 // The line of a text that starts at `start`, split into its fields.
-pub fn line_at<'c, 'a>(classes: &'c [u8], text: &'a [u8], start: usize) -> Fields
+pub fn line_at(classes: &[Class], text: &[u8], start: usize) -> Fields
     requires { (classes.now ≡ class_table) × (start < length text.now) × (length text.now ≤ 16384) }
     ensures { SplitAt text.now start result }
 {
-    line(classes, line_reader(text, start))
+    LineReader::new(text, start).line(classes)
 }

@@ -12,7 +12,8 @@ use mathlib.Core.Path.{◌≡◌, refl, sym, ap, subst, ◌∙◌}
 use lib.Dec.{eqb}
 use lib.ListN.{length, drop, length-append, length-map, length-drop}
 use borrow.Author.Tests.{ne_eqb}
-use Rattle.text.specs.Bytes.{capital, digit, between, class_of, is_class, is_name_class}
+use Rattle.text.specs.declared.table.Class.TheVariants.{Capital, Digit}
+use Rattle.text.specs.Bytes.{between, class_of, is_class, is_name_class}
 use Rattle.text.specs.Lists.{every}
 use Rattle.text.specs.Fields.{is_name, is_variable, is_term, is_number, decimal}
 use Rattle.text.proofs.Bools.{never, and-true}
@@ -42,10 +43,10 @@ mark-high b h = rw (ne_eqb b 32 (λ e. omega arith), ne_eqb b 10 (λ e. omega ar
 name-mark : (b : ℕ) → is_name_class (class_of b) ≡ true → is_mark b ≡ true
 name-mark b h = mark-high b (omega (arith, name-range b h))
 
-digit-mark : (b : ℕ) → is_class digit b ≡ true → is_mark b ≡ true
+digit-mark : (b : ℕ) → is_class Digit b ≡ true → is_mark b ≡ true
 digit-mark b h = mark-high b (omega (arith, between-true 48 57 b (sym (is_digit b) ∙ h)))
 
-capital-mark : (b : ℕ) → is_class capital b ≡ true → is_mark b ≡ true
+capital-mark : (b : ℕ) → is_class Capital b ≡ true → is_mark b ≡ true
 capital-mark b h = mark-high b (omega (arith, between-true 65 90 b (sym (is-capital b) ∙ h)))
 
 -- terms and numbers hold no space and no line feed
@@ -69,8 +70,8 @@ unfolding is_number
 number-marked [] h = refl
 number-marked (b ∷ []) h = rw (digit-mark b h) refl
 number-marked (b ∷ c ∷ s) h =
-    every-weaker (is_class digit) is_mark (b ∷ c ∷ s) digit-mark
-    (and-true (not (eqb b 48)) (every (is_class digit) (b ∷ c ∷ s)) h).1
+    every-weaker (is_class Digit) is_mark (b ∷ c ∷ s) digit-mark
+    (and-true (not (eqb b 48)) (every (is_class Digit) (b ∷ c ∷ s)) h).1
 
 -- so they are fields; and a variable by its letter and number is plain
 pub term-field : (f : List ℕ) → is_term f ≡ true → Field f

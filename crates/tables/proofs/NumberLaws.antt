@@ -218,47 +218,44 @@ first-place (suc n) x h = go (eqb x n) refl (first-place n x)
         let below : x < n = omega (arith, eqb-false x n e) in
         index_kept x n 0 (up_to n) (up_to-has n x below) ∙ more below
 
--- the table while the first n variables get their own cells, from the last on: those from i on have theirs, none behind has one
-pub record Keeping (start : List ℕ) (n : ℕ) (table : List ℕ) (i : ℕ) : Type 0 where
-  pub within : i ≤ n
+-- the table while variables get their own cells: the first i have theirs, and none behind has one
+pub record Keeping (start : List ℕ) (table : List ℕ) (i : ℕ) : Type 0 where
   pub size : length table ≡ length start
-  pub own : (x : ℕ) → i ≤ x → x < n → get_or table x 0 ≡ 256 + x
-  pub behind : (x : ℕ) → n ≤ x → get_or table x 0 ≡ 0
+  pub own : (x : ℕ) → x < i → get_or table x 0 ≡ 256 + x
+  pub behind : (x : ℕ) → i ≤ x → get_or table x 0 ≡ 0
 
-pub keeping_start : (start : List ℕ) (n : ℕ) → Numbering [] start 0 → Keeping start n start n
-keeping_start start n h =
+pub keeping_start : (start : List ℕ) → Numbering [] start 0 → Keeping start start 0
+keeping_start start h =
     record {
-      within = omega arith;
       size = refl;
-      own = λ x l k. absurd (omega arith);
+      own = λ x k. absurd (omega arith);
       behind = λ x l. h.each x ∙ new-unseen [] x refl;
     }
 
-module _ (start : List ℕ) (n : ℕ) (table : List ℕ) (i : ℕ) (w : Keeping start n table i) where
-  pub keeping-next : (j : ℕ) → j ≡ i - 1 → 0 < i → n ≤ length start → Keeping start n (set table j (256 + j)) j
-  keeping-next j e l h =
+module _ (start : List ℕ) (table : List ℕ) (i : ℕ) (w : Keeping start table i) where
+  pub keeping-next : i < length start → Keeping start (set table i (256 + i)) (i + 1)
+  keeping-next h =
       record {
-        within = omega (arith, w.within);
-        size = length-set table j (256 + j) ∙ w.size;
-        own = λ x k m. mine x k m (eqb x j) refl;
-        behind = λ x k. get_or-set_other table j x (256 + j) 0 (λ q. omega (arith, q, w.within)) ∙ w.behind x k;
+        size = length-set table i (256 + i) ∙ w.size;
+        own = λ x k. mine x k (eqb x i) refl;
+        behind = λ x k. get_or-set_other table i x (256 + i) 0 (λ q. omega (arith, q)) ∙ w.behind x (omega arith);
       }
     where
-      mine : (x : ℕ) → j ≤ x → x < n → (b : Bool) → eqb x j ≡ b → get_or (set table j (256 + j)) x 0 ≡ 256 + x
-      mine x k m true q =
-          let same : x ≡ j = eqb-true x j q in
-          rw same (get_or-set_same table j (256 + j) 0 (omega (arith, w.within, w.size)))
-      mine x k m false q =
-          let apart = eqb-false x j q in
-          get_or-set_other table j x (256 + j) 0 apart ∙ w.own x (omega (arith, apart)) m
+      mine : (x : ℕ) → x < i + 1 → (b : Bool) → eqb x i ≡ b → get_or (set table i (256 + i)) x 0 ≡ 256 + x
+      mine x k true q =
+          let same : x ≡ i = eqb-true x i q in
+          rw same (get_or-set_same table i (256 + i) 0 (omega (arith, w.size)))
+      mine x k false q =
+          let apart = eqb-false x i q in
+          get_or-set_other table i x (256 + i) 0 apart ∙ w.own x (omega (arith, apart))
 
-  pub keeping-end : i ≤ 0 → Numbering (up_to n) table n
-  keeping-end l =
+  pub keeping-end : Numbering (up_to i) table i
+  keeping-end =
       record {
-        each = λ x. ⊎_elim (λ high. w.behind x high ∙ sym (new-unseen (up_to n) x (up_to-lacks n x high)))
-            (λ low. w.own x (omega arith) low
-            ∙ sym (new-seen (up_to n) x (up_to-has n x low) ∙ ap (λ (k : ℕ). 256 + k) (first-place n x low))) (le-or-lt n x);
-        counted = sym (tabled-length (λ (k : ℕ). k) n);
+        each = λ x. ⊎_elim (λ high. w.behind x high ∙ sym (new-unseen (up_to i) x (up_to-lacks i x high)))
+            (λ low. w.own x low
+            ∙ sym (new-seen (up_to i) x (up_to-has i x low) ∙ ap (λ (k : ℕ). 256 + k) (first-place i x low))) (le-or-lt i x);
+        counted = sym (tabled-length (λ (k : ℕ). k) i);
       }
 
 module _ (table : List ℕ) (x : ℕ) where

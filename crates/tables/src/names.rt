@@ -12,34 +12,27 @@ use crate::wide;
 pub fn find_key(keys: &[u64], key: u64) -> usize
     ensures { (result ≡ index_from (eqb key) 0 keys.now) × (result ≤ length keys.now) }
 {
-    let mut i = 0;
-    while i < keys.len() {
-        if key == keys[i] {
+    for (i, known) in keys.iter().enumerate() {
+        if key == *known {
             return i;
         }
-        i += 1;
     }
-    i
+    keys.len()
 }
 
 // How many bytes the name has that a text begins with: those before the first comma or line feed, at most eight.
 fn name_length(s: &[u8]) -> usize
     ensures { (result ≡ min (word_length s.now) max_name) × (result ≤ length s.now) }
 {
-    let mut i = 0;
-    while i < s.len() {
+    for (i, b) in s.iter().enumerate() {
         if i == MAX_NAME {
             return i;
         }
-        if s[i] == b',' {
+        if *b == b',' || *b == b'\n' {
             return i;
         }
-        if s[i] == b'\n' {
-            return i;
-        }
-        i += 1;
     }
-    i
+    s.len()
 }
 
 // The name that starts at a place of a text, as a part of it.

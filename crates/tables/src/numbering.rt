@@ -15,14 +15,12 @@ use crate::wide;
 pub fn used(cells: &[u16]) -> usize
     ensures { (result ≡ used_cells cells.now) × (result ≤ length cells.now) }
 {
-    let mut i = 0;
-    while i < cells.len() {
-        if cells[i] == 0 {
+    for (i, x) in cells.iter().enumerate() {
+        if *x == 0 {
             return i;
         }
-        i += 1;
     }
-    i
+    cells.len()
 }
 
 // One more term: a variable that has not appeared gets the next number. Answers how many have appeared.
@@ -62,15 +60,13 @@ fn number_row(table: &mut [u16], before: usize, row: &mut [u16]) -> usize
     ensures { RowNumbered row.old row.new table.old table.new before result }
 {
     let mut seen = before;
-    let mut i = 0;
-    while i < row.len() {
+    for i in 0..row.len() {
         let x = row[i];
         if x == 0 {
             return seen;
         }
         seen = number_term(table, seen, x);
         row[i] = renumbered(table, x);
-        i += 1;
     }
     seen
 }
@@ -83,6 +79,7 @@ fn number_rows(table: &mut [u16], before: usize, cells: &mut [u16]) -> usize
 {
     let mut seen = before;
     let mut i = 0;
+    // No `for`: how many rows there are would be a quotient, and none stands here.
     while CONSTRAINT_SIZE * i + CONSTRAINT_SIZE <= cells.len() {
         let a = CONSTRAINT_SIZE * i + 1;
         let e = a + 4;
@@ -97,9 +94,7 @@ fn keep(table: &mut [u16], n: usize)
     requires { Numbering [] table.old 0 × (n ≤ length table.old) × (n ≤ 65000) }
     ensures { Numbering (up_to n) table.new n }
 {
-    let mut i = n;
-    while 0 < i {
-        i -= 1;
+    for i in 0..n {
         table[i] = FIRST_VARIABLE + i as u16;
     }
 }

@@ -8,7 +8,9 @@ use Prim.Native.Nat.{ℕ, ◌≤◌, ◌<◌}
 use native.Mathlib.Omega.{arith}
 use borrow.Author.Tests.{leb-true, le-leb, lt-leb, eqb-true, ne_eqb}
 use lib.Dec.{leb, eqb}
-use Rattle.text.specs.Bytes.{Class, small, capital, digit, comma, line_feed, other, between, class_of, class_number}
+use Rattle.text.specs.declared.table.Class.{Class}
+use Rattle.text.specs.declared.table.Class.TheVariants.{Small, Capital, Digit, Comma, LineFeed, Other}
+use Rattle.text.specs.Bytes.{between, class_of, class_number}
 use Rattle.text.specs.Bytes.{is_class, is_name_class}
 use Rattle.text.specs.Lines.{is_other}
 use Rattle.text.specs.Splits.{is_plain}
@@ -22,7 +24,7 @@ between-true a z b h =
 
 -- the class by the five tests
 abbrev chosen : Bool → Bool → Bool → Bool → Bool → Class
-chosen s c d k l = cond s small (cond c capital (cond d digit (cond k comma (cond l line_feed other))))
+chosen s c d k l = cond s Small (cond c Capital (cond d Digit (cond k Comma (cond l LineFeed Other))))
 
 -- a class is told by which of the tests holds first
 module _ (b : ℕ) where
@@ -44,12 +46,12 @@ module _ (b : ℕ) where
   name-plain h = go (class_of b) h
     where
       go : (k : Class) → is_name_class k ≡ true → leb (class_number k) 2 ≡ true
-      go small h = refl
-      go capital h = refl
-      go digit h = refl
-      go comma h = absurd (let z : ◌≡◌ {A = ℕ} 0 1 = cc in omega arith)
-      go line_feed h = absurd (let z : ◌≡◌ {A = ℕ} 0 1 = cc in omega arith)
-      go other h = absurd (let z : ◌≡◌ {A = ℕ} 0 1 = cc in omega arith)
+      go Small h = refl
+      go Capital h = refl
+      go Digit h = refl
+      go Comma h = absurd (let z : ◌≡◌ {A = ℕ} 0 1 = cc in omega arith)
+      go LineFeed h = absurd (let z : ◌≡◌ {A = ℕ} 0 1 = cc in omega arith)
+      go Other h = absurd (let z : ◌≡◌ {A = ℕ} 0 1 = cc in omega arith)
 
   pub name-range : is_name_class (class_of b) ≡ true → (48 ≤ b) × (b ≤ 122)
   name-range h = plain-range (name-plain h)
@@ -74,12 +76,12 @@ module _ (b : ℕ) where
   plain-capital h = go (class_of b) h
     where
       go : (k : Class) → leb (class_number k) 2 ≡ true → eqb (class_number k) 1 ≡ not (is_name_class k)
-      go small h = refl
-      go capital h = refl
-      go digit h = refl
-      go comma h = absurd (omega (arith, leb-true 3 2 h))
-      go line_feed h = absurd (omega (arith, leb-true 4 2 h))
-      go other h = absurd (omega (arith, leb-true 5 2 h))
+      go Small h = refl
+      go Capital h = refl
+      go Digit h = refl
+      go Comma h = absurd (omega (arith, leb-true 3 2 h))
+      go LineFeed h = absurd (omega (arith, leb-true 4 2 h))
+      go Other h = absurd (omega (arith, leb-true 5 2 h))
 
   pub plain-not : (x : ℕ) → is_plain x ≡ false → is_plain b ≡ true → b ≡ x → ⊥
   plain-not x p h e = never (sym h ∙ ap is_plain e ∙ p)
@@ -93,7 +95,7 @@ unfolding between
 between-below a z b h = rw (lt-leb a b h)
 
 -- the capitals and the digits by their byte values
-pub is-capital : (b : ℕ) → is_class capital b ≡ between 65 90 b
+pub is-capital : (b : ℕ) → is_class Capital b ≡ between 65 90 b
 unfolding is_class class_of class_number
 is-capital b = go (between 97 122 b) (between 65 90 b) (between 48 57 b) (eqb b 44) (eqb b 10) refl refl
   where
@@ -106,7 +108,7 @@ is-capital b = go (between 97 122 b) (between 65 90 b) (between 48 57 b) (eqb b 
     go false false false false true p q = sym q
     go false false false false false p q = sym q
 
-pub is_digit : (b : ℕ) → is_class digit b ≡ between 48 57 b
+pub is_digit : (b : ℕ) → is_class Digit b ≡ between 48 57 b
 unfolding is_class class_of class_number
 is_digit b = go (between 97 122 b) (between 65 90 b) (between 48 57 b) (eqb b 44) (eqb b 10) refl refl refl
   where
@@ -148,13 +150,13 @@ pub class-other : (b : ℕ) → 4 < class_number (class_of b) → is_other b ≡
 unfolding is_other is_class class_number
 class-other b h = go (class_of b) h
   where
-    go : (k : Class) → 4 < class_number k → eqb (class_number k) (class_number other) ≡ true
-    go small h = absurd (omega arith)
-    go capital h = absurd (omega arith)
-    go digit h = absurd (omega arith)
-    go comma h = absurd (omega arith)
-    go line_feed h = absurd (omega arith)
-    go other h = refl
+    go : (k : Class) → 4 < class_number k → eqb (class_number k) (class_number Other) ≡ true
+    go Small h = absurd (omega arith)
+    go Capital h = absurd (omega arith)
+    go Digit h = absurd (omega arith)
+    go Comma h = absurd (omega arith)
+    go LineFeed h = absurd (omega arith)
+    go Other h = refl
 
 -- a byte that stands in a line before its line feed, if the line is not faulty: a letter, a digit or a comma
 unfoldable pub is_inner : ℕ → Bool

@@ -17,7 +17,8 @@ use native.Mathlib.Omega.{arith}
 use borrow.Author.Tests.{eqb-true, eqb-false}
 use lib.Dec.{eqb}
 use lib.ListN.{length, take, drop, get_or, length-take, length-drop}
-use Rattle.text.specs.Bytes.{digit, is_class}
+use Rattle.text.specs.declared.table.Class.TheVariants.{Digit}
+use Rattle.text.specs.Bytes.{is_class}
 use Rattle.text.specs.Lists.{every}
 use Rattle.text.specs.Fields.{is_name, is_number, value_from, value_of, decimal}
 use Rattle.text.specs.Constants.{is_numeral, SameConstant, spelled, valued, constant_name}
@@ -43,7 +44,7 @@ number-numeral : (f : List ℕ) → is_number f ≡ true → is_numeral f ≡ tr
 unfolding is_number is_numeral
 number-numeral [] h = h
 number-numeral (b ∷ []) h = rw h
-number-numeral (b ∷ c ∷ s) h = (and-true (not (eqb b 48)) (every (is_class digit) (b ∷ c ∷ s)) h).1
+number-numeral (b ∷ c ∷ s) h = (and-true (not (eqb b 48)) (every (is_class Digit) (b ∷ c ∷ s)) h).1
 
 decimal-numeral : (n : ℕ) → is_numeral (decimal n) ≡ true
 decimal-numeral n = number-numeral (decimal n) (decimal-exact n).0
@@ -79,17 +80,17 @@ same_name f g = (one, λ e. back (is_numeral f) (is_numeral g) refl refl e)
     back false false h k e = spelled (sym (other_name f h) ∙ e ∙ other_name g k)
 
 -- digits of which the first is not zero are those of their value
-digit-range : (b : ℕ) → is_class digit b ≡ true → (48 ≤ b) × (b ≤ 57)
+digit-range : (b : ℕ) → is_class Digit b ≡ true → (48 ≤ b) × (b ≤ 57)
 digit-range b h = between-true 48 57 b (sym (is_digit b) ∙ h)
 
-digit-decimal : (b : ℕ) → every (is_class digit) (b ∷ []) ≡ true → decimal (value_of (b ∷ [])) ≡ b ∷ []
+digit-decimal : (b : ℕ) → every (is_class Digit) (b ∷ []) ≡ true → decimal (value_of (b ∷ [])) ≡ b ∷ []
 unfolding value_of value_from
 digit-decimal b e =
-    let range = digit-range b (and-true (is_class digit b) true e).0 in
+    let range = digit-range b (and-true (is_class Digit b) true e).0 in
     decimal-low (0 * 10 + (b - 48)) (omega (arith, range.1))
     ∙ ap (λ (x : ℕ). x ∷ []) (let z : 48 + (0 * 10 + (b - 48)) ≡ b = omega (arith, range.0) in z)
 
-led-decimal : (n b : ℕ) (s : List ℕ) → length s ≤ n → 49 ≤ b → every (is_class digit) (b ∷ s) ≡ true
+led-decimal : (n b : ℕ) (s : List ℕ) → length s ≤ n → 49 ≤ b → every (is_class Digit) (b ∷ s) ≡ true
     → decimal (value_of (b ∷ s)) ≡ b ∷ s
 unfolding value_of value_from
 led-decimal zero b [] h k e = digit-decimal b e
@@ -100,11 +101,11 @@ led-decimal (suc n) b (c ∷ s) h k e =
     let d : ℕ = get_or (c ∷ s) (length s) 0 in
     let is : c ∷ s ≡ g ++ (d ∷ []) = last_apart c s in
     let short : length g ≤ n = omega (arith, length-take (length s) (c ∷ s)) in
-    let whole : every (is_class digit) ((b ∷ g) ++ (d ∷ [])) ≡ true =
-    ap (λ (l : List ℕ). every (is_class digit) (b ∷ l)) (sym is) ∙ e in
-    let both = and-true (every (is_class digit) (b ∷ g)) (every (is_class digit) (d ∷ []))
-    (sym (every_append (is_class digit) (b ∷ g) (d ∷ [])) ∙ whole) in
-    let range = digit-range d (and-true (is_class digit d) true both.1).0 in
+    let whole : every (is_class Digit) ((b ∷ g) ++ (d ∷ [])) ≡ true =
+    ap (λ (l : List ℕ). every (is_class Digit) (b ∷ l)) (sym is) ∙ e in
+    let both = and-true (every (is_class Digit) (b ∷ g)) (every (is_class Digit) (d ∷ []))
+    (sym (every_append (is_class Digit) (b ∷ g) (d ∷ [])) ∙ whole) in
+    let range = digit-range d (and-true (is_class Digit d) true both.1).0 in
     let v : ℕ = value_of (b ∷ g) in
     let value : value_of (b ∷ c ∷ s) ≡ v * 10 + (d - 48) =
     ap (λ (l : List ℕ). value_of (b ∷ l)) is ∙ value-last 0 (b ∷ g) d in
@@ -133,12 +134,12 @@ zeros-few b (c ∷ s) = go (eqb b 48) (zeros-few c s)
     go false h = omega arith
 
 -- a numeral's name is what stands behind them
-dropped : (b : ℕ) (s : List ℕ) → every (is_class digit) (b ∷ s) ≡ true
+dropped : (b : ℕ) (s : List ℕ) → every (is_class Digit) (b ∷ s) ≡ true
     → decimal (value_of (b ∷ s)) ≡ drop (leading_zeros (b ∷ s)) (b ∷ s)
 unfolding leading_zeros value_of value_from
 dropped b [] e = digit-decimal b e
 dropped b (c ∷ s) e =
-    let both = and-true (is_class digit b) (every (is_class digit) (c ∷ s)) e in
+    let both = and-true (is_class Digit b) (every (is_class Digit) (c ∷ s)) e in
     go (eqb b 48) refl (dropped c s both.1) (digit-range b both.0).0
   where
     go : (t : Bool) → eqb b 48 ≡ t → decimal (value_of (c ∷ s)) ≡ drop (leading_zeros (c ∷ s)) (c ∷ s) → 48 ≤ b

@@ -12,7 +12,8 @@ use native.Mathlib.Omega.{arith}
 use lib.Dec.{ltb, leb}
 use lib.ListN.{length}
 use borrow.Author.Tests.{lt-ltb, le-ltb, le-leb, leb-true, ltb-true, ltb-false, ne_eqb}
-use Rattle.text.specs.Bytes.{digit, between, is_class}
+use Rattle.text.specs.declared.table.Class.TheVariants.{Digit}
+use Rattle.text.specs.Bytes.{between, is_class}
 use Rattle.text.specs.Fields.{is_number, value_from, value_of, decimal_from, decimal}
 use Rattle.text.specs.Lists.{every}
 use Rattle.text.proofs.ClassLaws.{is_digit}
@@ -131,8 +132,8 @@ decimal-led (suc f) n h k = go (ltb n 10) refl (decimal-led f (n / 10))
         }
 
 -- all of such digits are digits by class
-digits-classed : (s : List ℕ) → every (between 48 57) s ≡ true → every (is_class digit) s ≡ true
-digits-classed s h = every-weaker (between 48 57) (is_class digit) s (λ b e. is_digit b ∙ e) h
+digits-classed : (s : List ℕ) → every (between 48 57) s ≡ true → every (is_class Digit) s ≡ true
+digits-classed s h = every-weaker (between 48 57) (is_class Digit) s (λ b e. is_digit b ∙ e) h
 
 -- such digits have the form of a number
 led-number : (b : ℕ) (s : List ℕ) → between 49 57 b ≡ true → every (between 48 57) s ≡ true → is_number (b ∷ s) ≡ true
@@ -140,10 +141,10 @@ unfolding is_number between
 led-number b s h k =
     let (low, most) = and-true (leb 49 b) (leb b 57) h in
     let least : 49 ≤ b = leb-true 49 b low in
-    let one : is_class digit b ≡ true = is_digit b ∙ rw (le-leb 48 b (omega (arith, least)), most) in
+    let one : is_class Digit b ≡ true = is_digit b ∙ rw (le-leb 48 b (omega (arith, least)), most) in
     go s least one (digits-classed s k)
   where
-    go : (s : List ℕ) → 49 ≤ b → is_class digit b ≡ true → every (is_class digit) s ≡ true → is_number (b ∷ s) ≡ true
+    go : (s : List ℕ) → 49 ≤ b → is_class Digit b ≡ true → every (is_class Digit) s ≡ true → is_number (b ∷ s) ≡ true
     go [] least one k = one
     go (c ∷ s) least one k = rw (ne_eqb b 48 (λ e. omega (arith, least)), one, k)
 

@@ -13,7 +13,9 @@ use native.Mathlib.Omega.{arith}
 use borrow.Author.Tests.{le-leb, lt-leb, ne_eqb, eq-eqb, eqb-false, not-true}
 use lib.Dec.{leb, eqb}
 use lib.ListN.{length}
-use Rattle.text.specs.Bytes.{Class, small, capital, digit, comma, line_feed, other, between, class_of, class_number}
+use Rattle.text.specs.declared.table.Class.{Class}
+use Rattle.text.specs.declared.table.Class.TheVariants.{Small, Capital, Digit, Comma, LineFeed, Other}
+use Rattle.text.specs.Bytes.{between, class_of, class_number}
 use Rattle.text.specs.Bytes.{is_class, is_name_class}
 use Rattle.text.specs.Lists.{every}
 use Rattle.text.specs.Fields.{is_name, is_number, is_number_in, value_of, value_from}
@@ -56,8 +58,8 @@ value_grows v (b ∷ s) = omega (arith, value_grows (v * 10 + (b - 48)) s)
 number-long : (b c d : ℕ) (s : List ℕ) → is_number (b ∷ c ∷ d ∷ s) ≡ true → 100 ≤ value_of (b ∷ c ∷ d ∷ s)
 unfolding is_number value_of value_from
 number-long b c d s e =
-    let both = and-true (not (eqb b 48)) (every (is_class digit) (b ∷ c ∷ d ∷ s)) e in
-    let first : is_class digit b ≡ true = (and-true (is_class digit b) (every (is_class digit) (c ∷ d ∷ s)) both.1).0 in
+    let both = and-true (not (eqb b 48)) (every (is_class Digit) (b ∷ c ∷ d ∷ s)) e in
+    let first : is_class Digit b ≡ true = (and-true (is_class Digit b) (every (is_class Digit) (c ∷ d ∷ s)) both.1).0 in
     let range = between-true 48 57 b (sym (is_digit b) ∙ first) in
     let least : 49 ≤ b = omega (arith, range.0, eqb-false b 48 (not-true (eqb b 48) both.0)) in
     omega (arith, least, value_grows (((0 * 10 + (b - 48)) * 10 + (c - 48)) * 10 + (d - 48)) s)
@@ -94,17 +96,17 @@ no_number : (f : List ℕ) → is_number f ≡ false → number_of (key_of f) �
 no_number f h e = unvalued (λ k. absurd (never (sym k ∙ h))) e
 
 -- a field that is no name is no number, and its key is low
-digit-name : (b : ℕ) → is_class digit b ≡ true → name_byte b ≡ true
+digit-name : (b : ℕ) → is_class Digit b ≡ true → name_byte b ≡ true
 unfolding is_class class_number is_name_class
 digit-name b h = go (class_of b) h
   where
-    go : (k : Class) → eqb (class_number k) (class_number digit) ≡ true → is_name_class k ≡ true
-    go small h = refl
-    go capital h = h
-    go digit h = refl
-    go comma h = h
-    go line_feed h = h
-    go other h = h
+    go : (k : Class) → eqb (class_number k) (class_number Digit) ≡ true → is_name_class k ≡ true
+    go Small h = refl
+    go Capital h = h
+    go Digit h = refl
+    go Comma h = h
+    go LineFeed h = h
+    go Other h = h
 
 low-key : (f : List ℕ) → is_name f ≡ false → key_of f ≤ 27
 low-key f h = form-cases (key_of f ≤ 27) f
@@ -115,8 +117,8 @@ unfolding is_number
 number-name [] h e = absurd (let z : ◌≡◌ {A = ℕ} 0 1 = cc in omega arith)
 number-name (b ∷ []) h e = name-is (b ∷ []) (omega arith) h (rw (digit-name b e))
 number-name (b ∷ c ∷ s) h e =
-    let digits : every (is_class digit) (b ∷ c ∷ s) ≡ true = (and-true (not (eqb b 48)) (every (is_class digit) (b ∷ c ∷ s)) e).1 in
-    name-is (b ∷ c ∷ s) (omega arith) h (every-weaker (is_class digit) name_byte (b ∷ c ∷ s) digit-name digits)
+    let digits : every (is_class Digit) (b ∷ c ∷ s) ≡ true = (and-true (not (eqb b 48)) (every (is_class Digit) (b ∷ c ∷ s)) e).1 in
+    name-is (b ∷ c ∷ s) (omega arith) h (every-weaker (is_class Digit) name_byte (b ∷ c ∷ s) digit-name digits)
 
 number-none : (f : List ℕ) → length f ≤ 8 → is_name f ≡ false → NumberBy f
 number-none f h e = no_number f (go (is_number f) refl) (number-low (key_of f) (omega (arith, low-key f e)))
@@ -127,7 +129,7 @@ number-none f h e = no_number f (go (is_number f) refl) (number-low (key_of f) (
 
 by_one : (b : ℕ) → is_name (b ∷ []) ≡ true → NumberBy (b ∷ [])
 unfolding is_number value_of value_from packed packed_from
-by_one b n = go (is_class digit b) refl
+by_one b n = go (is_class Digit b) refl
   where
     key : key_of (b ∷ []) ≡ b
     key = key-of-name (b ∷ []) n ∙ omega arith
@@ -135,7 +137,7 @@ by_one b n = go (is_class digit b) refl
     range : (48 ≤ b) × (b ≤ 122)
     range = name-range b (and-true (name_byte b) true (name-bytes (b ∷ []) n)).0
 
-    go : (t : Bool) → is_class digit b ≡ t → NumberBy (b ∷ [])
+    go : (t : Bool) → is_class Digit b ≡ t → NumberBy (b ∷ [])
     go true e =
         valued e (ap number_of key ∙ number-one-digit b (sym (is_digit b) ∙ e) ∙ omega arith)
     go false e =

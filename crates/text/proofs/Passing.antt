@@ -10,9 +10,10 @@ use native.Mathlib.Nat.{mod-eq_of_lt, sub_self}
 use native.Mathlib.Numerals.{add-one}
 use native.Mathlib.Omega.{arith}
 use borrow.Author.Tests.{le-leb}
-use lib.Dec.{eqb}
+use lib.Dec.{leb, eqb}
 use lib.ListN.{length, get_or, drop, length-append, length-drop}
 use lib.Seq.{take-suc, get_or-drop}
+use Rattle.text.specs.declared.table.Class.{Class}
 use Rattle.text.specs.Bytes.{between, class_of, class_number}
 use Rattle.text.specs.Lists.{every}
 use Rattle.text.specs.Fields.{is_name, is_variable}
@@ -60,13 +61,13 @@ part-suc s at i h k =
 pub passed_start : (s : List ℕ) (at : ℕ) → Passed (part s at at) 0 (at - at) false
 passed_start s at = rw (sub_self at) passed_none
 
-pub passed-step : (s : List ℕ) (at i limit v class v' : ℕ) (c c' : Bool) → Passed (part s at i) v (i - at) c → at ≤ i
+pub passed-step : (s : List ℕ) (at i limit v v' : ℕ) (class : Class) (c c' : Bool) → Passed (part s at i) v (i - at) c → at ≤ i
     → i < limit → limit ≤ length s
-    → class ≡ class_number (class_of (get_or s i 0)) → class ≤ 2 → v' ≡ (v % seven_bytes) * 256 + get_or s i 0
-    → c' ≡ (c || eqb class 1) → Passed (part s at (i + 1)) v' (i + 1 - at) c'
+    → class ≡ class_of (get_or s i 0) → leb (class_number class) 2 ≡ true → v' ≡ (v % seven_bytes) * 256 + get_or s i 0
+    → c' ≡ (c || eqb (class_number class) 1) → Passed (part s at (i + 1)) v' (i + 1 - at) c'
 unfolding is_plain
-passed-step s at i limit v class v' c c' p h q r e l f g =
-    let plain : is_plain (get_or s i 0) ≡ true = le-leb (class_number (class_of (get_or s i 0))) 2 (omega arith) in
+passed-step s at i limit v v' class c c' p h q r e l f g =
+    let plain : is_plain (get_or s i 0) ≡ true = sym (ap (λ (k : Class). leb (class_number k) 2) e) ∙ l in
     let more : suc i - at ≡ suc (i - at) = omega arith in
     rw (add-one i, part-suc s at i h (omega arith), more, f, g, e) (passed_on (get_or s i 0) p plain)
 

@@ -18,6 +18,8 @@ use lib.ListN.{length, take, drop, get_or, set, length-append, length-take, leng
 use lib.ListN.{replicate, take-append-drop, length-map}
 use lib.Seq.{split_at, get_or-drop, get_or-take, drop-drop, take-add, take-append-add, take-append_seam, ext_get_or}
 use lib.Seq.{get_or-set_same, get_or-set_other}
+use Rattle.text.specs.declared.table.Class.{Class}
+use Rattle.text.specs.declared.table.Class.TheVariants.{Small, Capital, Digit, Comma, LineFeed, Other}
 use Rattle.text.specs.Bytes.{between, class_of, class_number}
 use Rattle.text.specs.Lists.{every}
 use Rattle.text.specs.Lines.{Line, line_is_faulty, is_other}
@@ -125,6 +127,24 @@ part_join s at start e h k =
 
 pub part_length : (s : List ℕ) (at e : ℕ) → e ≤ length s → length (part s at e) ≡ e - at
 part_length s at e h = omega (arith, length-take (e - at) (drop at s), length-drop at s)
+
+-- a class by its number: what no letter or digit has, the comma's where it is neither of the others
+class-feed-number : (k : Class) → k ≡ LineFeed → class_number k ≡ 4
+unfolding class_number
+class-feed-number k e = rw e
+
+class-other-number : (k : Class) → k ≡ Other → 4 < class_number k
+unfolding class_number
+class-other-number k e = rw e (omega arith)
+
+comma-left : (k : Class) → 2 < class_number k → (k ≡ Other → ⊥) → (k ≡ LineFeed → ⊥) → class_number k ≡ 3
+unfolding class_number
+comma-left Small h e f = omega arith
+comma-left Capital h e f = omega arith
+comma-left Digit h e f = omega arith
+comma-left Comma h e f = refl
+comma-left LineFeed h e f = absurd (f refl)
+comma-left Other h e f = absurd (e refl)
 
 -- number 2, by where the split stops
 abbrev fine : ℕ → Bool
@@ -330,11 +350,11 @@ module _ (s : List ℕ) (at limit : ℕ) (keys starts : List ℕ) (count start :
     next-near = noted-near starts count start 16384 w.near (omega (arith, q.begun))
 
   -- a comma: one field on
-  one_on : r.stop ≡ 3 → Walk s at limit (set keys count r.key) (set starts count start) (suc count) (suc r.end)
+  one_on : class_number r.stop ≡ 3 → Walk s at limit (set keys count r.key) (set starts count start) (suc count) (suc r.end)
   unfolding line_from
   one_on e =
       let stop : r.end < limit = q.limited (omega arith) in
-      let comma : b ≡ 44 = class-comma b (sym (q.classed stop) ∙ e) in
+      let comma : b ≡ 44 = class-comma b (sym (ap class_number (q.classed stop)) ∙ e) in
       let cut : drop start s ≡ f ++ (b ∷ more) = cut_at s start r.end q.begun (omega arith) in
       let found : fields_at s start ≡ f ∷ fields_at s (suc r.end) =
       ap (λ (t : List ℕ). fields (bytes t)) cut ∙ line-fields-comma f b more q.plain comma in
@@ -356,12 +376,12 @@ module _ (s : List ℕ) (at limit : ℕ) (keys starts : List ℕ) (count start :
         near = next-near stop (fields_at s (suc r.end)) found ended;
       }
 
-  pub walk-comma : (ks ss : List ℕ) → ks ≡ set keys count r.key → ss ≡ set starts count start → r.stop ≤ 4 → (r.stop ≡ 4 → ⊥)
+  pub walk-comma : (ks ss : List ℕ) → ks ≡ set keys count r.key → ss ≡ set starts count start → (r.stop ≡ Other → ⊥) → (r.stop ≡ LineFeed → ⊥)
       → Walk s at limit ks ss (count + 1) (r.end + 1)
-  walk-comma ks ss k l e n = rw (add-one count, add-one r.end, k, l) (one_on (omega (arith, q.low)))
+  walk-comma ks ss k l e n = rw (add-one count, add-one r.end, k, l) (one_on (comma-left r.stop q.low e n))
 
   -- a line feed: the whole line
-  all_of : r.stop ≡ 4 → SplitAt s at (record {
+  all_of : class_number r.stop ≡ 4 → SplitAt s at (record {
     faulty = eqb r.end at;
     end = r.end;
     count = suc count;
@@ -371,7 +391,7 @@ module _ (s : List ℕ) (at limit : ℕ) (keys starts : List ℕ) (count start :
   unfolding line_from line_end
   all_of e =
       let stop : r.end < limit = q.limited (omega arith) in
-      let feed : b ≡ 10 = class-feed b (sym (q.classed stop) ∙ e) in
+      let feed : b ≡ 10 = class-feed b (sym (ap class_number (q.classed stop)) ∙ e) in
       let cut : drop start s ≡ f ++ (b ∷ more) = cut_at s start r.end q.begun (omega arith) in
       let found : fields_at s start ≡ f ∷ [] =
       ap (λ (t : List ℕ). fields (bytes t)) cut ∙ line-fields-last f b more q.plain feed in
@@ -401,19 +421,19 @@ module _ (s : List ℕ) (at limit : ℕ) (keys starts : List ℕ) (count start :
         near = next-near stop [] found ended;
       }
 
-  pub walk-feed : (ks ss : List ℕ) → ks ≡ set keys count r.key → ss ≡ set starts count start → r.stop ≡ 4
+  pub walk-feed : (ks ss : List ℕ) → ks ≡ set keys count r.key → ss ≡ set starts count start → r.stop ≡ LineFeed
       → SplitAt s at (record { faulty = eqb r.end at; end = r.end; count = count + 1; keys = ks; starts = ss })
-  walk-feed ks ss k l e = rw (add-one count, k, l) (all_of e)
+  walk-feed ks ss k l e = rw (add-one count, k, l) (all_of (class-feed-number r.stop e))
 
   -- a byte of class other, or the end of the bytes to look at: a fault
-  pub walk-fault : 4 < r.stop
+  pub walk-fault : r.stop ≡ Other
       → SplitAt s at (record { faulty = true; end = r.end; count = count; keys = keys; starts = starts })
   unfolding line_from
   walk-fault e = record {
     faulty = sym (elim (dec_lt r.end limit) [
       | yes k ↦
           let whole : drop at s ≡ p ++ (b ∷ more) = cut_at s at r.end (omega (arith, q.begun, w.begun)) (omega arith) in
-          let class : 4 < class_number (class_of b) = omega (arith, q.classed k) in
+          let class : 4 < class_number (class_of b) = class-other-number (class_of b) (sym (q.classed k) ∙ e) in
           ap (λ (t : List ℕ). line_is_faulty (first_line t)) whole
           ∙ faulty-at p passed-all b more (class-other b class) (other-not-feed b class)
       | no k ↦

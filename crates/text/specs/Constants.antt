@@ -4,14 +4,15 @@
 --   constant_name      the name of a constant
 -- Assumes nothing.
 use Rattle.std.specs.Prelude.{ℕ, Bool, true, false, cond, List, [], ◌∷◌, ◌≡◌}
-use Rattle.text.specs.Bytes.{digit, is_class}
+use Rattle.text.specs.declared.table.Class.TheVariants.{Digit}
+use Rattle.text.specs.Bytes.{is_class}
 use Rattle.text.specs.Lists.{every}
 use Rattle.text.specs.Fields.{value_of, decimal}
 
 -- a numeral: a field made only of digits
 unfoldable pub is_numeral : List ℕ → Bool
 is_numeral [] = false
-is_numeral (b ∷ s) = every (is_class digit) (b ∷ s)
+is_numeral (b ∷ s) = every (is_class Digit) (b ∷ s)
 
 -- two constants are one: they have the same spelling, or both are made only of digits and have the same value
 pub data SameConstant (f g : List ℕ) : Type 0 where

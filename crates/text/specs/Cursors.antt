@@ -4,7 +4,8 @@
 --   parts_at            an input parted at two places
 -- Assumes nothing.
 use Rattle.std.specs.Prelude.{ℕ, suc, cond, List, [], ◌∷◌, ◌++◌, eqb, take, drop}
-use Rattle.text.specs.Bytes.{class_of, class_number}
+use Rattle.text.specs.declared.table.Class.{Class}
+use Rattle.text.specs.Bytes.{class_of}
 use Rattle.text.specs.Lists.{tabled}
 use Rattle.text.specs.Lines.{Parts}
 
@@ -13,9 +14,9 @@ unfoldable pub before : ℕ → List ℕ → ℕ
 before x [] = 0
 before x (b ∷ s) = cond (eqb b x) 0 (suc (before x s))
 
--- the classes of the 256 byte values, by their numbers
-unfoldable pub class_table : List ℕ
-class_table = tabled (λ b. class_number (class_of b)) 256
+-- the classes of the 256 byte values
+unfoldable pub class_table : List Class
+class_table = tabled class_of 256
 
 -- a program's text with bytes put in front of it
 unfoldable pub behind : List ℕ → Parts → Parts

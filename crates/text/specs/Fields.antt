@@ -5,7 +5,8 @@
 --   decimal                 a number's decimal digits
 -- Assumes nothing.
 use Rattle.std.specs.Prelude.{ℕ, zero, suc, ◌+◌, ◌-◌, ◌*◌, ◌/◌, ◌%◌, Bool, false, cond, not, ◌&&◌, ◌||◌, List, [], ◌∷◌, ltb, eqb, length}
-use Rattle.text.specs.Bytes.{capital, digit, between, class_of, is_class, is_name_class}
+use Rattle.text.specs.declared.table.Class.TheVariants.{Capital, Digit}
+use Rattle.text.specs.Bytes.{between, class_of, is_class, is_name_class}
 use Rattle.text.specs.Lists.{every}
 
 -- a byte put in front of the first field
@@ -25,7 +26,7 @@ is_name f = between 1 8 (length f) && every (λ b. is_name_class (class_of b)) f
 -- a variable: one capital letter
 unfoldable pub is_variable : List ℕ → Bool
 is_variable [] = false
-is_variable (b ∷ []) = is_class capital b
+is_variable (b ∷ []) = is_class Capital b
 is_variable (b ∷ c ∷ s) = false
 
 -- a term: a constant or a variable
@@ -35,8 +36,8 @@ is_term f = is_name f || is_variable f
 -- digits without a leading zero; 0 alone is one
 unfoldable pub is_number : List ℕ → Bool
 is_number [] = false
-is_number (b ∷ []) = is_class digit b
-is_number (b ∷ c ∷ s) = not (eqb b 48) && every (is_class digit) (b ∷ c ∷ s)
+is_number (b ∷ []) = is_class Digit b
+is_number (b ∷ c ∷ s) = not (eqb b 48) && every (is_class Digit) (b ∷ c ∷ s)
 
 -- the value of digits that follow others of value v
 unfoldable pub value_from : ℕ → List ℕ → ℕ

@@ -4,7 +4,8 @@
 --   parted          the input of `sheetrun`, parted at its first `GOAL` line
 -- Assumes nothing.
 use Rattle.std.specs.Prelude.{ℕ, Bool, true, false, cond, not, ◌&&◌, ◌||◌, List, [], ◌∷◌, ltb, eqb, length, take, drop}
-use Rattle.text.specs.Bytes.{other, is_class, ascii}
+use Rattle.text.specs.declared.table.Class.TheVariants.{Other}
+use Rattle.text.specs.Bytes.{is_class, ascii}
 use Rattle.text.specs.Lists.{every, same_bytes}
 
 -- a line without its line feed, and whether it had one
@@ -24,7 +25,7 @@ lines (b ∷ s) = cond (eqb b 10) (record { bytes = []; ended = true } ∷ lines
 
 -- whether a byte may not stand in any line
 unfoldable pub is_other : ℕ → Bool
-is_other b = is_class other b
+is_other b = is_class Other b
 
 -- number 2: the line is empty, is longer than 80 bytes, lacks its line feed, or holds a byte of class other
 unfoldable pub line_is_faulty : Line → Bool

@@ -72,7 +72,7 @@ pub record Stopped (s : List ℕ) (at limit : ℕ) (r : Field) : Type 0 where
   pub begun : at ≤ r.end
   pub within : r.end ≤ limit
   pub plain : every is_plain (part s at r.end) ≡ true
-  pub low : 2 < r.stop
-  pub limited : r.stop < 5 → r.end < limit
-  pub classed : r.end < limit → r.stop ≡ class_number (class_of (get_or s r.end 0))
+  pub low : 2 < class_number r.stop
+  pub limited : class_number r.stop < 5 → r.end < limit
+  pub classed : r.end < limit → r.stop ≡ class_of (get_or s r.end 0)
   pub keyed : r.end < limit → r.key ≡ key_of (part s at r.end)

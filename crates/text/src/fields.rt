@@ -1,11 +1,11 @@
 // A line split into its fields in one pass, the only one that asks the class table.
 ghost use Rattle.std.specs.Prelude.{◌≡◌, ◌||◌, List, ℕ, ◌+◌, ◌*◌, ◌%◌, ◌≤◌, ◌<◌, min, eqb, length, drop, set};
-ghost use Rattle.text.specs.Bytes.{between};
+ghost use Rattle.text.specs.Bytes.{between, class_number};
 ghost use Rattle.text.specs.Keys.{key_of, number_of, word_length, word};
 ghost use Rattle.text.specs.Cursors.{class_table};
 ghost use Rattle.text.specs.Splits.{seven_bytes, Passed, Stopped, SplitAt};
 
-use crate::table::{CAPITAL, DIGIT, LINE_FEED, OTHER, class_of};
+use crate::table::{Class, class_of};
 
 // A line's fields: how many there are, and of the first 8 the keys and where they start. Where the line is faulty, only that.
 #[derive(Clone, Copy)]
@@ -22,7 +22,7 @@ pub struct Fields {
 struct Field {
     end: usize,
     key: u64,
-    stop: u8,
+    stop: Class,
 }
 
 // Where values of more than seven bytes begin: 256 to the seventh.
@@ -36,10 +36,10 @@ fn with_byte(value: u64, b: u8) -> u64
 }
 
 // Whether there was a capital, or there is one now.
-fn with_class(capital: bool, class: u8) -> bool
-    ensures { result ≡ (capital || eqb class 1) }
+fn with_class(capital: bool, class: Class) -> bool
+    ensures { result ≡ (capital || eqb (class_number class) 1) }
 {
-    if capital { true } else { class == CAPITAL }
+    capital || matches!(class, Class::Capital)
 }
 
 // The key of a field by what was seen of its bytes. The letters from A on are 65 and on, and their keys are 2 and on.
@@ -59,17 +59,16 @@ fn key(value: u64, size: usize, capital: bool) -> u64
 }
 
 // The field that starts at `at`: up to the first byte that is no letter and no digit, within the bytes before `limit`.
-fn next_field(classes: &[u8], s: &[u8], at: usize, limit: usize) -> Field
+fn next_field(classes: &[Class], s: &[u8], at: usize, limit: usize) -> Field
     requires { (classes.now ≡ class_table) × (at ≤ limit) × (limit ≤ length s.now) }
     ensures { Stopped s.now at limit result }
 {
-    let mut i = at;
     let mut value = 0;
     let mut capital = false;
-    while i < limit {
+    for i in at..limit {
         let b = s[i];
         let class = class_of(classes, b);
-        if DIGIT < class {
+        if !class.is_plain() {
             return Field {
                 end: i,
                 key: key(value, i - at, capital),
@@ -78,12 +77,11 @@ fn next_field(classes: &[u8], s: &[u8], at: usize, limit: usize) -> Field
         }
         capital = with_class(capital, class);
         value = with_byte(value, b);
-        i += 1;
     }
     Field {
-        end: i,
+        end: limit,
         key: 0,
-        stop: OTHER,
+        stop: Class::Other,
     }
 }
 
@@ -111,7 +109,7 @@ fn reach(size: usize, at: usize) -> usize
 }
 
 // The line that starts at `at`, split into its fields.
-pub fn split(classes: &[u8], s: &[u8], at: usize) -> Fields
+pub fn split(classes: &[Class], s: &[u8], at: usize) -> Fields
     requires { (classes.now ≡ class_table) × (at < length s.now) × (length s.now ≤ 16384) }
     ensures { SplitAt s.now at result }
 {
@@ -123,7 +121,7 @@ pub fn split(classes: &[u8], s: &[u8], at: usize) -> Fields
     loop {
         let found = next_field(classes, s, start, limit);
         let end = found.end;
-        if LINE_FEED < found.stop {
+        if matches!(found.stop, Class::Other) {
             return Fields {
                 faulty: true,
                 end,
@@ -134,7 +132,7 @@ pub fn split(classes: &[u8], s: &[u8], at: usize) -> Fields
         }
         note(&mut keys, &mut starts, count, found.key, start);
         count += 1;
-        if found.stop == LINE_FEED {
+        if matches!(found.stop, Class::LineFeed) {
             return Fields {
                 faulty: end == at,
                 end,
@@ -151,10 +149,7 @@ pub fn split(classes: &[u8], s: &[u8], at: usize) -> Fields
 fn is_digit(b: u64, least: u64) -> bool
     ensures { result ≡ between least 57 b }
 {
-    if b < least {
-        return false;
-    }
-    b <= 57
+    least <= b && b <= 57
 }
 
 // The value of a key that is a number of one or two digits without a leading zero; 100 for any other.
@@ -180,17 +175,12 @@ fn word_end(s: &[u8], at: usize) -> usize
     requires { at ≤ length s.now }
     ensures { (result ≡ at + word_length (drop at s.now)) × (at ≤ result) × (result ≤ length s.now) }
 {
-    let mut i = at;
-    while i < s.len() {
-        if s[i] == 44 {
+    for i in at..s.len() {
+        if s[i] == b',' || s[i] == b'\n' {
             return i;
         }
-        if s[i] == 10 {
-            return i;
-        }
-        i += 1;
     }
-    i
+    s.len()
 }
 
 // The word that starts at `at`: the bytes up to the next comma or line feed; none behind the text's end.

@@ -9,4 +9,4 @@ pub mod parting;
 pub mod table;
 
 pub use parting::split_goal;
-pub use table::classes;
+pub use table::{Class, classes};

@@ -8,17 +8,7 @@ ghost use Rattle.text.specs.Cursors.{parts_at};
 pub fn same_bytes(a: &[u8], b: &[u8]) -> bool
     ensures { result ≡ same_bytes a.now b.now }
 {
-    if a.len() != b.len() {
-        return false;
-    }
-    let mut i = 0;
-    while i < a.len() {
-        if a[i] != b[i] {
-            return false;
-        }
-        i += 1;
-    }
-    true
+    a == b
 }
 
 // Whether the line `GOAL` with its line feed stands at a place.
@@ -46,19 +36,18 @@ pub fn split_goal(s: &[u8]) -> Split
     ensures { (parted s.now ≡ parts_at s.now result.end result.start)
         × (result.end ≤ length s.now) × (result.start ≤ length s.now) }
 {
-    let mut i = 0;
     let mut fresh = true;
-    while i < s.len() {
-        if fresh {
-            if is_goal_line(s, i) {
-                return Split {
-                    end: i,
-                    start: i + 5,
-                };
-            }
+    for i in 0..s.len() {
+        if fresh && is_goal_line(s, i) {
+            return Split {
+                end: i,
+                start: i + 5,
+            };
         }
-        fresh = s[i] == 10;
-        i += 1;
+        fresh = s[i] == b'\n';
     }
-    Split { end: i, start: i }
+    Split {
+        end: s.len(),
+        start: s.len(),
+    }
 }

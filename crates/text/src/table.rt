@@ -1,40 +1,64 @@
 // The constant table of the 256 classes.
-ghost use Rattle.std.specs.Prelude.{◌≡◌};
+ghost use Rattle.std.specs.Prelude.{◌≡◌, Bool, leb};
 ghost use Rattle.text.specs.Bytes.{class_of, class_number};
 ghost use Rattle.text.specs.Cursors.{class_table};
 
-// The numbers of the classes that the code names; a small letter's is 0, a comma's 3.
-pub const CAPITAL: u8 = 1;
+// What a byte is: each of the 256 values is of one of these classes.
+#[derive(Clone, Copy, PartialEq, Eq)]
+pub enum Class {
+    Small,
+    Capital,
+    Digit,
+    Comma,
+    LineFeed,
+    Other,
+}
 
-pub const DIGIT: u8 = 2;
+impl Class {
+    // Whether a byte of this class may stand in a field: letters and digits may.
+    pub fn is_plain(self) -> bool
+        ensures { result ≡ leb (class_number self) 2 }
+    {
+        matches!(self, Class::Small | Class::Capital | Class::Digit)
+    }
+}
 
-pub const LINE_FEED: u8 = 4;
+// The classes as the table spells them.
+const S: Class = Class::Small;
 
-pub const OTHER: u8 = 5;
+const C: Class = Class::Capital;
 
-// The class of each byte value by its number.
-const CLASSES: [u8; 256] = [
-    5, 5, 5, 5, 5, 5, 5, 5, 5, 5, 4, 5, 5, 5, 5, 5, 5, 5, 5, 5, 5, 5, 5, 5, 5, 5, 5, 5, 5, 5, 5, 5,
-    5, 5, 5, 5, 5, 5, 5, 5, 5, 5, 5, 5, 3, 5, 5, 5, 2, 2, 2, 2, 2, 2, 2, 2, 2, 2, 5, 5, 5, 5, 5, 5,
-    5, 1, 1, 1, 1, 1, 1, 1, 1, 1, 1, 1, 1, 1, 1, 1, 1, 1, 1, 1, 1, 1, 1, 1, 1, 1, 1, 5, 5, 5, 5, 5,
-    5, 0, 0, 0, 0, 0, 0, 0, 0, 0, 0, 0, 0, 0, 0, 0, 0, 0, 0, 0, 0, 0, 0, 0, 0, 0, 0, 5, 5, 5, 5, 5,
-    5, 5, 5, 5, 5, 5, 5, 5, 5, 5, 5, 5, 5, 5, 5, 5, 5, 5, 5, 5, 5, 5, 5, 5, 5, 5, 5, 5, 5, 5, 5, 5,
-    5, 5, 5, 5, 5, 5, 5, 5, 5, 5, 5, 5, 5, 5, 5, 5, 5, 5, 5, 5, 5, 5, 5, 5, 5, 5, 5, 5, 5, 5, 5, 5,
-    5, 5, 5, 5, 5, 5, 5, 5, 5, 5, 5, 5, 5, 5, 5, 5, 5, 5, 5, 5, 5, 5, 5, 5, 5, 5, 5, 5, 5, 5, 5, 5,
-    5, 5, 5, 5, 5, 5, 5, 5, 5, 5, 5, 5, 5, 5, 5, 5, 5, 5, 5, 5, 5, 5, 5, 5, 5, 5, 5, 5, 5, 5, 5, 5,
+const D: Class = Class::Digit;
+
+const K: Class = Class::Comma;
+
+const F: Class = Class::LineFeed;
+
+const O: Class = Class::Other;
+
+// The class of each byte value.
+const CLASSES: [Class; 256] = [
+    O, O, O, O, O, O, O, O, O, O, F, O, O, O, O, O, O, O, O, O, O, O, O, O, O, O, O, O, O, O, O, O,
+    O, O, O, O, O, O, O, O, O, O, O, O, K, O, O, O, D, D, D, D, D, D, D, D, D, D, O, O, O, O, O, O,
+    O, C, C, C, C, C, C, C, C, C, C, C, C, C, C, C, C, C, C, C, C, C, C, C, C, C, C, O, O, O, O, O,
+    O, S, S, S, S, S, S, S, S, S, S, S, S, S, S, S, S, S, S, S, S, S, S, S, S, S, S, O, O, O, O, O,
+    O, O, O, O, O, O, O, O, O, O, O, O, O, O, O, O, O, O, O, O, O, O, O, O, O, O, O, O, O, O, O, O,
+    O, O, O, O, O, O, O, O, O, O, O, O, O, O, O, O, O, O, O, O, O, O, O, O, O, O, O, O, O, O, O, O,
+    O, O, O, O, O, O, O, O, O, O, O, O, O, O, O, O, O, O, O, O, O, O, O, O, O, O, O, O, O, O, O, O,
+    O, O, O, O, O, O, O, O, O, O, O, O, O, O, O, O, O, O, O, O, O, O, O, O, O, O, O, O, O, O, O, O,
 ];
 
 // The table of classes, for a caller to hold in a local and lend.
-pub fn classes() -> [u8; 256]
+pub fn classes() -> [Class; 256]
     ensures { result ≡ class_table }
 {
     CLASSES
 }
 
 // The class of a byte.
-pub fn class_of(classes: &[u8], b: u8) -> u8
+pub fn class_of(classes: &[Class], b: u8) -> Class
     requires { classes.now ≡ class_table }
-    ensures { result ≡ class_number (class_of b) }
+    ensures { result ≡ class_of b }
 {
     classes[b as usize]
 }

@@ -1,5 +1,5 @@
--- `tables::numbering::keep` meets its contract: each variable passed, from the last on, has its own cell. Assumes nothing.
-use mathlib.Core.Path.{refl}
+-- `tables::numbering::keep` meets its contract: each variable passed has its own cell. Assumes nothing.
+use Rattle.std.proofs.Common.{◌≡◌, arith}
 use Rattle.tables.proofs.NumberLaws.{keeping_start, keeping-next, keeping-end}
 use Rattle.tables.proofs.numbering.keep.Goals as goal
 
@@ -7,11 +7,9 @@ pub loop-i-init : goal.loop-i-init
 loop-i-init c = search keeping_start
 
 pub loop-i-preserved : goal.loop-i-preserved
-loop-i-preserved c =
-    keeping-next _ _ _ _ c.loop-i.invariant _ refl c.loop-i-test.true c.requires.1
-
-pub shape_of-table : goal.shape_of-table
-shape_of-table c = c.loop-i.invariant.size
+loop-i-preserved c = keeping-next _ _ _ c.loop-i.invariant (omega arith)
 
 pub returns : goal.returns
-returns c = keeping-end _ _ _ _ c.loop-i.invariant c.loop-i-test.false
+returns c =
+    let all : c.args.n ≡ c.loop-i.i = omega arith in
+    rw all (keeping-end _ _ _ c.loop-i.invariant)

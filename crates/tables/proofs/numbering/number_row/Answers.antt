@@ -7,37 +7,21 @@ use Rattle.tables.proofs.numbering.number_row.Goals as goal
 pub loop-i-init : goal.loop-i-init
 loop-i-init c = search passing-start
 
-pub shape_of-table-then-x-eq0 : goal.shape_of-table-then-x-eq0
-shape_of-table-then-x-eq0 c = c.loop-i.invariant.size
-
-pub shape_of-row-then-x-eq0 : goal.shape_of-row-then-x-eq0
-shape_of-row-then-x-eq0 c = c.loop-i.invariant.row-size
-
 pub returns-then-x-eq0 : goal.returns-then-x-eq0
 returns-then-x-eq0 c =
-    passing-zero _ _ _ _ _ _ _ c.loop-i.invariant c.loop-i-test.true c.if-x-eq0.true
+    passing-zero _ _ _ _ _ _ _ c.loop-i.invariant (omega arith) c.if-x-eq0.true
 
 pub number_term-seen-requires : goal.number_term-seen-requires
 number_term-seen-requires c =
     let w = c.loop-i.invariant in (
-      passing-inside _ _ _ _ _ _ _ w c.loop-i-test.true c.if-x-eq0.false,
+      passing-inside _ _ _ _ _ _ _ w (omega arith) c.if-x-eq0.false,
       omega (arith, w.few, w.row-size),
     )
 
-pub loop-i-smaller : goal.loop-i-smaller
-loop-i-smaller c =
-    omega (arith, c.loop-i-test.true, c.loop-i.invariant.row-size)
-
 pub loop-i-preserved : goal.loop-i-preserved
 loop-i-preserved c =
-    passing-next _ _ _ _ _ _ _ c.loop-i.invariant c.loop-i-test.true c.if-x-eq0.false _ _ _
+    passing-next _ _ _ _ _ _ _ c.loop-i.invariant (omega arith) c.if-x-eq0.false _ _ _
     c.number_term-seen.ensures c.renumbered.ensures c.number_term-seen.auto.table
 
-pub shape_of-table : goal.shape_of-table
-shape_of-table c = c.loop-i.invariant.size
-
-pub shape_of-row : goal.shape_of-row
-shape_of-row c = c.loop-i.invariant.row-size
-
 pub returns : goal.returns
-returns c = passing-end _ _ _ _ _ _ _ c.loop-i.invariant c.loop-i-test.false
+returns c = passing-end _ _ _ _ _ _ _ c.loop-i.invariant (omega arith)

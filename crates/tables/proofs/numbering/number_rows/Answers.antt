@@ -25,11 +25,5 @@ loop-i-preserved c =
     rows_next _ _ _ _ _ _ _ c.loop-i.invariant c.loop-i-test.true _ _ _ c.number_row-seen.ensures
     c.number_row-seen.auto.row c.number_row-seen.auto.table
 
-pub shape_of-table : goal.shape_of-table
-shape_of-table c = c.loop-i.invariant.size
-
-pub shape_of-cells : goal.shape_of-cells
-shape_of-cells c = c.loop-i.invariant.cells-size
-
 pub returns : goal.returns
 returns c = rows_end _ _ _ _ _ _ _ c.loop-i.invariant c.loop-i-test.false

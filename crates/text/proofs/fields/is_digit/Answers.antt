@@ -1,12 +1,13 @@
 -- `text::fields::is_digit` meets its contract. Assumes nothing.
-use borrow.Author.Tests.{le-leb, lt-leb}
+use Rattle.std.proofs.Common.{rules, arith}
+use Rattle.std.proofs.lemmas.Grind.{common_steps}
 use Rattle.text.specs.Bytes.{between}
 use Rattle.text.proofs.fields.is_digit.Goals as goal
 
-pub returns-then-b-least : goal.returns-then-b-least
+pub returns-then-least-b : goal.returns-then-least-b
 unfolding between
-returns-then-b-least c = rw (lt-leb c.args.least c.args.b c.if-b-least.true)
+returns-then-least-b c = grind (arith, common_steps)
 
-pub returns : goal.returns
+pub returns-else-least-b : goal.returns-else-least-b
 unfolding between
-returns c = rw (le-leb c.args.least c.args.b c.if-b-least.false)
+returns-else-least-b c = grind (arith, common_steps)

@@ -6,5 +6,3 @@ use Rattle.text.proofs.fields.next_field.Given as goal
 abbrev pub invariant-loop-i : goal.invariant-loop-i
 invariant-loop-i l = (l.at ≤ l.i) × (l.i ≤ l.limit) × Passed (part l.s l.at l.i) l.value (l.i - l.at) l.capital
 
-abbrev pub decreases-loop-i : goal.decreases-loop-i
-decreases-loop-i l = l.limit - l.i

@@ -4,17 +4,17 @@ use mathlib.Core.Path.{◌≡◌, ap, sym, refl, ◌∙◌}
 use mathlib.Core.Bool.{Bool, true, false, ◌&&◌}
 use native.Mathlib.Numerals.{add-one}
 use native.Mathlib.Omega.{arith}
-use lib.ListN.{take, drop}
+use lib.ListN.{take, drop, length}
 use Rattle.text.specs.Lists.{same_bytes}
 use Rattle.text.specs.Lines.{goal_line, parted}
 use Rattle.text.specs.Cursors.{behind}
 use Rattle.text.proofs.PartingLaws.{parted-step, parted-found, parted-end, goal-room}
 use Rattle.text.proofs.parting.split_goal.Goals as goal
-use Rattle.text.proofs.parting.split_goal.Goals.{then-fresh+else-is_goal_line, else-fresh}
+use Rattle.text.proofs.parting.split_goal.Goals.{else-fresh-via-then-fresh+else-is_goal_line, else-fresh-via-else-fresh}
 
 pub loop-i-init : goal.loop-i-init
 unfolding parted behind
-loop-i-init c = (omega arith, refl)
+loop-i-init c = refl
 
 pub overflow_add-result : goal.overflow_add-result
 overflow_add-result c =
@@ -35,30 +35,26 @@ returns-then-is_goal_line c =
     let if1' = c.if-fresh in
     let s' = args'.s.now in
     let found : same_bytes (take 5 (drop loop'.i s')) goal_line ≡ true = sym is-goal-line'.ensures ∙ if2'.true in (
-      loop'.invariant.1 ∙ parted-found s' loop'.i loop'.fresh loop-test'.true
+      loop'.invariant ∙ parted-found s' loop'.i loop'.fresh loop-test'.true
           (ap (λ (t : Bool). t && same_bytes (take 5 (drop loop'.i s')) goal_line) if1'.true ∙ found),
       omega arith,
-      omega
-          (arith, goal-room s' loop'.i found),
+      omega (arith, goal-room s' loop'.i found),
     )
 
 pub loop-i-preserved : goal.loop-i-preserved
 loop-i-preserved c =
-    let loop' = c.loop-i in
-    let args' = c.args in
-    let loop-test' = c.loop-i-test in
-    let s' = args'.s.now in
-    let test : (loop'.fresh && same_bytes (take 5 (drop loop'.i s')) goal_line) ≡ false =
-    elim c.if-fresh.branch [
-      | then-fresh+else-is_goal_line w ↦ rw (w.if-fresh.true, sym w.is_goal_line.ensures ∙ w.if-is_goal_line.false)
-      | else-fresh w ↦ rw w.if-fresh.false
+    let s = c.args.s.now in
+    let i = c.loop-i.i in
+    let fresh = c.loop-i.fresh in
+    let test : (fresh && same_bytes (take 5 (drop i s)) goal_line) ≡ false =
+    elim c.else-fresh.branch [
+      | else-fresh-via-then-fresh+else-is_goal_line w ↦ rw (w.if-fresh.true, sym w.is_goal_line.ensures ∙ w.if-is_goal_line.false)
+      | else-fresh-via-else-fresh w ↦ rw w.if-fresh.false
     ] in
-    (omega arith, rw add-one (loop'.invariant.1 ∙ parted-step s' loop'.i loop'.fresh loop-test'.true test))
+    rw add-one (c.loop-i.invariant ∙ parted-step s i fresh c.loop-i-test.true test)
 
 pub returns : goal.returns
 returns c =
-    let loop' = c.loop-i in
-    let args' = c.args in
-    let loop-test' = c.loop-i-test in
-    let s' = args'.s.now in
-    (loop'.invariant.1 ∙ parted-end s' loop'.i loop'.fresh loop-test'.false, omega arith, omega arith)
+    let s = c.args.s.now in
+    let all : length s ≡ c.loop-i.i = omega arith in
+    (rw all (c.loop-i.invariant ∙ parted-end s c.loop-i.i c.loop-i.fresh c.loop-i-test.false), omega arith, omega arith)

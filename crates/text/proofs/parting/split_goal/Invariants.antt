@@ -9,7 +9,5 @@ use Rattle.text.proofs.parting.split_goal.Given as goal
 
 abbrev pub invariant-loop-i : goal.invariant-loop-i
 invariant-loop-i l =
-    (l.i ≤ length l.s) × (parted l.s ≡ behind (take l.i l.s) (parted_from l.fresh (drop l.i l.s)))
+    parted l.s ≡ behind (take l.i l.s) (parted_from l.fresh (drop l.i l.s))
 
-abbrev pub decreases-loop-i : goal.decreases-loop-i
-decreases-loop-i l = length l.s - l.i
