@@ -29,8 +29,8 @@ fn without_zeros(key: u64) -> Constant
     let mut zeros = 0;
     while 0 < rest {
         let b = rest % 256;
-        rest = rest / 256;
-        unit = unit * 256;
+        rest /= 256;
+        unit *= 256;
         if b == 48 {
             zeros += 1;
         } else {
@@ -38,10 +38,7 @@ fn without_zeros(key: u64) -> Constant
             kept = key - rest * 256 * unit;
         }
     }
-    Constant {
-        key: kept,
-        zeros: zeros,
-    }
+    Constant { key: kept, zeros }
 }
 
 // The name of the constant with a key.
@@ -51,5 +48,5 @@ pub fn constant(key: u64) -> Constant
     if is_numeral(key) {
         return without_zeros(key);
     }
-    Constant { key: key, zeros: 0 }
+    Constant { key, zeros: 0 }
 }
