@@ -121,7 +121,7 @@ pub fn split(classes: &[Class], s: &[u8], at: usize) -> Fields
     loop {
         let found = next_field(classes, s, start, limit);
         let end = found.end;
-        if matches!(found.stop, Class::Other) {
+        if found.stop.is_other() {
             return Fields {
                 faulty: true,
                 end,
@@ -132,7 +132,7 @@ pub fn split(classes: &[Class], s: &[u8], at: usize) -> Fields
         }
         note(&mut keys, &mut starts, count, found.key, start);
         count += 1;
-        if matches!(found.stop, Class::LineFeed) {
+        if found.stop.is_feed() {
             return Fields {
                 faulty: end == at,
                 end,

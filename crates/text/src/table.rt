@@ -1,5 +1,6 @@
 // The constant table of the 256 classes.
-ghost use Rattle.std.specs.Prelude.{◌≡◌, Bool, leb};
+ghost use Rattle.std.specs.Prelude.{◌≡◌, ◌↔◌, IsTrue, leb};
+ghost use Rattle.text.specs.declared.table.Class.TheVariants.{LineFeed, Other};
 ghost use Rattle.text.specs.Bytes.{class_of, class_number};
 ghost use Rattle.text.specs.Cursors.{class_table};
 
@@ -20,6 +21,20 @@ impl Class {
         ensures { result ≡ leb (class_number self) 2 }
     {
         matches!(self, Class::Small | Class::Capital | Class::Digit)
+    }
+
+    // Whether a byte of this class may stand nowhere in a line.
+    pub fn is_other(self) -> bool
+        ensures { IsTrue result ↔ (self ≡ Other) }
+    {
+        matches!(self, Class::Other)
+    }
+
+    // Whether it is the line feed's class.
+    pub fn is_feed(self) -> bool
+        ensures { IsTrue result ↔ (self ≡ LineFeed) }
+    {
+        matches!(self, Class::LineFeed)
     }
 }
 
