@@ -1,6 +1,6 @@
 -- `is_wanted` meets its contract: the symbol, the first term and the second.
 -- Assumes nothing.
-use Rattle.std.proofs.Common.{◌≡◌, true, false, ◌∙◌, sym, ne_eqb}
+use Rattle.std.proofs.Common.{◌∙◌, sym, ne_eqb}
 use Rattle.fitting.proofs.WantedLaws.{wanted-other, wanted-first, wanted-second, no_answer}
 use Rattle.fitting.proofs.matching.is_wanted.Goals as goal
 use Rattle.fitting.proofs.matching.is_wanted.Goals.{then-symbol-cells, else-symbol-cells}
