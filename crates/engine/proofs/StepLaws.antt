@@ -5,6 +5,7 @@ use native.Mathlib.Omega.{arith}
 use mathlib.Core.Bool.{Bool, true, false}
 use mathlib.Core.List.{List, []}
 use mathlib.Core.Option.{some}
+use Rattle.std.specs.Prelude.{Some, None}
 use mathlib.Core.Path.{◌≡◌, refl, ap, sym}
 use lib.ListN.{length, get_or, take, drop, length-drop}
 use lib.Seq.{length-take-le}
@@ -62,32 +63,35 @@ module _ (rules : List ℕ) (n : ℕ) (cells : List ℕ) (m next : ℕ) (s : Liv
       (drop (5 * skip) g)
   step-there g skip count e k = omega (arith, k.within, s.space, length-drop (5 * skip) g)
 
-  module _ (f : Bool) (i : ℕ) (ps b : List ℕ) (chosen : Chosen rules n (take (5 * m) cells) f i ps b) where
+  -- where no rule fires, nothing is skipped
+  pub step-skips : Skips m 0 m
+  step-skips = record { few = omega arith; within = omega arith }
+
+  -- and nothing is kept
+  pub step-keeps-none :
+      (known last table : List ℕ) (gone : ℕ) (cells' : List ℕ) (alive : Bool) (count : ℕ)
+      → Keeps rules n known last table gone cells' false alive count
+  step-keeps-none known last table gone cells' alive count = record { knows = λ y. no_way y; tallies = λ y. no_way y }
+
+  module _ (ps b : List ℕ) where
     -- no rule fits
-    pub step-rests : (bound : List ℕ) → f ≡ false → Stepped rules n bound cells m next bound cells false true m
-    unfolding choice_of found_of advance store_of
-    step-rests bound z =
+    pub step-rests :
+        Chosen rules n (take (5 * m) cells) None ps b → (bound : List ℕ)
+        → Stepped rules n bound cells m next bound cells false true m
+    unfolding choice_of advance store_of
+    step-rests chosen bound =
         record {
-          rests = λ y. (refl, refl, λ names. rw (← chosen.same names, z));
+          rests = λ y. (refl, refl, λ names. rw (← chosen.same names));
           moves = λ y. no_way y;
           lighter = λ y. no_way y;
           low = λ y. no_way y;
           few = omega arith;
         }
 
-    -- and nothing is skipped
-    pub step-skips : Skips m 0 m
-    step-skips = record { few = omega arith; within = omega arith }
-
-    -- and nothing is kept
-    pub step-keeps-none :
-        (known last table : List ℕ) (gone : ℕ) (cells' : List ℕ) (alive : Bool) (count : ℕ)
-        → Keeps rules n known last table gone cells' false alive count
-    step-keeps-none known last table gone cells' alive count = record { knows = λ y. no_way y; tallies = λ y. no_way y }
-
-    module _ (z : f ≡ true) where
+    -- a rule fits
+    module _ (i : ℕ) (chosen : Chosen rules n (take (5 * m) cells) (Some i) ps b) where
       pub step_row : 64 * i + 64 ≤ length rules
-      step_row = omega (arith, chosen.within z, s.table.size)
+      step_row = omega (arith, chosen.within, s.table.size)
 
       abbrev row : List ℕ
       row = row_of rules i
@@ -95,13 +99,13 @@ module _ (rules : List ℕ) (n : ℕ) (cells : List ℕ) (m next : ℕ) (s : Liv
       -- the rule matches where it fires
       fits : match_at (rule_of_row [] row).heads (take (get_or row 3 0) ps) (store_of cells m) [] unassigned ≡ some (assigned b)
       unfolding found_of store_of
-      fits = find-sound (rule_of_row [] row).heads (cell_constraints (take (5 * m) cells)) _ (sym (chosen.fits z))
+      fits = find-sound (rule_of_row [] row).heads (cell_constraints (take (5 * m) cells)) _ (sym (chosen.fits))
 
       -- its heads are no more than the constraints
       heads-there : get_or row 3 0 ≤ m
       unfolding rule_of_row store_of
       heads-there =
-          let given : Row row = s.table.rows i (chosen.within z) in
+          let given : Row row = s.table.rows i (chosen.within) in
           omega (
             arith,
             match-few (rule_of_row [] row).heads (take (get_or row 3 0) ps) (store_of cells m) (assigned b) fits,
@@ -115,7 +119,7 @@ module _ (rules : List ℕ) (n : ℕ) (cells : List ℕ) (m next : ℕ) (s : Liv
       unfolding store_of
       step-fires = (
         record {
-          given = rw (row-cells i) (s.table.rows i (chosen.within z));
+          given = rw (row-cells i) (s.table.rows i (chosen.within));
           positions-size = chosen.positions-size;
           bindings-size = chosen.bindings-size;
           room = s.room;
@@ -135,7 +139,7 @@ module _ (rules : List ℕ) (n : ℕ) (cells : List ℕ) (m next : ℕ) (s : Liv
             pub taken-few : taken ≤ 4
             taken-few =
                 let o : taken ≡ get_or row 3 0 - get_or row 1 0 = rw (row-cells i) at e in
-                omega (arith, (s.table.rows i (chosen.within z)).heads-few)
+                omega (arith, (s.table.rows i (chosen.within)).heads-few)
 
             -- what remembering it asks
             pub step-remembers :
@@ -143,7 +147,7 @@ module _ (rules : List ℕ) (n : ℕ) (cells : List ℕ) (m next : ℕ) (s : Liv
                 → Exchangeable (lent_row rules i) table × (gone + taken + count ≤ 65000)
             unfolding store_of
             step-remembers table t = (
-              rw (row-cells i) (row-exchangeable row table (store_of cells m) (s.table.rows i (chosen.within z)) t
+              rw (row-cells i) (row-exchangeable row table (store_of cells m) (s.table.rows i (chosen.within)) t
                   (omega (arith, constraints-length m (take (5 * m) cells) (sym step-lent)))),
               omega (arith, done.few, taken-few),
             )
@@ -166,7 +170,7 @@ module _ (rules : List ℕ) (n : ℕ) (cells : List ℕ) (m next : ℕ) (s : Liv
                 rw (row-cells i) at remembered in
                 record {
                   knows = λ x y. knows-fired row ps b next bound cells m bound' cells' count (rw y at done)
-                      (s.table.rows i (chosen.within z)) chosen.positions-size there gone taken o last last' r.marks
+                      (s.table.rows i (chosen.within)) chosen.positions-size there gone taken o last last' r.marks
                       rules n known known' ks r.equated r.plain;
                   tallies = λ x y. tallied-fired row ps b next bound cells m bound' cells' count (rw y at done) fits
                       table table' t size r.exchanges;
@@ -178,12 +182,12 @@ module _ (rules : List ℕ) (n : ℕ) (cells : List ℕ) (m next : ℕ) (s : Liv
         step-moves =
             record {
               rests = λ y. no_way_back y;
-              moves = λ y names. rw (← chosen.same names, z) (ap some (sym (done.same (name_of names (first_rule + i)))));
+              moves = λ y names. rw (← chosen.same names) (ap some (sym (done.same (name_of names (first_rule + i)))));
               lighter = λ y w lw.
                   fired-lighter row ps b next bound cells m bound' cells' alive count done w fits
-                  (lw.falls i (chosen.within z));
+                  (lw.falls i (chosen.within));
               low = λ y.
-                  fired-low row ps b next bound cells m bound' cells' alive count done (s.table.rows i (chosen.within z))
+                  fired-low row ps b next bound cells m bound' cells' alive count done (s.table.rows i (chosen.within))
                   s.low;
               few = done.few;
             }

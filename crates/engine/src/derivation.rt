@@ -66,7 +66,7 @@ pub fn advance(
         &mut bindings,
         tally,
     );
-    if !choice.found {
+    let Some(number) = choice else {
         return Forward {
             fired: false,
             alive: true,
@@ -74,8 +74,7 @@ pub fn advance(
             skip: 0,
             gone,
         };
-    }
-    let number = choice.number;
+    };
     let a = ROW_SIZE * number;
     let b = a + ROW_SIZE;
     let row = &rules[a..b];

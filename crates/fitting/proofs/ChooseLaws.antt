@@ -10,6 +10,7 @@ use mathlib.Core.Bool.{Bool, true, false, cond}
 use mathlib.Core.List.{List, [], ◌∷◌}
 use mathlib.Core.Logic.{⊎_elim}
 use mathlib.Core.Option.{none, some}
+use Rattle.std.specs.Prelude.{Some, None}
 use mathlib.Core.Path.{◌≡◌, refl, sym, fun_ext, ◌∙◌}
 use lib.Dec.{eqb}
 use lib.ListN.{length, get_or, set, take, drop, replicate, length-set, length-append, length-drop, drop_of_length-le}
@@ -169,14 +170,14 @@ choosing-start rules n cells = record { within = omega arith; same = λ names. r
 module _ (rules : List ℕ) (n : ℕ) (cells : List ℕ) (i : ℕ) (given : Table rules n) (w : Choosing rules n cells i) where
   -- no rule is left
   pub choosing-none :
-      n ≤ i → (ps b : List ℕ) → length ps ≡ 4 → length b ≡ 26 → Chosen rules n cells false n ps b
-  unfolding choice_of found_of rules_of choose_from
+      n ≤ i → (ps b : List ℕ) → length ps ≡ 4 → length b ≡ 26 → Chosen rules n cells None ps b
+  unfolding choice_of rules_of choose_from
   choosing-none l ps b four letters =
       record {
         same = λ names. rw (drop_of_length-le (tabled (rule_of names rules) n) {i = i}
             (omega (arith, length-tabled (rule_of names rules) n))) at (w.same names);
-        within = λ (z : false ≡ true). let y : ◌≡◌ {A = ℕ} 0 1 = cc in absurd (omega arith);
-        fits = λ (z : false ≡ true). let y : ◌≡◌ {A = ℕ} 0 1 = cc in absurd (omega arith);
+        within = tt;
+        fits = tt;
         positions-size = four;
         bindings-size = letters;
       }
@@ -196,21 +197,21 @@ module _ (rules : List ℕ) (n : ℕ) (cells : List ℕ) (i : ℕ) (given : Tabl
         (t : Located f (get_or (lent_row rules i) 3 0) ps b
         (find (rule_of_row [] (lent_row rules i)).heads (cell_constraints cells) [] unassigned)) where
       answered :
-          (names : List ℕ)
-          → found_of f (get_or (row_of rules i) 3 0) ps b ≡ find (rule_of names rules i).heads
+          (names : List ℕ) → f ≡ true
+          → found_of true (get_or (row_of rules i) 3 0) ps b ≡ find (rule_of names rules i).heads
           (cell_constraints cells) [] unassigned
       unfolding rule_of rule_of_row
-      answered names = rw (row-cells i) at t.same
+      answered names z = rw (row-cells i, z) at t.same
 
       -- the choice, by whether the rule of number i fits
       tried :
-          (names : List ℕ)
-          → or_else (choice_of names rules f i ps b) (choose_from (suc i) (drop (suc i) (rules_of names rules n))
+          (names : List ℕ) → f ≡ true
+          → or_else (choice_of names rules (Some i) ps b) (choose_from (suc i) (drop (suc i) (rules_of names rules n))
           (cell_constraints cells))
           ≡ choose (rules_of names rules n) (cell_constraints cells)
       unfolding choice_of rules_of choose_from
-      tried names =
-          rw (answered names) (rw (drop-tabled (rule_of names rules) n i l) at (w.same names))
+      tried names z =
+          rw (answered names z) (rw (drop-tabled (rule_of names rules) n i l) at (w.same names))
 
       -- what `leading` asks
       pub choosing-leads : Row (lent_row rules i) × (length ps ≡ 4)
@@ -230,13 +231,13 @@ module _ (rules : List ℕ) (n : ℕ) (cells : List ℕ) (i : ℕ) (given : Tabl
           )
 
       -- it does
-      choosing-found : f ≡ true → Chosen rules n cells true i ps b
+      choosing-found : f ≡ true → Chosen rules n cells (Some i) ps b
       unfolding choice_of found_of
       choosing-found z =
           record {
-            same = λ names. rw z at (tried names);
-            within = λ y. l;
-            fits = λ y. rw (row-cells i, z) at t.same;
+            same = λ names. tried names z;
+            within = l;
+            fits = rw (row-cells i, z) at t.same;
             positions-size = t.positions-size;
             bindings-size = t.bindings-size;
           }
@@ -337,7 +338,7 @@ module _ (rules : List ℕ) (n : ℕ) (start last : List ℕ) (gone : ℕ) (cell
     pub noting-found :
         f ≡ true → (first : ℕ) → first ≡ cond (eqb (get_or (lent_row rules i) 3 0) 0) 0 (get_or ps 0 0) → (known' : List ℕ)
         → known' ≡ set known i (8192 + gone + first)
-        → Chosen rules n cells true i ps b × Knows rules n known' last gone (cell_constraints cells)
+        → Chosen rules n cells (Some i) ps b × Knows rules n known' last gone (cell_constraints cells)
     noting-found z first h known' g =
         let k = choosing-first rules n cells i given w.choosing l f ps b t z first h in (
           choosing-found rules n cells i given w.choosing l f ps b t z,

@@ -12,7 +12,7 @@ ghost use Rattle.tallies.specs.Symbols.{Tallied};
 ghost use Rattle.fitting.specs.Known.{Barren, Knows, may_fit};
 
 use crate::known::{LOOSE, Stage, known_at, note, prefix};
-use crate::matching::{fit_free, is_wanted, wanted};
+use crate::matching::{fit_free, is_among, is_wanted, wanted};
 use tables::layout::{CONSTRAINT_SIZE, FIRST_HEAD, HEADS_CELL, ROW_SIZE};
 use tables::wide;
 use tallies::coming::is_concerned;
@@ -23,14 +23,7 @@ pub fn is_chosen(chosen: [usize; 4], h: usize, p: usize) -> bool
     requires { (h ≤ 4) × (length chosen ≡ 4) }
     ensures { result ≡ has p (take h chosen) }
 {
-    let mut i = 0;
-    while i < h {
-        if p == chosen[i] {
-            return true;
-        }
-        i += 1;
-    }
-    false
+    is_among(&chosen[..h], p)
 }
 
 // Where the search for a head starts: for the last one, behind the constraints among which nothing fits.
@@ -47,17 +40,16 @@ pub fn still(from: usize, p: usize) -> usize
     if p < from { from } else { 0 }
 }
 
-// The first position from p on whose constraint is wanted, or m.
+// The first position from p on whose constraint is wanted, or m: `find` goes on from there, and its loop asks `p < m` of either
+// kind of answer at once, so that an Option would be a test more.
 pub fn seek(cells: &[u16], p: usize, m: usize, symbol: u16, one: u16, two: u16) -> usize
     requires { (p ≤ m) × (length cells.now ≡ constraint_size * m) }
     ensures { FirstWanted symbol one two cells.now p m result }
 {
-    let mut q = p;
-    while q < m {
+    for q in p..m {
         if is_wanted(cells, q, symbol, one, two) {
             return q;
         }
-        q += 1;
     }
     m
 }
@@ -169,24 +161,11 @@ pub fn may_fit(row: &[u16], last: &[u16], tally: &[u16], v: usize, whole: usize)
     let n = wide(row[HEADS_CELL]);
     let e = FIRST_HEAD + CONSTRAINT_SIZE * n;
     let heads = &row[FIRST_HEAD..e];
-    if is_short(heads, n, tally) {
-        return false;
-    }
-    if v < LOOSE {
-        return is_concerned(heads, last, v, whole);
-    }
-    true
+    !is_short(heads, n, tally) && (LOOSE <= v || is_concerned(heads, last, v, whole))
 }
 
-// Whether a rule fits, and its number.
-#[derive(Drop)]
-pub struct Choice {
-    pub found: bool,
-    pub number: usize,
-}
-
-// The first rule that fits, with its positions and bindings; what is known of it and of the rules before it is noted. The tally
-// equals a fresh count of the constraints.
+// The number of the first rule that fits, with its positions and bindings; what is known of it and of the rules before it is
+// noted. The tally equals a fresh count of the constraints.
 pub fn choose(
     rules: &[u16],
     known: &mut [u16],
@@ -196,14 +175,13 @@ pub fn choose(
     positions: &mut [usize],
     bindings: &mut [u16; 26],
     tally: &[u16],
-) -> Choice
+) -> Option<usize>
     requires { Table rules.now stage.rules × (length cells.now ≡ constraint_size * stage.count)
         × (stage.gone + stage.count ≤ 6000)
         × Knows rules.now stage.rules known.old last.now stage.gone (cell_constraints cells.now)
         × (length positions.old ≡ 4) × (length bindings.old ≡ 26)
         × Tallied tally.now (cell_constraints cells.now) }
-    ensures { Chosen rules.now stage.rules cells.now result.found result.number
-        positions.new bindings.new
+    ensures { Chosen rules.now stage.rules cells.now result positions.new bindings.new
         × Knows rules.now stage.rules known.new last.now stage.gone
         (cell_constraints cells.now) }
 {
@@ -211,30 +189,20 @@ pub fn choose(
     let m = stage.count;
     let gone = stage.gone;
     let whole = gone + m;
-    let mut i = 0;
-    while i < n {
-        let q = i;
-        let v = known_at(known, q);
-        i += 1;
+    for i in 0..n {
+        let v = known_at(known, i);
         if v != whole {
-            let a = ROW_SIZE * q;
+            let a = ROW_SIZE * i;
             let e = a + ROW_SIZE;
-            if may_fit(&rules[a..e], last, tally, v, whole) {
-                if find_rule(&rules[a..e], cells, m, prefix(v, gone), positions, bindings) {
-                    note(known, q, LOOSE + gone + leading(&rules[a..e], positions));
-                    return Choice {
-                        found: true,
-                        number: q,
-                    };
-                }
-                note(known, q, whole);
-            } else {
-                note(known, q, whole);
+            let row = &rules[a..e];
+            if may_fit(row, last, tally, v, whole)
+                && find_rule(row, cells, m, prefix(v, gone), positions, bindings)
+            {
+                note(known, i, LOOSE + gone + leading(row, positions));
+                return Some(i);
             }
+            note(known, i, whole);
         }
     }
-    Choice {
-        found: false,
-        number: n,
-    }
+    None
 }

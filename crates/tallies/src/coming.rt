@@ -18,6 +18,7 @@ pub fn last_at(last: &[u16], symbol: u16, whole: usize) -> usize
 pub fn is_concerned(heads: &[u16], last: &[u16], v: usize, whole: usize) -> bool
     ensures { result ≡ is_concerned last.now whole v (cell_constraints heads.now) }
 {
+    // A cursor that goes by five: no count is at hand, and of `5 * i + 5 <= len` a compiler makes a division.
     let mut at = 0;
     while at + CONSTRAINT_SIZE <= heads.len() {
         if v < last_at(last, heads[at], whole) {
@@ -34,11 +35,9 @@ pub fn mark(body: &[u16], n: usize, last: &mut [u16], whole: usize, tally: &mut 
     ensures { Marked last.old (cell_constraints body.now) whole last.new
         × Raised (cell_constraints body.now) tally.old tally.new }
 {
-    let mut i = 0;
-    while i < n {
+    for i in 0..n {
         let symbol = wide(body[CONSTRAINT_SIZE * i]);
-        tally[symbol] = tally[symbol] + 1;
-        i += 1;
+        tally[symbol] += 1;
         if symbol < last.len() {
             last[symbol] = whole as u16;
         }

@@ -25,11 +25,8 @@ pub fn count_symbol(symbol: u16, cells: &[u16], n: usize) -> usize
     ensures { result ≡ tally_of (cell_constraints cells.now) symbol }
 {
     let mut k = 0;
-    let mut i = 0;
-    while i < n {
-        let other = cells[CONSTRAINT_SIZE * i];
-        i += 1;
-        if other == symbol {
+    for i in 0..n {
+        if cells[CONSTRAINT_SIZE * i] == symbol {
             k += 1;
         }
     }
@@ -42,18 +39,15 @@ pub fn is_short(heads: &[u16], n: usize, tally: &[u16]) -> bool
     requires { length heads.now ≡ constraint_size * n }
     ensures { result ≡ is_short (tallied tally.now) (cell_constraints heads.now) }
 {
-    let mut i = 0;
-    while i < n {
+    for i in 0..n {
         let e = CONSTRAINT_SIZE * i;
         let symbol = heads[e];
         let there = tally_at(tally, symbol);
-        let earlier = i;
-        i += 1;
         if there == 0 {
             return true;
         }
-        if there <= earlier {
-            let wanted = 1 + count_symbol(symbol, &heads[..e], earlier);
+        if there <= i {
+            let wanted = 1 + count_symbol(symbol, &heads[..e], i);
             if there < wanted {
                 return true;
             }
@@ -66,7 +60,7 @@ pub fn is_short(heads: &[u16], n: usize, tally: &[u16]) -> bool
 pub fn one_less(x: u16) -> u16
     ensures { result ≡ x - 1 }
 {
-    if x == 0 { 0 } else { x - 1 }
+    x.saturating_sub(1)
 }
 
 // Raises the tally by n constraints, which enter or are appended.
@@ -74,11 +68,9 @@ pub fn raise(cells: &[u16], n: usize, tally: &mut [u16])
     requires { Raisable cells.now n tally.old }
     ensures { Raised (cell_constraints cells.now) tally.old tally.new }
 {
-    let mut i = 0;
-    while i < n {
+    for i in 0..n {
         let s = wide(cells[CONSTRAINT_SIZE * i]);
-        tally[s] = tally[s] + 1;
-        i += 1;
+        tally[s] += 1;
     }
 }
 
@@ -87,10 +79,8 @@ pub fn lower(cells: &[u16], n: usize, tally: &mut [u16])
     requires { length cells.now ≡ constraint_size * n }
     ensures { Lowered (cell_constraints cells.now) tally.old tally.new }
 {
-    let mut i = 0;
-    while i < n {
+    for i in 0..n {
         let s = wide(cells[CONSTRAINT_SIZE * i]);
-        i += 1;
         if s < tally.len() {
             tally[s] = one_less(tally[s]);
         }

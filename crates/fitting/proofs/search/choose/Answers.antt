@@ -1,10 +1,11 @@
 -- `choose` meets its contract: the rules from i on give the choice among all of them, and what is known stays true.
 -- Assumes nothing.
-use mathlib.Core.Path.{sym, ◌∙◌}
-use native.Mathlib.Omega.{arith}
+use Rattle.std.proofs.Common.{◌≡◌, ◌+◌, ◌∙◌, ap, length, set, arith}
 use Rattle.fitting.proofs.ChooseLaws.{noting-start, noting-look, noting-row, noting-passed, noting-impossible}
 use Rattle.fitting.proofs.ChooseLaws.{noting-next, noting-found, noting-room, choosing-none, choosing-leads}
 use Rattle.fitting.proofs.search.choose.Goals as goal
+use Rattle.fitting.proofs.search.choose.Goals.{then-v-whole+else-may_fit, else-v-whole}
+use Rattle.fitting.proofs.search.choose.Goals.{else-may_fit-via-then-may_fit+else-find_rule, else-may_fit-via-else-may_fit}
 
 pub returns : goal.returns
 returns c = (
@@ -55,40 +56,31 @@ returns-then-find_rule c =
     c.loop-i-test.true _ _ _
     c.find_rule.ensures c.if-find_rule.true _ c.leading.ensures _ c.note.ensures
 
-pub loop-i-preserved-then-may_fit : goal.loop-i-preserved-then-may_fit
-loop-i-preserved-then-may_fit c =
-    let located = c.find_rule.ensures in (
-      noting-next _ _ _ _ _ _ _ _ _ c.requires.0 c.requires.1 c.requires.2 c.loop-i.invariant.0
-          c.loop-i-test.true _ _ _ located c.if-find_rule.false _ c.note-then-may_fit.ensures,
-      located.positions-size,
-      located.bindings-size,
-    )
-
-pub loop-i-preserved-else-may_fit : goal.loop-i-preserved-else-may_fit
-loop-i-preserved-else-may_fit c = (
-  noting-impossible _ _ _ _ _ _ _ _ _ c.requires.0 c.requires.1 c.requires.2 c.loop-i.invariant.0
-      c.loop-i-test.true _ c.known_at-v.ensures _ c.requires.6 _
-      c.may_fit.ensures c.if-may_fit.false _ c.note-else-may_fit.ensures,
-  c.loop-i.invariant.1,
-  c.loop-i.invariant.2,
-)
-
 pub loop-i-preserved : goal.loop-i-preserved
-loop-i-preserved c = (
-  noting-passed _ _ _ _ _ _ _ _ _ c.requires.0 c.requires.1 c.requires.2 c.loop-i.invariant.0
-      c.loop-i-test.true _
-      c.known_at-v.ensures c.if-v-whole.false,
-  c.loop-i.invariant.1,
-  c.loop-i.invariant.2,
-)
-
-pub shape_of-positions-then-find_rule : goal.shape_of-positions-then-find_rule
-shape_of-positions-then-find_rule c =
-    c.find_rule.ensures.positions-size ∙ sym c.requires.4
-
-pub shape_of-known : goal.shape_of-known
-shape_of-known c = c.loop-i.invariant.0.size
-
-pub shape_of-positions : goal.shape_of-positions
-shape_of-positions c =
-    c.loop-i.invariant.1 ∙ sym c.requires.4
+loop-i-preserved c =
+    elim c.if-v-whole.branch [
+      | then-v-whole+else-may_fit w ↦
+          let noted : c.if-v-whole.known ≡ set c.loop-i.known c.loop-i.i (c.args.stage.gone + c.args.stage.count) =
+          w.known-is ∙ w.note-then-v-whole.ensures in
+          elim w.else-may_fit.branch [
+            | else-may_fit-via-then-may_fit+else-find_rule v ↦ (
+              noting-next _ _ _ _ _ _ _ _ _ c.requires.0 c.requires.1 c.requires.2 c.loop-i.invariant.0
+                  c.loop-i-test.true _ _ _ v.find_rule.ensures v.if-find_rule.false _ noted,
+              ap length (w.positions-is ∙ v.positions-is) ∙ v.find_rule.ensures.positions-size,
+              ap length (w.bindings-is ∙ v.bindings-is) ∙ v.find_rule.ensures.bindings-size,
+            )
+            | else-may_fit-via-else-may_fit v ↦ (
+              noting-impossible _ _ _ _ _ _ _ _ _ c.requires.0 c.requires.1 c.requires.2 c.loop-i.invariant.0
+                  c.loop-i-test.true _ c.known_at-v.ensures _ c.requires.6 _
+                  w.may_fit.ensures v.if-may_fit.false _ noted,
+              ap length (w.positions-is ∙ v.positions-is) ∙ c.loop-i.invariant.1,
+              ap length (w.bindings-is ∙ v.bindings-is) ∙ c.loop-i.invariant.2,
+            )
+          ]
+      | else-v-whole w ↦ (
+        rw w.known-is (noting-passed _ _ _ _ _ _ _ _ _ c.requires.0 c.requires.1 c.requires.2 c.loop-i.invariant.0
+            c.loop-i-test.true _ c.known_at-v.ensures w.if-v-whole.false),
+        ap length w.positions-is ∙ c.loop-i.invariant.1,
+        ap length w.bindings-is ∙ c.loop-i.invariant.2,
+      )
+    ]

@@ -1,11 +1,7 @@
 -- `seek` meets its contract: no constraint from p up to q is wanted.
 -- Assumes nothing.
-use Prim.Native.Nat.{◌-◌}
 use Rattle.fitting.specs.Cells.{FirstWanted}
 use Rattle.fitting.proofs.search.seek.Given as goal
 
 abbrev pub invariant-loop-q : goal.invariant-loop-q
 invariant-loop-q l = FirstWanted l.symbol l.one l.two l.cells l.p l.q l.q
-
-abbrev pub decreases-loop-q : goal.decreases-loop-q
-decreases-loop-q l = l.m - l.q

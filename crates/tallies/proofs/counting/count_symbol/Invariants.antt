@@ -1,11 +1,7 @@
 -- `count_symbol` meets its contract: k of the first i constraints have the symbol.
 -- Assumes nothing.
-use Prim.Native.Nat.{◌-◌}
 use Rattle.tallies.proofs.CountLaws.{Counting}
 use Rattle.tallies.proofs.counting.count_symbol.Given as goal
 
 abbrev pub invariant-loop-i : goal.invariant-loop-i
 invariant-loop-i l = Counting l.symbol l.cells l.i l.k
-
-abbrev pub decreases-loop-i : goal.decreases-loop-i
-decreases-loop-i l = l.n - l.i

@@ -1,11 +1,7 @@
 -- `lower` meets its contract: the tally is lowered by the first i constraints.
 -- Assumes nothing.
-use Prim.Native.Nat.{◌-◌}
 use Rattle.tallies.proofs.CountLaws.{Lowering}
 use Rattle.tallies.proofs.counting.lower.Given as goal
 
 abbrev pub invariant-loop-i : goal.invariant-loop-i
 invariant-loop-i l = Lowering l.cells l.initial.tally l.tally l.i
-
-abbrev pub decreases-loop-i : goal.decreases-loop-i
-decreases-loop-i l = l.n - l.i

@@ -8,13 +8,6 @@ use Rattle.tallies.proofs.counting.raise.Goals as goal
 pub loop-i-init : goal.loop-i-init
 loop-i-init c = raising-start _ _
 
-pub offset_bounds-tally-s : goal.offset_bounds-tally-s
-offset_bounds-tally-s c =
-    omega (
-      arith,
-      raising-there _ _ _ _ c.loop-i.invariant _ c.requires c.loop-i-test.true _ c.wide-s.ensures.0,
-    )
-
 pub bounds-tally-s : goal.bounds-tally-s
 bounds-tally-s c =
     raising-there _ _ _ _ c.loop-i.invariant _ c.requires c.loop-i-test.true _ c.wide-s.ensures.0
@@ -34,9 +27,6 @@ pub loop-i-preserved : goal.loop-i-preserved
 loop-i-preserved c =
     raising-next _ _ _ _ c.loop-i.invariant _ c.requires c.loop-i-test.true _ c.wide-s.ensures.0
     _ refl
-
-pub shape_of-tally : goal.shape_of-tally
-shape_of-tally c = c.loop-i.invariant.size
 
 pub returns : goal.returns
 returns c =
