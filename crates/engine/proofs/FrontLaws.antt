@@ -1,19 +1,16 @@
 -- A state that begins behind the rows of constraints that were removed at the front.
 --   returned               all cells, after those from a place on were lent
 --   without-front          removing the first constraints
---   Leading                the loop of `is_front`
 --   front-completes        a firing that removes the first constraints
---   down-next, down-end    the loop of `move_down`
 --   placed-here            constraints with room behind them
 -- Assumes nothing.
 use Prim.Native.Nat.{ℕ, zero, suc, ◌+◌, ◌-◌, ◌*◌, ◌≤◌, ◌<◌}
 use native.Mathlib.Omega.{arith}
-use native.Mathlib.Numerals.{add-one}
 use mathlib.Core.Bool.{Bool, true, false}
 use mathlib.Core.List.{List, [], ◌∷◌, ◌++◌, append-nil}
 use mathlib.Core.Path.{◌≡◌, refl, ap, sym, ◌∙◌}
-use lib.ListN.{length, get_or, set, take, drop, length-append, length-drop, drop_of_length-le}
-use lib.Seq.{paste, take-paste, take-suc, take_all, drop_at, length-take-le}
+use lib.ListN.{length, get_or, take, drop, length-append, length-drop, drop_of_length-le}
+use lib.Seq.{drop_at, length-take-le}
 use Rattle.text.specs.Lists.{has, up_to}
 use Rattle.semantics.specs.Terms.{Constraint}
 use Rattle.semantics.specs.Firing.{without}
@@ -21,7 +18,6 @@ use Rattle.semantics.proofs.Appearing.{up_to-has, up_to-lacks}
 use Rattle.tables.specs.Cells.{cell_constraints}
 use Rattle.tables.proofs.CellLaws.{constraints-length}
 use Rattle.engine.specs.States.{Equated, Fires, Fired, Skips, Placed}
-use Rattle.engine.proofs.FireLaws.{Moving, moving-next, moving-end}
 use Rattle.fitting.proofs.PartLaws.{drop-constraints, behind, behind-all}
 use Rattle.engine.proofs.GapLaws.{drop-part}
 use Rattle.engine.proofs.RuleLaws.{removed_at, removed-size, removed-lent, fires-equated, left-equated, left-fired}
@@ -68,26 +64,6 @@ without-next (suc d) p ps (c ∷ cs) t f l =
 without-front : (n : ℕ) (cs : List Constraint) → n ≤ length cs → without 0 (up_to n) cs ≡ drop n cs
 without-front n cs l =
     without-next n 0 (up_to n) cs (λ q h. up_to-has n q (omega arith)) (λ q h. up_to-lacks n q (omega arith)) l
-
--- the first i positions are 0, 1 and on
-pub record Leading (positions : List ℕ) (i : ℕ) : Type 0 where
-  pub within : i ≤ length positions
-  pub same : take i positions ≡ up_to i
-
-pub leading-start : (positions : List ℕ) → Leading positions 0
-leading-start positions = record { within = omega arith; same = refl }
-
-module _ (positions : List ℕ) (i : ℕ) (w : Leading positions i) where
-  pub leading-next : i < length positions → get_or positions i 0 ≡ i → Leading positions (i + 1)
-  leading-next l e =
-      rw (add-one i) (record {
-        within = l;
-        same = rw (take-suc positions i 0 l, w.same, e);
-      })
-
-  pub leading_end : length positions ≤ i → true ≡ true → positions ≡ up_to (length positions)
-  leading_end l y =
-      let e : i ≡ length positions = omega (arith, w.within) in sym (take_all i positions l) ∙ w.same ∙ ap up_to e
 
 module _ (row positions bindings : List ℕ) (next : ℕ) (cells : List ℕ) (m : ℕ) (f : Fires row positions bindings next cells m)
     (there : get_or row 3 0 ≤ m) (h k : ℕ) (heads : h ≡ get_or row 3 0) (kept : k ≡ get_or row 1 0) where
@@ -151,21 +127,6 @@ pub none-skipped :
     → Fired row positions bindings next bound cells m b c alive n → Skips m 0 n
 none-skipped row positions bindings next bound cells m b c alive n done =
     record { few = omega arith; within = omega (arith, done.few) }
-
--- j cells of the constraints are copied to the front
-module _ (from count : ℕ) (start cells : List ℕ) (j : ℕ) (k : 5 * (from + count) ≤ length start)
-    (w : Moving (5 * from) 0 (5 * count) start cells j) where
-  pub down-next : j < 5 * count → Moving (5 * from) 0 (5 * count) start (set cells j (get_or cells (5 * from + j) 0)) (j + 1)
-  down-next l =
-      let e : 0 + j ≡ j = omega arith in
-      rw e at (moving-next (5 * from) 0 (5 * count) start cells j (omega arith) (omega arith) w l)
-
-  pub down-end : 5 * count ≤ j → take (5 * count) cells ≡ take (5 * count) (drop (5 * from) start)
-  down-end l =
-      let e : 5 * count ≡ 0 + 5 * count = omega arith in
-      ap (take (5 * count)) (moving-end (5 * from) 0 (5 * count) start cells j (omega arith) (omega arith) w l)
-      ∙ ap (λ (i : ℕ). take i (paste start 0 (drop (5 * from) start) (5 * count))) e
-      ∙ take-paste start 0 (drop (5 * from) start) (5 * count) (omega arith) (omega (arith, length-drop (5 * from) start))
 
 module _ (cells : List ℕ) (at count : ℕ) where
   -- there is room behind the constraints

@@ -37,7 +37,6 @@ pub record Matching (heads : List ℕ) (n : ℕ) (cells : List ℕ) (m : ℕ) (p
   pub few : n ≤ 4
   pub cells-size : length cells ≡ 5 * m
   pub positions-size : length positions ≡ 4
-  pub within : h ≤ n
   pub size : length bindings ≡ 26
   pub letters : every is_lettered (cell_constraints (drop (5 * h) heads)) ≡ true
   pub same :
@@ -57,7 +56,6 @@ matching-start row positions cells bindings m n r p k b e =
       few = omega (arith, r.heads-few);
       cells-size = k;
       positions-size = p;
-      within = omega arith;
       size = b;
       letters = rw here r.heads;
       same = rw (here, e);
@@ -156,7 +154,6 @@ module _ (heads : List ℕ) (n : ℕ) (cells : List ℕ) (m : ℕ) (positions bi
               few = w.few;
               cells-size = w.cells-size;
               positions-size = w.positions-size;
-              within = l;
               size = t.size;
               letters = every_rest is_lettered head (cell_constraints (drop (5 * suc h) heads)) (rw heads-here at w.letters);
               same = rw (take-suc positions h 0 (omega (arith, w.positions-size, w.few))) (rw (← t.same, z) at tried);

@@ -8,7 +8,7 @@ pub loop-top-init : goal.loop-top-init
 loop-top-init c = removing-start _ _ _ _ c.requires c.highest-top.ensures
 
 pub close_gap-requires : goal.close_gap-requires
-close_gap-requires c = removing-room _ _ _ _ _ _ c.loop-top.invariant c.loop-top-test.true
+close_gap-requires c = removing-room _ _ _ _ _ _ c.loop-top.invariant c.requires c.loop-top.auto.cells c.loop-top-test.true
 
 pub loop-top-smaller : goal.loop-top-smaller
 loop-top-smaller c = omega (arith, c.highest-top-in-loop-top.ensures.below)
@@ -16,8 +16,5 @@ loop-top-smaller c = omega (arith, c.highest-top-in-loop-top.ensures.below)
 pub loop-top-preserved : goal.loop-top-preserved
 loop-top-preserved c = search removing-next
 
-pub shape_of-cells : goal.shape_of-cells
-shape_of-cells c = c.loop-top.invariant.size
-
 pub returns : goal.returns
-returns c = removing-end _ _ _ _ _ _ c.loop-top.invariant c.loop-top-test.false
+returns c = removing-end _ _ _ _ _ _ c.loop-top.invariant c.requires c.loop-top.auto.cells c.loop-top-test.false
