@@ -37,9 +37,7 @@ pub fn copy_row(goal: &[u16], from: usize, cells: &mut [u16], to: usize)
 {
     let a = CONSTRAINT_SIZE * from;
     let b = CONSTRAINT_SIZE * to;
-    for j in 0..CONSTRAINT_SIZE {
-        cells[b + j] = goal[a + j];
-    }
+    cells[b..b + CONSTRAINT_SIZE].copy_from_slice(&goal[a..a + CONSTRAINT_SIZE]);
 }
 
 // The goal's constraints at none of the positions in front, in their order; answers how many of its m these are.
