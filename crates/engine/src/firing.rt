@@ -14,6 +14,7 @@ use tables::layout::{
 use tables::wide;
 
 // A cell of a rule's body: what the rule's variable is bound to, or a new variable.
+#[tactic(auto, unfolding(crate::specs::Cells::instance_cell))]
 pub fn instance(cell: u16, bindings: &[u16], next: u16) -> u16
     requires { (length bindings.now ≡ 26) × (next ≤ 65000) }
     ensures { result ≡ instance_cell next bindings.now cell }

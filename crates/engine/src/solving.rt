@@ -6,6 +6,7 @@ ghost use Rattle.engine.specs.States.{Merged, Solvable, Solved};
 use tables::layout::FIRST_VARIABLE;
 
 // A cell, with v replaced by t.
+#[tactic(auto, unfolding(crate::specs::Cells::swap))]
 pub fn swapped(v: u16, t: u16, cell: u16) -> u16
     ensures { result ≡ swap v t cell }
 {

@@ -3,10 +3,6 @@
 use Rattle.engine.proofs.SolveLaws.{solving-start, solving-end, solving-clash, solving-next}
 use Rattle.engine.proofs.solving.solve.Goals as goal
 
-pub loop-i-init : goal.loop-i-init
-loop-i-init c =
-    solving-start _ _ _ _ (c.requires)
-
 pub returns-then-not-unify : goal.returns-then-not-unify
 returns-then-not-unify c = search (solving-clash)
 
