@@ -1,6 +1,6 @@
 -- Firing on cells is firing on constraints: copying, removing and instantiating.
 -- Assumes nothing.
-use Prim.Native.Nat.{ℕ, ◌+◌, ◌-◌, ◌*◌, ◌≤◌, ◌<◌}
+use Prim.Native.Nat.{ℕ, ◌+◌, ◌-◌, ◌*◌, ◌≤◌}
 use native.Mathlib.Omega.{arith}
 use mathlib.Core.Bool.{true, false, cond}
 use mathlib.Core.List.{List, [], ◌∷◌, ◌++◌}
@@ -9,7 +9,7 @@ use mathlib.Core.Path.{◌≡◌, refl, ap, sym, ◌∙◌}
 use lib.Dec.{eqb, ltb}
 use lib.ListN.{length, get_or, take, drop}
 use lib.Seq.{paste, drop-paste, drop-drop}
-use borrow.Author.Tests.{ne_eqb, eqb-false, lt-ltb, le-ltb}
+use borrow.Author.Tests.{eqb-false, lt-ltb, le-ltb}
 use Rattle.text.specs.Lists.{onward}
 use Rattle.semantics.specs.Terms.{var, is_below, alphabet}
 use Rattle.semantics.specs.Firing.{instance}
@@ -59,28 +59,6 @@ instance-acts next bindings = record { low = λ x l. rw (lt-ltb x 256 l); used =
         rw (cell-high x h, le-ltb x 256 h, k) (letter-term x h (either (eqb (get_or bindings (x - 256) 0) 0))))
         (λ h. rw (lt-ltb x 256 h, cell-low x h))
         (le-or-lt 256 x)
-
-module _ (next : ℕ) (bindings : List ℕ) (x : ℕ) where
-  -- a constant
-  pub instance-low : x < 256 → x ≡ instance_cell next bindings x
-  unfolding instance_cell
-  instance-low h = rw (lt-ltb x 256 h)
-
-  module _ (h : 256 ≤ x) (w : ℕ) (e : w ≡ x - 256) where
-    -- a variable of no head
-    pub instance-new : w < 26 → get_or bindings w 0 ≡ 0 → next + x ≡ instance_cell next bindings x
-    unfolding instance_cell
-    instance-new l z = rw (le-ltb x 256 h, ← e, lt-ltb w 26 l, z)
-
-    -- a variable that is settled
-    pub instance-settled : w < 26 → (get_or bindings w 0 ≡ 0 → ⊥) → get_or bindings w 0 ≡ instance_cell next bindings x
-    unfolding instance_cell
-    instance-settled l z = rw (le-ltb x 256 h, ← e, lt-ltb w 26 l, ne_eqb (get_or bindings w 0) 0 z)
-
-    -- no cell of a rule
-    pub instance-other : 26 ≤ w → x ≡ instance_cell next bindings x
-    unfolding instance_cell
-    instance-other l = rw (le-ltb x 256 h, ← e, le-ltb w 26 l)
 
 -- constraints behind whole constraints
 pub constraints-append :

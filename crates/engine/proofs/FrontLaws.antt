@@ -2,7 +2,6 @@
 --   returned               all cells, after those from a place on were lent
 --   without-front          removing the first constraints
 --   front-completes        a firing that removes the first constraints
---   placed-here            constraints with room behind them
 -- Assumes nothing.
 use Prim.Native.Nat.{ℕ, zero, suc, ◌+◌, ◌-◌, ◌*◌, ◌≤◌, ◌<◌}
 use native.Mathlib.Omega.{arith}
@@ -17,7 +16,7 @@ use Rattle.semantics.specs.Firing.{without}
 use Rattle.semantics.proofs.Appearing.{up_to-has, up_to-lacks}
 use Rattle.tables.specs.Cells.{cell_constraints}
 use Rattle.tables.proofs.CellLaws.{constraints-length}
-use Rattle.engine.specs.States.{Equated, Fires, Fired, Skips, Placed}
+use Rattle.engine.specs.States.{Equated, Fires, Fired, Skips}
 use Rattle.fitting.proofs.PartLaws.{drop-constraints, behind, behind-all}
 use Rattle.engine.proofs.GapLaws.{drop-part}
 use Rattle.engine.proofs.RuleLaws.{removed_at, removed-size, removed-lent, fires-equated, left-equated, left-fired}
@@ -74,10 +73,6 @@ module _ (row positions bindings : List ℕ) (next : ℕ) (cells : List ℕ) (m 
   pub front-few : w ≤ m
   front-few = omega arith
 
-  -- no more heads are kept than there are
-  pub front_kept : k ≤ h
-  front_kept = omega (arith, f.given.kept-few)
-
   module _ (lent : behind k (take h positions) ≡ up_to (length (behind k (take h positions)))) where
     -- they are the first
     front : removed_at row positions ≡ up_to (h - k)
@@ -120,21 +115,3 @@ module _ (row positions bindings : List ℕ) (next : ℕ) (cells : List ℕ) (m 
 
       pub front-skips : Skips m w n
       front-skips = record { few = omega (arith, f.given.heads-few); within = omega (arith, done.few) }
-
--- a firing that moves the rest forward
-pub none-skipped :
-    (row positions bindings : List ℕ) (next : ℕ) (bound cells : List ℕ) (m : ℕ) (b c : List ℕ) (alive : Bool) (n : ℕ)
-    → Fired row positions bindings next bound cells m b c alive n → Skips m 0 n
-none-skipped row positions bindings next bound cells m b c alive n done =
-    record { few = omega arith; within = omega (arith, done.few) }
-
-module _ (cells : List ℕ) (at count : ℕ) where
-  -- there is room behind the constraints
-  pub placed-here : 5 * (at + count) + 30 ≤ length cells → Placed cells at count cells at
-  placed-here l = record { same = refl; space = l }
-
-  -- they are moved to the front
-  pub placed-down :
-      5 * count + 30 ≤ length cells → (c : List ℕ) → length c ≡ length cells
-      → take (5 * count) c ≡ take (5 * count) (drop (5 * at) cells) → Placed cells at count c 0
-  placed-down l c n e = record { same = e; space = omega arith }

@@ -20,7 +20,7 @@ use Rattle.semantics.proofs.Bools.{or_right}
 use Rattle.tables.specs.Cells.{cell_constraints}
 use Rattle.tables.proofs.CellLaws.{constraints-length}
 use Rattle.engine.specs.Cells.{closed_gap}
-use Rattle.engine.specs.States.{Highest, Removed}
+use Rattle.engine.specs.States.{Highest}
 use Rattle.tables.proofs.CellLaws.{constraints-take}
 use Rattle.fitting.proofs.PartLaws.{drop-constraints}
 use Rattle.engine.proofs.FireLaws.{constraints-append}
@@ -147,17 +147,7 @@ removing-start m ps start top e h =
 
 module _ (m : ℕ) (ps start cells : List ℕ) (k top : ℕ) (w : Removing m ps start cells k top)
     (e : length start ≡ 5 * m) (size : length cells ≡ length start) where
-  -- no position is left
-  pub removing-end : top ≤ 0 → Removed m ps start cells k
-  removing-end l =
-      let none_left : top ≡ 0 = omega arith in
-      record { few = w.few; same = rw none_left at w.same }
-
   module _ (l : 0 < top) where
-    -- what closing the gap asks
-    pub removing-room : (top - 1 < k) × (5 * k ≤ length cells)
-    removing-room = (omega (arith, w.fits), omega (arith, w.few))
-
     -- one constraint less
     pub removing-next :
         (c : List ℕ) (top' : ℕ) → c ≡ closed_gap k (top - 1) cells → Highest ps (top - 1) top'

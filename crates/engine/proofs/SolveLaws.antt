@@ -22,7 +22,7 @@ use Rattle.semantics.specs.Solving.{replace, unify, solve}
 use Rattle.semantics.specs.Firing.{settle}
 use Rattle.tables.specs.Cells.{cell_term, cell_constraints, cell_equations, is_low, state_of}
 use Rattle.engine.specs.Cells.{swap, clashes, merge}
-use Rattle.engine.specs.States.{Merged, Solvable, Solved}
+use Rattle.engine.specs.States.{Merged, Solved}
 use Rattle.text.proofs.Bools.{and-true}
 use Rattle.tables.proofs.CellLaws.{either, le-or-lt, cell-low, cell-high}
 use Rattle.tables.proofs.MapLaws.{Acts, anything, all-low, all-terms, all-equations, low-kept}
@@ -275,17 +275,6 @@ pub record Solving (equations bound cells : List ℕ) (n : ℕ) (equations' boun
       (next : ℕ)
       → settle (solve (cell_equations (drop (2 * i) equations')) (λ t. t)) next (map cell_term bound') (cell_constraints cells')
       ≡ settle (solve (cell_equations equations) (λ t. t)) next (map cell_term bound) (cell_constraints cells)
-
-pub solving-start :
-    (equations bound cells : List ℕ) (n : ℕ) → Solvable equations n cells
-    → Solving equations bound cells n equations bound cells 0
-solving-start equations bound cells n s =
-    record {
-      size = s.size;
-      used = s.used;
-      low = s.low;
-      same = λ next. refl;
-    }
 
 -- no term is replaced
 pub map-none : (cs : List Constraint) → map (map_terms (λ t. t)) cs ≡ cs

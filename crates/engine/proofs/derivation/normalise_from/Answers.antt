@@ -1,7 +1,6 @@
 -- `normalise_from` meets its contract: firings before a derivation only count.
 -- Assumes nothing.
-use native.Mathlib.Omega.{arith}
-use Rattle.engine.proofs.RunLaws.{ended-few, ended-later}
+use Rattle.engine.proofs.RunLaws.{ended-later}
 use Rattle.engine.proofs.derivation.normalise_from.Goals as goal
 
 pub returns : goal.returns

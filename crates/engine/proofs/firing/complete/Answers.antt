@@ -1,6 +1,6 @@
 -- `complete` meets its contract: append, solve.
 -- Assumes nothing.
-use Rattle.engine.proofs.RuleLaws.{complete-within, complete-lends, complete-equated, complete-done}
+use Rattle.engine.proofs.RuleLaws.{complete-equated, complete-done}
 use Rattle.engine.proofs.firing.complete.Goals as goal
 
 pub solve_rule-alive-requires : goal.solve_rule-alive-requires

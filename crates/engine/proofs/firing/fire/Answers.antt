@@ -1,7 +1,6 @@
 -- `fire` meets its contract: remove, and the rest of the firing.
 -- Assumes nothing.
-use native.Mathlib.Omega.{arith}
-use Rattle.engine.proofs.RuleLaws.{fire-lent, fire-removes, fire-placed, fire-kept, fire-completes, fire-done}
+use Rattle.engine.proofs.RuleLaws.{fire-completes, fire-done}
 use Rattle.engine.proofs.firing.fire.Goals as goal
 
 pub returns : goal.returns

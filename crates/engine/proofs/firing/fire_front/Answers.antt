@@ -1,8 +1,7 @@
 -- `fire_front` meets its contract: behind the first constraints, or as `fire` does.
 -- Assumes nothing.
 use native.Mathlib.Omega.{arith}
-use Rattle.engine.proofs.RuleLaws.{fire-placed, fire-kept}
-use Rattle.engine.proofs.FrontLaws.{front_kept, front-few, front-completes, front-done, front-skips, none-skipped}
+use Rattle.engine.proofs.FrontLaws.{front-completes, front-done, front-skips}
 use Rattle.engine.proofs.firing.fire_front.Goals as goal
 
 pub complete-after-requires : goal.complete-after-requires

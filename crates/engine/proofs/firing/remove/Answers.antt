@@ -1,7 +1,6 @@
 -- `remove` meets its contract: the constraints below the highest position that is left, and those from it on that stay.
 -- Assumes nothing.
-use native.Mathlib.Omega.{arith}
-use Rattle.engine.proofs.GapLaws.{removing-start, removing-end, removing-room, removing-next}
+use Rattle.engine.proofs.GapLaws.{removing-start, removing-next}
 use Rattle.engine.proofs.firing.remove.Goals as goal
 
 pub loop-top-init : goal.loop-top-init

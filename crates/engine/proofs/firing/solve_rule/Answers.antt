@@ -1,6 +1,6 @@
 -- `solve_rule` meets its contract: the rule's equations are instantiated in a local array, and solved.
 -- Assumes nothing.
-use Rattle.engine.proofs.RuleLaws.{equations-room, equations-asked, equations-prefix, equations-lent, equations-solvable}
+use Rattle.engine.proofs.RuleLaws.{equations-solvable}
 use Rattle.engine.proofs.RuleLaws.{rule-solved}
 use Rattle.engine.proofs.firing.solve_rule.Goals as goal
 

@@ -1,6 +1,6 @@
 -- `solve` meets its contract: the equations from number i on, in the state so far, give the answer for all of them.
 -- Assumes nothing.
-use Rattle.engine.proofs.SolveLaws.{solving-start, solving-end, solving-clash, solving-next}
+use Rattle.engine.proofs.SolveLaws.{solving-end, solving-clash, solving-next}
 use Rattle.engine.proofs.solving.solve.Goals as goal
 
 pub returns-then-not-unify : goal.returns-then-not-unify

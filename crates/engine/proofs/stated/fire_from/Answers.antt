@@ -1,6 +1,5 @@
 -- `fire_from` meets its contract: the match, and the firing under it, or the goal.
 -- Assumes nothing.
-use Rattle.engine.proofs.StatedLaws.{stated-asks, stated-room, stated-frees, stated-within, stated-lent, stated-kept}
 use Rattle.engine.proofs.StatedLaws.{stated-rests, stated-completes, stated-moves}
 use Rattle.engine.proofs.stated.fire_from.Goals as goal
 
