@@ -1,22 +1,21 @@
 -- Firing on cells is firing on constraints: copying, removing and instantiating.
 -- Assumes nothing.
-use Prim.Native.Nat.{ℕ, ◌+◌, ◌-◌, ◌*◌, ◌≤◌, ◌<◌}
+use Prim.Native.Nat.{ℕ, ◌+◌, ◌-◌, ◌*◌, ◌≤◌}
 use native.Mathlib.Omega.{arith}
-use native.Mathlib.Numerals.{add-one}
 use mathlib.Core.Bool.{true, false, cond}
 use mathlib.Core.List.{List, [], ◌∷◌, ◌++◌}
 use mathlib.Core.Logic.{◌⊎◌, inl, inr, ⊎_elim}
 use mathlib.Core.Path.{◌≡◌, refl, ap, sym, ◌∙◌}
 use lib.Dec.{eqb, ltb}
-use lib.ListN.{length, get_or, set, take, drop, length-set, length-drop}
-use lib.Seq.{paste, paste-zero, paste-suc, drop-paste, get_or-drop, drop-drop}
-use borrow.Author.Tests.{ne_eqb, eqb-false, lt-ltb, le-ltb}
+use lib.ListN.{length, get_or, take, drop}
+use lib.Seq.{paste, drop-paste, drop-drop}
+use borrow.Author.Tests.{eqb-false, lt-ltb, le-ltb}
 use Rattle.text.specs.Lists.{onward}
 use Rattle.semantics.specs.Terms.{var, is_below, alphabet}
 use Rattle.semantics.specs.Firing.{instance}
 use Rattle.tables.specs.Cells.{cell_term, cell_constraints, row_constraint}
 use Rattle.fitting.specs.Cells.{assigned}
-use Rattle.engine.specs.Cells.{instance_cell, moved_row}
+use Rattle.engine.specs.Cells.{instance_cell}
 use Rattle.tables.proofs.CellLaws.{either, le-or-lt, cell-low, cell-high}
 use Rattle.tables.proofs.MapLaws.{Acts}
 
@@ -60,67 +59,6 @@ instance-acts next bindings = record { low = λ x l. rw (lt-ltb x 256 l); used =
         rw (cell-high x h, le-ltb x 256 h, k) (letter-term x h (either (eqb (get_or bindings (x - 256) 0) 0))))
         (λ h. rw (lt-ltb x 256 h, cell-low x h))
         (le-or-lt 256 x)
-
-module _ (next : ℕ) (bindings : List ℕ) (x : ℕ) where
-  -- a constant
-  pub instance-low : x < 256 → x ≡ instance_cell next bindings x
-  unfolding instance_cell
-  instance-low h = rw (lt-ltb x 256 h)
-
-  module _ (h : 256 ≤ x) (w : ℕ) (e : w ≡ x - 256) where
-    -- a variable of no head
-    pub instance-new : w < 26 → get_or bindings w 0 ≡ 0 → next + x ≡ instance_cell next bindings x
-    unfolding instance_cell
-    instance-new l z = rw (le-ltb x 256 h, ← e, lt-ltb w 26 l, z)
-
-    -- a variable that is settled
-    pub instance-settled : w < 26 → (get_or bindings w 0 ≡ 0 → ⊥) → get_or bindings w 0 ≡ instance_cell next bindings x
-    unfolding instance_cell
-    instance-settled l z = rw (le-ltb x 256 h, ← e, lt-ltb w 26 l, ne_eqb (get_or bindings w 0) 0 z)
-
-    -- no cell of a rule
-    pub instance-other : 26 ≤ w → x ≡ instance_cell next bindings x
-    unfolding instance_cell
-    instance-other l = rw (le-ltb x 256 h, ← e, le-ltb w 26 l)
-
--- j of n cells are copied to an earlier place
-pub record Moving (from to n : ℕ) (start cells : List ℕ) (j : ℕ) : Type 0 where
-  pub within : j ≤ n
-  pub size : length cells ≡ length start
-  pub same : cells ≡ paste start to (drop from start) j
-
-pub moving-start : (from to n : ℕ) (start : List ℕ) → Moving from to n start start 0
-moving-start from to n start =
-    record { within = omega arith; size = refl; same = paste-zero start to (drop from start) }
-
-module _ (from to n : ℕ) (start cells : List ℕ) (j : ℕ) (o : to ≤ from) (k : from + n ≤ length start)
-    (w : Moving from to n start cells j) where
-  moving-read : j < n → get_or cells (from + j) 0 ≡ get_or (drop from start) j 0
-  moving-read l =
-      let s : to + j + (from - to) ≡ from + j = omega arith in
-      let below : drop (to + j) cells ≡ drop (to + j) start =
-      rw w.same (drop-paste start to (drop from start) j (omega arith) (omega (arith, length-drop from start))) in
-      rw (get_or-drop from start j 0)
-      (rw s at (sym (get_or-drop (to + j) cells (from - to) 0) ∙ ap (λ (r : List ℕ). get_or r (from - to) 0) below
-      ∙ get_or-drop (to + j) start (from - to) 0))
-
-  pub moving-next : j < n → Moving from to n start (set cells (to + j) (get_or cells (from + j) 0)) (j + 1)
-  moving-next l =
-      rw (add-one j) (record {
-        within = l;
-        size = length-set cells (to + j) (get_or cells (from + j) 0) ∙ w.size;
-        same = rw (moving-read l, w.same)
-            (paste-suc start to (drop from start) j 0 (omega arith) (omega (arith, length-drop from start)));
-      })
-
-  pub moving-end : n ≤ j → cells ≡ paste start to (drop from start) n
-  moving-end l = let e : j ≡ n = omega (arith, w.within) in rw e at w.same
-
--- a row is copied
-pub moved-row :
-    (from to : ℕ) (start cells : List ℕ) → cells ≡ paste start (5 * to) (drop (5 * from) start) 5 → cells ≡ moved_row from to start
-unfolding moved_row
-moved-row from to start cells e = e
 
 -- constraints behind whole constraints
 pub constraints-append :

@@ -1,27 +1,22 @@
 -- A state that begins behind the rows of constraints that were removed at the front.
 --   returned               all cells, after those from a place on were lent
 --   without-front          removing the first constraints
---   Leading                the loop of `is_front`
 --   front-completes        a firing that removes the first constraints
---   down-next, down-end    the loop of `move_down`
---   placed-here            constraints with room behind them
 -- Assumes nothing.
 use Prim.Native.Nat.{ℕ, zero, suc, ◌+◌, ◌-◌, ◌*◌, ◌≤◌, ◌<◌}
 use native.Mathlib.Omega.{arith}
-use native.Mathlib.Numerals.{add-one}
 use mathlib.Core.Bool.{Bool, true, false}
 use mathlib.Core.List.{List, [], ◌∷◌, ◌++◌, append-nil}
 use mathlib.Core.Path.{◌≡◌, refl, ap, sym, ◌∙◌}
-use lib.ListN.{length, get_or, set, take, drop, length-append, length-drop, drop_of_length-le}
-use lib.Seq.{paste, take-paste, take-suc, take_all, drop_at, length-take-le}
+use lib.ListN.{length, get_or, take, drop, length-append, length-drop, drop_of_length-le}
+use lib.Seq.{drop_at, length-take-le}
 use Rattle.text.specs.Lists.{has, up_to}
 use Rattle.semantics.specs.Terms.{Constraint}
 use Rattle.semantics.specs.Firing.{without}
 use Rattle.semantics.proofs.Appearing.{up_to-has, up_to-lacks}
 use Rattle.tables.specs.Cells.{cell_constraints}
 use Rattle.tables.proofs.CellLaws.{constraints-length}
-use Rattle.engine.specs.States.{Equated, Fires, Fired, Skips, Placed}
-use Rattle.engine.proofs.FireLaws.{Moving, moving-next, moving-end}
+use Rattle.engine.specs.States.{Equated, Fires, Fired, Skips}
 use Rattle.fitting.proofs.PartLaws.{drop-constraints, behind, behind-all}
 use Rattle.engine.proofs.GapLaws.{drop-part}
 use Rattle.engine.proofs.RuleLaws.{removed_at, removed-size, removed-lent, fires-equated, left-equated, left-fired}
@@ -69,26 +64,6 @@ without-front : (n : ℕ) (cs : List Constraint) → n ≤ length cs → without
 without-front n cs l =
     without-next n 0 (up_to n) cs (λ q h. up_to-has n q (omega arith)) (λ q h. up_to-lacks n q (omega arith)) l
 
--- the first i positions are 0, 1 and on
-pub record Leading (positions : List ℕ) (i : ℕ) : Type 0 where
-  pub within : i ≤ length positions
-  pub same : take i positions ≡ up_to i
-
-pub leading-start : (positions : List ℕ) → Leading positions 0
-leading-start positions = record { within = omega arith; same = refl }
-
-module _ (positions : List ℕ) (i : ℕ) (w : Leading positions i) where
-  pub leading-next : i < length positions → get_or positions i 0 ≡ i → Leading positions (i + 1)
-  leading-next l e =
-      rw (add-one i) (record {
-        within = l;
-        same = rw (take-suc positions i 0 l, w.same, e);
-      })
-
-  pub leading_end : length positions ≤ i → true ≡ true → positions ≡ up_to (length positions)
-  leading_end l y =
-      let e : i ≡ length positions = omega (arith, w.within) in sym (take_all i positions l) ∙ w.same ∙ ap up_to e
-
 module _ (row positions bindings : List ℕ) (next : ℕ) (cells : List ℕ) (m : ℕ) (f : Fires row positions bindings next cells m)
     (there : get_or row 3 0 ≤ m) (h k : ℕ) (heads : h ≡ get_or row 3 0) (kept : k ≡ get_or row 1 0) where
   -- how many constraints are removed
@@ -97,10 +72,6 @@ module _ (row positions bindings : List ℕ) (next : ℕ) (cells : List ℕ) (m 
 
   pub front-few : w ≤ m
   front-few = omega arith
-
-  -- no more heads are kept than there are
-  pub front_kept : k ≤ h
-  front_kept = omega (arith, f.given.kept-few)
 
   module _ (lent : behind k (take h positions) ≡ up_to (length (behind k (take h positions)))) where
     -- they are the first
@@ -144,36 +115,3 @@ module _ (row positions bindings : List ℕ) (next : ℕ) (cells : List ℕ) (m 
 
       pub front-skips : Skips m w n
       front-skips = record { few = omega (arith, f.given.heads-few); within = omega (arith, done.few) }
-
--- a firing that moves the rest forward
-pub none-skipped :
-    (row positions bindings : List ℕ) (next : ℕ) (bound cells : List ℕ) (m : ℕ) (b c : List ℕ) (alive : Bool) (n : ℕ)
-    → Fired row positions bindings next bound cells m b c alive n → Skips m 0 n
-none-skipped row positions bindings next bound cells m b c alive n done =
-    record { few = omega arith; within = omega (arith, done.few) }
-
--- j cells of the constraints are copied to the front
-module _ (from count : ℕ) (start cells : List ℕ) (j : ℕ) (k : 5 * (from + count) ≤ length start)
-    (w : Moving (5 * from) 0 (5 * count) start cells j) where
-  pub down-next : j < 5 * count → Moving (5 * from) 0 (5 * count) start (set cells j (get_or cells (5 * from + j) 0)) (j + 1)
-  down-next l =
-      let e : 0 + j ≡ j = omega arith in
-      rw e at (moving-next (5 * from) 0 (5 * count) start cells j (omega arith) (omega arith) w l)
-
-  pub down-end : 5 * count ≤ j → take (5 * count) cells ≡ take (5 * count) (drop (5 * from) start)
-  down-end l =
-      let e : 5 * count ≡ 0 + 5 * count = omega arith in
-      ap (take (5 * count)) (moving-end (5 * from) 0 (5 * count) start cells j (omega arith) (omega arith) w l)
-      ∙ ap (λ (i : ℕ). take i (paste start 0 (drop (5 * from) start) (5 * count))) e
-      ∙ take-paste start 0 (drop (5 * from) start) (5 * count) (omega arith) (omega (arith, length-drop (5 * from) start))
-
-module _ (cells : List ℕ) (at count : ℕ) where
-  -- there is room behind the constraints
-  pub placed-here : 5 * (at + count) + 30 ≤ length cells → Placed cells at count cells at
-  placed-here l = record { same = refl; space = l }
-
-  -- they are moved to the front
-  pub placed-down :
-      5 * count + 30 ≤ length cells → (c : List ℕ) → length c ≡ length cells
-      → take (5 * count) c ≡ take (5 * count) (drop (5 * at) cells) → Placed cells at count c 0
-  placed-down l c n e = record { same = e; space = omega arith }

@@ -27,9 +27,6 @@ module _ (rules : List ℕ) (n : ℕ) (bound cells : List ℕ) (m next : ℕ) wh
       (table : List ℕ) : Type 0 where
     pub running : Running rules n bound cells m next bound' (drop (5 * at) cells') alive count number firings
     pub keeps : Keeps rules n known last table gone (drop (5 * at) cells') true alive count
-    pub known-size : length known ≡ 32
-    pub last-size : length last ≡ 64
-    pub table-size : length table ≡ 64
     pub grown : gone + count ≤ m + 10 * firings
     pub cells-size : length cells' ≡ length cells
     pub within : 5 * (at + count) ≤ length cells'
@@ -42,9 +39,6 @@ module _ (rules : List ℕ) (n : ℕ) (bound cells : List ℕ) (m next : ℕ) wh
         record {
           running = running-start rules n bound cells m next s;
           keeps = keeps-start rules n 32 64 table cells m t;
-          known-size = refl;
-          last-size = refl;
-          table-size = t.size;
           grown = omega arith;
           cells-size = refl;
           within = omega (arith, s.there, s.space);
@@ -115,20 +109,12 @@ module _ (rules : List ℕ) (n : ℕ) (bound cells : List ℕ) (m next : ℕ) wh
             size-now : length (returned (5 * a) c g) ≡ length c
             size-now = returned-size (5 * a) c g holding-within same_size
 
-            -- the cells are as many as at the start
-            pub holding-size : length (returned (5 * a) c g) ≡ length cells
-            holding-size = size-now ∙ size ∙ h.cells-size
-
             -- the state after the step
             state-now : drop (5 * (a + skip)) (returned (5 * a) c g) ≡ drop (5 * skip) g
             state-now =
                 let e : 5 * (a + skip) ≡ 5 * a + 5 * skip = omega arith in
                 rw e (sym (drop-drop (5 * skip) (5 * a) (returned (5 * a) c g))
                 ∙ ap (drop (5 * skip)) (returned-part (5 * a) c g holding-within))
-
-            -- what moving it to the front asks
-            pub holding-down : 5 * (a + skip + count) ≤ length (returned (5 * a) c g)
-            holding-down = omega (arith, size-now, there, t.2.few)
 
             -- no rule fits
             pub holding-rests :
@@ -148,22 +134,17 @@ module _ (rules : List ℕ) (n : ℕ) (bound cells : List ℕ) (m next : ℕ) wh
 
               -- a rule has fired
               pub holding-next :
-                  length b ≡ length bound' → length known' ≡ length known → length last' ≡ length last
-                  → length table' ≡ length table
-                  → Holding b (returned (5 * a) c g) x k (number + 26) (firings + 1) known' last' gone' (a + skip) table'
-              holding-next o l u v =
+                  Holding b (returned (5 * a) c g) x k (number + 26) (firings + 1) known' last' gone' (a + skip) table'
+              holding-next =
                   let lent-size : length (behind (5 * a) c) ≡ length c - 5 * a =
                   ap length (behind-all (5 * a) c) ∙ length-drop (5 * a) c in
                   record {
                     running = rw state-now
                         (running-next rules n bound cells m next s bound' (behind (5 * a) c) alive count number firings here z
-                        b (drop (5 * skip) g) f x k t.0 y o
+                        b (drop (5 * skip) g) f x k t.0 y
                         (omega (arith, length-drop (5 * skip) g, same_size, there, t.2.within)));
                     keeps = rw state-now (keeps_on rules n known' last' table' gone' (drop (5 * skip) g) f x k t.1 y);
-                    known-size = l ∙ h.known-size;
-                    last-size = u ∙ h.last-size;
-                    table-size = v ∙ h.table-size;
                     grown = omega (arith, t.3, h.grown);
-                    cells-size = holding-size;
+                    cells-size = size-now ∙ size ∙ h.cells-size;
                     within = omega (arith, size-now, there, t.2.within);
                   }

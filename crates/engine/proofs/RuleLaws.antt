@@ -121,17 +121,9 @@ module _ (row bindings : List ℕ) (next : ℕ) (cells : List ℕ) (w : ℕ) (q 
   few : w ≤ 4
   few = omega arith
 
-  -- what the code lends for the equations
-  pub equations-room : 2 * w ≡ length (take (2 * w) eight)
-  equations-room = sym (length-take-le (2 * w) eight (omega (arith, few)))
-
   source-size : length (take (56 + 2 * w - 56) (drop 56 row)) ≡ 2 * w
   source-size =
       length-take-le (56 + 2 * w - 56) (drop 56 row) (omega (arith, few, length-drop 56 row, q.given.size)) ∙ omega arith
-
-  pub equations-asked :
-      (length (take (56 + 2 * w - 56) (drop 56 row)) ≡ length (take (2 * w) eight)) × (length bindings ≡ 26) × (next ≤ 65000)
-  equations-asked = (source-size ∙ equations-room, q.bindings-size, q.room)
 
   module _ (e rest : List ℕ) (o : e ≡ map (instance_cell next bindings) (take (56 + 2 * w - 56) (drop 56 row))) where
     size : length e ≡ 2 * w
@@ -139,12 +131,6 @@ module _ (row bindings : List ℕ) (next : ℕ) (cells : List ℕ) (w : ℕ) (q 
 
     part : take (2 * w) (e ++ rest) ≡ e
     part = take_at e rest (2 * w) size
-
-    pub equations-prefix : 2 * w ≤ length (e ++ rest)
-    equations-prefix = omega (arith, length-append e rest, size)
-
-    pub equations-lent : 2 * w ≡ length (take (2 * w) (e ++ rest))
-    equations-lent = sym (ap length part ∙ size)
 
     cells_are : take (56 + 2 * w - 56) (drop 56 row) ≡ take (2 * get_or row 5 0) (drop 56 row)
     cells_are =
@@ -293,20 +279,7 @@ module _ (row positions bindings : List ℕ) (next : ℕ) (cells : List ℕ) (m 
     pub fire-lent : 5 * m ≡ length (take (5 * m) cells)
     fire-lent = sym (length-take-le (5 * m) cells (omega (arith, f.space)))
 
-    pub fire-removes : length (take (5 * m) cells) ≡ 5 * m
-    fire-removes = sym fire-lent
-
     module _ (h k : ℕ) (heads : h ≡ get_or row 3 0) (kept : k ≡ get_or row 1 0) where
-      -- the positions of all heads, and of those that are removed
-      pub fire-within : h ≤ length positions
-      fire-within = omega (arith, f.given.heads-few, f.positions-size)
-
-      pub fire-placed : h ≡ length (take h positions)
-      fire-placed = sym (length-take-le h positions fire-within)
-
-      pub fire-kept : k ≤ length (take h positions)
-      fire-kept = omega (arith, fire-placed, f.given.kept-few)
-
       module _ (left : List ℕ) (n : ℕ) (size : length left ≡ length (take (5 * m) cells))
           (removed : Removed m (behind k (take h positions)) (take (5 * m) cells) left n) where
         size-left : length left ≡ 5 * m

@@ -53,7 +53,6 @@ failed-rests rs = refl
 module _ (rules : List ℕ) (n : ℕ) (bound cells : List ℕ) (m next : ℕ) where
   -- the state so far, after some firings, has the end of the state at the start
   pub record Running (bound' cells' : List ℕ) (alive : Bool) (count number firings : ℕ) : Type 0 where
-    pub bound-size : length bound' ≡ length bound
     pub there : 5 * count ≤ length cells'
     pub numbered : number ≡ next + 26 * firings
     pub low : alive ≡ true → every is_low (store_of cells' count) ≡ true
@@ -70,7 +69,6 @@ module _ (rules : List ℕ) (n : ℕ) (bound cells : List ℕ) (m next : ℕ) wh
     unfolding state_of store_of
     running-start =
         record {
-          bound-size = refl;
           there = omega (arith, s.there, s.space);
           numbered = omega arith;
           low = λ z. s.runs.low;
@@ -87,7 +85,6 @@ module _ (rules : List ℕ) (n : ℕ) (bound cells : List ℕ) (m next : ℕ) wh
       unfolding store_of
       running-placed c e l =
           record {
-            bound-size = r.bound-size;
             there = l;
             numbered = r.numbered;
             low = λ z. rw e (r.low z);
@@ -170,10 +167,9 @@ module _ (rules : List ℕ) (n : ℕ) (bound cells : List ℕ) (m next : ℕ) wh
                 rw e (rw z at (r.same names fuel (omega arith)))
 
             -- a rule has fired
-            pub running-next : length b ≡ length bound' → 5 * k ≤ length c → Running b c a k (number + 26) (firings + 1)
-            running-next p q =
+            pub running-next : 5 * k ≤ length c → Running b c a k (number + 26) (firings + 1)
+            running-next q =
                 record {
-                  bound-size = p ∙ r.bound-size;
                   there = q;
                   numbered = omega (arith, r.numbered);
                   low = t.low y;
@@ -208,10 +204,6 @@ normalise-later (suc k) rs s f g = go (λ t. rw (← add-suc) (normalise-later k
 
 module _ (rules : List ℕ) (n : ℕ) (bound cells : List ℕ) (m next : ℕ) (bound' cells' : List ℕ) (alive : Bool)
     (count number firings : ℕ) (e : Ended rules n bound cells m next bound' cells' alive count number firings) where
-  -- a derivation has few firings
-  pub ended-few : Startable rules n cells m next → firings ≤ 512
-  ended-few s = omega (arith, e.bounded s.runs.weigh s.runs.lowers, s.runs.light)
-
   -- the same constraints in other cells
   pub ended-placed :
       (c : List ℕ) → take (5 * count) c ≡ take (5 * count) cells'

@@ -22,7 +22,7 @@ use Rattle.semantics.specs.Solving.{replace, unify, solve}
 use Rattle.semantics.specs.Firing.{settle}
 use Rattle.tables.specs.Cells.{cell_term, cell_constraints, cell_equations, is_low, state_of}
 use Rattle.engine.specs.Cells.{swap, clashes, merge}
-use Rattle.engine.specs.States.{Merged, Solvable, Solved}
+use Rattle.engine.specs.States.{Merged, Solved}
 use Rattle.text.proofs.Bools.{and-true}
 use Rattle.tables.proofs.CellLaws.{either, le-or-lt, cell-low, cell-high}
 use Rattle.tables.proofs.MapLaws.{Acts, anything, all-low, all-terms, all-equations, low-kept}
@@ -268,32 +268,13 @@ drop-two l i h =
 
 -- the equations from number i on, in the state so far, give the answer for all of them
 pub record Solving (equations bound cells : List ℕ) (n : ℕ) (equations' bound' cells' : List ℕ) (i : ℕ) : Type 0 where
-  pub within : i ≤ n
   pub size : length equations' ≡ 2 * n
-  pub equations-size : length equations' ≡ length equations
-  pub bound-size : length bound' ≡ length bound
-  pub cells-size : length cells' ≡ length cells
   pub used : every (leb 1) (drop (2 * i) equations') ≡ true
   pub low : every is_low (cell_constraints cells') ≡ true
   pub same :
       (next : ℕ)
       → settle (solve (cell_equations (drop (2 * i) equations')) (λ t. t)) next (map cell_term bound') (cell_constraints cells')
       ≡ settle (solve (cell_equations equations) (λ t. t)) next (map cell_term bound) (cell_constraints cells)
-
-pub solving-start :
-    (equations bound cells : List ℕ) (n : ℕ) → Solvable equations n cells
-    → Solving equations bound cells n equations bound cells 0
-solving-start equations bound cells n s =
-    record {
-      within = omega arith;
-      size = s.size;
-      equations-size = refl;
-      bound-size = refl;
-      cells-size = refl;
-      used = s.used;
-      low = s.low;
-      same = λ next. refl;
-    }
 
 -- no term is replaced
 pub map-none : (cs : List Constraint) → map (map_terms (λ t. t)) cs ≡ cs
@@ -365,11 +346,7 @@ module _ (equations bound cells : List ℕ) (n : ℕ) (equations' bound' cells' 
             rw ec (acts-constraints anything (merge x y) u.solution u.acts cells' (all-low (cell_constraints cells')
             w.low)) in
             record {
-              within = l;
               size = rw (ee, length-map) w.size;
-              equations-size = rw (ee, length-map) w.equations-size;
-              bound-size = rw (eb, length-map) w.bound-size;
-              cells-size = rw (ec, length-map) w.cells-size;
               used = rw de (acts-used anything (merge x y) u.solution u.acts (drop (2 * suc i) equations')
                   (and-true (leb 1 y) (every (leb 1) (drop (2 * suc i) equations')) later).1);
               low = rw (cs, low-kept u.solution (cell_constraints cells')) w.low;

@@ -37,7 +37,6 @@ pub record Matching (heads : List ℕ) (n : ℕ) (cells : List ℕ) (m : ℕ) (p
   pub few : n ≤ 4
   pub cells-size : length cells ≡ 5 * m
   pub positions-size : length positions ≡ 4
-  pub within : h ≤ n
   pub size : length bindings ≡ 26
   pub letters : every is_lettered (cell_constraints (drop (5 * h) heads)) ≡ true
   pub same :
@@ -57,7 +56,6 @@ matching-start row positions cells bindings m n r p k b e =
       few = omega (arith, r.heads-few);
       cells-size = k;
       positions-size = p;
-      within = omega arith;
       size = b;
       letters = rw here r.heads;
       same = rw (here, e);
@@ -156,7 +154,6 @@ module _ (heads : List ℕ) (n : ℕ) (cells : List ℕ) (m : ℕ) (positions bi
               few = w.few;
               cells-size = w.cells-size;
               positions-size = w.positions-size;
-              within = l;
               size = t.size;
               letters = every_rest is_lettered head (cell_constraints (drop (5 * suc h) heads)) (rw heads-here at w.letters);
               same = rw (take-suc positions h 0 (omega (arith, w.positions-size, w.few))) (rw (← t.same, z) at tried);
@@ -168,30 +165,6 @@ unsettled = replicate 26 0
 
 module _ (row positions : List ℕ) (next : ℕ) (goal : List ℕ) (m : ℕ) (cells : List ℕ)
     (s : Stated row positions next goal m cells) where
-  -- what the match asks
-  pub stated-asks : Row row × (length positions ≡ 4) × (length goal ≡ 5 * m) × (length unsettled ≡ 26)
-  stated-asks = (s.given, s.positions-size, s.size, refl)
-
-  -- the goal finds room
-  pub stated-room : length goal ≤ length cells
-  stated-room = omega (arith, s.size, s.space)
-
-  -- what copying the others asks
-  pub stated-frees : (length goal ≡ 5 * m) × (5 * m ≤ length cells)
-  stated-frees = (s.size, omega (arith, s.space))
-
-  -- the positions as they are lent
-  module _ (h : ℕ) (heads : h ≡ get_or row 3 0) where
-    pub stated-within : h ≤ length positions
-    stated-within = omega (arith, s.given.heads-few, s.positions-size)
-
-    pub stated-lent : h ≡ length (take h positions)
-    stated-lent = sym (length-take-le h positions stated-within)
-
-    -- no more heads are kept than there are
-    pub stated-kept : (k : ℕ) → k ≡ get_or row 1 0 → k ≤ length (take h positions)
-    stated-kept k kept = omega (arith, stated-lent, s.given.kept-few)
-
   all : take (5 * m) goal ≡ goal
   all = take_all (5 * m) goal (omega (arith, s.size))
 

@@ -15,10 +15,8 @@ pub fn start_bound(bound: &mut [u16])
     requires { length bound.old ≤ 65000 }
     ensures { map cell_term bound.new ≡ tabled var (length bound.old) }
 {
-    let mut i = 0;
-    while i < bound.len() {
+    for i in 0..bound.len() {
         bound[i] = FIRST_VARIABLE + i as u16;
-        i += 1;
     }
 }
 
@@ -27,11 +25,7 @@ pub fn copy_goal(goal: &[u16], cells: &mut [u16])
     requires { length goal.now ≤ length cells.old }
     ensures { take (length goal.now) cells.new ≡ goal.now }
 {
-    let mut i = 0;
-    while i < goal.len() {
-        cells[i] = goal[i];
-        i += 1;
-    }
+    cells[..goal.len()].copy_from_slice(goal);
 }
 
 // Copies the goal's constraint at a position over the one at another in the cells.
@@ -43,11 +37,7 @@ pub fn copy_row(goal: &[u16], from: usize, cells: &mut [u16], to: usize)
 {
     let a = CONSTRAINT_SIZE * from;
     let b = CONSTRAINT_SIZE * to;
-    let mut j = 0;
-    while j < CONSTRAINT_SIZE {
-        cells[b + j] = goal[a + j];
-        j += 1;
-    }
+    cells[b..b + CONSTRAINT_SIZE].copy_from_slice(&goal[a..a + CONSTRAINT_SIZE]);
 }
 
 // The goal's constraints at none of the positions in front, in their order; answers how many of its m these are.
@@ -56,12 +46,9 @@ pub fn copy_free(goal: &[u16], m: usize, positions: &[usize], cells: &mut [u16])
     ensures { Removed m positions.now goal.now cells.new result }
 {
     let mut k = 0;
-    let mut p = 0;
-    while p < m {
-        let from = p;
-        p += 1;
-        if !is_among(positions, from) {
-            copy_row(goal, from, cells, k);
+    for p in 0..m {
+        if !is_among(positions, p) {
+            copy_row(goal, p, cells, k);
             k += 1;
         }
     }

@@ -14,6 +14,7 @@ use tables::layout::{
 use tables::wide;
 
 // A cell of a rule's body: what the rule's variable is bound to, or a new variable.
+#[tactic(auto, unfolding(crate::specs::Cells::instance_cell))]
 pub fn instance(cell: u16, bindings: &[u16], next: u16) -> u16
     requires { (length bindings.now ≡ 26) × (next ≤ 65000) }
     ensures { result ≡ instance_cell next bindings.now cell }
@@ -37,25 +38,19 @@ pub fn instantiate(source: &[u16], bindings: &[u16], next: u16, out: &mut [u16])
     requires { (length source.now ≡ length out.old) × (length bindings.now ≡ 26) × (next ≤ 65000) }
     ensures { out.new ≡ map (instance_cell next bindings.now) source.now }
 {
-    let mut i = 0;
-    while i < source.len() {
-        out[i] = instance(source[i], bindings, next);
-        i += 1;
+    for (i, cell) in source.iter().enumerate() {
+        out[i] = instance(*cell, bindings, next);
     }
 }
 
 // Copies the constraint at a position to an earlier one.
+#[tactic(auto, unfolding(crate::specs::Cells::moved_row))]
 pub fn move_row(cells: &mut [u16], from: usize, to: usize)
     requires { (to ≤ from) × (constraint_size * from + constraint_size ≤ length cells.old) }
     ensures { cells.new ≡ moved_row from to cells.old }
 {
     let a = CONSTRAINT_SIZE * from;
-    let b = CONSTRAINT_SIZE * to;
-    let mut j = 0;
-    while j < CONSTRAINT_SIZE {
-        cells[b + j] = cells[a + j];
-        j += 1;
-    }
+    cells.copy_within(a..a + CONSTRAINT_SIZE, CONSTRAINT_SIZE * to);
 }
 
 // Moves the constraints of k behind a position one forward, over the one there.
@@ -63,12 +58,8 @@ pub fn close_gap(cells: &mut [u16], k: usize, p: usize)
     requires { (p < k) × (constraint_size * k ≤ length cells.old) }
     ensures { cells.new ≡ closed_gap k p cells.old }
 {
-    let e = CONSTRAINT_SIZE * k - CONSTRAINT_SIZE;
-    let mut i = CONSTRAINT_SIZE * p;
-    while i < e {
-        cells[i] = cells[i + CONSTRAINT_SIZE];
-        i += 1;
-    }
+    let at = CONSTRAINT_SIZE * p;
+    cells.copy_within(at + CONSTRAINT_SIZE..CONSTRAINT_SIZE * k, at);
 }
 
 // One more than the highest of the positions that lie below p; 0 where none does.
@@ -76,14 +67,9 @@ pub fn highest(positions: &[usize], p: usize) -> usize
     ensures { Highest positions.now p result }
 {
     let mut top = 0;
-    let mut i = 0;
-    while i < positions.len() {
-        let q = positions[i];
-        i += 1;
-        if q < p {
-            if top <= q {
-                top = q + 1;
-            }
+    for q in positions {
+        if *q < p && top <= *q {
+            top = *q + 1;
         }
     }
     top
@@ -199,12 +185,10 @@ pub fn fire(
 pub fn is_front(positions: &[usize]) -> bool
     ensures { result ≡ true → positions.now ≡ up_to (length positions.now) }
 {
-    let mut i = 0;
-    while i < positions.len() {
-        if positions[i] != i {
+    for (i, p) in positions.iter().enumerate() {
+        if *p != i {
             return false;
         }
-        i += 1;
     }
     true
 }
@@ -264,13 +248,7 @@ pub fn move_down(cells: &mut [u16], from: usize, count: usize)
     ensures { take (constraint_size * count) cells.new
         ≡ take (constraint_size * count) (drop (constraint_size * from) cells.old) }
 {
-    let g = CONSTRAINT_SIZE * from;
-    let e = CONSTRAINT_SIZE * count;
-    let mut i = 0;
-    while i < e {
-        cells[i] = cells[g + i];
-        i += 1;
-    }
+    cells.copy_within(CONSTRAINT_SIZE * from..CONSTRAINT_SIZE * (from + count), 0);
 }
 
 // Where the constraints stand that stood from a position on: at the front, if there was no room behind them for six more.

@@ -6,6 +6,7 @@ ghost use Rattle.engine.specs.States.{Merged, Solvable, Solved};
 use tables::layout::FIRST_VARIABLE;
 
 // A cell, with v replaced by t.
+#[tactic(auto, unfolding(crate::specs::Cells::swap))]
 pub fn swapped(v: u16, t: u16, cell: u16) -> u16
     ensures { result ≡ swap v t cell }
 {
@@ -16,10 +17,8 @@ pub fn swapped(v: u16, t: u16, cell: u16) -> u16
 pub fn replace_all(cells: &mut [u16], v: u16, t: u16)
     ensures { cells.new ≡ map (swap v t) cells.old }
 {
-    let mut i = 0;
-    while i < cells.len() {
-        cells[i] = swapped(v, t, cells[i]);
-        i += 1;
+    for cell in cells.iter_mut() {
+        *cell = swapped(v, t, *cell);
     }
 }
 
@@ -58,15 +57,13 @@ pub fn solve(equations: &mut [u16], n: usize, bound: &mut [u16], cells: &mut [u1
     ensures { Solved result equations.old bound.old cells.old
         bound.new cells.new }
 {
-    let mut i = 0;
-    while i < n {
+    for i in 0..n {
         let at = 2 * i;
         let a = equations[at];
         let b = equations[at + 1];
         if !unify(a, b, equations, bound, cells) {
             return false;
         }
-        i += 1;
     }
     true
 }

@@ -28,8 +28,7 @@ pub fn match_at(
     let n = wide(row[HEADS_CELL]);
     let e = FIRST_HEAD + CONSTRAINT_SIZE * n;
     let heads = &row[FIRST_HEAD..e];
-    let mut h = 0;
-    while h < n {
+    for h in 0..n {
         let p = positions[h];
         if m <= p {
             return false;
@@ -41,7 +40,6 @@ pub fn match_at(
         if !fit_free(&heads[a..b], &cells[c..d], &positions[..h], p, bindings) {
             return false;
         }
-        h += 1;
     }
     true
 }

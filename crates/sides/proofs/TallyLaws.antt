@@ -1,7 +1,7 @@
 -- The tally of a side after its own firing equals a fresh count.
 --   goal-raises, goal-raised              the goal enters an empty store
 --   row-exchanges, row-exchanged          and the rule fires
---   side-row, side-tallying               what the tally asks of a side that has fired
+--   side-tallying                         what the tally asks of a side that has fired
 --   side-tallied                          it equals a fresh count of the state's constraints (the main law)
 -- Assumes nothing.
 use Prim.Native.Nat.{ℕ, ◌+◌, ◌*◌, ◌≤◌}
@@ -50,10 +50,6 @@ module _ (row goal : List ℕ) (m : ℕ) (table : List ℕ) (t : SideTallying ro
 
 module _ (rules : List ℕ) (n i : ℕ) (goal : List ℕ) (m v : ℕ) (bound cells : List ℕ) (fired alive : Bool) (count : ℕ)
     (s : Followable rules n i goal m v bound cells fired alive count) (z : fired ≡ true) (y : alive ≡ true) where
-  -- the table has the rule's row
-  pub side-row : 64 * i + 64 ≤ length rules
-  side-row = omega (arith, s.rule, (s.starts z y).runs.table.size)
-
   -- what the tally asks
   pub side-tallying :
       (table : List ℕ) → length table ≡ 64 → every (eqb 0) table ≡ true → SideTallying (lent_row rules i) goal m table

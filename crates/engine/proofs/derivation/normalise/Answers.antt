@@ -37,8 +37,7 @@ loop-alive-preserved c =
     holding-next _ _ _ _ _ _ c.requires.0 _ _ _ _ _ _ _ _ _ _ _
     c.loop-alive.invariant c.loop-alive-test.true _ _ c.make_room-at.auto.cells c.make_room-at.ensures
     _ _ _ _ _ _ _ _ _ _ c.advance-step.ensures c.advance-step.auto.cells
-    (not-false _ c.if-not-step.false) c.advance-step.auto.bound c.advance-step.auto.known
-    c.advance-step.auto.last c.advance-step.auto.tally
+    (not-false _ c.if-not-step.false)
 
 pub returns : goal.returns
 returns c = search holding-failed

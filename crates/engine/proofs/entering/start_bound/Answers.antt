@@ -1,16 +1,8 @@
--- `start_bound` meets its contract: after i turns the first i goal variables are themselves.
+-- `start_bound` meets its contract: one more goal variable is itself.
 -- Assumes nothing.
-use Rattle.engine.proofs.EnterLaws.{starting-start, starting-next, starting-end}
+use Rattle.std.proofs.Common.{arith}
+use Rattle.engine.proofs.EnterLaws.{starting-next}
 use Rattle.engine.proofs.entering.start_bound.Goals as goal
 
-pub loop-i-init : goal.loop-i-init
-loop-i-init c = starting-start _
-
 pub loop-i-preserved : goal.loop-i-preserved
-loop-i-preserved c = search starting-next
-
-pub shape_of-bound : goal.shape_of-bound
-shape_of-bound c = c.loop-i.invariant.size
-
-pub returns : goal.returns
-returns c = search starting-end
+loop-i-preserved c = starting-next _ _ (omega arith) c.loop-i.invariant

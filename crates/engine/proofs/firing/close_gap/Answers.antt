@@ -1,16 +1,11 @@
--- `close_gap` meets its contract: the cells behind the position are moved as far as place i.
+-- `close_gap` meets its contract: it copies what `closed_gap` says.
 -- Assumes nothing.
-use Rattle.engine.proofs.GapLaws.{closing-start, closing-next, closing_end}
+use Rattle.std.proofs.Common.{◌≡◌, ◌+◌, ◌-◌, ◌*◌, arith}
+use Rattle.engine.specs.Cells.{closed_gap}
 use Rattle.engine.proofs.firing.close_gap.Goals as goal
 
-pub loop-i-init : goal.loop-i-init
-loop-i-init c = search closing-start
-
-pub loop-i-preserved : goal.loop-i-preserved
-loop-i-preserved c = search closing-next
-
-pub shape_of-cells : goal.shape_of-cells
-shape_of-cells c = c.loop-i.invariant.moved.size
-
 pub returns : goal.returns
-returns c = search closing_end
+unfolding closed_gap
+returns c =
+    let e : 5 * c.args.k - (5 * c.args.p + 5) ≡ 5 * c.args.k - 5 - 5 * c.args.p = omega arith in
+    rw e at c.copy_within.ensures.after

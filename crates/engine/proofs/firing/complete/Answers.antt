@@ -1,13 +1,7 @@
 -- `complete` meets its contract: append, solve.
 -- Assumes nothing.
-use Rattle.engine.proofs.RuleLaws.{complete-within, complete-lends, complete-equated, complete-done}
+use Rattle.engine.proofs.RuleLaws.{complete-equated, complete-done}
 use Rattle.engine.proofs.firing.complete.Goals as goal
-
-pub slice_bounds-solve_rule-end : goal.slice_bounds-solve_rule-end
-slice_bounds-solve_rule-end c = search complete-within
-
-pub slice_bounds-solve_rule-end-2 : goal.slice_bounds-solve_rule-end-2
-slice_bounds-solve_rule-end-2 c = search complete-lends
 
 pub solve_rule-alive-requires : goal.solve_rule-alive-requires
 solve_rule-alive-requires c = search complete-equated

@@ -1,27 +1,12 @@
 -- `fire` meets its contract: remove, and the rest of the firing.
 -- Assumes nothing.
-use native.Mathlib.Omega.{arith}
-use Rattle.engine.proofs.RuleLaws.{fire-lent, fire-removes, fire-placed, fire-kept, fire-completes, fire-done}
+use Rattle.engine.proofs.RuleLaws.{fire-completes, fire-done}
 use Rattle.engine.proofs.firing.fire.Goals as goal
 
 pub returns : goal.returns
 returns c =
     fire-done _ _ _ _ _ _ c.requires _ _ c.wide-heads.ensures.0 c.wide-first.ensures.0 _ _
     c.remove-left.auto.cells c.remove-left.ensures _ _ _ _ _ c.complete.ensures
-
-pub slice_bounds-placed-end : goal.slice_bounds-placed-end
-slice_bounds-placed-end c =
-    fire-placed _ _ _ _ _ _ c.requires _ _ c.wide-heads.ensures.0 c.wide-first.ensures.0
-
-pub slice_bounds-remove-end-2 : goal.slice_bounds-remove-end-2
-slice_bounds-remove-end-2 c = fire-lent _ _ _ _ _ _ c.requires
-
-pub slice_bounds-remove-count : goal.slice_bounds-remove-count
-slice_bounds-remove-count c =
-    omega (arith, fire-kept _ _ _ _ _ _ c.requires _ _ c.wide-heads.ensures.0 c.wide-first.ensures.0)
-
-pub remove-left-requires : goal.remove-left-requires
-remove-left-requires c = fire-removes _ _ _ _ _ _ c.requires
 
 pub complete-requires : goal.complete-requires
 complete-requires c =

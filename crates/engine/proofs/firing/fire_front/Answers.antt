@@ -1,25 +1,8 @@
 -- `fire_front` meets its contract: behind the first constraints, or as `fire` does.
 -- Assumes nothing.
 use native.Mathlib.Omega.{arith}
-use Rattle.engine.proofs.RuleLaws.{fire-placed, fire-kept}
-use Rattle.engine.proofs.FrontLaws.{front_kept, front-few, front-completes, front-done, front-skips, none-skipped}
+use Rattle.engine.proofs.FrontLaws.{front-completes, front-done, front-skips}
 use Rattle.engine.proofs.firing.fire_front.Goals as goal
-
-pub slice_bounds-placed-end : goal.slice_bounds-placed-end
-slice_bounds-placed-end c =
-    fire-placed _ _ _ _ _ _ c.requires.0 _ _ c.wide-heads.ensures.0 c.wide-kept.ensures.0
-
-pub slice_bounds-is_front-count : goal.slice_bounds-is_front-count
-slice_bounds-is_front-count c =
-    fire-kept _ _ _ _ _ _ c.requires.0 _ _ c.wide-heads.ensures.0 c.wide-kept.ensures.0
-
-pub overflow_sub-removed : goal.overflow_sub-removed
-overflow_sub-removed c =
-    front_kept _ _ _ _ _ _ c.requires.0 c.requires.1 _ _ c.wide-heads.ensures.0 c.wide-kept.ensures.0
-
-pub overflow_sub-m : goal.overflow_sub-m
-overflow_sub-m c =
-    front-few _ _ _ _ _ _ c.requires.0 c.requires.1 _ _ c.wide-heads.ensures.0 c.wide-kept.ensures.0
 
 pub complete-after-requires : goal.complete-after-requires
 complete-after-requires c =
@@ -36,10 +19,3 @@ returns-then-is_front c =
       front-skips _ _ _ _ _ _ pre'.0 pre'.1 _ _ heads' kept' first' _ _ _ _ _ c.complete-after.ensures,
       omega (arith, heads', kept'),
     )
-
-pub fire-after-requires : goal.fire-after-requires
-fire-after-requires c = c.requires.0
-
-pub returns : goal.returns
-returns c =
-    (c.fire-after.ensures, search none-skipped, omega (arith, c.wide-heads.ensures.0, c.wide-kept.ensures.0))

@@ -1,19 +1,19 @@
--- `highest` meets its contract: the highest of the first i positions.
+-- `highest` meets its contract: one more position.
 -- Assumes nothing.
-use Rattle.engine.proofs.GapLaws.{topping-start, topping-higher, topping-lower, topping-behind, topping-end}
+use Rattle.std.proofs.Common.{ℕ, ◌<◌, get_or, arith}
+use Rattle.engine.proofs.GapLaws.{highest-higher, highest-other}
 use Rattle.engine.proofs.firing.highest.Goals as goal
+use Rattle.engine.proofs.firing.highest.Goals.{then-q-p+then-top-q, else-q-p, else-q-p-via-then-q-p+else-top-q, else-q-p-via-else-q-p}
 
-pub loop-i-init : goal.loop-i-init
-loop-i-init c = topping-start _ _
-
-pub loop-i-preserved-then-top-q : goal.loop-i-preserved-then-top-q
-loop-i-preserved-then-top-q c = search topping-higher
-
-pub loop-i-preserved-else-top-q : goal.loop-i-preserved-else-top-q
-loop-i-preserved-else-top-q c = search topping-lower
-
-pub loop-i-preserved : goal.loop-i-preserved
-loop-i-preserved c = search topping-behind
-
-pub returns : goal.returns
-returns c = search topping-end
+pub loop-q-preserved : goal.loop-q-preserved
+loop-q-preserved c =
+    let loop' = c.loop-q in
+    let q : ℕ = get_or c.args.positions.now loop'.q-index 0 in
+    elim c.if-q-p.branch [
+      | then-q-p+then-top-q w ↦ rw w.top-is (highest-higher _ _ _ _ loop'.invariant (omega arith) (omega arith) (omega arith))
+      | else-q-p w ↦ rw w.top-is (highest-other _ _ _ _ loop'.invariant (omega arith) (λ (l : q < c.args.p).
+          elim w.else-q-p.branch [
+            | else-q-p-via-then-q-p+else-top-q w' ↦ omega arith
+            | else-q-p-via-else-q-p w' ↦ omega arith
+          ]))
+    ]

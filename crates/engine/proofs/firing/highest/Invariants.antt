@@ -1,12 +1,8 @@
--- `highest` meets its contract: the highest of the first i positions.
+-- `highest` meets its contract: the highest of the positions so far.
 -- Assumes nothing.
-use Prim.Native.Nat.{◌-◌}
-use lib.ListN.{length}
-use Rattle.engine.proofs.GapLaws.{Topping}
+use Rattle.std.proofs.Common.{take}
+use Rattle.engine.specs.States.{Highest}
 use Rattle.engine.proofs.firing.highest.Given as goal
 
-abbrev pub invariant-loop-i : goal.invariant-loop-i
-invariant-loop-i l = Topping l.positions l.p l.top l.i
-
-abbrev pub decreases-loop-i : goal.decreases-loop-i
-decreases-loop-i l = length l.positions - l.i
+abbrev pub invariant-loop-q : goal.invariant-loop-q
+invariant-loop-q l = Highest (take l.q-index l.positions) l.p l.top

@@ -1,8 +1,5 @@
 -- `match_at` meets its contract: the heads from number h on, under the bindings so far, give the answer for all of them.
 -- Assumes nothing.
-use native.Mathlib.Omega.{arith}
-use mathlib.Core.Path.{sym}
-use lib.Seq.{length-take-le}
 use Rattle.engine.proofs.StatedLaws.{matching-start, matching-end, matching-away, matching-rows}
 use Rattle.engine.proofs.StatedLaws.{matching-misfit, matching-fits}
 use Rattle.engine.proofs.stated.match_at.Goals as goal
@@ -13,9 +10,6 @@ loop-h-init c =
 
 pub returns-then-m-p : goal.returns-then-m-p
 returns-then-m-p c = search matching-away
-
-pub slice_bounds-fit_free-end-in-loop-h-2 : goal.slice_bounds-fit_free-end-in-loop-h-2
-slice_bounds-fit_free-end-in-loop-h-2 c = sym (length-take-le _ _ (omega arith))
 
 pub fit_free-requires : goal.fit_free-requires
 fit_free-requires c = search matching-rows
