@@ -2,12 +2,11 @@
 --   colour-done         the colours of a state
 --   deep-…              one constraint made to stand out
 --   keys-…              the keys of all constraints
---   sum-…, class-…      their sum, and the class of a key
+--   sum-…               their sum
 --   relabel-…           classes in the place of symbols
 -- Assumes nothing.
-use Rattle.std.proofs.Common.{◌≡◌, ℕ, suc, ◌+◌, ◌*◌, ◌%◌, ◌^◌, ◌<◌, ◌≤◌, Bool, true, false, eqb, ◌⊎◌, List, [], ◌∷◌, map, length, get_or, drop, set, sym, refl, ap, ◌∙◌, subst, inl, inr, add-one, arith, length-set, drop_of_length-le, drop-cons, get_or-set_other, get_or-set_same, eq-eqb, ne_eqb, eqb-true}
+use Rattle.std.proofs.Common.{◌≡◌, ℕ, suc, ◌+◌, ◌*◌, ◌%◌, ◌^◌, ◌<◌, ◌≤◌, Bool, true, false, eqb, ◌⊎◌, List, [], ◌∷◌, map, length, get_or, drop, set, sym, refl, ap, ◌∙◌, subst, inl, inr, add-one, arith, length-set, drop_of_length-le, drop-cons, get_or-set_other, get_or-set_same, eqb-true}
 use borrow.Author.Tests.{eqb-false}
-use Rattle.text.specs.Lists.{index_from}
 use Rattle.semantics.specs.Terms.{Term, Constraint}
 use Rattle.tables.specs.Cells.{cell_terms, cell_constraints}
 use Rattle.tables.proofs.CellLaws.{either}
@@ -152,28 +151,6 @@ module _ (keys : List ℕ) (total i : ℕ) (w : Totalling keys total i) where
       i < length keys → (t : ℕ) → t ≡ (total + get_or keys i 0) % 2 ^ 64 → Totalling keys t (i + 1)
   unfolding summed
   sum-next h t e = rw (add-one i) (record { within = h; same = rw e (rw (drop-cons keys i 0 h) at w.same) })
-
--- no key before i is the same
-pub record Seeking (keys : List ℕ) (key i : ℕ) : Type 0 where
-  pub within : i ≤ length keys
-  pub same : index_from (eqb key) i (drop i keys) ≡ class_of keys key
-
-pub class-start : (keys : List ℕ) (key : ℕ) → Seeking keys key 0
-unfolding class_of
-class-start keys key = record { within = omega arith; same = refl }
-
-module _ (keys : List ℕ) (key i : ℕ) (w : Seeking keys key i) where
-  pub class-none : length keys ≤ i → (i ≡ class_of keys key) × (i ≤ length keys)
-  class-none h = (rw (drop_of_length-le keys {i = i} h) at w.same, w.within)
-
-  module _ (h : i < length keys) where
-    pub class-found : key ≡ get_or keys i 0 → (i ≡ class_of keys key) × (i ≤ length keys)
-    class-found e = (rw (drop-cons keys i 0 h, eq-eqb key (get_or keys i 0) e) at w.same, w.within)
-
-    pub class-next : (key ≡ get_or keys i 0 → ⊥) → Seeking keys key (i + 1)
-    class-next d =
-        rw (add-one i)
-        (record { within = h; same = rw (drop-cons keys i 0 h, ne_eqb key (get_or keys i 0) d) at w.same })
 
 -- the constraints below i are relabelled
 pub record Relabelling (own keys cells₀ cells : List ℕ) (i : ℕ) : Type 0 where
