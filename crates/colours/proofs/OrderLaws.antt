@@ -44,10 +44,6 @@ pub record Swapping (i j : ℕ) (cells₀ cells : List ℕ) (c : ℕ) : Type 0 w
   pub made : (k d : ℕ) → d < c → get_or cells (5 * k + d) 0 ≡ get_or cells₀ (5 * swapped i j k + d) 0
   pub left : (k d : ℕ) → c ≤ d → d < 5 → get_or cells (5 * k + d) 0 ≡ get_or cells₀ (5 * k + d) 0
 
-pub swapping_start : (i j : ℕ) (cells : List ℕ) → Swapping i j cells cells 0
-swapping_start i j cells =
-    record { size = refl; made = λ k d h. absurd (omega arith); left = λ k d h l. refl }
-
 -- a cell's constraint and its column
 apart-column : (k i c d : ℕ) → c < 5 → d < 5 → (c ≡ d → ⊥) → 5 * k + c ≡ 5 * i + d → ⊥
 apart-column k i c d h l n e = n (omega arith)
@@ -57,9 +53,6 @@ apart-row k i c n e = n (omega arith)
 
 module _ (i j : ℕ) (cells₀ cells : List ℕ) (c : ℕ) (hi : 5 * i + 5 ≤ length cells₀) (hj : 5 * j + 5 ≤ length cells₀)
     (w : Swapping i j cells₀ cells c) where
-  pub swapping-done : 5 ≤ c → Swapped i j cells₀ cells
-  swapping-done h = record { at = λ k d l. w.made k d (omega arith) }
-
   module _ (h : c < 5) where
     -- what the code stores
     abbrev after : List ℕ
@@ -258,9 +251,6 @@ module _ (cells₀ cells : List ℕ) (k n m m₀ : ℕ) (w : Arranging cells₀ 
   -- the marks have room
   pub arranging-terms : TermsBelow m cells'
   arranging-terms = step.below m w.ordering.terms
-
-  pub arranging-room : 5 * k + 5 ≤ length cells'
-  arranging-room = omega (arith, l, w.ordering.size)
 
   pub arranging-next : (m' : ℕ) → m' ≡ m → Arranging cells₀ cells' (k + 1) n m' m₀
   arranging-next m' e =
