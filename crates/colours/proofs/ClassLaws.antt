@@ -197,7 +197,3 @@ module _ (cells bound : List ℕ) (size n : ℕ) (c : Colourable cells bound siz
 
   pub make-few : length {A = ℕ} (take size (replicate 2844 0)) ≤ 65536
   make-few = rw (zeros-length size 2844 c.room) (omega (arith, c.room))
-
-  -- as many keys as constraints
-  pub make-keys : n ≤ 512 → Colourable cells bound size (length {A = ℕ} (take n (replicate 512 0)))
-  make-keys h = rw (zeros-length n 512 h) c

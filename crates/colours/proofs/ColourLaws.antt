@@ -1,26 +1,18 @@
 -- Colours in tables: one law for each way that the code goes.
---   square-small      a product that fits
 --   sign-…, spread-…  the terms of a constraint
 --   give-…            constraints
 --   absorb-…          one round ends
 -- Assumes nothing.
-use Rattle.std.proofs.Common.{◌≡◌, ℕ, suc, ◌+◌, ◌-◌, ◌*◌, ◌%◌, ◌<◌, ◌≤◌, true, false, eqb, ◌⊎◌, List, [], ◌∷◌, length, get_or, take, drop, set, refl, ap, ◌∙◌, inl, inr, ⊎_elim, mul-le-mul, add-one, arith, length-drop, length-set, drop_of_length-le, length-take-le, take_all, get_or-set_other, get_or-set_same, eqb-true}
-use lib.ListN.{get_or-eq_default}
+use Rattle.std.proofs.Common.{◌≡◌, ℕ, suc, ◌+◌, ◌-◌, ◌*◌, ◌<◌, ◌≤◌, true, false, eqb, ◌⊎◌, List, [], ◌∷◌, length, get_or, take, drop, set, ap, ◌∙◌, inl, inr, add-one, arith, length-drop, length-set, drop_of_length-le, length-take-le, take_all, get_or-set_other, get_or-set_same, eqb-true}
 use borrow.Author.Tests.{eqb-false}
 use Rattle.semantics.specs.Terms.{Term, same_term}
 use Rattle.tables.specs.Cells.{cell_term, cell_terms, cell_constraints}
 use Rattle.tables.specs.Cells.{row_constraint}
-use Rattle.tables.proofs.CellLaws.{either, le-or-lt, same-cell, terms-none, terms-more, constraints-at}
+use Rattle.tables.proofs.CellLaws.{either, same-cell, terms-none, terms-more, constraints-at}
 use Rattle.colours.specs.Bounds.{Below, TermsBelow}
 use Rattle.colours.specs.Colours.{mixed, plus, added, signed, signature, gains, gathered, with_terms, Colours, Signed}
-use Rattle.colours.specs.Colours.{Spread, Given, Absorbed}
+use Rattle.colours.specs.Colours.{Spread, Given}
 use Rattle.colours.proofs.RowLaws.{terms-row}
-
--- the square of 32 bits fits 64
-pub square-small : (t : ℕ) → (t % 4294967296) * (t % 4294967296) ≤ 18446744065119617025
-square-small t =
-    let h : t % 4294967296 ≤ 4294967295 = omega arith in
-    mul-le-mul h h
 
 -- at a 0, and behind the last cell, the terms end
 pub terms-end : (l : List ℕ) (i : ℕ) → length l ≤ i → cell_terms (drop i l) ≡ []
@@ -29,11 +21,7 @@ terms-end l i h = rw (drop_of_length-le l {i = i} h)
 
 -- the terms from i on, from the number by now, give the answer for all
 pub record Signing (start : ℕ) (terms colours : List ℕ) (s i : ℕ) : Type 0 where
-  pub within : i ≤ length terms
   pub same : (κ : Term → ℕ) → Colours colours κ → signed κ s (cell_terms (drop i terms)) ≡ signed κ start (cell_terms terms)
-
-pub sign-start : (start : ℕ) (terms colours : List ℕ) → Signing start terms colours start 0
-sign-start start terms colours = record { within = omega arith; same = λ κ k. refl }
 
 module _ (start : ℕ) (terms colours : List ℕ) (s i : ℕ) (w : Signing start terms colours s i) where
   pub sign-done : length terms ≤ i → Signed s start (cell_terms terms) colours
@@ -45,10 +33,6 @@ module _ (start : ℕ) (terms colours : List ℕ) (s i : ℕ) (w : Signing start
     unfolding signed
     sign-end z = record { same = λ κ k. rw (terms-none terms i h z) at (w.same κ k) }
 
-    -- the term has its place
-    pub sign-room : Below (length colours) terms → (p : ℕ) → p ≡ get_or terms i 0 → p < length colours
-    sign-room b p e = rw e (b.below i)
-
     pub sign-next :
         (get_or terms i 0 ≡ 0 → ⊥) → Below (length colours) terms → (p : ℕ) → p ≡ get_or terms i 0
         → (s' : ℕ) → s' ≡ mixed s (get_or colours p 0) → Signing start terms colours s' (i + 1)
@@ -56,7 +40,6 @@ module _ (start : ℕ) (terms colours : List ℕ) (s i : ℕ) (w : Signing start
     sign-next z b p e s' f =
         rw (add-one i)
         (record {
-          within = h;
           same = λ κ k.
               let g : s' ≡ mixed s (κ (cell_term (get_or terms i 0))) = f ∙ rw (e, k.at (get_or terms i 0) (b.below i)) in
               rw g (rw (terms-more terms i h z) at (w.same κ k));
@@ -64,15 +47,11 @@ module _ (start : ℕ) (terms colours : List ℕ) (s i : ℕ) (w : Signing start
 
 -- the terms from i on, from the number and the table by now, give the answer for all
 pub record Spreading (start : ℕ) (terms received₀ received : List ℕ) (s i : ℕ) : Type 0 where
-  pub within : i ≤ length terms
   pub size : length received ≡ length received₀
   pub same :
       (x : ℕ) → x < length received₀
       → added (get_or received x 0) (gains (cell_term x) s (cell_terms (drop i terms)))
       ≡ added (get_or received₀ x 0) (gains (cell_term x) start (cell_terms terms))
-
-pub spread-start : (start : ℕ) (terms received : List ℕ) → Spreading start terms received received start 0
-spread-start start terms received = record { within = omega arith; size = refl; same = λ x h. refl }
 
 -- what a term gains where it stands first, and where another does
 gains-here : (t u : Term) (s : ℕ) (us : List Term) → same_term t u ≡ true → gains t s (u ∷ us) ≡ mixed s 1 ∷ gains t (mixed s 1) us
@@ -124,7 +103,6 @@ module _ (start : ℕ) (terms received₀ received : List ℕ) (s i : ℕ) (w : 
       spread-next =
           rw (add-one i)
           (record {
-            within = h;
             size = length-set received p v ∙ w.size;
             same = λ x l.
                 one_more x (cell_terms (drop (suc i) terms)) (either (eqb x p))
@@ -142,15 +120,11 @@ give-one symbol start s terms colours received received' e m p =
 
 -- the constraints from i on, from the table by now, give the answer for all
 pub record Giving (cells : List ℕ) (n : ℕ) (colours received₀ received : List ℕ) (i : ℕ) : Type 0 where
-  pub within : i ≤ n
   pub size : length received ≡ length received₀
   pub same :
       (κ : Term → ℕ) → Colours colours κ → (x : ℕ) → x < length received₀
       → gathered κ (cell_term x) (cell_constraints (drop (5 * i) cells)) (get_or received x 0)
       ≡ gathered κ (cell_term x) (cell_constraints cells) (get_or received₀ x 0)
-
-pub give-start : (cells : List ℕ) (n : ℕ) (colours received : List ℕ) → Giving cells n colours received received 0
-give-start cells n colours received = record { within = omega arith; size = refl; same = λ κ k x h. refl }
 
 -- a row as the code lends it, and its terms
 abbrev pub lent : List ℕ → ℕ → List ℕ
@@ -199,7 +173,6 @@ module _ (cells : List ℕ) (n : ℕ) (colours received₀ received : List ℕ) 
   give-next h received' l g =
       rw (add-one i)
       (record {
-        within = h;
         size = l ∙ w.size;
         same = λ κ k x y.
             let one = rw (lent-constraint cells i) at (g.at κ k x (rw w.size y)) in
@@ -208,71 +181,7 @@ module _ (cells : List ℕ) (n : ℕ) (colours received₀ received : List ℕ) 
 
 -- the colours below x are done, the others are as they were
 pub record Absorbing (colours₀ received₀ colours received : List ℕ) (x : ℕ) : Type 0 where
-  pub within : x ≤ length colours₀
-  pub size : length colours ≡ length colours₀
-  pub received-size : length received ≡ length received₀
   pub done : (k : ℕ) → k < x → get_or colours k 0 ≡ mixed (get_or colours₀ k 0) (get_or received₀ k 0)
   pub gone : (k : ℕ) → k < x → get_or received k 0 ≡ 0
   pub left : (k : ℕ) → x ≤ k → get_or colours k 0 ≡ get_or colours₀ k 0
   pub received-left : (k : ℕ) → x ≤ k → get_or received k 0 ≡ get_or received₀ k 0
-
-pub absorb-start : (colours received : List ℕ) → Absorbing colours received colours received 0
-absorb-start colours received =
-    record {
-      within = omega arith;
-      size = refl;
-      received-size = refl;
-      done = λ k h. absurd (omega arith);
-      gone = λ k h. absurd (omega arith);
-      left = λ k h. refl;
-      received-left = λ k h. refl;
-    }
-
-module _ (colours₀ received₀ colours received : List ℕ) (x : ℕ) (e : length received₀ ≡ length colours₀)
-    (w : Absorbing colours₀ received₀ colours received x) where
-  pub absorb-done : length colours ≤ x → Absorbed colours₀ received₀ colours received
-  absorb-done h =
-      record {
-        at = λ k l. w.done k (omega (arith, w.size));
-        none = record { none = λ k. ⊎_elim (λ l. w.gone k (omega (arith, w.size, w.received-size))) (out k) (le-or-lt' k) };
-      }
-    where
-      le-or-lt' : (k : ℕ) → (k < length received) ⊎ (length received ≤ k)
-      le-or-lt' k = ⊎_elim (λ l. inr l) (λ l. inl l) (le-or-lt (length received) k)
-
-      out : (k : ℕ) → length received ≤ k → get_or received k 0 ≡ 0
-      out k l = get_or-eq_default received 0 l
-
-  module _ (h : x < length colours) (v : ℕ) (f : v ≡ mixed (get_or colours x 0) (get_or received x 0)) where
-    room : x < length received
-    room = omega (arith, w.size, w.received-size)
-
-    step-done :
-        (k : ℕ) → (eqb k x ≡ true) ⊎ (eqb k x ≡ false) → k < suc x
-        → get_or (set colours x v) k 0 ≡ mixed (get_or colours₀ k 0) (get_or received₀ k 0)
-    step-done k (inl y) l =
-        let q : k ≡ x = eqb-true k x y in
-        rw (q, get_or-set_same colours x v 0 h, f, w.left x (omega arith), w.received-left x (omega arith))
-    step-done k (inr y) l =
-        let d : k ≡ x → ⊥ = eqb-false k x y in
-        get_or-set_other colours x k v 0 d ∙ w.done k (omega (arith, d))
-
-    step_gone :
-        (k : ℕ) → (eqb k x ≡ true) ⊎ (eqb k x ≡ false) → k < suc x → get_or (set received x 0) k 0 ≡ 0
-    step_gone k (inl y) l = rw (eqb-true k x y) (get_or-set_same received x 0 0 room)
-    step_gone k (inr y) l =
-        let d : k ≡ x → ⊥ = eqb-false k x y in
-        get_or-set_other received x k 0 0 d ∙ w.gone k (omega (arith, d))
-
-    pub absorb-next : Absorbing colours₀ received₀ (set colours x v) (set received x 0) (x + 1)
-    absorb-next =
-        rw (add-one x)
-        (record {
-          within = omega (arith, w.size);
-          size = length-set colours x v ∙ w.size;
-          received-size = length-set received x 0 ∙ w.received-size;
-          done = λ k l. step-done k (either (eqb k x)) l;
-          gone = λ k l. step_gone k (either (eqb k x)) l;
-          left = λ k l. get_or-set_other colours x k v 0 (λ q. omega arith) ∙ w.left k (omega arith);
-          received-left = λ k l. get_or-set_other received x k 0 0 (λ q. omega arith) ∙ w.received-left k (omega arith);
-        })

@@ -126,11 +126,7 @@ clip-high x limit h = rw (clip-cell x limit) (omega arith)
 
 -- the terms from i on, from the number by now, give the answer for all
 pub record FirstSigning (limit start : ℕ) (terms : List ℕ) (s i : ℕ) : Type 0 where
-  pub within : i ≤ length terms
   pub same : signed (clipped limit) s (cell_terms (drop i terms)) ≡ signed (clipped limit) start (cell_terms terms)
-
-pub first-start : (limit start : ℕ) (terms : List ℕ) → FirstSigning limit start terms start 0
-first-start limit start terms = record { within = omega arith; same = refl }
 
 module _ (limit start : ℕ) (terms : List ℕ) (s i : ℕ) (w : FirstSigning limit start terms s i) where
   pub first_done : length terms ≤ i → s ≡ signed (clipped limit) start (cell_terms terms)
@@ -147,18 +143,17 @@ module _ (limit start : ℕ) (terms : List ℕ) (s i : ℕ) (w : FirstSigning li
         → FirstSigning limit start terms s' (i + 1)
     unfolding signed
     first_next z k s' e f =
-        rw (add-one i) (record { within = h; same = rw (f, e) (rw (terms-more terms i h z) at w.same) })
+        rw (add-one i) (record { same = rw (f, e) (rw (terms-more terms i h z) at w.same) })
 
 -- the constraints from i on, from the sum by now, give the answer for all
 pub record FirstSumming (limit : ℕ) (cells : List ℕ) (n sum i : ℕ) : Type 0 where
-  pub within : i ≤ n
   pub same :
       added sum (map (λ c. mixed (signature (clipped limit) c) 2) (cell_constraints (drop (5 * i) cells)))
       ≡ digest (clipped limit) (cell_constraints cells)
 
 pub sum-start : (limit : ℕ) (cells : List ℕ) (n : ℕ) → FirstSumming limit cells n 0 0
 unfolding digest
-sum-start limit cells n = record { within = omega arith; same = refl }
+sum-start limit cells n = record { same = refl }
 
 module _ (limit : ℕ) (cells : List ℕ) (n sum i : ℕ) (s : length cells ≡ 5 * n) (w : FirstSumming limit cells n sum i) where
   pub sum_done : n ≤ i → sum ≡ digest (clipped limit) (cell_constraints cells)
@@ -174,4 +169,4 @@ module _ (limit : ℕ) (cells : List ℕ) (n sum i : ℕ) (s : length cells ≡ 
       let one : r ≡ signature (clipped limit) (row_constraint (take 5 (drop (5 * i) cells))) =
       g ∙ rw e (row-signed cells i (clipped limit)) in
       rw (add-one i)
-      (record { within = h; same = rw (es, em, one) (rw (constraints-at cells i (omega arith)) at w.same) })
+      (record { same = rw (es, em, one) (rw (constraints-at cells i (omega arith)) at w.same) })

@@ -2,12 +2,11 @@
 --   colour-done         the colours of a state
 --   deep-…              one constraint made to stand out
 --   keys-…              the keys of all constraints
---   sum-…, class-…      their sum, and the class of a key
+--   sum-…               their sum
 --   relabel-…           classes in the place of symbols
 -- Assumes nothing.
-use Rattle.std.proofs.Common.{◌≡◌, ℕ, suc, ◌+◌, ◌*◌, ◌%◌, ◌^◌, ◌<◌, ◌≤◌, Bool, true, false, eqb, ◌⊎◌, List, [], ◌∷◌, map, length, get_or, drop, set, sym, refl, ap, ◌∙◌, subst, inl, inr, add-one, arith, length-set, drop_of_length-le, drop-cons, get_or-set_other, get_or-set_same, eq-eqb, ne_eqb, eqb-true}
+use Rattle.std.proofs.Common.{◌≡◌, ℕ, suc, ◌+◌, ◌*◌, ◌%◌, ◌^◌, ◌<◌, ◌≤◌, Bool, true, false, eqb, ◌⊎◌, List, [], ◌∷◌, map, length, get_or, drop, set, sym, refl, ap, ◌∙◌, subst, inl, inr, add-one, arith, length-set, drop_of_length-le, drop-cons, get_or-set_other, get_or-set_same, eqb-true}
 use borrow.Author.Tests.{eqb-false}
-use Rattle.text.specs.Lists.{index_from}
 use Rattle.semantics.specs.Terms.{Term, Constraint}
 use Rattle.tables.specs.Cells.{cell_terms, cell_constraints}
 use Rattle.tables.proofs.CellLaws.{either}
@@ -63,15 +62,10 @@ deep-done t cells n i colours scratch₁ scratch₂ scratch₃ r s h e l m d =
 
 -- the keys below i are made
 pub record Keying (t : ℕ) (deep : Bool) (cells : List ℕ) (n : ℕ) (colours keys₀ keys : List ℕ) (i : ℕ) : Type 0 where
-  pub within : i ≤ n
   pub size : length keys ≡ length keys₀
   pub made :
       (κ : Term → ℕ) → Colours colours κ → (k : ℕ) → k < i
       → get_or keys k 0 ≡ key_of t deep κ (cell_constraints cells) (row_of cells k)
-
-pub keys-start : (t : ℕ) (deep : Bool) (cells : List ℕ) (n : ℕ) (colours keys : List ℕ) → Keying t deep cells n colours keys keys 0
-keys-start t deep cells n colours keys =
-    record { within = omega arith; size = refl; made = λ κ c k h. absurd (omega arith) }
 
 module _ (t : ℕ) (deep : Bool) (cells : List ℕ) (n : ℕ) (colours keys₀ keys : List ℕ) (i : ℕ) (s : length cells ≡ 5 * n)
     (q : length keys₀ ≡ n) (w : Keying t deep cells n colours keys₀ keys i) where
@@ -91,7 +85,6 @@ module _ (t : ℕ) (deep : Bool) (cells : List ℕ) (n : ℕ) (colours keys₀ k
     keys-next v f =
         rw (add-one i)
         (record {
-          within = h;
           size = length-set keys i v ∙ w.size;
           made = λ κ c k l. go κ c k l (either (eqb k i));
         })
@@ -137,11 +130,10 @@ key-deep t cells i colours s v g ev κ c = ev ∙ rw (g.same κ c)
 
 -- the keys from i on, from the sum by now, give the sum of all
 pub record Totalling (keys : List ℕ) (total i : ℕ) : Type 0 where
-  pub within : i ≤ length keys
   pub same : summed (drop i keys) total ≡ summed keys 0
 
 pub sum-start : (keys : List ℕ) → Totalling keys 0 0
-sum-start keys = record { within = omega arith; same = refl }
+sum-start keys = record { same = refl }
 
 module _ (keys : List ℕ) (total i : ℕ) (w : Totalling keys total i) where
   pub sum_done : length keys ≤ i → total ≡ summed keys 0
@@ -151,40 +143,13 @@ module _ (keys : List ℕ) (total i : ℕ) (w : Totalling keys total i) where
   pub sum-next :
       i < length keys → (t : ℕ) → t ≡ (total + get_or keys i 0) % 2 ^ 64 → Totalling keys t (i + 1)
   unfolding summed
-  sum-next h t e = rw (add-one i) (record { within = h; same = rw e (rw (drop-cons keys i 0 h) at w.same) })
-
--- no key before i is the same
-pub record Seeking (keys : List ℕ) (key i : ℕ) : Type 0 where
-  pub within : i ≤ length keys
-  pub same : index_from (eqb key) i (drop i keys) ≡ class_of keys key
-
-pub class-start : (keys : List ℕ) (key : ℕ) → Seeking keys key 0
-unfolding class_of
-class-start keys key = record { within = omega arith; same = refl }
-
-module _ (keys : List ℕ) (key i : ℕ) (w : Seeking keys key i) where
-  pub class-none : length keys ≤ i → (i ≡ class_of keys key) × (i ≤ length keys)
-  class-none h = (rw (drop_of_length-le keys {i = i} h) at w.same, w.within)
-
-  module _ (h : i < length keys) where
-    pub class-found : key ≡ get_or keys i 0 → (i ≡ class_of keys key) × (i ≤ length keys)
-    class-found e = (rw (drop-cons keys i 0 h, eq-eqb key (get_or keys i 0) e) at w.same, w.within)
-
-    pub class-next : (key ≡ get_or keys i 0 → ⊥) → Seeking keys key (i + 1)
-    class-next d =
-        rw (add-one i)
-        (record { within = h; same = rw (drop-cons keys i 0 h, ne_eqb key (get_or keys i 0) d) at w.same })
+  sum-next h t e = rw (add-one i) (record { same = rw e (rw (drop-cons keys i 0 h) at w.same) })
 
 -- the constraints below i are relabelled
 pub record Relabelling (own keys cells₀ cells : List ℕ) (i : ℕ) : Type 0 where
-  pub within : i ≤ length own
   pub size : length cells ≡ length cells₀
   pub made : (k : ℕ) → k < i → get_or cells (5 * k) 0 ≡ class_of keys (get_or own k 0)
   pub terms : (k j : ℕ) → j < 4 → get_or cells (5 * k + (1 + j)) 0 ≡ get_or cells₀ (5 * k + (1 + j)) 0
-
-pub relabel-start : (own keys cells : List ℕ) → Relabelling own keys cells cells 0
-relabel-start own keys cells =
-    record { within = omega arith; size = refl; made = λ k h. absurd (omega arith); terms = λ k j h. refl }
 
 module _ (own keys cells₀ cells : List ℕ) (i : ℕ) (s : length cells₀ ≡ 5 * length own)
     (w : Relabelling own keys cells₀ cells i) where
@@ -217,7 +182,6 @@ module _ (own keys cells₀ cells : List ℕ) (i : ℕ) (s : length cells₀ ≡
   relabel-next h v e =
       rw (add-one i)
       (record {
-        within = h;
         size = length-set cells (5 * i) v ∙ w.size;
         made = λ k l. go k l (either (eqb k i));
         terms = λ k j l. get_or-set_other cells (5 * i) (5 * k + (1 + j)) v 0 (λ z. omega arith) ∙ w.terms k j l;

@@ -1,18 +1,15 @@
 -- Variables numbered anew: one law for each way that the code goes.
 --   number-…        one cell
 --   cells-…         all cells
---   below-…         cells below a size
 --   state-…         a state
 -- Assumes nothing.
 use Rattle.std.proofs.Common.{◌≡◌, ℕ, zero, suc, ◌+◌, ◌-◌, ◌<◌, ◌≤◌, true, false, eqb, ◌⊎◌, List, ◌++◌, length, get_or, take, set, replicate, sym, refl, ◌∙◌, subst, inl, inr, ⊎_elim, add-one, arith, length-set, take_all, get_or-set_other, get_or-set_same, take-suc-set, eqb-true}
 use lib.ListN.{get_or-eq_default}
 use borrow.Author.Tests.{eqb-false}
 use Rattle.semantics.specs.Variants.{TermVariant, same_con, partners}
-use Rattle.semantics.proofs.Options.{true-false}
 use Rattle.tables.specs.Cells.{cell_term}
 use Rattle.tables.proofs.CellLaws.{either, le-or-lt, cell-low, cell-high}
-use Rattle.colours.specs.Bounds.{Below}
-use Rattle.colours.specs.Numbering.{Renames, Numbering, Ascending, none, known, new, WithinSize}
+use Rattle.colours.specs.Numbering.{Renames, Numbering, Ascending, none, known, new}
 use Rattle.colours.specs.Numbering.{Numbered, CellsNumbered, Renumbered}
 
 -- a variable with its number, as terms
@@ -126,7 +123,6 @@ ascending-append (new e a) b = new e (ascending-append a b)
 
 -- the cells below i have their numbers
 pub record Progress (cells out₀ out numbers₀ : List ℕ) (first : ℕ) (numbers : List ℕ) (next i : ℕ) : Type 0 where
-  pub within : i ≤ length cells
   pub size : length out ≡ length out₀
   pub table-size : length numbers ≡ length numbers₀
   pub numbering : Numbering numbers next
@@ -142,7 +138,6 @@ pub cells-start :
     (cells out numbers : List ℕ) (first : ℕ) → Numbering numbers first → Progress cells out out numbers first numbers first 0
 cells-start cells out numbers first n =
     record {
-      within = omega arith;
       size = refl;
       table-size = refl;
       numbering = n;
@@ -157,14 +152,8 @@ cells-start cells out numbers first n =
 
 module _ (cells out₀ out numbers₀ : List ℕ) (first : ℕ) (numbers : List ℕ) (next i : ℕ) (s : length out₀ ≡ length cells)
     (w : Progress cells out₀ out numbers₀ first numbers next i) where
-  -- what numbering the next cell asks
-  pub cells-one :
-      i < length cells → Below (length numbers₀) cells → first + length cells < 65535
-      → Numbering numbers next × (get_or cells i 0 < length numbers) × (next < 65535)
-  cells-one h b f = (w.numbering, rw w.table-size (b.below i), omega (arith, w.most))
-
-  pub cells-done : length cells ≤ i → CellsNumbered cells out numbers₀ first numbers next
-  cells-done h =
+  pub cells-done : length cells ≤ i → i ≤ length cells → CellsNumbered cells out numbers₀ first numbers next
+  cells-done h b =
       record {
         numbering = w.numbering;
         kept = w.kept;
@@ -174,7 +163,7 @@ module _ (cells out₀ out numbers₀ : List ℕ) (first : ℕ) (numbers : List 
         below = λ k. ⊎_elim (λ q. rw (out-behind k q) (omega (arith, w.numbering.low))) (λ q. w.below k (omega arith))
             (le-or-lt (length cells) k);
         least = w.least;
-        most = omega (arith, w.most, w.within);
+        most = omega (arith, w.most, b);
       }
     where
       out-behind : (k : ℕ) → length cells ≤ k → get_or out k 0 ≡ 0
@@ -222,7 +211,6 @@ module _ (cells out₀ out numbers₀ : List ℕ) (first : ℕ) (numbers : List 
     cells-next =
         rw (add-one i)
         (record {
-          within = h;
           size = length-set out i y ∙ w.size;
           table-size = t ∙ w.table-size;
           numbering = n.numbering;
@@ -267,31 +255,3 @@ state-numbered cells bound out bound' numbers₀ numbers₁ numbers₂ limit nex
       bound-below = λ i. omega (arith, f.below i, g.least);
       most = omega (arith, f.most, g.most);
     }
-
--- the cells before i lie below a size
-pub record BelowSoFar (size : ℕ) (cells : List ℕ) (i : ℕ) : Type 0 where
-  pub within : i ≤ length cells
-  pub so_far : (k : ℕ) → k < i → get_or cells k 0 < size
-
-pub below-start : (size : ℕ) (cells : List ℕ) → BelowSoFar size cells 0
-below-start size cells = record { within = omega arith; so_far = λ k h. absurd (omega arith) }
-
-pub below_apart : (size : ℕ) (cells : List ℕ) → WithinSize false size cells
-below_apart size cells = record { below = λ z. true-false z refl }
-
-module _ (size : ℕ) (cells : List ℕ) (i : ℕ) (w : BelowSoFar size cells i) where
-  pub below_next : i < length cells → get_or cells i 0 < size → BelowSoFar size cells (i + 1)
-  below_next h b = rw (add-one i) (record { within = h; so_far = λ k l. go k l (either (eqb k i)) })
-    where
-      go : (k : ℕ) → k < suc i → (eqb k i ≡ true) ⊎ (eqb k i ≡ false) → get_or cells k 0 < size
-      go k l (inl e) = rw (eqb-true k i e) b
-      go k l (inr e) =
-          let d : k ≡ i → ⊥ = eqb-false k i e in
-          w.so_far k (omega (arith, d))
-
-  pub below-done : 0 < size → length cells ≤ i → WithinSize true size cells
-  below-done p h = record { below = λ z. record { below = λ k. go k (le-or-lt (length cells) k) } }
-    where
-      go : (k : ℕ) → (length cells ≤ k) ⊎ (k < length cells) → get_or cells k 0 < size
-      go k (inl q) = rw (get_or-eq_default cells 0 q) p
-      go k (inr q) = w.so_far k (omega arith)

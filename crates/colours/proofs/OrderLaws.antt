@@ -1,39 +1,48 @@
 -- Constraints in another order: one law for each way that the code goes.
---   term-room          a term has its place
+--   term_room          a term has its place
 --   swapping-…         two constraints change positions
 --   swapped-multiset   they are the same constraints then
 --   reordered-…        one change after the other
 -- Assumes nothing.
-use Rattle.std.proofs.Common.{◌≡◌, ℕ, zero, suc, ◌+◌, ◌*◌, ◌<◌, ◌≤◌, true, false, eqb, ◌⊎◌, List, [], ◌∷◌, length, get_or, set, sym, refl, ap, ◌∙◌, subst, inl, inr, add-one, arith, length-set, get_or-set_other, get_or-set_same, ext_get_or, eqb-true}
+use Rattle.std.proofs.Common.{◌≡◌, ℕ, zero, suc, ◌+◌, ◌-◌, ◌*◌, ◌<◌, ◌≤◌, true, false, eqb, ◌⊎◌, List, [], ◌∷◌, length, get_or, take, drop, set, sym, refl, ap, ◌∙◌, subst, inl, inr, add-one, arith, length-set, length-take, get_or-drop, get_or-take, get_or-set_other, get_or-set_same, ext_get_or, eqb-true}
+use lib.ListN.{get_or-eq_default}
 use borrow.Author.Tests.{eqb-false}
+use Rattle.std.specs.List.{swap}
+use Rattle.std.proofs.lemmas.List.Edits.{swap_is}
 use Rattle.semantics.specs.Terms.{Constraint}
 use Rattle.semantics.specs.Variants.{SameMultiset, put, Inserted, here, there}
 use Rattle.semantics.proofs.Multisets.{multiset-refl, multiset-right}
 use Rattle.tables.specs.Cells.{cell_constraints}
 use Rattle.tables.proofs.CellLaws.{constraints-length}
-use Rattle.tables.proofs.CellLaws.{either}
+use Rattle.tables.proofs.CellLaws.{either, le-or-lt}
 use Rattle.colours.specs.Rows.{row_of}
 use Rattle.colours.specs.Bounds.{TermsBelow}
 use Rattle.colours.specs.Order.{Ordering, swapped, Swapped, Reordered}
 use Rattle.colours.proofs.RowLaws.{row_at}
 
--- a term has its place
-pub term-room :
-    (m : ℕ) (cells : List ℕ) (i j x : ℕ) → TermsBelow m cells → j < 4 → x ≡ get_or cells (5 * i + 1 + j) 0 → x < m
-term-room m cells i j x b h e =
-    let k : 5 * i + 1 + j ≡ 5 * i + (1 + j) = omega arith in
-    rw (e, k) (b.below i j h)
+-- a term of constraint i, as the code lends its row, has its place
+pub term_room :
+    (m : ℕ) (cells : List ℕ) (i j : ℕ) → TermsBelow m cells
+    → get_or (take (5 * i + 5 - (5 * i + 1)) (drop (5 * i + 1) cells)) j 0 < m
+term_room m cells i j b = rw four (go (le-or-lt 4 j))
+  where
+    four : 5 * i + 5 - (5 * i + 1) ≡ 4
+    four = omega arith
+
+    go : (4 ≤ j) ⊎ (j < 4) → get_or (take 4 (drop (5 * i + 1) cells)) j 0 < m
+    go (inr h) =
+        let k : 5 * i + 1 + j ≡ 5 * i + (1 + j) = omega arith in
+        rw (get_or-take 4 (drop (5 * i + 1) cells) j 0 h, get_or-drop (5 * i + 1) cells j 0, k) (b.below i j h)
+    go (inl h) =
+        let e : length (take 4 (drop (5 * i + 1) cells)) ≤ j = omega (arith, length-take 4 (drop (5 * i + 1) cells)) in
+        let z : 0 < m = omega (arith, b.below 0 0 (omega arith)) in
+        rw (get_or-eq_default (take 4 (drop (5 * i + 1) cells)) 0 e) z
 
 -- the columns before c are exchanged, the others are as they were
 pub record Swapping (i j : ℕ) (cells₀ cells : List ℕ) (c : ℕ) : Type 0 where
-  pub within : c ≤ 5
   pub size : length cells ≡ length cells₀
   pub made : (k d : ℕ) → d < c → get_or cells (5 * k + d) 0 ≡ get_or cells₀ (5 * swapped i j k + d) 0
   pub left : (k d : ℕ) → c ≤ d → d < 5 → get_or cells (5 * k + d) 0 ≡ get_or cells₀ (5 * k + d) 0
-
-pub swapping_start : (i j : ℕ) (cells : List ℕ) → Swapping i j cells cells 0
-swapping_start i j cells =
-    record { within = omega arith; size = refl; made = λ k d h. absurd (omega arith); left = λ k d h l. refl }
 
 -- a cell's constraint and its column
 apart-column : (k i c d : ℕ) → c < 5 → d < 5 → (c ≡ d → ⊥) → 5 * k + c ≡ 5 * i + d → ⊥
@@ -44,9 +53,6 @@ apart-row k i c n e = n (omega arith)
 
 module _ (i j : ℕ) (cells₀ cells : List ℕ) (c : ℕ) (hi : 5 * i + 5 ≤ length cells₀) (hj : 5 * j + 5 ≤ length cells₀)
     (w : Swapping i j cells₀ cells c) where
-  pub swapping-done : 5 ≤ c → Swapped i j cells₀ cells
-  swapping-done h = record { at = λ k d l. w.made k d (omega arith) }
-
   module _ (h : c < 5) where
     -- what the code stores
     abbrev after : List ℕ
@@ -96,11 +102,10 @@ module _ (i j : ℕ) (cells₀ cells : List ℕ) (c : ℕ) (hi : 5 * i + 5 ≤ l
         ∙ (get_or-set_other cells (5 * i + c) (5 * k + c) (get_or cells (5 * j + c) 0) 0 (apart-row k i c (eqb-false k i x))
         ∙ w.left k c (omega arith) h))
 
-    pub swapping-next : Swapping i j cells₀ after (c + 1)
+    pub swapping-next : Swapping i j cells₀ (swap cells (5 * i + c) (5 * j + c)) (c + 1)
     swapping-next =
-        rw (add-one c)
+        rw (add-one c, ← swap_is cells (5 * i + c) (5 * j + c) 0 in_left (omega (arith, w.size)))
         (record {
-          within = h;
           size = length-set (set cells (5 * i + c) (get_or cells (5 * j + c) 0)) (5 * j + c) (get_or cells (5 * i + c) 0)
               ∙ (length-set cells (5 * i + c) (get_or cells (5 * j + c) 0) ∙ w.size);
           made = λ k d l. go k d l (either (eqb d c));
@@ -246,9 +251,6 @@ module _ (cells₀ cells : List ℕ) (k n m m₀ : ℕ) (w : Arranging cells₀ 
   -- the marks have room
   pub arranging-terms : TermsBelow m cells'
   arranging-terms = step.below m w.ordering.terms
-
-  pub arranging-room : 5 * k + 5 ≤ length cells'
-  arranging-room = omega (arith, l, w.ordering.size)
 
   pub arranging-next : (m' : ℕ) → m' ≡ m → Arranging cells₀ cells' (k + 1) n m' m₀
   arranging-next m' e =

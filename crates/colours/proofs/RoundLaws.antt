@@ -2,14 +2,12 @@
 --   round-…         one round, and several
 --   start-…         the colours at the start
 --   digest-…        one number for all constraints
---   copy-…          a table, copied
 -- Assumes nothing.
-use Rattle.std.proofs.Common.{◌≡◌, ℕ, suc, ◌+◌, ◌-◌, ◌*◌, ◌<◌, ◌≤◌, true, false, eqb, ◌⊎◌, List, map, length, get_or, take, drop, set, sym, refl, ap, ◌∙◌, subst, inl, inr, add-one, arith, length-set, drop_of_length-le, get_or-set_other, get_or-set_same, ext_get_or, eqb-true}
-use borrow.Author.Tests.{eqb-false}
+use Rattle.std.proofs.Common.{◌≡◌, ℕ, suc, ◌+◌, ◌-◌, ◌*◌, ◌<◌, ◌≤◌, List, map, length, get_or, take, drop, refl, ap, ◌∙◌, subst, add-one, arith, drop_of_length-le}
 use Rattle.semantics.specs.Terms.{Term, Constraint}
 use Rattle.tables.specs.Cells.{cell_term, cell_terms, cell_constraints}
 use Rattle.tables.specs.Cells.{row_constraint}
-use Rattle.tables.proofs.CellLaws.{either, cell-low, cell-high, constraints-at}
+use Rattle.tables.proofs.CellLaws.{cell-low, cell-high, constraints-at}
 use Rattle.colours.specs.Colours.{mixed, plus, added, signed, signature, refined, rounds, digest, base, with_terms}
 use Rattle.colours.specs.Colours.{Colours, Signed, Given, Absorbed, Empty, Ready, Recoloured, Summed}
 use Rattle.colours.proofs.ColourLaws.{lent, lent_terms, lent-constraint}
@@ -29,35 +27,21 @@ round-one cs colours received colours' received' received'' s z g l a =
       };
     }
 
--- rounds that are left, from the table by now, give the answer for all
+-- the rounds that are left after i, from the table by now, give the answer for all
 pub record Rounding (k : ℕ) (cs : List Constraint) (colours₀ received₀ colours received : List ℕ) (i : ℕ) : Type 0 where
   pub size : length colours ≡ length colours₀
   pub received-size : length received ≡ length received₀
   pub empty : Empty received
   pub same :
-      (κ : Term → ℕ) → Colours colours₀ κ → (ν : Term → ℕ) × Colours colours ν × (rounds i cs ν ≡ rounds k cs κ)
+      (κ : Term → ℕ) → Colours colours₀ κ → (ν : Term → ℕ) × Colours colours ν × (rounds (k - i) cs ν ≡ rounds k cs κ)
 
 module _ (k : ℕ) (cells : List ℕ) (n : ℕ) (colours₀ received₀ : List ℕ) (r : Ready cells n colours₀ received₀) where
-  pub rounds-start : Rounding k (cell_constraints cells) colours₀ received₀ colours₀ received₀ k
-  rounds-start =
-      record { size = refl; received-size = refl; empty = r.empty; same = λ κ h. (κ, h, refl) }
-
   module _ (colours received : List ℕ) (i : ℕ)
       (w : Rounding k (cell_constraints cells) colours₀ received₀ colours received i) where
-    -- what the next round asks
-    pub rounds-ready : Ready cells n colours received
-    rounds-ready =
-        record {
-          size = r.size;
-          below = rw w.size r.below;
-          same_size = w.received-size ∙ (r.same_size ∙ sym w.size);
-          empty = w.empty;
-        }
-
     pub rounds-next :
-        0 < i → (colours' received' : List ℕ) → length colours' ≡ length colours → length received' ≡ length received
+        i < k → (colours' received' : List ℕ) → length colours' ≡ length colours → length received' ≡ length received
         → Recoloured (λ κ. refined κ (cell_constraints cells)) colours colours' → Empty received'
-        → Rounding k (cell_constraints cells) colours₀ received₀ colours' received' (i - 1)
+        → Rounding k (cell_constraints cells) colours₀ received₀ colours' received' (i + 1)
     unfolding rounds
     rounds-next h colours' received' lc lr f z =
         record {
@@ -66,18 +50,18 @@ module _ (k : ℕ) (cells : List ℕ) (n : ℕ) (colours₀ received₀ : List �
           empty = z;
           same = λ κ q.
               let (ν, u, e) = w.same κ q in
-              let one : suc (i - 1) ≡ i = omega arith in
-              (refined ν (cell_constraints cells), f.same ν u, rw (← one) at e);
+              let one : k - i ≡ suc (k - (i + 1)) = omega arith in
+              (refined ν (cell_constraints cells), f.same ν u, rw one at e);
         }
 
     pub rounds-done :
-        i ≤ 0 → Recoloured (rounds k (cell_constraints cells)) colours₀ colours × Empty received
+        k ≤ i → Recoloured (rounds k (cell_constraints cells)) colours₀ colours × Empty received
     unfolding rounds
     rounds-done h = (
       record {
         same = λ κ q.
             let (ν, u, e) = w.same κ q in
-            let z : i ≡ 0 = omega arith in
+            let z : k - i ≡ 0 = omega arith in
             subst (Colours colours) (rw z at e) u;
       },
       w.empty,
@@ -92,30 +76,6 @@ pub start-high : (x : ℕ) → 256 ≤ x → 256 ≡ base (cell_term x)
 unfolding base
 start-high x h = rw (cell-high x h)
 
--- the cells below x have their colours
-pub record Starting (colours₀ colours : List ℕ) (x : ℕ) : Type 0 where
-  pub size : length colours ≡ length colours₀
-  pub done : (k : ℕ) → k < x → get_or colours k 0 ≡ base (cell_term k)
-
-pub start-start : (colours : List ℕ) → Starting colours colours 0
-start-start colours = record { size = refl; done = λ k h. absurd (omega arith) }
-
-module _ (colours₀ colours : List ℕ) (x : ℕ) (w : Starting colours₀ colours x) where
-  pub start-done : length colours ≤ x → Colours colours base
-  start-done h = record { at = λ k l. w.done k (omega arith) }
-
-  pub start-next :
-      x < length colours → (v : ℕ) → v ≡ base (cell_term x) → Starting colours₀ (set colours x v) (x + 1)
-  start-next h v e =
-      rw (add-one x)
-      (record { size = length-set colours x v ∙ w.size; done = λ k l. go k l (either (eqb k x)) })
-    where
-      go : (k : ℕ) → k < suc x → (eqb k x ≡ true) ⊎ (eqb k x ≡ false) → get_or (set colours x v) k 0 ≡ base (cell_term k)
-      go k l (inl y) = rw (eqb-true k x y, get_or-set_same colours x v 0 h) e
-      go k l (inr y) =
-          let d : k ≡ x → ⊥ = eqb-false k x y in
-          get_or-set_other colours x k v 0 d ∙ w.done k (omega (arith, d))
-
 -- the signature of a row, of its symbol and its terms
 pub row-signed :
     (cells : List ℕ) (i : ℕ) (κ : Term → ℕ)
@@ -126,14 +86,13 @@ row-signed cells i κ = ap (signature κ) (lent-constraint cells i)
 
 -- the constraints from i on, from the sum by now, give the answer for all
 pub record Summing (cells : List ℕ) (n : ℕ) (colours : List ℕ) (sum i : ℕ) : Type 0 where
-  pub within : i ≤ n
   pub same :
       (κ : Term → ℕ) → Colours colours κ
       → added sum (map (λ c. mixed (signature κ c) 2) (cell_constraints (drop (5 * i) cells))) ≡ digest κ (cell_constraints cells)
 
 pub digest-start : (cells : List ℕ) (n : ℕ) (colours : List ℕ) → Summing cells n colours 0 0
 unfolding digest
-digest-start cells n colours = record { within = omega arith; same = λ κ k. refl }
+digest-start cells n colours = record { same = λ κ k. refl }
 
 module _ (cells : List ℕ) (n : ℕ) (colours : List ℕ) (sum i : ℕ) (s : length cells ≡ 5 * n)
     (w : Summing cells n colours sum i) where
@@ -150,32 +109,7 @@ module _ (cells : List ℕ) (n : ℕ) (colours : List ℕ) (sum i : ℕ) (s : le
   digest-next h start r m sum' e g em es =
       rw (add-one i)
       (record {
-        within = h;
         same = λ κ k.
             let one : r ≡ signature κ (row_constraint (take 5 (drop (5 * i) cells))) = g.same κ k ∙ rw e (row-signed cells i κ) in
             rw (es, em, one) (rw (constraints-at cells i (omega arith)) at (w.same κ k));
       })
-
--- the cells below x are copied
-pub record Copying (colours out₀ out : List ℕ) (x : ℕ) : Type 0 where
-  pub size : length out ≡ length out₀
-  pub done : (k : ℕ) → k < x → get_or out k 0 ≡ get_or colours k 0
-
-pub copy_start : (colours out : List ℕ) → Copying colours out out 0
-copy_start colours out = record { size = refl; done = λ k h. absurd (omega arith) }
-
-module _ (colours out₀ out : List ℕ) (x : ℕ) (s : length out₀ ≡ length colours) (w : Copying colours out₀ out x) where
-  pub copy_done : length colours ≤ x → out ≡ colours
-  copy_done h = ext_get_or 0 out colours (w.size ∙ s) (λ k l. w.done k (omega (arith, w.size)))
-
-  pub copy-next : x < length colours → Copying colours out₀ (set out x (get_or colours x 0)) (x + 1)
-  copy-next h =
-      rw (add-one x)
-      (record { size = length-set out x (get_or colours x 0) ∙ w.size; done = λ k l. go k l (either (eqb k x)) })
-    where
-      go : (k : ℕ) → k < suc x → (eqb k x ≡ true) ⊎ (eqb k x ≡ false) → get_or (set out x (get_or colours x 0)) k 0 ≡ get_or colours k 0
-      go k l (inl y) =
-          rw (eqb-true k x y) (get_or-set_same out x (get_or colours x 0) 0 (omega (arith, w.size)))
-      go k l (inr y) =
-          let d : k ≡ x → ⊥ = eqb-false k x y in
-          get_or-set_other out x k (get_or colours x 0) 0 d ∙ w.done k (omega (arith, d))

@@ -9,7 +9,7 @@ ghost use Rattle.colours.specs.Classes.{Colourable, Classified};
 use crate::keys::{colour, deep_keys, plain_keys, relabel, sum};
 
 // Room for the colours of all cells: constants, 28 goal variables, and as many more as 512 constraints have cells.
-const ROOM: usize = 2844;
+pub const ROOM: usize = 2844;
 
 // How keys are made: by how many rounds, and whether each constraint is marked.
 #[derive(Clone, Copy)]

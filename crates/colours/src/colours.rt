@@ -6,7 +6,6 @@ ghost use Rattle.colours.specs.Bounds.{Below, TermsBelow};
 ghost use Rattle.colours.specs.Colours.{carry, mixed, Signed, Spread, Given, Absorbed, Recoloured, Summed};
 ghost use Rattle.colours.specs.Colours.{with_terms, refined, rounds, digest, base, Colours, Empty, Ready};
 
-use std::num::wrapping_add_u32;
 use tables::wide;
 
 // What is added to a number by its highest bit: sums and products alone would never tell lower bits of upper ones.
@@ -38,15 +37,12 @@ pub fn sign(start: u32, terms: &[u16], colours: &[u32]) -> u32
     ensures { Signed result start (cell_terms terms.now) colours.now }
 {
     let mut s = start;
-    let mut i = 0;
-    while i < terms.len() {
-        let x = terms[i];
-        if x == 0 {
+    for x in terms {
+        if *x == 0 {
             return s;
         }
-        let p = wide(x);
+        let p = wide(*x);
         s = mix(s, colours[p]);
-        i += 1;
     }
     s
 }
@@ -57,16 +53,13 @@ pub fn spread(start: u32, terms: &[u16], received: &mut [u32])
     ensures { Spread start (cell_terms terms.now) received.old received.new }
 {
     let mut s = start;
-    let mut i = 0;
-    while i < terms.len() {
-        let x = terms[i];
-        if x == 0 {
+    for x in terms {
+        if *x == 0 {
             return;
         }
-        let p = wide(x);
+        let p = wide(*x);
         s = mix(s, 1);
-        received[p] = wrapping_add_u32(received[p], s);
-        i += 1;
+        received[p] = received[p].wrapping_add(s);
     }
 }
 
@@ -87,13 +80,9 @@ pub fn give_all(cells: &[u16], n: usize, colours: &[u32], received: &mut [u32])
     ensures { Given (cell_constraints cells.now) colours.now received.old
         received.new }
 {
-    let mut i = 0;
-    while i < n {
-        let p = 5 * i;
-        let e = p + 5;
-        let row = &cells[p..e];
+    for i in 0..n {
+        let row = &cells[5 * i..5 * i + 5];
         give(row[0], &row[1..], colours, received);
-        i += 1;
     }
 }
 
@@ -102,11 +91,9 @@ pub fn absorb(colours: &mut [u32], received: &mut [u32])
     requires { length received.old ≡ length colours.old }
     ensures { Absorbed colours.old received.old colours.new received.new }
 {
-    let mut x = 0;
-    while x < colours.len() {
+    for x in 0..colours.len() {
         colours[x] = mix(colours[x], received[x]);
         received[x] = 0;
-        x += 1;
     }
 }
 
@@ -137,10 +124,8 @@ pub fn refine_times(k: usize, cells: &[u16], n: usize, colours: &mut [u32], rece
     ensures { Recoloured (rounds k (cell_constraints cells.now)) colours.old colours.new
         × Empty received.new }
 {
-    let mut i = k;
-    while i > 0 {
+    for _ in 0..k {
         refine(cells, n, colours, received);
-        i -= 1;
     }
 }
 
@@ -157,10 +142,8 @@ pub fn start(colours: &mut [u32])
     requires { length colours.old ≤ 65536 }
     ensures { Colours colours.new base }
 {
-    let mut x = 0;
-    while x < colours.len() {
+    for x in 0..colours.len() {
         colours[x] = start_colour(x);
-        x += 1;
     }
 }
 
@@ -169,27 +152,11 @@ pub fn digest_of(cells: &[u16], n: usize, colours: &[u32]) -> u32
     requires { (length cells.now ≡ 5 * n) × TermsBelow (length colours.now) cells.now }
     ensures { Summed result (λ κ. digest κ (cell_constraints cells.now)) colours.now }
 {
-    let mut sum = 0;
-    let mut i = 0;
-    while i < n {
-        let p = 5 * i;
-        let e = p + 5;
-        let row = &cells[p..e];
+    let mut sum: u32 = 0;
+    for i in 0..n {
+        let row = &cells[5 * i..5 * i + 5];
         let s = sign(widened(row[0]), &row[1..], colours);
-        sum = wrapping_add_u32(sum, mix(s, 2));
-        i += 1;
+        sum = sum.wrapping_add(mix(s, 2));
     }
     sum
-}
-
-// Copies a table of colours.
-pub fn copy(colours: &[u32], out: &mut [u32])
-    requires { length out.old ≡ length colours.now }
-    ensures { out.new ≡ colours.now }
-{
-    let mut x = 0;
-    while x < colours.len() {
-        out[x] = colours[x];
-        x += 1;
-    }
 }

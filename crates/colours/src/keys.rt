@@ -6,8 +6,8 @@ ghost use Rattle.colours.specs.Bounds.{Below, TermsBelow};
 ghost use Rattle.colours.specs.Colours.{Colours, Empty, Ready, Summed};
 ghost use Rattle.colours.specs.Keys.{plain_of, deep_of, key_of, summed, class_of, Keyed, Relabelled};
 
-use crate::colours::{copy, digest_of, light, refine_times, sign, start, widened};
-use std::num::wrapping_add_u64;
+use crate::colours::{digest_of, light, refine_times, sign, start, widened};
+use tables::names::find_key;
 
 // The colours of a state's terms: what the goal variables became is marked before t rounds.
 pub fn colour(
@@ -42,10 +42,8 @@ pub fn deep(
     ensures { Summed result (λ κ. deep_of t κ (cell_constraints cells.now) (row_of cells.now i))
         colours.now × Empty received.new }
 {
-    copy(colours, scratch);
-    let p = 5 * i;
-    let e = p + 5;
-    let row = &cells[p..e];
+    scratch.copy_from_slice(colours);
+    let row = &cells[5 * i..5 * i + 5];
     light(row[0], &row[1..], scratch, received);
     refine_times(t, cells, n, scratch, received);
     digest_of(cells, n, scratch)
@@ -63,14 +61,10 @@ pub fn plain_keys(cells: &[u16], n: usize, colours: &[u32], keys: &mut [u64])
     requires { (length cells.now ≡ 5 * n) × TermsBelow (length colours.now) cells.now × (length keys.old ≡ n) }
     ensures { Keyed 0 false (cell_constraints cells.now) colours.now keys.new }
 {
-    let mut i = 0;
-    while i < n {
-        let p = 5 * i;
-        let e = p + 5;
-        let row = &cells[p..e];
+    for i in 0..n {
+        let row = &cells[5 * i..5 * i + 5];
         let s = sign(widened(row[0]), &row[1..], colours);
         keys[i] = code(s, row[0]);
-        i += 1;
     }
 }
 
@@ -88,11 +82,9 @@ pub fn deep_keys(
         × (length keys.old ≡ n) }
     ensures { Keyed t true (cell_constraints cells.now) colours.now keys.new }
 {
-    let mut i = 0;
-    while i < n {
+    for i in 0..n {
         let s = deep(t, cells, n, i, colours, scratch, received);
         keys[i] = code(s, cells[5 * i]);
-        i += 1;
     }
 }
 
@@ -100,27 +92,11 @@ pub fn deep_keys(
 pub fn sum(keys: &[u64]) -> u64
     ensures { result ≡ summed keys.now 0 }
 {
-    let mut total = 0;
-    let mut i = 0;
-    while i < keys.len() {
-        total = wrapping_add_u64(total, keys[i]);
-        i += 1;
+    let mut total: u64 = 0;
+    for key in keys {
+        total = total.wrapping_add(*key);
     }
     total
-}
-
-// The class of a key: the index of the first that is the same.
-pub fn class(keys: &[u64], key: u64) -> usize
-    ensures { (result ≡ class_of keys.now key) × (result ≤ length keys.now) }
-{
-    let mut i = 0;
-    while i < keys.len() {
-        if key == keys[i] {
-            return i;
-        }
-        i += 1;
-    }
-    i
 }
 
 // Puts the classes of constraints instead of their symbols: each by its own key, among the keys of one side.
@@ -128,10 +104,8 @@ pub fn relabel(cells: &mut [u16], own: &[u64], keys: &[u64])
     requires { (length cells.old ≡ 5 * length own.now) × (length keys.now ≤ 512) }
     ensures { Relabelled own.now keys.now cells.old cells.new }
 {
-    let mut i = 0;
-    while i < own.len() {
-        let k = class(keys, own[i]);
+    for (i, key) in own.iter().enumerate() {
+        let k = find_key(keys, *key);
         cells[5 * i] = k as u16;
-        i += 1;
     }
 }

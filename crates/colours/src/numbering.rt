@@ -3,10 +3,8 @@ ghost use Rattle.std.specs.Prelude.{◌≡◌, ◌+◌, ◌<◌, ◌≤◌, leng
 ghost use Rattle.colours.specs.Bounds.{Below};
 ghost use Rattle.colours.specs.Numbering.{Numbering, Numbered, CellsNumbered, Renumbered, WithinSize};
 
+use tables::layout::FIRST_VARIABLE;
 use tables::wide;
-
-// From this cell on, cells are variables.
-const VARIABLES: u16 = 256;
 
 // Cells lie below this: constants, 28 goal variables, and 26 more for each of 512 firings.
 const ROOM: usize = 13596;
@@ -26,7 +24,7 @@ pub fn number_cell(x: u16, numbers: &mut [u16], next: u16) -> Number
     requires { Numbering numbers.old next × (x < length numbers.old) × (next < 65535) }
     ensures { Numbered x result.cell numbers.old next numbers.new result.next }
 {
-    if x < VARIABLES {
+    if x < FIRST_VARIABLE {
         return Number { cell: x, next };
     }
     let p = wide(x);
@@ -48,12 +46,10 @@ pub fn number_cells(cells: &[u16], out: &mut [u16], numbers: &mut [u16], first: 
     ensures { CellsNumbered cells.now out.new numbers.old first numbers.new result }
 {
     let mut next = first;
-    let mut i = 0;
-    while i < cells.len() {
-        let number = number_cell(cells[i], numbers, next);
+    for (i, x) in cells.iter().enumerate() {
+        let number = number_cell(*x, numbers, next);
         out[i] = number.cell;
         next = number.next;
-        i += 1;
     }
     next
 }
@@ -79,7 +75,7 @@ pub fn number_in(
     ensures { Renumbered cells.now bound.now out.new out_bound.new result.bound
         result.all }
 {
-    let limit = number_cells(bound, out_bound, numbers, VARIABLES);
+    let limit = number_cells(bound, out_bound, numbers, FIRST_VARIABLE);
     let next = number_cells(cells, out, numbers, limit);
     Extent {
         bound: limit,
@@ -92,14 +88,7 @@ pub fn all_below(cells: &[u16], size: u16) -> bool
     requires { 0 < size }
     ensures { WithinSize result size cells.now }
 {
-    let mut i = 0;
-    while i < cells.len() {
-        if cells[i] >= size {
-            return false;
-        }
-        i += 1;
-    }
-    true
+    cells.iter().all(|x| *x < size)
 }
 
 // The same by a table of its own, a small one where that is enough.

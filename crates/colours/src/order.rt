@@ -4,23 +4,17 @@ ghost use Rattle.std.specs.Prelude.{◌≡◌, ◌+◌, ◌*◌, ◌<◌, ◌≤
 ghost use Rattle.colours.specs.Bounds.{TermsBelow};
 ghost use Rattle.colours.specs.Order.{Ordering, Swapped, Reordered};
 
-use std::num::{wrapping_add_u16, wrapping_sub_u16};
+use tables::layout::FIRST_VARIABLE;
 use tables::wide;
-
-// From this cell on, cells are variables.
-const VARIABLES: u16 = 256;
 
 // Counts the terms of constraint i, by cells.
 pub fn tally(cells: &[u16], i: usize, counts: &mut [u16])
     requires { TermsBelow (length counts.old) cells.now × (5 * i + 5 ≤ length cells.now) }
     ensures { length counts.new ≡ length counts.old }
 {
-    let p = 5 * i + 1;
-    let mut j = 0;
-    while j < 4 {
-        let x = wide(cells[p + j]);
-        counts[x] = wrapping_add_u16(counts[x], 1);
-        j += 1;
+    for x in &cells[5 * i + 1..5 * i + 5] {
+        let p = wide(*x);
+        counts[p] = counts[p].wrapping_add(1);
     }
 }
 
@@ -29,10 +23,8 @@ pub fn tally_all(cells: &[u16], n: usize, counts: &mut [u16])
     requires { TermsBelow (length counts.old) cells.now × (length cells.now ≡ 5 * n) }
     ensures { length counts.new ≡ length counts.old }
 {
-    let mut i = 0;
-    while i < n {
+    for i in 0..n {
         tally(cells, i, counts);
-        i += 1;
     }
 }
 
@@ -40,17 +32,11 @@ pub fn tally_all(cells: &[u16], n: usize, counts: &mut [u16])
 fn is_seen(cells: &[u16], i: usize, seen: &[bool]) -> bool
     requires { TermsBelow (length seen.now) cells.now × (5 * i + 5 ≤ length cells.now) }
 {
-    let p = 5 * i + 1;
-    let mut j = 0;
-    while j < 4 {
-        let c = cells[p + j];
-        let x = wide(c);
-        if c >= VARIABLES {
-            if !seen[x] {
-                return false;
-            }
+    for x in &cells[5 * i + 1..5 * i + 5] {
+        let p = wide(*x);
+        if *x >= FIRST_VARIABLE && !seen[p] {
+            return false;
         }
-        j += 1;
     }
     true
 }
@@ -71,12 +57,9 @@ fn least_count(cells: &[u16], i: usize, seen: &[bool], counts: &[u16]) -> u16
     requires { TermsBelow (length seen.now) cells.now × (5 * i + 5 ≤ length cells.now)
         × (length counts.now ≡ length seen.now) }
 {
-    let p = 5 * i + 1;
     let mut least = 65535;
-    let mut j = 0;
-    while j < 4 {
-        least = smaller(least, cells[p + j], seen, counts);
-        j += 1;
+    for x in &cells[5 * i + 1..5 * i + 5] {
+        least = smaller(least, *x, seen, counts);
     }
     least
 }
@@ -99,17 +82,14 @@ pub fn choose_next(cells: &[u16], k: usize, n: usize, seen: &[bool], counts: &[u
 {
     let mut best = k;
     let mut least = 65535;
-    let mut i = k;
-    while i < n {
-        let at = i;
-        let r = rank(cells, at, seen, counts);
-        i += 1;
+    for i in k..n {
+        let r = rank(cells, i, seen, counts);
         if r < 2 {
-            return at;
+            return i;
         }
         if r < least {
             least = r;
-            best = at;
+            best = i;
         }
     }
     best
@@ -122,14 +102,10 @@ pub fn see(cells: &[u16], i: usize, seen: &mut [bool], counts: &mut [u16])
     ensures { (length seen.new ≡ length seen.old)
         × (length counts.new ≡ length counts.old) }
 {
-    let p = 5 * i + 1;
-    let mut j = 0;
-    while j < 4 {
-        let c = cells[p + j];
-        let x = wide(c);
-        seen[x] = c >= VARIABLES;
-        counts[x] = wrapping_sub_u16(counts[x], 1);
-        j += 1;
+    for x in &cells[5 * i + 1..5 * i + 5] {
+        let p = wide(*x);
+        seen[p] = *x >= FIRST_VARIABLE;
+        counts[p] = counts[p].wrapping_sub(1);
     }
 }
 
@@ -138,15 +114,8 @@ pub fn swap_rows(cells: &mut [u16], i: usize, j: usize)
     requires { (5 * i + 5 ≤ length cells.old) × (5 * j + 5 ≤ length cells.old) }
     ensures { Swapped i j cells.old cells.new }
 {
-    let p = 5 * i;
-    let q = 5 * j;
-    let mut c = 0;
-    while c < 5 {
-        let x = cells[p + c];
-        let y = cells[q + c];
-        cells[p + c] = y;
-        cells[q + c] = x;
-        c += 1;
+    for c in 0..5 {
+        cells.swap(5 * i + c, 5 * j + c);
     }
 }
 
@@ -156,11 +125,9 @@ pub fn arrange_by(cells: &mut [u16], n: usize, seen: &mut [bool], counts: &mut [
     ensures { Reordered cells.old cells.new }
 {
     tally_all(cells, n, counts);
-    let mut k = 0;
-    while k < n {
+    for k in 0..n {
         let i = choose_next(cells, k, n, seen, counts);
         swap_rows(cells, k, i);
         see(cells, k, seen, counts);
-        k += 1;
     }
 }

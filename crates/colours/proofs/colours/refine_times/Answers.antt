@@ -3,9 +3,8 @@
 use Rattle.colours.proofs.RoundLaws.{rounds-next, rounds-done}
 use Rattle.colours.proofs.colours.refine_times.Goals as goal
 
-pub returns : goal.returns
-returns c =
-    rounds-done _ _ _ _ _ c.requires _ _ _ c.loop-i.invariant c.loop-i-test.false
+pub loop-preserved : goal.loop-preserved
+loop-preserved c = search rounds-next
 
-pub loop-i-preserved : goal.loop-i-preserved
-loop-i-preserved c = search rounds-next
+pub returns : goal.returns
+returns c = rounds-done _ _ _ _ _ c.requires _ _ _ c.loop.invariant c.loop-test.false

@@ -6,8 +6,8 @@ use Rattle.colours.proofs.colours.sign.Goals as goal
 pub returns-then-x-eq0 : goal.returns-then-x-eq0
 returns-then-x-eq0 c = search sign-end
 
-pub loop-i-preserved : goal.loop-i-preserved
-loop-i-preserved c = search sign-next
+pub loop-x-preserved : goal.loop-x-preserved
+loop-x-preserved c = search sign-next
 
 pub returns : goal.returns
 returns c = search sign-done

@@ -4,9 +4,9 @@ use Rattle.colours.specs.Colours.{plus}
 use Rattle.colours.proofs.ColourLaws.{spread_end, spread-next, spread-done}
 use Rattle.colours.proofs.colours.spread.Goals as goal
 
-pub loop-i-preserved : goal.loop-i-preserved
+pub loop-x-preserved : goal.loop-x-preserved
 unfolding plus
-loop-i-preserved c = search spread-next
+loop-x-preserved c = search spread-next
 
 pub returns-then-x-eq0 : goal.returns-then-x-eq0
 returns-then-x-eq0 c = search spread_end

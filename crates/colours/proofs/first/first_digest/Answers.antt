@@ -9,10 +9,7 @@ loop-i-init c = sum-start _ _ _
 
 pub loop-i-preserved : goal.loop-i-preserved
 unfolding plus
-loop-i-preserved c =
-    sum-next _ _ _ _ _ c.requires c.loop-i.invariant c.loop-i-test.true _
-    c.first_sign-s.result c.mix.result c.wrapping_add_u32-sum.result c.widened.ensures
-    c.first_sign-s.ensures c.mix.ensures c.wrapping_add_u32-sum.ensures.value
+loop-i-preserved c = search sum-next
 
 pub returns : goal.returns
 returns c = sum_done _ _ _ _ _ c.requires c.loop-i.invariant c.loop-i-test.false

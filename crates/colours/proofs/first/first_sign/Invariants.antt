@@ -1,11 +1,7 @@
 -- `first_sign` meets its contract: the terms from i on, from the number by now, give the answer for all.
 -- Assumes nothing.
-use Rattle.std.proofs.Common.{◌-◌, length}
 use Rattle.colours.proofs.FirstLaws.{FirstSigning}
 use Rattle.colours.proofs.first.first_sign.Given as goal
 
-abbrev pub invariant-loop-i : goal.invariant-loop-i
-invariant-loop-i l = FirstSigning l.limit l.start l.terms l.s l.i
-
-abbrev pub decreases-loop-i : goal.decreases-loop-i
-decreases-loop-i l = length l.terms - l.i
+abbrev pub invariant-loop-x : goal.invariant-loop-x
+invariant-loop-x l = FirstSigning l.limit l.start l.terms l.s l.x-index

@@ -4,7 +4,7 @@ use Rattle.colours.proofs.KeyLaws.{sum-next, sum_done}
 use Rattle.colours.proofs.keys.sum.Goals as goal
 
 pub returns : goal.returns
-returns c = sum_done _ _ _ c.loop-i.invariant c.loop-i-test.false
+returns c = sum_done _ _ _ c.loop-key.invariant c.loop-key-test.false
 
-pub loop-i-preserved : goal.loop-i-preserved
-loop-i-preserved c = search sum-next
+pub loop-key-preserved : goal.loop-key-preserved
+loop-key-preserved c = search sum-next

@@ -1,6 +1,6 @@
 -- `arrange_by` meets its contract: the constraints before k are placed.
 -- Assumes nothing.
-use Rattle.std.proofs.Common.{◌≡◌, ◌-◌, length}
+use Rattle.std.proofs.Common.{◌≡◌, length}
 use Rattle.colours.proofs.OrderLaws.{Arranging}
 use Rattle.colours.proofs.order.arrange_by.Given as goal
 
@@ -8,6 +8,3 @@ abbrev pub invariant-loop-k : goal.invariant-loop-k
 invariant-loop-k l =
     Arranging l.initial.cells l.cells l.k l.n (length l.seen) (length l.initial.seen)
     × (length l.counts ≡ length l.initial.seen)
-
-abbrev pub decreases-loop-k : goal.decreases-loop-k
-decreases-loop-k l = l.n - l.k

@@ -1,7 +1,8 @@
 -- `is_seen` meets its contract: each term has its mark.
 -- Assumes nothing.
-use Rattle.colours.proofs.OrderLaws.{term-room}
+use Rattle.std.proofs.Common.{arith}
+use Rattle.colours.proofs.OrderLaws.{term_room}
 use Rattle.colours.proofs.order.is_seen.Goals as goal
 
-pub bounds-seen-x : goal.bounds-seen-x
-bounds-seen-x c = search term-room
+pub bounds-seen-p : goal.bounds-seen-p
+bounds-seen-p c = omega (arith, term_room _ _ c.args.i c.loop-x.x-index c.requires.0)
