@@ -3,14 +3,12 @@
 --   tops-…          those of two states
 --   fix-…           they are added to what is paired
 --   forced-done, zeros-…    of two states, and with tables of zeros
---   Copying, copying-…      cells at the front of a list
 --   copied-…, lengthened    from what the goal variables became
 -- Assumes nothing.
-use Rattle.std.proofs.Common.{◌≡◌, ℕ, zero, suc, ◌+◌, ◌<◌, ◌≤◌, Bool, true, false, eqb, ltb, ◌⊎◌, List, [], ◌∷◌, ◌++◌, length, get_or, take, set, replicate, sym, refl, ap, ◌∙◌, inl, inr, add-one, arith, length-set, length-take-le, take_all, get_or-set_other, take-suc, get_or-set_same, take-suc-set, ltb-true, eqb-true}
+use Rattle.std.proofs.Common.{Option, None, Some, IfSome, ◌≡◌, ℕ, zero, suc, ◌+◌, ◌<◌, ◌≤◌, true, false, eqb, ◌⊎◌, List, [], ◌∷◌, ◌++◌, length, get_or, take, set, replicate, sym, refl, ◌∙◌, inl, inr, add-one, arith, length-set, length-take-le, get_or-set_other, get_or-set_same, take-suc-set, eqb-true}
 use lib.ListN.{get_or-eq_default}
 use borrow.Author.Tests.{eqb-false}
 use Rattle.semantics.specs.Variants.{same_state}
-use Rattle.semantics.proofs.Options.{true-false}
 use Rattle.semantics.proofs.Removal.{has_last, has_other}
 use Rattle.tables.specs.Cells.{cell_constraints}
 use Rattle.tables.proofs.CellLaws.{either, le-or-lt}
@@ -18,117 +16,124 @@ use Rattle.colours.specs.Bounds.{Below}
 use Rattle.colours.specs.Ends.{end_of}
 use Rattle.colours.specs.Classes.{Colourable}
 use Rattle.colours.proofs.ClassLaws.{zeros-length}
+use Rattle.std.proofs.lemmas.Option.{IfSome_then}
+use Rattle.fixing.specs.declared.hubs.Top.{Top}
 use Rattle.fixing.specs.Weights.{free_weight, Free}
 use Rattle.fixing.specs.Hubs.{Topped, Paired, Fixable, Fixed, Forced, Lengthened}
 use Rattle.fixing.proofs.ForcedLaws.{forced}
 
--- the heaviest of the variables before i
-pub record Topping (weights : List ℕ) (x best : ℕ) (single : Bool) (i : ℕ) : Type 0 where
+-- a variable that is heavier than all others before i
+pub record Leading (weights : List ℕ) (x weight best i : ℕ) : Type 0 where
+  pub variable : 256 ≤ x
+  pub within : x < length weights
+  pub best-weight : weight ≡ best
+  pub weighs : best ≡ get_or weights x 0
+  pub positive : 0 < best
+  pub alone : (z : ℕ) → 256 ≤ z → z < i → get_or weights z 0 ≡ best → z ≡ x
+
+-- the greatest weight of the variables before i, and the variable that has it alone
+pub record Topping (weights : List ℕ) (top : Option Top) (best i : ℕ) : Type 0 where
   pub least : 256 ≤ i
   pub heaviest : (z : ℕ) → 256 ≤ z → z < i → get_or weights z 0 ≤ best
-  pub variable : single ≡ true → 256 ≤ x
-  pub within : single ≡ true → x < length weights
-  pub weighs : single ≡ true → best ≡ get_or weights x 0
-  pub positive : single ≡ true → 0 < best
-  pub alone : single ≡ true → (z : ℕ) → 256 ≤ z → z < i → get_or weights z 0 ≡ best → z ≡ x
+  pub single : IfSome top (λ t. Leading weights t.cell t.weight best i)
 
-pub top_start : (weights : List ℕ) → Topping weights 0 0 false 256
-top_start weights =
-    record {
-      least = omega arith;
-      heaviest = λ z h l. absurd (omega arith);
-      variable = λ e. true-false e refl;
-      within = λ e. true-false e refl;
-      weighs = λ e. true-false e refl;
-      positive = λ e. true-false e refl;
-      alone = λ e. true-false e refl;
-    }
+pub top_start : (weights : List ℕ) → Topping weights None 0 256
+top_start weights = record { least = omega arith; heaviest = λ z h l. absurd (omega arith); single = tt }
 
-module _ (weights : List ℕ) (x best : ℕ) (single : Bool) (i : ℕ) (t : Topping weights x best single i) where
-  -- a heavier one, or another as heavy
-  pub top-heavier :
-      i < length weights → best ≤ get_or weights i 0 → (y : ℕ) → y ≡ i → (s : Bool) → s ≡ ltb best (get_or weights i 0)
-      → Topping weights y (get_or weights i 0) s (i + 1)
-  top-heavier h l y e s d =
-      rw (add-one i)
-      (record {
-        least = omega (arith, t.least);
-        heaviest = λ z v k. heaviest z v (le-or-lt i z) k;
-        variable = λ g. rw e t.least;
-        within = λ g. rw e h;
-        weighs = λ g. rw e;
-        positive = λ g. omega (arith, heavier g);
-        alone = λ g z v k q. alone g z v k q (le-or-lt i z);
-      })
+module _ (weights : List ℕ) (top : Option Top) (best i : ℕ) (t : Topping weights top best i) where
+  -- one more, not heavier
+  heaviest-next : get_or weights i 0 ≤ best → (z : ℕ) → 256 ≤ z → z < i + 1 → get_or weights z 0 ≤ best
+  heaviest-next h z v k = go (le-or-lt i z)
     where
-      heavier : s ≡ true → best < get_or weights i 0
-      heavier g = ltb-true best (get_or weights i 0) (sym d ∙ g)
+      go : (i ≤ z) ⊎ (z < i) → get_or weights z 0 ≤ best
+      go (inl j) =
+          let q : z ≡ i = omega arith in
+          rw q h
+      go (inr j) = t.heaviest z v j
 
-      heaviest : (z : ℕ) → 256 ≤ z → (i ≤ z) ⊎ (z < i) → z < suc i → get_or weights z 0 ≤ get_or weights i 0
-      heaviest z v (inl j) k =
+  -- a heavier one
+  pub top-heavier :
+      i < length weights → best < get_or weights i 0 → (x : ℕ) → x ≡ i → (y : Top) → y.cell ≡ x → y.weight ≡ get_or weights i 0
+      → Topping weights (Some y) (get_or weights i 0) (i + 1)
+  top-heavier h l x e y c d =
+      record {
+        least = omega (arith, t.least);
+        heaviest = λ z v k. heaviest z v k (le-or-lt i z);
+        single = record {
+          variable = omega (arith, t.least);
+          within = omega arith;
+          best-weight = d;
+          weighs = rw (c, e);
+          positive = omega arith;
+          alone = λ z v k q. alone z v k q (le-or-lt i z);
+        };
+      }
+    where
+      heaviest : (z : ℕ) → 256 ≤ z → z < i + 1 → (i ≤ z) ⊎ (z < i) → get_or weights z 0 ≤ get_or weights i 0
+      heaviest z v k (inl j) =
           let q : z ≡ i = omega arith in
           rw q (omega arith)
-      heaviest z v (inr j) k = omega (arith, t.heaviest z v j)
+      heaviest z v k (inr j) = omega (arith, t.heaviest z v j)
 
-      alone : s ≡ true → (z : ℕ) → 256 ≤ z → z < suc i → get_or weights z 0 ≡ get_or weights i 0 → (i ≤ z) ⊎ (z < i) → z ≡ y
-      alone g z v k q (inl j) = omega arith
-      alone g z v k q (inr j) = absurd (omega (arith, t.heaviest z v j, heavier g))
+      alone : (z : ℕ) → 256 ≤ z → z < i + 1 → get_or weights z 0 ≡ get_or weights i 0 → (i ≤ z) ⊎ (z < i) → z ≡ y.cell
+      alone z v k q (inl j) = omega arith
+      alone z v k q (inr j) = absurd (omega (arith, t.heaviest z v j))
+
+  -- another as heavy
+  pub top-equal : get_or weights i 0 ≡ best → Topping weights None best (i + 1)
+  top-equal e =
+      record { least = omega (arith, t.least); heaviest = heaviest-next (omega arith); single = tt }
 
   -- a lighter one
-  pub top-lighter : get_or weights i 0 < best → Topping weights x best single (i + 1)
+  pub top-lighter : get_or weights i 0 < best → Topping weights top best (i + 1)
   top-lighter l =
-      rw (add-one i)
-      (record {
+      record {
         least = omega (arith, t.least);
-        heaviest = λ z v k. heaviest z v (le-or-lt i z) k;
-        variable = t.variable;
-        within = t.within;
-        weighs = t.weighs;
-        positive = t.positive;
-        alone = λ g z v k q. alone g z v k q (le-or-lt i z);
-      })
+        heaviest = heaviest-next (omega arith);
+        single = IfSome_then top t.single (λ y s. record {
+          variable = s.variable;
+          within = s.within;
+          best-weight = s.best-weight;
+          weighs = s.weighs;
+          positive = s.positive;
+          alone = λ z v k q. alone y s z v k q (le-or-lt i z);
+        });
+      }
     where
-      heaviest : (z : ℕ) → 256 ≤ z → (i ≤ z) ⊎ (z < i) → z < suc i → get_or weights z 0 ≤ best
-      heaviest z v (inl j) k =
-          let q : z ≡ i = omega arith in
-          rw q (omega arith)
-      heaviest z v (inr j) k = t.heaviest z v j
-
-      alone : single ≡ true → (z : ℕ) → 256 ≤ z → z < suc i → get_or weights z 0 ≡ best → (i ≤ z) ⊎ (z < i) → z ≡ x
-      alone g z v k q (inl j) =
+      alone :
+          (y : Top) → Leading weights y.cell y.weight best i → (z : ℕ) → 256 ≤ z → z < i + 1 → get_or weights z 0 ≡ best
+          → (i ≤ z) ⊎ (z < i) → z ≡ y.cell
+      alone y s z v k q (inl j) =
           let e : z ≡ i = omega arith in
           let d : get_or weights i 0 ≡ best = rw e at q in
           absurd (omega arith)
-      alone g z v k q (inr j) = t.alone g z v j q
+      alone y s z v k q (inr j) = s.alone z v j q
 
-  pub top-done : length weights ≤ i → Topped x best single weights
+  pub top-done : length weights ≤ i → IfSome top (λ y. Topped y.cell y.weight weights)
   top-done h =
-      record {
-        alone = λ g. record {
-          variable = t.variable g;
-          within = t.within g;
-          positive = omega (arith, t.positive g, t.weighs g);
-          alone = λ z v q. alone g z v q (le-or-lt i z);
+      IfSome_then top t.single (λ y s. record {
+        alone = record {
+          variable = s.variable;
+          within = s.within;
+          positive = omega (arith, s.positive, s.weighs);
+          alone = λ z v q. alone y s z v q (le-or-lt i z);
         };
-        weighs = t.weighs;
-      }
+        weighs = s.best-weight ∙ s.weighs;
+      })
     where
-      alone : single ≡ true → (z : ℕ) → 256 ≤ z → get_or weights z 0 ≡ get_or weights x 0 → (i ≤ z) ⊎ (z < i) → z ≡ x
-      alone g z v q (inr j) = t.alone g z v j (q ∙ sym (t.weighs g))
-      alone g z v q (inl j) =
+      alone :
+          (y : Top) → Leading weights y.cell y.weight best i → (z : ℕ) → 256 ≤ z → get_or weights z 0 ≡ get_or weights y.cell 0
+          → (i ≤ z) ⊎ (z < i) → z ≡ y.cell
+      alone y s z v q (inr j) = s.alone z v j (q ∙ sym s.weighs)
+      alone y s z v q (inl j) =
           let o : get_or weights z 0 ≡ 0 = get_or-eq_default weights 0 (omega arith) in
-          absurd (omega (arith, t.positive g, t.weighs g))
+          absurd (omega (arith, s.positive, s.weighs))
 
 -- two that are single, of one weight
 pub tops-found :
-    (left right : List ℕ) (x v y w : ℕ) (s t : Bool) → Topped x v s left → Topped y w t right → s ≡ true → t ≡ true
-    → (found : Bool) → found ≡ eqb v w → found ≡ true → Paired x y left right
-tops-found left right x v y w s t l r e d found f g =
-    record {
-      first = l.alone e;
-      second = r.alone d;
-      same = sym (l.weighs e) ∙ (eqb-true v w (sym f ∙ g) ∙ r.weighs d);
-    }
+    (left right : List ℕ) (x v y w : ℕ) → Topped x v left → Topped y w right → v ≡ w → Paired x y left right
+tops-found left right x v y w l r e =
+    record { first = l.alone; second = r.alone; same = sym l.weighs ∙ (e ∙ r.weighs) }
 
 -- one more cell below a number
 below_last : (n : ℕ) (l : List ℕ) (x : ℕ) → Below n l → x < n → Below n (l ++ (x ∷ []))
@@ -271,31 +276,6 @@ pub zeros-forced :
     → Forced k k' (length {A = ℕ} (take size (replicate 2844 0))) (length {A = ℕ} (take size (replicate 2844 0))) a b f g f' g'
     → Forced k k' size size a b f g f' g'
 zeros-forced k k' size a b f g f' g' h p = rw (zeros-length size 2844 h) at p
-
--- the first i cells are copied
-pub record Copying (cells start out : List ℕ) (i : ℕ) : Type 0 where
-  pub within : i ≤ length cells
-  pub room : length cells ≤ length start
-  pub size : length out ≡ length start
-  pub same : take i out ≡ take i cells
-
-pub copying-start : (cells start : List ℕ) → length cells ≤ length start → Copying cells start start 0
-copying-start cells start l = record { within = omega arith; room = l; size = refl; same = refl }
-
-module _ (cells start out : List ℕ) (i : ℕ) (w : Copying cells start out i) where
-  pub copying-next : i < length cells → Copying cells start (set out i (get_or cells i 0)) (i + 1)
-  copying-next l =
-      rw (add-one i) (record {
-        within = l;
-        room = w.room;
-        size = length-set out i (get_or cells i 0) ∙ w.size;
-        same = rw (take-suc-set out i (get_or cells i 0) (omega (arith, w.room, w.size)), take-suc cells i 0 l, w.same);
-      })
-
-  pub copying-end : length cells ≤ i → take (length cells) out ≡ cells
-  copying-end l =
-      let e : i ≡ length cells = omega (arith, w.within) in
-      ap (λ k. take k out) (sym e) ∙ w.same ∙ take_all i cells l
 
 -- from what the goal variables became, copied to the front of two lists
 module _ (size n : ℕ) (a f b g f₁ g₁ : List ℕ) (left : take (length f) f₁ ≡ f) (right : take (length g) g₁ ≡ g)

@@ -6,7 +6,7 @@
 --   Fixed, Forced  what it promises, of tables of weights and of two states
 --   Lengthened     the same from what the goal variables became
 -- Assumes nothing.
-use Rattle.std.specs.Prelude.{◌≡◌, ℕ, ◌<◌, ◌≤◌, Bool, true, List, length, take, slice_index, slice_index_or}
+use Rattle.std.specs.Prelude.{◌≡◌, ℕ, ◌<◌, ◌≤◌, List, length, take, slice_index, slice_index_or}
 use Rattle.semantics.specs.Variants.{same_state}
 use Rattle.colours.specs.Bounds.{Below}
 use Rattle.colours.specs.Classes.{Colourable}
@@ -20,10 +20,10 @@ pub record Single (x : ℕ) (weights : List ℕ) : Type 0 where
   pub positive : 0 < slice_index weights x
   pub alone : (z : ℕ) → 256 ≤ z → slice_index weights z ≡ slice_index weights x → z ≡ x
 
--- the heaviest variable, where it is single
-pub record Topped (x weight : ℕ) (single : Bool) (weights : List ℕ) : Type 0 where
-  pub alone : single ≡ true → Single x weights
-  pub weighs : single ≡ true → weight ≡ slice_index weights x
+-- the heaviest variable, which is single, and its weight
+pub record Topped (x weight : ℕ) (weights : List ℕ) : Type 0 where
+  pub alone : Single x weights
+  pub weighs : weight ≡ slice_index weights x
 
 -- two variables that are single, of one weight
 pub record Paired (x y : ℕ) (left right : List ℕ) : Type 0 where

@@ -1,74 +1,56 @@
 // Variables that every renaming must pair: each has a weight that no other variable of its state has.
-ghost use Rattle.std.specs.Prelude.{◌≡◌, ◌≤◌, true, length, take};
+ghost use Rattle.std.specs.Prelude.{◌≡◌, ◌≤◌, length, take, IfSome};
 ghost use Rattle.colours.specs.Classes.{Colourable};
 ghost use Rattle.colours.specs.Colours.{Empty};
 ghost use Rattle.fixing.specs.Hubs.{Topped, Paired, Fixable, Fixed, Forced, Lengthened};
 
 use crate::weights::free_weights;
+use tables::layout::FIRST_VARIABLE;
 use tables::wide;
 
 // Room for the weights of all cells: constants, 28 goal variables, and as many more as 512 constraints have cells.
 const ROOM: usize = 2844;
 
-// The heaviest variable, its weight, and whether no other weighs as much.
-#[derive(Drop)]
+// A variable's cell and its weight.
+#[derive(Clone, Copy)]
 pub struct Top {
     pub cell: u16,
     pub weight: u16,
-    pub single: bool,
 }
 
-// The last of the heaviest variables in a table of weights.
-pub fn find_top(weights: &[u16]) -> Top
+// The heaviest variable in a table of weights, if no other weighs as much.
+pub fn find_top(weights: &[u16]) -> Option<Top>
     requires { length weights.now ≤ 65536 }
-    ensures { Topped result.cell result.weight result.single weights.now }
+    ensures { IfSome result (λ top. Topped top.cell top.weight weights.now) }
 {
-    let mut cell = 0;
+    let mut top = None;
     let mut best = 0;
-    let mut single = false;
-    let mut i = 256;
-    while i < weights.len() {
-        let x = i;
-        let w = weights[x];
-        i += 1;
-        if w >= best {
-            single = w > best;
+    for i in wide(FIRST_VARIABLE)..weights.len() {
+        let w = weights[i];
+        if w > best {
             best = w;
-            cell = x as u16;
+            top = Some(Top {
+                cell: i as u16,
+                weight: w,
+            });
+        } else if w == best {
+            top = None;
         }
     }
-    Top {
-        cell: cell,
-        weight: best,
-        single: single,
-    }
+    top
 }
 
-// The heaviest variables of two states, and whether every renaming must pair them.
-#[derive(Drop)]
-pub struct Tops {
-    pub left: u16,
-    pub right: u16,
-    pub found: bool,
-}
-
-// They are paired where both are single and weigh the same.
-pub fn find_tops(left: &[u16], right: &[u16]) -> Tops
+// The heaviest variables of two states, if every renaming must pair them: both are single and weigh the same.
+pub fn find_tops(left: &[u16], right: &[u16]) -> Option<(u16, u16)>
     requires { (length left.now ≤ 65536) × (length right.now ≤ 65536) }
-    ensures { result.found ≡ true → Paired result.left result.right left.now right.now }
+    ensures { IfSome result (λ tops. Paired tops.0 tops.1 left.now right.now) }
 {
-    let x = find_top(left);
-    let y = find_top(right);
-    let mut found = false;
-    if x.single {
-        if y.single {
-            found = x.weight == y.weight;
-        }
-    }
-    Tops {
-        left: x.cell,
-        right: y.cell,
-        found: found,
+    let x = find_top(left)?;
+    let y = find_top(right)?;
+    if x.weight == y.weight {
+        Some((x.cell, y.cell))
+    } else {
+        None
     }
 }
 
@@ -79,21 +61,16 @@ pub fn fix(f: &mut [u16], g: &mut [u16], k: usize, left: &mut [u16], right: &mut
     ensures { Fixed k result f.old g.old f.new g.new left.old
         right.old }
 {
-    let mut used = k;
-    while used < f.len() {
-        let t = find_tops(left, right);
-        if !t.found {
+    for used in k..f.len() {
+        let Some((x, y)) = find_tops(left, right) else {
             return used;
-        }
-        let x = wide(t.left);
-        let y = wide(t.right);
-        f[used] = t.left;
-        g[used] = t.right;
-        left[x] = 0;
-        right[y] = 0;
-        used += 1;
+        };
+        f[used] = x;
+        g[used] = y;
+        left[wide(x)] = 0;
+        right[wide(y)] = 0;
     }
-    used
+    f.len()
 }
 
 // The same for two states of n constraints each, a with the first k cells of f and b with those of g, in two lent tables of zeros
@@ -139,18 +116,6 @@ pub fn fix_hubs(
     fix_by(a, b, n, f, g, k, &mut left[..size], &mut right[..size])
 }
 
-// Copies cells to the front of a list.
-pub fn copy_front(cells: &[u16], out: &mut [u16])
-    requires { length cells.now ≤ length out.old }
-    ensures { take (length cells.now) out.new ≡ cells.now }
-{
-    let mut i = 0;
-    while i < cells.len() {
-        out[i] = cells[i];
-        i += 1;
-    }
-}
-
 // What the goal variables became in two states, and the variables that every renaming must pair beside them, in two lists as far
 // as these have room; answers how many are used.
 pub fn fix_bound(
@@ -170,7 +135,7 @@ pub fn fix_bound(
         f.new g.new }
 {
     let k = bound_a.len();
-    copy_front(bound_a, f);
-    copy_front(bound_b, g);
+    f[..k].copy_from_slice(bound_a);
+    g[..k].copy_from_slice(bound_b);
     fix_hubs(a, b, n, size, f, g, k)
 }

@@ -4,14 +4,13 @@ ghost use Rattle.colours.specs.Bounds.{Below, TermsBelow};
 ghost use Rattle.colours.specs.Colours.{Empty};
 ghost use Rattle.fixing.specs.Weights.{tripled, RowWeighed, Weighed, Lightened, Free};
 
-use std::num::wrapping_add_u16;
 use tables::wide;
 
 // Three times a number, in 16 bits.
 pub fn triple(f: u16) -> u16
     ensures { result ≡ tripled f }
 {
-    wrapping_add_u16(wrapping_add_u16(f, f), f)
+    f.wrapping_add(f).wrapping_add(f)
 }
 
 // Adds to the weight of each term, by its column.
@@ -20,16 +19,13 @@ pub fn weigh(terms: &[u16], weights: &mut [u16])
     ensures { RowWeighed terms.now weights.old weights.new }
 {
     let mut f = 1;
-    let mut i = 0;
-    while i < terms.len() {
-        let x = terms[i];
-        if x == 0 {
+    for x in terms {
+        if *x == 0 {
             return;
         }
-        let p = wide(x);
-        weights[p] = wrapping_add_u16(weights[p], f);
+        let p = wide(*x);
+        weights[p] = weights[p].wrapping_add(f);
         f = triple(f);
-        i += 1;
     }
 }
 
@@ -38,13 +34,10 @@ pub fn weigh_all(cells: &[u16], n: usize, weights: &mut [u16])
     requires { (length cells.now ≡ 5 * n) × TermsBelow (length weights.old) cells.now }
     ensures { Weighed cells.now weights.old weights.new }
 {
-    let mut i = 0;
-    while i < n {
+    for i in 0..n {
         let p = 5 * i;
-        let e = p + 5;
-        let row = &cells[p..e];
+        let row = &cells[p..p + 5];
         weigh(&row[1..], weights);
-        i += 1;
     }
 }
 
@@ -53,11 +46,8 @@ pub fn lighten(chosen: &[u16], weights: &mut [u16])
     requires { Below (length weights.old) chosen.now }
     ensures { Lightened chosen.now weights.old weights.new }
 {
-    let mut i = 0;
-    while i < chosen.len() {
-        let p = wide(chosen[i]);
-        weights[p] = 0;
-        i += 1;
+    for x in chosen {
+        weights[wide(*x)] = 0;
     }
 }
 

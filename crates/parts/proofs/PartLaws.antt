@@ -1,6 +1,5 @@
 -- Marks of the cells behind a part, and what they tell.
 --   marking-…             cells marked one after the other
---   unset-…, unmarked-…   one cell tested, and one after the other
 --   parted                the first constraints share with the others only what goal variables became
 --   term-member, occurs-member   a variable of constraints is one of their cells
 --   constraints-parts     the first constraints and the others
@@ -27,7 +26,7 @@ use Rattle.semantics.proofs.Options.{true-false}
 use Rattle.tables.specs.Cells.{cell_term, cell_terms, cell_constraints}
 use Rattle.tables.proofs.CellLaws.{either, le-or-lt, cell-low, cell-high}
 use Rattle.colours.specs.Ends.{end_of}
-use Rattle.parts.specs.Parts.{Marked, Unset, Unmarked, Parted}
+use Rattle.parts.specs.Parts.{Marked, Unmarked, Parted}
 use Rattle.parts.proofs.CancelLaws.{Occurs, Apart, cancelled}
 
 -- the marks of the cells from one on and before i are made
@@ -93,47 +92,6 @@ module _ (cells : List ℕ) (from : ℕ) (value : Bool) (marks₀ marks : List B
         still y (inl p) = inr (i, h, sym e ∙ sym (eqb-true y x p))
         still y (inr p) =
             ⊎_elim (λ t. inl (get_or-set_other marks x y value false (eqb-false y x p) ∙ t)) (λ t. inr t) (w.kept y)
-
--- no cell is told of
-pub unset-marked : (marks : List Bool) (x : ℕ) → Unset true marks x
-unset-marked marks x = record { unset = λ z. true-false refl z }
-
--- the mark of a cell is read
-pub unset-read :
-    (marks : List Bool) (x i : ℕ) → i ≡ x → i < length marks → (r : Bool) → r ≡ get_or marks i false → Unset r marks x
-unset-read marks x i e h r q = record { unset = λ z. (omega arith, ap (λ j. get_or marks j false) (sym e) ∙ (sym q ∙ z)) }
-
--- no variable before i is marked
-pub unmarked-start : (cells : List ℕ) (marks : List Bool) → Unmarked true cells 0 marks
-unmarked-start cells marks = record { none = λ z k h. absurd (omega arith) }
-
-pub unmarked-done :
-    (cells : List ℕ) (marks : List Bool) (i end : ℕ) → Unmarked true cells i marks → end ≤ i → Unmarked true cells end marks
-unmarked-done cells marks i end w h = record { none = λ z k l. w.none z k (omega arith) }
-
--- one is
-pub unmarked-found : (cells : List ℕ) (end : ℕ) (marks : List Bool) → Unmarked false cells end marks
-unmarked-found cells end marks = record { none = λ z. true-false z refl }
-
-module _ (cells : List ℕ) (marks : List Bool) (i : ℕ) (w : Unmarked true cells i marks) (x : ℕ) (e : x ≡ get_or cells i 0) where
-  next :
-      (256 ≤ get_or cells i 0 → (get_or cells i 0 < length marks) × (get_or marks (get_or cells i 0) false ≡ false))
-      → Unmarked true cells (i + 1) marks
-  next f = rw (add-one i) (record { none = λ z k l. go k l (le-or-lt i k) })
-    where
-      go :
-          (k : ℕ) → k < suc i → (i ≤ k) ⊎ (k < i) → 256 ≤ get_or cells k 0
-          → (get_or cells k 0 < length marks) × (get_or marks (get_or cells k 0) false ≡ false)
-      go k l (inl p) = let q : k ≡ i = omega arith in rw q f
-      go k l (inr p) = w.none refl k p
-
-  -- a constant
-  pub unmarked-low : x < 256 → Unmarked true cells (i + 1) marks
-  unmarked-low h = next (λ l. absurd (omega arith))
-
-  -- a variable that is not marked
-  pub unmarked-high : (r : Bool) → Unset r marks x → r ≡ false → Unmarked true cells (i + 1) marks
-  unmarked-high r f z = next (λ l. rw e at (f.unset z))
 
 -- the first constraints share with the others only what goal variables became
 pub parted :

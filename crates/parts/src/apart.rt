@@ -2,10 +2,8 @@
 ghost use Rattle.std.specs.Prelude.{◌*◌, ◌≤◌, length};
 ghost use Rattle.parts.specs.Parts.{Marked, Unset, Unmarked, Parted};
 
+use tables::layout::FIRST_VARIABLE;
 use tables::wide;
-
-// From this cell on, cells are variables.
-const VARIABLES: u16 = 256;
 
 // Room for all cells: constants, 28 goal variables, and as many more as 512 constraints have cells.
 const ROOM: usize = 2844;
@@ -14,10 +12,8 @@ const ROOM: usize = 2844;
 pub fn mark(cells: &[u16], from: usize, value: bool, marks: &mut [bool])
     ensures { Marked cells.now from value marks.old marks.new }
 {
-    let mut i = from;
-    while i < cells.len() {
+    for i in from..cells.len() {
         let x = wide(cells[i]);
-        i += 1;
         if x < marks.len() {
             marks[x] = value;
         }
@@ -29,10 +25,7 @@ pub fn is_marked(marks: &[bool], x: u16) -> bool
     ensures { Unset result marks.now x }
 {
     let i = wide(x);
-    if i >= marks.len() {
-        return true;
-    }
-    marks[i]
+    i >= marks.len() || marks[i]
 }
 
 // Whether no variable among the first cells is marked.
@@ -40,17 +33,9 @@ pub fn is_unmarked(cells: &[u16], end: usize, marks: &[bool]) -> bool
     requires { end ≤ length cells.now }
     ensures { Unmarked result cells.now end marks.now }
 {
-    let mut i = 0;
-    while i < end {
-        let x = cells[i];
-        i += 1;
-        if x >= VARIABLES {
-            if is_marked(marks, x) {
-                return false;
-            }
-        }
-    }
-    true
+    cells[..end]
+        .iter()
+        .all(|x| *x < FIRST_VARIABLE || !is_marked(marks, *x))
 }
 
 // Whether the first k constraints share with the others only variables that goal variables became.

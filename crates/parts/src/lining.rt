@@ -2,15 +2,13 @@
 // need not come off: what it finds is tested afterwards.
 // One lent table has two entries for each cell: the partner of one of the first state, and under which number one of the second
 // became a partner; 0 is none.
-ghost use Rattle.std.specs.Prelude.{◌≡◌, ◌+◌, ◌*◌, ◌≤◌, ◌<◌, length};
+ghost use Rattle.std.specs.Prelude.{◌≡◌, ◌+◌, ◌*◌, ◌≤◌, ◌<◌, false, length, IfSome, MatchResult};
 ghost use Rattle.tables.specs.Cells.{cell_constraints};
 ghost use Rattle.colours.specs.Order.{Reordered};
 
 use colours::order::swap_rows;
+use tables::layout::FIRST_VARIABLE;
 use tables::wide;
-
-// From this cell on, cells are variables.
-const VARIABLES: u16 = 256;
 
 // Where the second entries begin, and the room for both: constants, 28 goal variables, and as many more as 512 constraints have
 // cells.
@@ -49,16 +47,10 @@ fn join(x: u16, y: u16, own: u16, links: &mut [u16]) {
 }
 
 // What the goal variables became are partners.
-fn join_bound(bound_a: &[u16], bound_b: &[u16], links: &mut [u16])
-    requires { length bound_a.now ≡ length bound_b.now }
-{
-    let mut i = 0;
-    while i < bound_a.len() {
-        let x = bound_a[i];
-        let y = bound_b[i];
-        i += 1;
-        if x >= VARIABLES {
-            join(x, y, GOAL, links);
+fn join_bound(bound_a: &[u16], bound_b: &[u16], links: &mut [u16]) {
+    for (x, y) in bound_a.iter().zip(bound_b) {
+        if *x >= FIRST_VARIABLE {
+            join(*x, *y, GOAL, links);
         }
     }
 }
@@ -70,10 +62,10 @@ fn number(i: usize) -> u16 {
 
 // Whether two terms are partners or can become partners; they do then, under a number.
 fn link_terms(x: u16, y: u16, own: u16, links: &mut [u16]) -> bool {
-    if x < VARIABLES {
+    if x < FIRST_VARIABLE {
         return x == y;
     }
-    if y < VARIABLES {
+    if y < FIRST_VARIABLE {
         return false;
     }
     let partner = at(links, 0, x);
@@ -98,12 +90,10 @@ fn link_rows(a: &[u16], i: usize, b: &[u16], j: usize, links: &mut [u16]) -> boo
         return false;
     }
     let own = number(i);
-    let mut c = 1;
-    while c < 5 {
-        if !link_terms(a[p + c], b[q + c], own, links) {
+    for (x, y) in a[p + 1..p + 5].iter().zip(&b[q + 1..q + 5]) {
+        if !link_terms(*x, *y, own, links) {
             return false;
         }
-        c += 1;
     }
     true
 }
@@ -123,10 +113,8 @@ fn unlink_row(a: &[u16], i: usize, links: &mut [u16])
 {
     let p = 5 * i;
     let own = number(i);
-    let mut c = 1;
-    while c < 5 {
-        unlink_term(a[p + c], own, links);
-        c += 1;
+    for x in &a[p + 1..p + 5] {
+        unlink_term(*x, own, links);
     }
 }
 
@@ -134,115 +122,109 @@ fn unlink_row(a: &[u16], i: usize, links: &mut [u16])
 fn unlink_rows(a: &[u16], s: usize, e: usize, links: &mut [u16])
     requires { 5 * e ≤ length a.now }
 {
-    let mut i = s;
-    while i < e {
+    for i in s..e {
         unlink_row(a, i, links);
-        i += 1;
     }
 }
 
-// The first constraint of the second state from number i on and before e that constraint i of the first can be linked to; e where
-// there is none.
-fn seek(a: &[u16], i: usize, b: &[u16], e: usize, links: &mut [u16]) -> usize
+// The first constraint of the second state from number i on and before e that constraint i of the first can be linked to.
+fn seek(a: &[u16], i: usize, b: &[u16], e: usize, links: &mut [u16]) -> Option<usize>
     requires { (5 * i + 5 ≤ length a.now) × (5 * e ≤ length b.now) }
+    ensures { IfSome result (λ j. j < e) }
 {
-    let mut j = i;
-    while j < e {
+    for j in i..e {
         if link_rows(a, i, b, j, links) {
-            return j;
+            return Some(j);
         }
         unlink_row(a, i, links);
-        j += 1;
     }
-    e
+    None
 }
 
 // Whether constraint i belongs to the part that begins at s: it is the first, or it has a variable whose partner was made since.
 fn belongs(a: &[u16], i: usize, s: usize, links: &[u16]) -> bool
     requires { 5 * i + 5 ≤ length a.now }
+    ensures { result ≡ false → s < i }
 {
     if i <= s {
         return true;
     }
     let p = 5 * i;
     let first = number(s);
-    let mut c = 1;
-    while c < 5 {
-        let partner = at(links, 0, a[p + c]);
+    for x in &a[p + 1..p + 5] {
+        let partner = at(links, 0, *x);
         if at(links, BIRTH, partner) >= first {
             return true;
         }
-        c += 1;
     }
     false
 }
 
-// Where a part ends, and how many constraints were tried for it.
-#[derive(Drop)]
-pub struct Part {
-    pub end: usize,
-    pub tried: usize,
-}
-
-// Lines up the part that begins at s, its first constraint with one before `limit`. It ends at s where it cannot be lined up.
-fn try_part(a: &[u16], s: usize, b: &mut [u16], limit: usize, n: usize, links: &mut [u16]) -> Part
-    requires { (length a.now ≤ 5 * n) × (length b.old ≡ 5 * n) × (5 * s ≤ length a.now) × (limit ≤ n) }
-    ensures { Reordered b.old b.new × (5 * result.end ≤ length a.now) × (result.tried ≤ n) }
+// Lines up the part that begins at s, among the first `top` constraints, its first constraint with one before `limit`, and returns
+// where it ends; where it cannot be lined up, how many constraints were tried.
+fn try_part(
+    a: &[u16],
+    s: usize,
+    top: usize,
+    b: &mut [u16],
+    limit: usize,
+    n: usize,
+    links: &mut [u16],
+) -> Result<usize, usize>
+    requires { (5 * top ≤ length a.now) × (top ≤ n) × (length b.old ≡ 5 * n) × (s ≤ top) × (limit ≤ n) }
+    ensures same { Reordered b.old b.new }
+    ensures ends { MatchResult result (λ end. (end ≤ top) × (s < top → s < end)) (λ tried. tried ≤ n) }
 {
-    let mut i = s;
     let mut e = limit;
-    while 5 * i + 5 <= a.len() {
+    for i in s..top {
         if !belongs(a, i, s, links) {
-            return Part {
-                end: i,
-                tried: i - s,
-            };
+            return Ok(i);
         }
-        let j = seek(a, i, b, e, links);
-        if j >= e {
+        let Some(j) = seek(a, i, b, e, links) else {
             unlink_rows(a, s, i, links);
-            return Part {
-                end: s,
-                tried: i - s,
-            };
-        }
+            return Err(i - s);
+        };
         swap_rows(b, i, j);
-        i += 1;
         e = n;
     }
-    Part {
-        end: i,
-        tried: i - s,
-    }
+    Ok(top)
 }
 
-// Lines up the part that begins at s and returns where it ends; s where it cannot be lined up. A part whose first constraint was
-// tried in vain is tried with another one, until a quarter as many constraints were tried as there are: each counts four.
-fn line_part(a: &[u16], s: usize, b: &mut [u16], n: usize, links: &mut [u16]) -> usize
-    requires { (length a.now ≤ 5 * n) × (length b.old ≡ 5 * n) × (5 * s + 5 ≤ length a.now) }
-    ensures { Reordered b.old b.new × (5 * result ≤ length a.now) }
+// Lines up the part that begins at s, among the first `top` constraints, and returns where it ends, if it can be lined up. A part
+// whose first constraint was tried in vain is tried with another one, until a quarter as many constraints were tried as there are:
+// each counts four.
+fn line_part(
+    a: &[u16],
+    s: usize,
+    top: usize,
+    b: &mut [u16],
+    n: usize,
+    links: &mut [u16],
+) -> Option<usize>
+    requires { (5 * top ≤ length a.now) × (top ≤ n) × (length b.old ≡ 5 * n) × (s < top) }
+    ensures same { Reordered b.old b.new }
+    ensures ends { IfSome result (λ end. (s < end) × (end ≤ top)) }
 {
-    let mut limit = n;
     let mut left = n;
-    while s < limit {
-        let part = try_part(a, s, b, limit, n, links);
-        if s < part.end {
-            return part.end;
+    for last in (s..n).rev() {
+        match try_part(a, s, top, b, last + 1, n, links) {
+            Ok(end) => return Some(end),
+            Err(tried) => {
+                let cost = 4 * tried + 4;
+                if left < cost {
+                    return None;
+                }
+                left -= cost;
+            }
         }
-        let cost = 4 * part.tried + 4;
-        if left < cost {
-            return s;
-        }
-        left -= cost;
-        limit -= 1;
-        swap_rows(b, s, limit);
+        swap_rows(b, s, last);
     }
-    s
+    None
 }
 
 // A variable that has no partner is put off, under a number.
 fn claim_term(x: u16, own: u16, links: &mut [u16]) {
-    if x < VARIABLES {
+    if x < FIRST_VARIABLE {
         return;
     }
     if at(links, 0, x) == 0 {
@@ -255,29 +237,24 @@ fn claim(a: &[u16], i: usize, own: u16, links: &mut [u16])
     requires { 5 * i + 5 ≤ length a.now }
 {
     let p = 5 * i;
-    let mut c = 1;
-    while c < 5 {
-        claim_term(a[p + c], own, links);
-        c += 1;
+    for x in &a[p + 1..p + 5] {
+        claim_term(*x, own, links);
     }
 }
 
-// Where the part that begins at s ends.
-fn end_of(a: &[u16], s: usize, links: &mut [u16]) -> usize
-    requires { 5 * s + 5 ≤ length a.now }
-    ensures { (s < result) × (5 * result ≤ length a.now) }
+// Where the part that begins at s ends, among the first n constraints.
+fn end_of(a: &[u16], s: usize, n: usize, links: &mut [u16]) -> usize
+    requires { (5 * n ≤ length a.now) × (s < n) }
+    ensures { (s < result) × (result ≤ n) }
 {
     let own = number(s);
-    claim(a, s, own, links);
-    let mut i = s + 1;
-    while 5 * i + 5 <= a.len() {
+    for i in s..n {
         if !belongs(a, i, s, links) {
             return i;
         }
         claim(a, i, own, links);
-        i += 1;
     }
-    i
+    n
 }
 
 // Puts d constraints from number s on behind the others of the first n, whose order is kept.
@@ -285,10 +262,8 @@ fn put_behind(a: &mut [u16], s: usize, d: usize, n: usize)
     requires { (length a.old ≡ 5 * length (cell_constraints a.old)) × (5 * n ≤ length a.old) × (s + d ≤ n) }
     ensures { Reordered a.old a.new }
 {
-    let mut i = s;
-    while i + d < n {
+    for i in s..n - d {
         swap_rows(a, i, i + d);
-        i += 1;
     }
 }
 
@@ -297,8 +272,7 @@ fn put_off(a: &mut [u16], s: usize, n: usize, links: &mut [u16]) -> usize
     requires { (length a.old ≡ 5 * length (cell_constraints a.old)) × (5 * n ≤ length a.old) × (s < n) }
     ensures { Reordered a.old a.new × (0 < result) × (s + result ≤ n) }
 {
-    let e = 5 * n;
-    let d = end_of(&a[..e], s, links) - s;
+    let d = end_of(a, s, n, links) - s;
     put_behind(a, s, d, n);
     d
 }
@@ -313,16 +287,15 @@ fn line_parts(a: &mut [u16], b: &mut [u16], n: usize, links: &mut [u16]) -> usiz
     let mut top = n;
     let mut left = 4usize;
     while s < top {
-        let e = 5 * top;
-        let end = line_part(&a[..e], s, b, n, links);
-        if s < end {
-            s = end;
-        } else {
-            if left == 0 {
-                return s;
+        match line_part(a, s, top, b, n, links) {
+            Some(end) => s = end,
+            None => {
+                if left == 0 {
+                    return s;
+                }
+                left -= 1;
+                top -= put_off(a, s, top, links);
             }
-            left -= 1;
-            top -= put_off(a, s, top, links);
         }
     }
     s

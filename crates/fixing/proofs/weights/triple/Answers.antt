@@ -1,7 +1,8 @@
 -- `triple` meets its contract. Assumes nothing.
+use Rattle.std.proofs.Common.{refl}
 use Rattle.fixing.specs.Weights.{plus, tripled}
 use Rattle.fixing.proofs.weights.triple.Goals as goal
 
 pub returns : goal.returns
 unfolding plus tripled
-returns c = rw c.wrapping_add_u16.ensures.value at c.wrapping_add_u16-2.ensures.value
+returns c = refl

@@ -4,9 +4,9 @@ use Rattle.fixing.specs.Weights.{plus}
 use Rattle.fixing.proofs.WeightLaws.{weigh-end, weigh-next, weigh-done}
 use Rattle.fixing.proofs.weights.weigh.Goals as goal
 
-pub loop-i-preserved : goal.loop-i-preserved
+pub loop-x-preserved : goal.loop-x-preserved
 unfolding plus
-loop-i-preserved c = search weigh-next
+loop-x-preserved c = search weigh-next
 
 pub returns-then-x-eq0 : goal.returns-then-x-eq0
 returns-then-x-eq0 c = search weigh-end
