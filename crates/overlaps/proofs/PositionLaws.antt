@@ -107,21 +107,19 @@ module _ (m n : ℕ) (ds positions : List ℕ) (free g : ℕ) (w : Standing m n 
       let s : take g positions ++ [] ≡ second_positions 1 m n ds = rw z at w.same in
       rw (← e) (sym (append-nil (take g positions))) ∙ s
 
-  module _ (l : g < n) (h : ℕ) (e : h ≡ index_from (eqb (g + 1)) 0 ds) where
+  module _ (l : g < n) where
     left : n - g ≡ suc (n - suc g)
     left = omega arith
-
-    place : h ≡ index_from (eqb (suc g)) 0 ds
-    place = rw (add-one g) at e
 
     set-take : (v : ℕ) (rest : List ℕ) → take (suc g) (set positions g v) ++ rest ≡ take g positions ++ (v ∷ rest)
     set-take v rest =
         rw (take-suc-set positions g v (omega (arith, w.size, w.room))) (append_assoc (take g positions) (v ∷ []) rest)
 
     -- a joined head stands at its partner's position
-    pub standing-joined : h < m → Standing m n ds (set positions g h) free (g + 1)
+    pub standing-joined :
+        (h : ℕ) → h ≡ index_from (eqb (g + 1)) 0 ds → h < m → Standing m n ds (set positions g h) free (g + 1)
     unfolding second_positions
-    standing-joined k = rw (add-one g) (record {
+    standing-joined h e k = rw (add-one g) (record {
       within = l;
       room = w.room;
       free-few = omega (arith, w.free-few);
@@ -130,6 +128,9 @@ module _ (m n : ℕ) (ds positions : List ℕ) (free g : ℕ) (w : Standing m n 
       same = set-take h (second_positions (suc (suc g)) free (n - suc g) ds) ∙ rw (left, there, ← place) at w.same;
     })
       where
+        place : h ≡ index_from (eqb (suc g)) 0 ds
+        place = rw (add-one g) at e
+
         there : has (suc g) ds ≡ true
         there = go (decide (has (suc g) ds))
           where
@@ -138,9 +139,9 @@ module _ (m n : ℕ) (ds positions : List ℕ) (free g : ℕ) (w : Standing m n 
             go (inr t) = absurd (omega (arith, index-behind (suc g) 0 ds t, w.partners, place))
 
     -- another behind the first rule's heads
-    pub standing-free : m ≤ h → Standing m n ds (set positions g free) (free + 1) (g + 1)
+    pub standing-free : index_from (eqb (g + 1)) 0 ds ≡ m → Standing m n ds (set positions g free) (free + 1) (g + 1)
     unfolding second_positions
-    standing-free k = rw (add-one g, add-one free) (record {
+    standing-free e = rw (add-one g, add-one free) (record {
       within = l;
       room = w.room;
       free-few = omega (arith, w.free-few);
@@ -149,6 +150,9 @@ module _ (m n : ℕ) (ds positions : List ℕ) (free g : ℕ) (w : Standing m n 
       same = set-take free (second_positions (suc (suc g)) (suc free) (n - suc g) ds) ∙ rw (left, away) at w.same;
     })
       where
+        place : index_from (eqb (suc g)) 0 ds ≡ m
+        place = rw (add-one g) at e
+
         away : has (suc g) ds ≡ false
         away = go (decide (has (suc g) ds))
           where

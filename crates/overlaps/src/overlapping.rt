@@ -15,12 +15,10 @@ pub fn join_all(cells: &mut [u16], m: usize, n: usize, partners: [usize; 4]) -> 
     requires { Whole cells.old m n partners × Partners partners m n }
     ensures { AllJoined cells.old m n partners result cells.new }
 {
-    let mut h = 0;
-    while h < m {
+    for h in 0..m {
         if !join_partner(cells, m, partners, h, partners[h]) {
             return false;
         }
-        h += 1;
     }
     true
 }

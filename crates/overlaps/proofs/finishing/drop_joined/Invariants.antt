@@ -8,6 +8,3 @@ use Rattle.overlaps.proofs.finishing.drop_joined.Given as goal
 abbrev pub invariant-loop-g : goal.invariant-loop-g
 invariant-loop-g l =
     Dropping l.m l.n (take l.m l.partners) l.initial.cells l.cells l.g l.k × (l.m ≤ 4) × (l.n ≤ 4)
-
-abbrev pub decreases-loop-g : goal.decreases-loop-g
-decreases-loop-g l = l.n - l.g

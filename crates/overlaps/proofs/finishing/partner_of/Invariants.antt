@@ -6,6 +6,3 @@ use Rattle.overlaps.proofs.finishing.partner_of.Given as goal
 
 abbrev pub invariant-loop-h : goal.invariant-loop-h
 invariant-loop-h l = Looking l.partners l.m l.d l.h
-
-abbrev pub decreases-loop-h : goal.decreases-loop-h
-decreases-loop-h l = l.m - l.h

@@ -7,6 +7,3 @@ use Rattle.overlaps.proofs.finishing.second_positions.Given as goal
 
 abbrev pub invariant-loop-g : goal.invariant-loop-g
 invariant-loop-g l = Standing l.m l.n (take l.m l.partners) l.positions l.free l.g × (l.m ≤ 4)
-
-abbrev pub decreases-loop-g : goal.decreases-loop-g
-decreases-loop-g l = l.n - l.g

@@ -9,6 +9,3 @@ use Rattle.overlaps.proofs.joining.join_terms.Given as goal
 abbrev pub invariant-loop-c : goal.invariant-loop-c
 invariant-loop-c l =
     Joining l.initial.cells l.a l.b l.cells l.c × (length l.equations ≡ 0) × (length l.bound ≡ 0)
-
-abbrev pub decreases-loop-c : goal.decreases-loop-c
-decreases-loop-c l = 5 - l.c

@@ -1,10 +1,7 @@
 -- `has_symbol` meets its contract: none of the first h heads has the symbol.
 -- Assumes nothing.
-use Rattle.overlaps.proofs.ShareLaws.{sought-start, sought-end, sought-found, sought-next}
+use Rattle.overlaps.proofs.ShareLaws.{sought-end, sought-found, sought-next}
 use Rattle.overlaps.proofs.sharing.has_symbol.Goals as goal
-
-pub loop-h-init : goal.loop-h-init
-loop-h-init c = search sought-start
 
 pub returns-then-row-h : goal.returns-then-row-h
 returns-then-row-h c = search sought-found

@@ -6,6 +6,3 @@ use Rattle.overlaps.proofs.sharing.has_symbol.Given as goal
 
 abbrev pub invariant-loop-h : goal.invariant-loop-h
 invariant-loop-h l = Sought l.row l.symbol l.n l.h
-
-abbrev pub decreases-loop-h : goal.decreases-loop-h
-decreases-loop-h l = l.n - l.h

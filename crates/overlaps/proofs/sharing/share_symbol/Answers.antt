@@ -1,10 +1,7 @@
 -- `share_symbol` meets its contract: none of the first h heads of the first rule has a symbol of the second.
 -- Assumes nothing.
-use Rattle.overlaps.proofs.ShareLaws.{sharing-start, sharing-end, sharing-found, sharing-next}
+use Rattle.overlaps.proofs.ShareLaws.{sharing-end, sharing-found, sharing-next}
 use Rattle.overlaps.proofs.sharing.share_symbol.Goals as goal
-
-pub loop-h-init : goal.loop-h-init
-loop-h-init c = search sharing-start
 
 pub returns-then-has_symbol : goal.returns-then-has_symbol
 returns-then-has_symbol c = search sharing-found

@@ -6,6 +6,3 @@ use Rattle.overlaps.proofs.sharing.share_symbol.Given as goal
 
 abbrev pub invariant-loop-h : goal.invariant-loop-h
 invariant-loop-h l = Sharing l.first l.second l.m l.h
-
-abbrev pub decreases-loop-h : goal.decreases-loop-h
-decreases-loop-h l = l.m - l.h
