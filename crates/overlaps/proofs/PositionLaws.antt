@@ -1,9 +1,9 @@
 -- Where the second rule's heads stand in the goal.
---   Looking, looking-…           the search for a head's partner
+--   place_of                     the search for a head's partner
 --   Standing, standing-…         the positions of the first heads
 --   Alone, alone-…               whether no head has a partner
 -- Assumes nothing.
-use Prim.Native.Nat.{ℕ, suc, ◌+◌, ◌-◌, ◌≤◌, ◌<◌}
+use Prim.Native.Nat.{ℕ, zero, suc, ◌+◌, ◌-◌, ◌≤◌, ◌<◌}
 use native.Mathlib.Omega.{arith}
 use native.Mathlib.Numerals.{add-one}
 use mathlib.Core.Bool.{Bool, true, false, cond, ◌||◌}
@@ -13,6 +13,7 @@ use lib.Dec.{eqb}
 use lib.ListN.{length, take, drop, get_or, set, length-set, drop_of_length-le}
 use lib.Seq.{drop-cons, get_or-take, length-take-le, take-suc-set}
 use borrow.Author.Tests.{eq-eqb, ne_eqb}
+use Rattle.std.specs.Prelude.{Option, None, Some, MatchOption}
 use Rattle.text.specs.Lists.{every, has, index_from}
 use Rattle.semantics.specs.Overlaps.{second_positions}
 use Rattle.semantics.proofs.Configurations.{Or, inl, inr}
@@ -40,41 +41,32 @@ index-behind x i (d ∷ ds) h = go (eqb x d) h (index-behind x (suc i) ds)
     go true e more = true-false refl e
     go false e more = omega (arith, more e)
 
--- none of the first h heads is joined to head d
-pub record Looking (partners : List ℕ) (m d h : ℕ) : Type 0 where
-  pub within : h ≤ m
-  pub room : m ≤ 4
-  pub size : length partners ≡ 4
-  pub same : index_from (eqb d) 0 (take m partners) ≡ index_from (eqb d) h (drop h (take m partners))
+-- the index of a number, by the place where it stands first
+index-first :
+    (x s i : ℕ) (ds : List ℕ) → i < length ds → get_or ds i 0 ≡ x → ((k : ℕ) → k < i → get_or ds k 0 ≡ x → ⊥)
+    → index_from (eqb x) s ds ≡ s + i
+index-first x s i [] l e f = absurd (omega arith)
+index-first x s zero (d ∷ ds) l e f = rw (eq-eqb x d (sym e)) (omega arith)
+index-first x s (suc i) (d ∷ ds) l e f =
+    rw (ne_eqb x d (λ q. f 0 (omega arith) (sym q)))
+    (index-first x (suc s) i ds (omega arith) e (λ k h. f (suc k) (omega arith)) ∙ omega arith)
 
-pub looking-start : (partners : List ℕ) (m d : ℕ) → m ≤ 4 → length partners ≡ 4 → Looking partners m d 0
-looking-start partners m d l e = record { within = omega arith; room = l; size = e; same = refl }
+-- and where it stands nowhere
+index-nowhere :
+    (x s : ℕ) (ds : List ℕ) → ((k : ℕ) → k < length ds → get_or ds k 0 ≡ x → ⊥) → index_from (eqb x) s ds ≡ s + length ds
+index-nowhere x s [] f = omega arith
+index-nowhere x s (d ∷ ds) f =
+    rw (ne_eqb x d (λ q. f 0 (omega arith) (sym q)))
+    (index-nowhere x (suc s) ds (λ k h. f (suc k) (omega arith)) ∙ omega arith)
 
-module _ (partners : List ℕ) (m d h : ℕ) (w : Looking partners m d h) where
-  -- no head is
-  pub looking-end : m ≤ h → m ≡ index_from (eqb d) 0 (take m partners)
-  looking-end l =
-      let e : h ≡ m = omega (arith, w.within) in
-      let s : length (take m partners) ≡ m = length-take-le m partners (omega (arith, w.room, w.size)) in
-      sym (w.same ∙ rw (drop_of_length-le (take m partners) {i = h} (omega arith)) e)
-
-  module _ (l : h < m) where
-    more :
-        index_from (eqb d) 0 (take m partners)
-        ≡ cond (eqb d (get_or partners h 0)) h (index_from (eqb d) (suc h) (drop (suc h) (take m partners)))
-    more =
-        let s : length (take m partners) ≡ m = length-take-le m partners (omega (arith, w.room, w.size)) in
-        w.same ∙ rw (drop-cons (take m partners) h 0 (omega arith), get_or-take m partners h 0 l)
-
-    -- this one is
-    pub looking-found : d ≡ get_or partners h 0 → h ≡ index_from (eqb d) 0 (take m partners)
-    looking-found e = sym (more ∙ rw (eq-eqb d (get_or partners h 0) e))
-
-    -- it is not
-    pub looking-next : (d ≡ get_or partners h 0 → ⊥) → Looking partners m d (h + 1)
-    looking-next n =
-        rw (add-one h)
-        (record { within = l; room = w.room; size = w.size; same = more ∙ rw (ne_eqb d (get_or partners h 0) n) })
+-- what looking for a number's first place answers
+pub place_of :
+    (x : ℕ) (ds : List ℕ) (r : Option ℕ)
+    → MatchOption r ((k : ℕ) → k < length ds → get_or ds k 0 ≡ x → ⊥)
+    (λ i. (i < length ds) × (get_or ds i 0 ≡ x) × ((k : ℕ) → k < i → get_or ds k 0 ≡ x → ⊥))
+    → MatchOption r (index_from (eqb x) 0 ds ≡ length ds) (λ i. (i ≡ index_from (eqb x) 0 ds) × (i < length ds))
+place_of x ds None f = omega (arith, index-nowhere x 0 ds f)
+place_of x ds (Some i) f = (omega (arith, index-first x 0 i ds f.0 f.1 f.2), f.0)
 
 -- the positions of the first g heads of the second rule, and those of the others, are all positions
 pub record Standing (m n : ℕ) (ds positions : List ℕ) (free g : ℕ) : Type 0 where

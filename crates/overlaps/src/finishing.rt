@@ -33,12 +33,7 @@ pub fn partner_of(partners: [usize; 4], m: usize, d: usize) -> Option<usize>
     ensures { MatchOption result (index_from (eqb d) 0 (take m partners) ≡ m)
         (λ h. (h ≡ index_from (eqb d) 0 (take m partners)) × (h < m)) }
 {
-    for h in 0..m {
-        if d == partners[h] {
-            return Some(h);
-        }
-    }
-    None
+    partners[..m].iter().position(|partner| *partner == d)
 }
 
 // Where the n heads of the second rule stand in the goal: a joined one at its partner's position, the others behind the first

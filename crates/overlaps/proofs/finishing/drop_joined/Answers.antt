@@ -1,6 +1,6 @@
 -- `drop_joined` meets its contract: the first k heads and those from g on that stay are all that stay.
 -- Assumes nothing.
-use Rattle.std.proofs.Common.{rules, arith}
+use Rattle.std.proofs.Common.{rules}
 use Rattle.overlaps.proofs.DropLaws.{dropping-start, dropping-end, dropping-joined, dropping-kept}
 use Rattle.overlaps.proofs.finishing.drop_joined.Goals as goal
 use Rattle.overlaps.proofs.finishing.drop_joined.Goals.{then-not-is_chosen, else-not-is_chosen}

@@ -1,6 +1,6 @@
 -- `drop_joined` meets its contract: the first k heads and those from g on that stay are all that stay.
 -- Assumes nothing.
-use Prim.Native.Nat.{◌-◌, ◌≤◌}
+use Prim.Native.Nat.{◌≤◌}
 use lib.ListN.{take}
 use Rattle.overlaps.proofs.DropLaws.{Dropping}
 use Rattle.overlaps.proofs.finishing.drop_joined.Given as goal

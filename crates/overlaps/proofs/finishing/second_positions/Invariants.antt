@@ -1,6 +1,6 @@
 -- `second_positions` meets its contract: the positions of the first g heads and those of the others are all.
 -- Assumes nothing.
-use Prim.Native.Nat.{◌-◌, ◌≤◌}
+use Prim.Native.Nat.{◌≤◌}
 use lib.ListN.{take}
 use Rattle.overlaps.proofs.PositionLaws.{Standing}
 use Rattle.overlaps.proofs.finishing.second_positions.Given as goal

@@ -1,6 +1,5 @@
 -- `join_terms` meets its contract: the columns from c on, in the cells so far, give the answer for all of them.
 -- Assumes nothing.
-use Prim.Native.Nat.{◌-◌}
 use mathlib.Core.Path.{◌≡◌}
 use lib.ListN.{length}
 use Rattle.overlaps.proofs.TermLaws.{Joining}

@@ -1,6 +1,5 @@
 -- `join_all` meets its contract: the first h heads are joined, whichever heads these are.
 -- Assumes nothing.
-use Prim.Native.Nat.{◌-◌}
 use Rattle.overlaps.proofs.OverlapLaws.{AllJoining}
 use Rattle.overlaps.proofs.overlapping.join_all.Given as goal
 
