@@ -1,35 +1,23 @@
 -- Where the second rule's heads stand in the goal.
 --   place_of                     the search for a head's partner
 --   Standing, standing-…         the positions of the first heads
---   Alone, alone-…               whether no head has a partner
 -- Assumes nothing.
 use Prim.Native.Nat.{ℕ, zero, suc, ◌+◌, ◌-◌, ◌≤◌, ◌<◌}
 use native.Mathlib.Omega.{arith}
 use native.Mathlib.Numerals.{add-one}
 use mathlib.Core.Bool.{Bool, true, false, cond, ◌||◌}
 use mathlib.Core.List.{List, [], ◌∷◌, ◌++◌, append_assoc, append-nil}
-use mathlib.Core.Path.{◌≡◌, refl, sym, ap, ◌∙◌}
+use mathlib.Core.Path.{◌≡◌, refl, sym, ◌∙◌}
 use lib.Dec.{eqb}
-use lib.ListN.{length, take, drop, get_or, set, length-set, drop_of_length-le}
-use lib.Seq.{drop-cons, get_or-take, length-take-le, take-suc-set}
+use lib.ListN.{length, take, get_or, set, length-set}
+use lib.Seq.{take-suc-set}
 use borrow.Author.Tests.{eq-eqb, ne_eqb}
 use Rattle.std.specs.Prelude.{Option, None, Some, MatchOption}
-use Rattle.text.specs.Lists.{every, has, index_from}
+use Rattle.text.specs.Lists.{has, index_from}
 use Rattle.semantics.specs.Overlaps.{second_positions}
 use Rattle.semantics.proofs.Configurations.{Or, inl, inr}
 use Rattle.semantics.proofs.Options.{decide, true-false}
 use Rattle.semantics.proofs.Indices.{index_below}
-
--- a test of all numbers from an index on: it fails there, goes on behind it, and is over
-module _ (test : ℕ → Bool) (s : List ℕ) (i : ℕ) where
-  every-fails : i < length s → test (get_or s i 0) ≡ false → every test (drop i s) ≡ false
-  every-fails h e = rw (drop-cons s i 0 h, e)
-
-  every-step : i < length s → test (get_or s i 0) ≡ true → every test (drop i s) ≡ every test (drop (suc i) s)
-  every-step h e = rw (drop-cons s i 0 h, e)
-
-  every-end : length s ≤ i → every test (drop i s) ≡ true
-  every-end h = rw (drop_of_length-le s {i = i} h)
 
 -- the index of a number that does not stand in a list
 index-behind : (x i : ℕ) (ds : List ℕ) → has x ds ≡ false → index_from (eqb x) i ds ≡ i + length ds
@@ -76,18 +64,6 @@ pub record Standing (m n : ℕ) (ds positions : List ℕ) (free g : ℕ) : Type 
   pub size : length positions ≡ 4
   pub partners : length ds ≡ m
   pub same : take g positions ++ second_positions (suc g) free (n - g) ds ≡ second_positions 1 m n ds
-
-pub standing-start :
-    (m n : ℕ) (ds positions : List ℕ) → n ≤ 4 → length positions ≡ 4 → length ds ≡ m → Standing m n ds positions m 0
-standing-start m n ds positions l s e =
-    record {
-      within = omega arith;
-      room = l;
-      free-few = omega arith;
-      size = s;
-      partners = e;
-      same = let z : n - 0 ≡ n = omega arith in rw z;
-    }
 
 module _ (m n : ℕ) (ds positions : List ℕ) (free g : ℕ) (w : Standing m n ds positions free g) where
   -- all stand
@@ -151,42 +127,3 @@ module _ (m n : ℕ) (ds positions : List ℕ) (free g : ℕ) (w : Standing m n 
             go : Or (has (suc g) ds ≡ true) (has (suc g) ds ≡ false) → has (suc g) ds ≡ false
             go (inl t) = absurd (omega (arith, index_below (suc g) ds t, w.partners, place))
             go (inr t) = t
-
--- none of the first h heads has a partner
-pub record Alone (partners : List ℕ) (m h : ℕ) : Type 0 where
-  pub within : h ≤ m
-  pub room : m ≤ 4
-  pub size : length partners ≡ 4
-  pub same : every (eqb 0) (take m partners) ≡ every (eqb 0) (drop h (take m partners))
-
-pub alone-start : (partners : List ℕ) (m : ℕ) → m ≤ 4 → length partners ≡ 4 → Alone partners m 0
-alone-start partners m l e = record { within = omega arith; room = l; size = e; same = refl }
-
-module _ (partners : List ℕ) (m h : ℕ) (w : Alone partners m h) where
-  count : length (take m partners) ≡ m
-  count = length-take-le m partners (omega (arith, w.room, w.size))
-
-  -- none has
-  pub alone-end : m ≤ h → true ≡ every (eqb 0) (take m partners)
-  alone-end l = sym (w.same ∙ every-end (eqb 0) (take m partners) h (omega (arith, count)))
-
-  module _ (l : h < m) where
-    -- this one has
-    pub alone-not : (get_or partners h 0 ≡ 0 → ⊥) → false ≡ every (eqb 0) (take m partners)
-    alone-not n =
-        sym (w.same
-        ∙ every-fails (eqb 0) (take m partners) h (omega (arith, count))
-        (ap (eqb 0) (get_or-take m partners h 0 l) ∙ ne_eqb 0 (get_or partners h 0) (λ e. n (sym e))))
-
-    -- it has none
-    pub alone-next : get_or partners h 0 ≡ 0 → Alone partners m (h + 1)
-    alone-next e =
-        rw (add-one h) (record {
-          within = l;
-          room = w.room;
-          size = w.size;
-          same =
-              w.same
-              ∙ every-step (eqb 0) (take m partners) h (omega (arith, count))
-              (ap (eqb 0) (get_or-take m partners h 0 l) ∙ eq-eqb 0 (get_or partners h 0) (sym e));
-        })

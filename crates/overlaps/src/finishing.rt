@@ -57,7 +57,7 @@ pub fn second_positions(partners: [usize; 4], m: usize, n: usize) -> [usize; 4]
 }
 
 // How many constraints and variables a goal has.
-#[derive(Drop)]
+#[derive(Clone, Copy)]
 pub struct Goal {
     pub count: usize,
     pub variables: usize,
