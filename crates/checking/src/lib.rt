@@ -11,7 +11,7 @@ ghost use Rattle.checking.specs.Checking.{listed_cells, end_shown, CheckReady, S
 ghost use Rattle.checking.specs.Checking.{PassReplied, OverlapReplied, Checked};
 
 use answers::{CheckReply, Refusal, TextName};
-use critical::deciding::{Answer, Shown, decide};
+use critical::deciding::{Shown, decide};
 use engine::derivation::Final;
 use listing::{End, Listed};
 use programs::{ProgramRead, read_program};
@@ -144,12 +144,9 @@ fn check_read<'a>(
     let mut bounds = [0; 56];
     let mut one = [0; 2590];
     let mut two = [0; 2590];
-    let verdict = decide(rules, n, &mut goal, &mut bounds, &mut one, &mut two);
-    let answer = verdict.answer;
-    let shown = verdict.shown;
-    match answer {
-        Answer::Confluent(overlaps) => pass(overlaps, output),
-        Answer::Unjoined => show(
+    match decide(rules, n, &mut goal, &mut bounds, &mut one, &mut two) {
+        Ok(overlaps) => pass(overlaps, output),
+        Err(shown) => show(
             program, places, &goal, &bounds, &mut one, &mut two, shown, output,
         ),
     }

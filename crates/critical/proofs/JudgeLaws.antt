@@ -1,14 +1,13 @@
 -- Judging overlaps from the front of a list, whatever follows them.
 --   judged-none, judged-joins, judged-parts     no overlap, one that joins, one that does not
---   judged-more, judged-stopped                 more overlaps behind those judged
---   judged-verdict                              all overlaps of a program
+--   judged-confluent, judged-unjoined           all overlaps of a program
 --   second-next, first_next, …-end              the rule pairs that are left
 --   numbered-rule                               a rule of a table, with its number
 -- Assumes nothing.
 use Prim.Native.Nat.{ℕ, zero, suc, ◌+◌, ◌≤◌, ◌<◌}
 use native.Mathlib.Omega.{arith}
-use mathlib.Core.Bool.{Bool, true, false}
-use mathlib.Core.List.{List, [], ◌∷◌, ◌++◌, append_assoc, append-nil}
+use mathlib.Core.Bool.{true, false}
+use mathlib.Core.List.{List, [], ◌∷◌, ◌++◌, append-nil}
 use mathlib.Core.Option.{Option, some}
 use mathlib.Core.Path.{◌≡◌, refl, sym, ap, ◌∙◌}
 use lib.ListN.{length, drop, get_elem?, drop_of_length-le}
@@ -18,64 +17,38 @@ use Rattle.semantics.specs.Terms.{Rule, Program}
 use Rattle.semantics.specs.Overlaps.{Numbered, Overlap, numbered_from, overlaps_of, overlaps_among, overlaps, first_end, second_end}
 use Rattle.semantics.specs.Verdict.{confluent, unjoined, is_joinable, judge, verdict}
 use Rattle.semantics.proofs.Configurations.{Or, inl, inr}
-use Rattle.semantics.proofs.Options.{true-false}
 use Rattle.semantics.proofs.Enumeration.{numbered-at}
 use Rattle.semantics.proofs.Indices.{le-or-lt}
-use Rattle.overlaps.specs.Rests.{Judged}
+use Rattle.overlaps.specs.Rests.{GoesOn, StopsAt}
 use Rattle.overlaps.proofs.JoinLaws.{drop-at-element, at_left, at_right}
 
 module _ (p : Program) where
   -- nothing to judge
-  pub judged-none : (n : ℕ) (shown : Option Overlap) → Judged p n [] false n shown
-  judged-none n shown = record { goes = λ h more. refl; stops = λ h. true-false h refl }
+  pub judged-none : (n : ℕ) → GoesOn p n [] n
+  judged-none n = record { goes = λ more. refl }
 
   -- an overlap that joins
-  pub judged-joins :
-      (n : ℕ) (o : Overlap) (shown : Option Overlap) → is_joinable p o ≡ true → Judged p n (o ∷ []) false (suc n) shown
+  pub judged-joins : (n : ℕ) (o : Overlap) → is_joinable p o ≡ true → GoesOn p n (o ∷ []) (suc n)
   unfolding judge
-  judged-joins n o shown e = record { goes = λ h more. rw e; stops = λ h. true-false h refl }
+  judged-joins n o e = record { goes = λ more. rw e }
 
   -- an overlap that does not
   pub judged-parts :
-      (n k : ℕ) (o : Overlap) (shown : Option Overlap) → is_joinable p o ≡ false → shown ≡ some o
-      → Judged p n (o ∷ []) true k shown
+      (n : ℕ) (o : Overlap) (shown : Option Overlap) → is_joinable p o ≡ false → shown ≡ some o → StopsAt p n (o ∷ []) shown
   unfolding judge
-  judged-parts n k o shown e s = record { goes = λ h. true-false refl h; stops = λ h. (o, s, λ more. rw e) }
-
-  -- more behind those that joined
-  pub judged-more :
-      (n k a : ℕ) (os us : List Overlap) (b : Bool) (s shown : Option Overlap) → Judged p n os false k s → Judged p k us b a shown
-      → Judged p n (os ++ us) b a shown
-  judged-more n k a os us b s shown j l =
-      record {
-        goes = λ h more. ap (judge p n) (append_assoc os us more) ∙ j.goes refl (us ++ more) ∙ l.goes h more;
-        stops = λ h.
-            let (o, e, f) = l.stops h in
-            (o, e, λ more. ap (judge p n) (append_assoc os us more) ∙ j.goes refl (us ++ more) ∙ f more);
-      }
-
-  -- more behind one that did not
-  pub judged-stopped :
-      (n k : ℕ) (os us : List Overlap) (shown : Option Overlap) → Judged p n os true k shown → Judged p n (os ++ us) true k shown
-  judged-stopped n k os us shown j =
-      record {
-        goes = λ h. true-false refl h;
-        stops = λ h.
-            let (o, e, f) = j.stops refl in
-            (o, e, λ more. ap (judge p n) (append_assoc os us more) ∙ f (us ++ more));
-      }
+  judged-parts n o shown e s = record { stops = (o, s, λ more. rw e) }
 
   -- all overlaps of a program
-  pub judged-confluent : (k : ℕ) (shown : Option Overlap) → Judged p 0 (overlaps p) false k shown → verdict p ≡ confluent k
+  pub judged-confluent : (k : ℕ) → GoesOn p 0 (overlaps p) k → verdict p ≡ confluent k
   unfolding verdict judge
-  judged-confluent k shown j = ap (judge p 0) (sym (append-nil (overlaps p))) ∙ j.goes refl []
+  judged-confluent k j = ap (judge p 0) (sym (append-nil (overlaps p))) ∙ j.goes []
 
   pub judged-unjoined :
-      (k : ℕ) (shown : Option Overlap) → Judged p 0 (overlaps p) true k shown
+      (shown : Option Overlap) → StopsAt p 0 (overlaps p) shown
       → (o : Overlap) × (shown ≡ some o) × (verdict p ≡ unjoined o (first_end p o) (second_end p o))
   unfolding verdict
-  judged-unjoined k shown j =
-      let (o, e, f) = j.stops refl in
+  judged-unjoined shown j =
+      let (o, e, f) = j.stops in
       (o, e, ap (judge p 0) (sym (append-nil (overlaps p))) ∙ f [])
 
 module _ (l : List Numbered) (k : ℕ) where

@@ -12,20 +12,22 @@ use mathlib.Core.Path.{◌≡◌, refl, sym, ap, subst, ◌∙◌}
 use lib.Dec.{eqb}
 use lib.ListN.{length, take, drop, get_or, set, length-append, length-drop, length-set}
 use lib.Seq.{length-take-le, take-suc-set, take-append-le, take_at, get_or-set_same, get_or-set_other}
+use Rattle.std.specs.Prelude.{Result, Ok, Err}
 use Rattle.text.specs.Lists.{every}
 use Rattle.semantics.specs.Terms.{Constraint, Program, map_terms}
 use Rattle.semantics.specs.Overlaps.{apart, overlap_of, second_positions}
 use Rattle.semantics.proofs.Configurations.{Or, inl, inr}
 use Rattle.semantics.proofs.Options.{decide, true-false, eqb-equal, equal-eqb}
 use Rattle.tables.specs.Cells.{cell_constraints, is_low}
-use Rattle.tables.specs.Rows.{rule_of_row, rule_of}
+use Rattle.tables.specs.Rows.{rule_of_row, rule_of, row_of}
 use Rattle.sides.specs.Sides.{cell_goal}
 use Rattle.judging.specs.Judging.{Stands, Overlapping, Joins}
 use Rattle.overlaps.specs.Joins.{join_next, paired, goal_from}
 use Rattle.overlaps.specs.Cells.{joined_of, Partner}
-use Rattle.overlaps.specs.Overlapped.{Node, Whole, Finished}
-use Rattle.overlaps.specs.Rests.{rest, Judged}
-use Rattle.critical.specs.Walks.{Holds, rule_at, first_heads, second_heads, Walkable, leaves, Walked}
+use Rattle.overlaps.specs.Overlapped.{Node, Whole, Finished, Partners}
+use Rattle.overlaps.specs.Rests.{rest, GoesOn, StopsAt}
+use Rattle.critical.specs.declared.walking.Met.{Met}
+use Rattle.critical.specs.Walks.{Holds, rule_at, first_heads, second_heads, Walkable, leaves, Walked, met_in}
 use Rattle.critical.specs.Walks.{Room}
 use Rattle.overlaps.proofs.PairedLaws.{paired-overlap}
 use Rattle.critical.proofs.JudgeLaws.{judged-none, judged-joins, judged-parts}
@@ -73,19 +75,15 @@ module _ (rules : List ℕ) (n i j a b : ℕ) (partners cells : List ℕ) (count
   joint names = all.same
 
   -- no head has a partner
-  pub leaf-nothing : (r : Bool) → r ≡ true → r ≡ every (eqb 0) ds → Walked rules n i j a b 0 ds count false count partners
+  pub leaf-nothing : (r : Bool) → r ≡ true → r ≡ every (eqb 0) ds → Walked rules n i j 0 ds count (Ok count)
   unfolding leaves
   leaf-nothing r t e =
       record {
         judged = λ p h.
-            let one = rule_at h.names rules i in
-            let two = rule_at h.names rules j in
-            subst (λ l. Judged p count l false count (overlap_of one two ds))
-            (sym (leaf-none one two ds (cell_constraints front) (joint h.names) (sym e ∙ t)))
-            (judged-none p count (overlap_of one two ds));
+            subst (λ l. GoesOn p count l count)
+            (sym (leaf-none (rule_at h.names rules i) (rule_at h.names rules j) ds (cell_constraints front) (joint h.names)
+            (sym e ∙ t))) (judged-none p count);
         few = omega arith;
-        partners-size = w.partners-size;
-        below = w.below;
       }
 
   -- what making the goal asks
@@ -166,7 +164,7 @@ module _ (rules : List ℕ) (n i j a b : ℕ) (partners cells : List ℕ) (count
 
       module _ (g : Bool) (o : Joins rules n i j positions variables (take (5 * k) (made ++ rest')) g) where
         -- it joins
-        pub leaf-joins : g ≡ true → Walked rules n i j a b 0 ds count false (count + 1) partners
+        pub leaf-joins : g ≡ true → Walked rules n i j 0 ds count (Ok (count + 1))
         unfolding leaves
         leaf-joins u =
             record {
@@ -175,50 +173,54 @@ module _ (rules : List ℕ) (n i j a b : ℕ) (partners cells : List ℕ) (count
                   let two = rule_at h.names rules j in
                   let cs = cell_constraints front in
                   let x = overlap_by one two ds cs in
-                  let is = paired-overlap one two ds cs (joint h.names) in
                   rw (add-one count)
-                  (subst (λ l. Judged p count l false (suc count) (overlap_of one two ds))
-                  (sym (leaf-overlap one two ds cs (joint h.names) some-joined))
-                  (judged-joins p count x (overlap_of one two ds) (sym (o.same p h.names x (stands p h)) ∙ u)));
+                  (subst (λ l. GoesOn p count l (suc count)) (sym (leaf-overlap one two ds cs (joint h.names) some-joined))
+                  (judged-joins p count x (sym (o.same p h.names x (stands p h)) ∙ u)));
               few = omega arith;
-              partners-size = w.partners-size;
-              below = w.below;
             }
 
         -- it does not
-        pub leaf-parts : g ≡ false → Walked rules n i j a b 0 ds count true count partners
+        pub leaf-parts :
+            g ≡ false
+            → Walked rules n i j 0 ds count (Err (record { count = count; first = i; second = j; partners = partners }))
         unfolding leaves
-        leaf-parts u =
-            record {
-              judged = λ p h.
-                  let one = rule_at h.names rules i in
-                  let two = rule_at h.names rules j in
-                  let cs = cell_constraints front in
-                  let x = overlap_by one two ds cs in
-                  let is = paired-overlap one two ds cs (joint h.names) in
-                  subst (λ l. Judged p count l true count (overlap_of one two ds))
-                  (sym (leaf-overlap one two ds cs (joint h.names) some-joined))
-                  (judged-parts p count count x (overlap_of one two ds) (sym (o.same p h.names x (stands p h)) ∙ u) is);
-              few = omega arith;
-              partners-size = w.partners-size;
-              below = w.below;
-            }
+        leaf-parts u = (
+          record {
+            judged = λ p h.
+                let one = rule_at h.names rules i in
+                let two = rule_at h.names rules j in
+                let cs = cell_constraints front in
+                let x = overlap_by one two ds cs in
+                let shown = overlap_of one two (take (get_or (row_of rules i) 3 0) partners) in
+                let is : shown ≡ some x =
+                ap (λ k. overlap_of one two (take k partners)) (sym w.pair.first_count)
+                ∙ paired-overlap one two ds cs (joint h.names) in
+                subst (λ l. StopsAt p count l shown) (sym (leaf-overlap one two ds cs (joint h.names) some-joined))
+                (judged-parts p count x shown (sym (o.same p h.names x (stands p h)) ∙ u) is);
+            few = omega arith;
+            first = w.pair.first;
+            second = w.pair.second;
+            partners-size = w.partners-size;
+            below = subst (Partners partners 4) w.pair.second-count w.below;
+          },
+          refl,
+          refl,
+        )
 
 -- no head is left
-module _ (rules : List ℕ) (n i j a b left : ℕ) (partners : List ℕ) (count : ℕ) where
-  pub leaf-start :
-      (cells : List ℕ) → Walkable rules n i j a b left partners cells count → left ≡ 0
-      → Walkable rules n i j a b 0 partners cells count
-  leaf-start cells w e = subst (λ k. Walkable rules n i j a b k partners cells count) e w
+pub leaf-start :
+    (rules : List ℕ) (n i j a b left : ℕ) (partners cells : List ℕ) (count : ℕ)
+    → Walkable rules n i j a b left partners cells count → left ≡ 0 → Walkable rules n i j a b 0 partners cells count
+leaf-start rules n i j a b left partners cells count w e =
+    subst (λ k. Walkable rules n i j a b k partners cells count) e w
 
-  pub leaf_walked :
-      (stopped : Bool) (after : ℕ) (partners' : List ℕ) → left ≡ 0
-      → Walked rules n i j a b 0 (take a partners) count stopped after partners'
-      → Walked rules n i j a b left (take (a - left) partners) count stopped after partners'
-  leaf_walked stopped after partners' e g =
-      let z : a - 0 ≡ a = omega arith in
-      subst (λ k. Walked rules n i j a b k (take (a - k) partners) count stopped after partners') (sym e)
-      (subst (λ m. Walked rules n i j a b 0 (take m partners) count stopped after partners') (sym z) g)
+pub leaf_walked :
+    (rules : List ℕ) (n i j a left : ℕ) (partners : List ℕ) (count : ℕ) (r : Result ℕ Met) → left ≡ 0
+    → Walked rules n i j 0 (take a partners) count r → Walked rules n i j left (take (a - left) partners) count r
+leaf_walked rules n i j a left partners count r e g =
+    let z : a - 0 ≡ a = omega arith in
+    subst (λ k. Walked rules n i j k (take (a - k) partners) count r) (sym e)
+    (subst (λ m. Walked rules n i j 0 (take m partners) count r) (sym z) g)
 
 -- d numbers of size l
 unfoldable pub times : ℕ → ℕ → ℕ
@@ -305,22 +307,19 @@ module _ (rules : List ℕ) (n i j a b left : ℕ) (partners cells : List ℕ) (
 
   module _ (s d : ℕ) (v : Steps rules n i j a b left partners count s d) where
     -- no partner is left
-    pub step_end : b < d → Walked rules n i j a b left chosen count false s partners
+    pub step_end : b < d → Walked rules n i j left chosen count (Ok s)
     step_end l =
         record {
           judged = λ p q.
               let one = rule_at q.names rules i in
               let two = rule_at q.names rules j in
-              subst (λ k. Judged p count (rest one two chosen k) false s (overlap_of one two (take a partners))) back
+              subst (λ k. GoesOn p count (rest one two chosen k) s) back
               (walking-end one two p count chosen (left - 1) s d (v.walking p q)
-              (omega (arith, second-heads rules n i j a b w.pair q.names))
-              (overlap_of one two (take a partners)));
+              (omega (arith, second-heads rules n i j a b w.pair q.names)));
           few =
               let most = times-leaves d (left - 1) (omega (arith, v.within, few.1)) in
               let all : leaves (suc (left - 1)) ≡ leaves left = ap leaves back in
               omega (arith, v.few, most, all);
-          partners-size = w.partners-size;
-          below = w.below;
         }
 
     module _ (l : d ≤ b) (r : Bool) (cells' : List ℕ)
@@ -407,41 +406,40 @@ module _ (rules : List ℕ) (n i j a b left : ℕ) (partners cells : List ℕ) (
                     get_or-set_other partners (a - left) x d 0 (λ same. true-false (equal-eqb same) g) in
                     omega (arith, is, w.below.each x k)
 
-        module _ (stopped : Bool) (after : ℕ) (partners' : List ℕ)
-            (g : Walked rules n i j a b (left - 1) (take (a - (left - 1)) (set partners (a - left) d)) s stopped after partners')
-          where
-            -- an overlap that does not join was met
-            pub step-stop : stopped ≡ true → Walked rules n i j a b left chosen count stopped after partners'
-            step-stop u =
-                subst (λ x. Walked rules n i j a b left chosen count x after partners') (sym u) (record {
-                  judged = λ p q.
-                      let one = rule_at q.names rules i in
-                      let two = rule_at q.names rules j in
-                      let shown = overlap_of one two (take a partners') in
-                      let met : Judged p s (rest one two (chosen ++ (d ∷ [])) (left - 1)) true after shown =
-                      subst (λ x. Judged p s (rest one two (chosen ++ (d ∷ [])) (left - 1)) x after shown) u
-                      (subst (λ l. Judged p s (rest one two l (left - 1)) stopped after shown) more (g.judged p q)) in
-                      subst (λ k. Judged p count (rest one two chosen k) true after shown) back
-                      (walking-stop one two p count chosen (left - 1) s d (v.walking p q) (partner-there q.names) after shown
-                      met);
-                  few = omega (arith, g.few, v.few, counted, one_more);
-                  partners-size = g.partners-size;
-                  below = g.below;
-                })
+        -- an overlap that does not join was met
+        pub step-stop :
+            (met : Met) → Walked rules n i j (left - 1) (take (a - (left - 1)) (set partners (a - left) d)) s (Err met)
+            → Walked rules n i j left chosen count (Err met)
+        step-stop met (g, e, f) = (
+          record {
+            judged = λ p q.
+                let one = rule_at q.names rules i in
+                let two = rule_at q.names rules j in
+                let shown = met_in rules q.names met in
+                subst (λ k. StopsAt p count (rest one two chosen k) shown) back
+                (walking-stop one two p count chosen (left - 1) s d (v.walking p q) (partner-there q.names) shown
+                (subst (λ l. StopsAt p s (rest one two l (left - 1)) shown) more (g.judged p q)));
+            few = omega (arith, g.few, v.few, counted, one_more);
+            first = g.first;
+            second = g.second;
+            partners-size = g.partners-size;
+            below = g.below;
+          },
+          e,
+          f,
+        )
 
-            -- all joined
-            pub step-on : stopped ≡ false → Steps rules n i j a b left partners count after (d + 1)
-            step-on u =
-                rw (add-one d) (record {
-                  walking = λ p q.
-                      let one = rule_at q.names rules i in
-                      let two = rule_at q.names rules j in
-                      let shown = overlap_of one two (take a partners') in
-                      let met : Judged p s (rest one two (chosen ++ (d ∷ [])) (left - 1)) false after shown =
-                      subst (λ x. Judged p s (rest one two (chosen ++ (d ∷ [])) (left - 1)) x after shown) u
-                      (subst (λ l. Judged p s (rest one two l (left - 1)) stopped after shown) more (g.judged p q)) in
-                      walking-next one two p count chosen (left - 1) s d (v.walking p q) (partner-there q.names) after shown
-                      met;
-                  few = omega (arith, g.few, v.few, one_more);
-                  within = omega arith;
-                })
+        -- all joined
+        pub step-on :
+            (after : ℕ) → Walked rules n i j (left - 1) (take (a - (left - 1)) (set partners (a - left) d)) s (Ok after)
+            → Steps rules n i j a b left partners count after (d + 1)
+        step-on after g =
+            rw (add-one d) (record {
+              walking = λ p q.
+                  let one = rule_at q.names rules i in
+                  let two = rule_at q.names rules j in
+                  walking-next one two p count chosen (left - 1) s d (v.walking p q) (partner-there q.names) after
+                  (subst (λ l. GoesOn p s (rest one two l (left - 1)) after) more (g.judged p q));
+              few = omega (arith, g.few, v.few, one_more);
+              within = omega arith;
+            })

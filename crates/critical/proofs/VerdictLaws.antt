@@ -3,22 +3,23 @@
 --   remake-…                  the goal of the overlap that was met, made again
 --   run-…                     both sides run to their ends
 --   show-…                    the overlap that is shown
---   verdict-…                 the answer
+--   verdict-kept              what deciding asks, after the walk
 -- Assumes nothing.
 use Prim.Native.Nat.{ℕ, suc, ◌+◌, ◌-◌, ◌*◌}
 use native.Mathlib.Omega.{arith}
 use mathlib.Core.Bool.{Bool, true, false, cond, not}
 use mathlib.Core.List.{List, [], ◌∷◌, ◌++◌}
-use mathlib.Core.Option.{none, some}
+use mathlib.Core.Option.{some}
 use mathlib.Core.Path.{◌≡◌, refl, sym, ap, subst, subst₂, ◌∙◌}
 use lib.Dec.{eqb}
 use lib.ListN.{length, take, drop, get_or, length-append, length-drop}
 use lib.Seq.{length-take-le, take-append-le, take_at, drop_at}
+use Rattle.std.specs.Prelude.{Option, Some, None, IsSome, Ok, Err}
 use Rattle.text.specs.Lists.{every}
 use Rattle.text.proofs.Bools.{and-true}
 use Rattle.semantics.specs.Terms.{Program}
 use Rattle.semantics.specs.Strategy.{Final as End}
-use Rattle.semantics.specs.Overlaps.{is_one_to_one, is_pairing, Overlap, overlap_of, second_positions, overlaps, first_end, second_end}
+use Rattle.semantics.specs.Overlaps.{is_one_to_one, is_pairing, Overlap, second_positions, overlaps, first_end, second_end}
 use Rattle.semantics.specs.Verdict.{Verdict, confluent, unjoined, is_joinable, judge, verdict}
 use Rattle.semantics.proofs.Configurations.{Member, first, later}
 use Rattle.semantics.proofs.Options.{true-false, none-some}
@@ -33,17 +34,16 @@ use Rattle.judging.specs.declared.Peak.{Peak}
 use Rattle.judging.specs.declared.Ends.{Ends}
 use Rattle.judging.specs.Judging.{EndOf}
 use Rattle.judging.proofs.JoinLaws.{live-room}
-use Rattle.critical.specs.declared.walking.Reply.{Reply}
-use Rattle.critical.specs.declared.deciding.Answer.TheVariants.{Confluent, Unjoined}
-use Rattle.critical.specs.declared.deciding.Shown.{Shown}
-use Rattle.overlaps.specs.Overlapped.{Partners, OverlapOf}
-use Rattle.critical.specs.Walks.{Holds, rule_at, Checkable, PairAt, AllWalked}
-use Rattle.critical.specs.Verdicts.{Deciding, Stopped, Remade, Runs, BothRun, EndIn, UnjoinedIn, VerdictIn}
+use Rattle.critical.specs.declared.walking.Met.{Met}
+use Rattle.overlaps.specs.Overlapped.{Partners, OverlapMade, NoOverlap, OverlapOf}
+use Rattle.overlaps.specs.declared.finishing.Goal.{Goal}
+use Rattle.critical.specs.Walks.{Holds, rule_at, Checkable, PairAt, AllWalked, met_in}
+use Rattle.critical.specs.Verdicts.{Deciding, Stopped, Remade, Runs, BothRun, EndIn, UnjoinedIn}
 use Rattle.critical.proofs.JudgeLaws.{judged-confluent, judged-unjoined}
 use Rattle.overlaps.proofs.ShareLaws.{pairing-joins}
 use Rattle.critical.proofs.StandLaws.{pair-few, overlap-judged, overlap-stands}
 use Rattle.critical.proofs.StepLaws.{room-kept}
-use Rattle.critical.proofs.TableLaws.{lent, lent_row, lent-first, lent-second, pair-lent}
+use Rattle.critical.proofs.TableLaws.{heads-first, heads-second, pair-lent}
 
 -- whether a verdict shows an overlap
 unfoldable is_unjoined : Verdict → Bool
@@ -66,30 +66,27 @@ unjoined-member p n (x ∷ os) {o} {a} {b} e = go (is_joinable p x) e (unjoined-
     go true h more = later (more h)
     go false h more = subst (λ y. Member y (x ∷ os)) (same h) first
 
-module _ (rules : List ℕ) (n : ℕ) (stopped : Bool) (k i j : ℕ) (partners : List ℕ)
-    (w : AllWalked rules n stopped k i j partners) where
-  -- the walk has met no overlap that does not join
-  pub walked-confluent : stopped ≡ false → (p : Program) → Holds p rules n → verdict p ≡ confluent k
-  walked-confluent e p h = judged-confluent p k _ (rw e at (w.judged p h))
+-- the walk over all rules has met no overlap that does not join
+pub walked-confluent :
+    (rules : List ℕ) (n k : ℕ) → AllWalked rules n (Ok k) → (p : Program) → Holds p rules n → verdict p ≡ confluent k
+walked-confluent rules n k w p h = judged-confluent p k (w.judged p h)
 
 -- it has met one
 pub walked-stopped :
-    (rules : List ℕ) (n : ℕ) (met : Reply) (goal : List ℕ) → Checkable rules n
-    → AllWalked rules n met.stopped met.count met.first met.second met.partners → met.stopped ≡ true
+    (rules : List ℕ) (n : ℕ) (met : Met) (goal : List ℕ) → Checkable rules n → AllWalked rules n (Err met)
     → length goal ≡ 40 → Stopped rules n goal met
-walked-stopped rules n met goal check w e size =
-    let m = w.met e in
+walked-stopped rules n met goal check (w, e) size =
     record {
       check = check;
-      first = omega (arith, m.first, m.second);
-      second = m.second;
-      partners-size = m.partners-size;
-      below = m.below;
-      decided = λ p h. judged-unjoined p met.count _ (rw e at (w.judged p h));
+      first = w.first;
+      second = w.second;
+      partners-size = w.partners-size;
+      below = w.below;
+      decided = λ p h. judged-unjoined p _ (w.judged p h);
       goal-size = size;
     }
 
-module _ (rules : List ℕ) (n : ℕ) (met : Reply) (start : List ℕ) (s : Stopped rules n start met) where
+module _ (rules : List ℕ) (n : ℕ) (met : Met) (start : List ℕ) (s : Stopped rules n start met) where
   -- as many heads as the rules have
   abbrev a : ℕ
   a = get_or (row_of rules met.first) 3 0
@@ -127,16 +124,29 @@ module _ (rules : List ℕ) (n : ℕ) (met : Reply) (start : List ℕ) (s : Stop
   some-joined = pairing-joins ds pairs
 
   -- what making the overlap again asks
-  pub remake-partners :
-      Partners met.partners (get_or (lent rules met.first) 3 0) (get_or (lent rules met.second) 3 0)
-  remake-partners =
-      rw (lent_row rules met.first, lent_row rules met.second) (record {
+  pub remake-partners : (row other : List ℕ) → row ≡ row_of rules met.first → other ≡ row_of rules met.second
+      → Partners met.partners (get_or row 3 0) (get_or other 3 0)
+  remake-partners row other e f =
+      rw (e, f) (record {
         each = λ h l. s.below.each h (omega (arith, l, (pair-few rules n met.first met.second a b pair).0));
       })
 
-  module _ (unify : Bool) (made : List ℕ) (count variables : ℕ)
-      (g : OverlapOf (row_of rules met.first) (row_of rules met.second) met.partners unify made count variables)
-      (rest' : List ℕ) (size : length made ≡ 5 * (a + b)) where
+  -- its heads unify
+  pub remake-some :
+      (row other : List ℕ) → row ≡ row_of rules met.first → other ≡ row_of rules met.second → (made : List ℕ) (r : Option Goal)
+      → OverlapOf row other met.partners made r → IsSome r
+  unfolding rule_at rule_of rule_of_row
+  remake-some row other ef es made (Some g) h = refl
+  remake-some row other ef es made None h =
+      let (o, e, d) = s.decided s.check.program held in
+      let names = s.check.names in
+      let none-made : NoOverlap (row_of rules met.first) (row_of rules met.second) met.partners =
+      subst₂ (λ x y. NoOverlap x y met.partners) ef es h in
+      none-some (none-made.same (rule_at names rules met.first) (rule_at names rules met.second) refl refl one-to-one) e
+
+  module _ (made : List ℕ) (count variables : ℕ)
+      (g : OverlapMade (row_of rules met.first) (row_of rules met.second) met.partners made count variables) (rest' : List ℕ)
+      (size : length made ≡ 5 * (a + b)) where
     -- the goal's cells, in front of all
     abbrev goal : List ℕ
     goal = take (5 * count) (made ++ rest')
@@ -154,35 +164,17 @@ module _ (rules : List ℕ) (n : ℕ) (met : Reply) (start : List ℕ) (s : Stop
     front : goal ≡ take (5 * count) made
     front = take-append-le (5 * count) made rest' (omega (arith, size, g.within))
 
-    -- it is what was made, if its heads unify
-    made_of :
-        (names : List ℕ)
-        → overlap_of (rule_at names rules met.first) (rule_at names rules met.second) ds
-        ≡ cond unify (some (overlap names)) none
+    -- it is what was made
+    is_made : (names : List ℕ) → met_in rules names met ≡ some (overlap names)
     unfolding rule_at rule_of rule_of_row
-    made_of names =
+    is_made names =
         g.same (rule_at names rules met.first) (rule_at names rules met.second) refl refl one-to-one
-        ∙ ap (λ l. cond unify (some (record {
+        ∙ ap (λ l. some (record {
           first = rule_at names rules met.first;
           second = rule_at names rules met.second;
           partners = ds;
           goal = record { variables = variables; constraints = cell_constraints l };
-        })) none) (sym front)
-
-    -- and they do
-    unifies : unify ≡ true
-    unifies =
-        let (o, e, d) = s.decided s.check.program held in
-        go unify (overlap s.check.names) (sym (made_of s.check.names) ∙ e)
-      where
-        go : (x : Bool) (u : Overlap) {o : Overlap} → cond x (some u) none ≡ some o → x ≡ true
-        go true u h = refl
-        go false u h = none-some refl h
-
-    is_made :
-        (names : List ℕ)
-        → overlap_of (rule_at names rules met.first) (rule_at names rules met.second) ds ≡ some (overlap names)
-    is_made names = made_of names ∙ ap (λ x. cond x (some (overlap names)) none) unifies
+        })) (sym front)
 
     -- the goal made again, and the overlap that its cells stand for
     pub remake-made :
@@ -208,7 +200,7 @@ module _ (rules : List ℕ) (n : ℕ) (met : Reply) (start : List ℕ) (s : Stop
               overlap-judged rules n met.first met.second a b pair ds goal variables positions count four
               (is_made s.check.names) (rw front g.low)
               (length-take-le (5 * count) (made ++ rest') (omega (arith, length-append made rest', size, g.within)))
-              (g.fewer unifies some-joined) g.variables-few;
+              (g.fewer some-joined) g.variables-few;
           shows = λ p h.
               let (o, e, d) = s.decided p h in
               let same : o ≡ overlap h.names = sym (some-equal (sym (is_made h.names) ∙ e)) in (
@@ -226,11 +218,11 @@ module _ (rules : List ℕ) (n : ℕ) (met : Reply) (start : List ℕ) (s : Stop
               );
         }
 
-  -- the same, as the code counts and lends
-  pub remake-lent :
-      (m c : ℕ) → m ≡ get_or (lent rules met.first) 3 0 → c ≡ get_or (lent rules met.second) 3 0
-      → (unify : Bool) (made : List ℕ) (count variables : ℕ)
-      → OverlapOf (lent rules met.first) (lent rules met.second) met.partners unify made count variables
+  -- the same, as the code has the rows and counts
+  pub remake-counted :
+      (row other : List ℕ) → row ≡ row_of rules met.first → other ≡ row_of rules met.second
+      → (m c : ℕ) → m ≡ get_or row 3 0 → c ≡ get_or other 3 0 → (made : List ℕ) (r : Option Goal) (g : Goal)
+      → OverlapOf row other met.partners made r → r ≡ Some g
       → (rest' : List ℕ) → length made ≡ length (take (5 * (m + c)) start) → (positions : List ℕ)
       → take c positions ≡ second_positions 1 m c (take m met.partners) → length positions ≡ 4
       → Remade rules n met (made ++ rest') (record {
@@ -238,17 +230,18 @@ module _ (rules : List ℕ) (n : ℕ) (met : Reply) (start : List ℕ) (s : Stop
         first = met.first;
         second = met.second;
         positions = positions;
-        count = count;
-        variables = variables;
+        count = g.count;
+        variables = g.variables;
       })
-  remake-lent m c em ec unify made count variables g rest' size positions places four =
+  remake-counted row other ef es m c em ec made r g h is rest' size positions places four =
       let i = met.first in
       let j = met.second in
-      let one : m ≡ a = lent-first rules n i j s.check s.first s.second m c em ec in
-      let two : c ≡ b = lent-second rules n i j s.check s.first s.second m c em ec in
-      remake-made unify made count variables
-      (subst₂ (λ x y. OverlapOf x y met.partners unify made count variables) (lent_row rules i) (lent_row rules j) g) rest'
-      (size ∙ sym (pair-lent rules n i j s.check s.first s.second m c em ec start s.goal-size)
+      let one : m ≡ a = heads-first rules n i j s.check s.first s.second row other ef es m c em ec in
+      let two : c ≡ b = heads-second rules n i j s.check s.first s.second row other ef es m c em ec in
+      remake-made made g.count g.variables
+      (subst₂ (λ x y. OverlapMade x y met.partners made g.count g.variables) ef es
+      (subst (OverlapOf row other met.partners made) is h)) rest'
+      (size ∙ sym (pair-lent rules n i j s.check s.first s.second row other ef es m c em ec start s.goal-size)
       ∙ λ t. 5 * (one t + two t)) m c positions one two places four
 
 module _ (rules : List ℕ) (peak : Peak) (goal bounds one two : List ℕ) (r : Runs rules peak goal bounds one two) where
@@ -338,9 +331,9 @@ end_known e bound cells t =
 
 -- the overlap that was met is shown
 pub show-shown :
-    (rules : List ℕ) (n : ℕ) (met : Reply) (goal bounds one two : List ℕ) (peak : Peak) (ends : Ends)
+    (rules : List ℕ) (n : ℕ) (met : Met) (goal bounds one two : List ℕ) (peak : Peak) (ends : Ends)
     → Remade rules n met goal peak → BothRun rules peak (take (5 * peak.count) goal) bounds one two ends → Checkable rules n
-    → length met.partners ≡ 4 → (heads : ℕ) → heads ≡ get_or (lent rules peak.first) 3 0
+    → length met.partners ≡ 4 → (row : List ℕ) → row ≡ row_of rules peak.first → (heads : ℕ) → heads ≡ get_or row 3 0
     → UnjoinedIn rules n goal bounds one two (record {
       first = peak.first;
       second = peak.second;
@@ -351,9 +344,9 @@ pub show-shown :
       one = ends.first;
       two = ends.second;
     })
-show-shown rules n met goal bounds one two peak ends r t check four heads e =
+show-shown rules n met goal bounds one two peak ends r t check four cells is heads e =
     let v = peak.variables in
-    let row : heads ≡ get_or (row_of rules peak.first) 3 0 = e ∙ ap (λ l. get_or l 3 0) (lent_row rules peak.first) in
+    let row : heads ≡ get_or (row_of rules peak.first) 3 0 = e ∙ ap (λ l. get_or l 3 0) is in
     record {
       first = r.first;
       second = r.second;
@@ -382,37 +375,13 @@ show-shown rules n met goal bounds one two peak ends r t check four heads e =
 
 -- what deciding asks, after the walk
 pub verdict-kept :
-    (rules : List ℕ) (n : ℕ) (goal bounds one two one' two' : List ℕ) → Deciding rules n goal bounds one two
-    → length one' ≡ length one → length two' ≡ length two → Deciding rules n goal bounds one' two'
-verdict-kept rules n goal bounds one two one' two' d e f =
+    (rules : List ℕ) (n : ℕ) (start bounds one two one' two' : List ℕ) → Deciding rules n start bounds one two
+    → length one' ≡ length one → length two' ≡ length two → Deciding rules n start bounds one' two'
+verdict-kept rules n start bounds one two one' two' d e f =
     record {
       check = d.check;
       few = d.few;
       room = room-kept d.room e f;
       goal-size = d.goal-size;
       bounds-size = d.bounds-size;
-    }
-
--- the two answers differ, and `Confluent` has one number
-unjoined-confluent : {A : Type 0} {k : ℕ} → Unjoined ≡ Confluent k → A
-unjoined-confluent {A} {k} e = absurd (let z : ◌≡◌ {A = ℕ} 0 1 = cc in omega arith)
-
-confluent-equal : {k m : ℕ} → Confluent k ≡ Confluent m → k ≡ m
-confluent-equal e = cc
-
--- the answer: an overlap that does not join, or none
-pub verdict-shown :
-    (rules : List ℕ) (n : ℕ) (goal bounds one two : List ℕ) (s : Shown) → UnjoinedIn rules n goal bounds one two s
-    → VerdictIn rules n goal bounds one two (record { answer = Unjoined; shown = s })
-verdict-shown rules n goal bounds one two s u = record { passes = λ k e. unjoined-confluent e; shows = λ e. u }
-
-pub verdict-passed :
-    (rules : List ℕ) (n : ℕ) (stopped : Bool) (k i j : ℕ) (partners : List ℕ) → AllWalked rules n stopped k i j partners
-    → stopped ≡ false → (goal bounds one two : List ℕ) (s : Shown)
-    → VerdictIn rules n goal bounds one two (record { answer = Confluent k; shown = s })
-verdict-passed rules n stopped k i j partners w e goal bounds one two s =
-    record {
-      passes =
-          λ m t p h. subst (λ a. verdict p ≡ confluent a) (confluent-equal t) (walked-confluent rules n stopped k i j partners w e p h);
-      shows = λ t. unjoined-confluent (sym t);
     }

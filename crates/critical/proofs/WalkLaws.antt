@@ -7,16 +7,15 @@ use Prim.Native.Nat.{ℕ, suc, ◌≤◌, ◌<◌}
 use mathlib.Core.Bool.{true, false}
 use mathlib.Core.List.{List, [], ◌∷◌, ◌++◌, map, append_assoc}
 use mathlib.Core.Option.{Option, none, some}
-use mathlib.Core.Path.{◌≡◌, refl, ap, ◌∙◌}
+use mathlib.Core.Path.{◌≡◌, ap, ◌∙◌}
 use lib.Dec.{eqb}
 use lib.ListN.{length}
 use Rattle.text.specs.Lists.{every}
 use Rattle.semantics.specs.Terms.{Constraint, Program, map_terms}
 use Rattle.semantics.specs.Overlaps.{apart, Numbered, Overlap}
 use Rattle.semantics.specs.Verdict.{judge}
-use Rattle.semantics.proofs.Options.{true-false}
 use Rattle.overlaps.specs.Joins.{paired, goal_from}
-use Rattle.overlaps.specs.Rests.{rest, rest_from, Judged}
+use Rattle.overlaps.specs.Rests.{rest, rest_from, GoesOn, StopsAt}
 use Rattle.overlaps.proofs.RestLaws.{rest_more, rest-next, rest-past, rest-done}
 use Rattle.overlaps.proofs.PairedLaws.{paired_none, paired-overlap, paired-pairing}
 
@@ -56,12 +55,9 @@ module _ (i j : Numbered) where
 
     module _ (n : ℕ) (ds : List ℕ) (k s d : ℕ) (w : Walking n ds k s d) where
       -- no partner is left
-      pub walking-end : length j.rule.heads < d → (shown : Option Overlap) → Judged p n (rest i j ds (suc k)) false s shown
-      walking-end h shown =
-          record {
-            goes = λ e more. w.left more ∙ ap (λ l. judge p s (l ++ more)) (rest-past i j ds k d h);
-            stops = λ e. true-false e refl;
-          }
+      pub walking-end : length j.rule.heads < d → GoesOn p n (rest i j ds (suc k)) s
+      walking-end h =
+          record { goes = λ more. w.left more ∙ ap (λ l. judge p s (l ++ more)) (rest-past i j ds k d h) }
 
       module _ (h : d ≤ length j.rule.heads) where
         split :
@@ -83,19 +79,15 @@ module _ (i j : Numbered) where
             }
 
         -- all overlaps with partner d join
-        pub walking-next :
-            (t : ℕ) (shown : Option Overlap) → Judged p s (rest i j (ds ++ (d ∷ [])) k) false t shown → Walking n ds k t (suc d)
-        walking-next t shown g =
-            record { left = λ more. split more ∙ g.goes refl (rest_from i j ds k (suc d) ++ more) }
+        pub walking-next : (t : ℕ) → GoesOn p s (rest i j (ds ++ (d ∷ [])) k) t → Walking n ds k t (suc d)
+        walking-next t g = record { left = λ more. split more ∙ g.goes (rest_from i j ds k (suc d) ++ more) }
 
         -- one does not
         pub walking-stop :
-            (t : ℕ) (shown : Option Overlap) → Judged p s (rest i j (ds ++ (d ∷ [])) k) true t shown
-            → Judged p n (rest i j ds (suc k)) true t shown
-        walking-stop t shown g =
+            (shown : Option Overlap) → StopsAt p s (rest i j (ds ++ (d ∷ [])) k) shown → StopsAt p n (rest i j ds (suc k)) shown
+        walking-stop shown g =
             record {
-              goes = λ e. true-false refl e;
-              stops = λ e.
-                  let (o, a, b) = g.stops refl in
+              stops =
+                  let (o, a, b) = g.stops in
                   (o, a, λ more. split more ∙ b (rest_from i j ds k (suc d) ++ more));
             }

@@ -7,10 +7,11 @@
 --   VerdictIn                what deciding promises
 -- What the goal's variables became is in `bounds`: for the first end, then for the second. Assumes nothing.
 use Rattle.std.specs.Prelude.{ℕ, ◌*◌, ◌≤◌, ◌<◌, true, List, ◌≡◌, length, take, drop, get_or}
+use Rattle.std.specs.Prelude.{Result, Ok, Err}
 use Rattle.std.proofs.Math.Option.{some}
 use Rattle.semantics.specs.Terms.{Program}
 use Rattle.semantics.specs.Strategy.{Final as End}
-use Rattle.semantics.specs.Overlaps.{Overlap, overlap_of, first_end, second_end}
+use Rattle.semantics.specs.Overlaps.{Overlap, first_end, second_end}
 use Rattle.semantics.specs.Verdict.{confluent, unjoined, verdict}
 use Rattle.tables.specs.Layout.{constraint_size, heads_cell}
 use Rattle.tables.specs.Rows.{row_of}
@@ -20,12 +21,10 @@ use Rattle.sides.specs.Sides.{cell_goal}
 use Rattle.judging.specs.declared.Peak.{Peak}
 use Rattle.judging.specs.declared.Ends.{Ends}
 use Rattle.judging.specs.Judging.{Stands, Overlapping, end_in, most_variables, LiveEnd, EndOf}
-use Rattle.critical.specs.declared.walking.Reply.{Reply}
+use Rattle.critical.specs.declared.walking.Met.{Met}
 use Rattle.critical.specs.declared.deciding.Shown.{Shown}
-use Rattle.critical.specs.declared.deciding.Answer.TheVariants.{Confluent, Unjoined}
-use Rattle.critical.specs.declared.deciding.Verdict.{Verdict}
 use Rattle.overlaps.specs.Overlapped.{Partners}
-use Rattle.critical.specs.Walks.{Holds, rule_at, Checkable, Room}
+use Rattle.critical.specs.Walks.{Holds, rule_at, Checkable, Room, met_in}
 
 -- what deciding asks: a table of at most 64 rules that can be checked, and cells for an overlap's goal, for what its variables
 -- become on both sides, and for the two sides
@@ -37,7 +36,7 @@ pub record Deciding (rules : List ℕ) (n : ℕ) (goal bounds one two : List ℕ
   pub bounds-size : length bounds ≡ 56
 
 -- the walk over all rules has met an overlap that does not join, and there are cells for its goal
-pub record Stopped (rules : List ℕ) (n : ℕ) (goal : List ℕ) (met : Reply) : Type 0 where
+pub record Stopped (rules : List ℕ) (n : ℕ) (goal : List ℕ) (met : Met) : Type 0 where
   pub check : Checkable rules n
   pub first : met.first < n
   pub second : met.second < n
@@ -46,8 +45,7 @@ pub record Stopped (rules : List ℕ) (n : ℕ) (goal : List ℕ) (met : Reply) 
   pub decided :
       (p : Program) (h : Holds p rules n)
       → (o : Overlap)
-      × (overlap_of (rule_at h.names rules met.first) (rule_at h.names rules met.second)
-      (take (get_or (row_of rules met.first) heads_cell 0) met.partners) ≡ some o)
+      × (met_in rules h.names met ≡ some o)
       × (verdict p ≡ unjoined o (first_end p o) (second_end p o))
   pub goal-size : length goal ≡ 40
 
@@ -61,7 +59,7 @@ pub record Shows (p : Program) (names rules : List ℕ) (n i j : ℕ) (partners 
   pub stands : Stands p names rules n i j positions v goal o
 
 -- the goal of the overlap that was met, in front of the cells: its sides can be run
-pub record Remade (rules : List ℕ) (n : ℕ) (met : Reply) (goal : List ℕ) (peak : Peak) : Type 0 where
+pub record Remade (rules : List ℕ) (n : ℕ) (met : Met) (goal : List ℕ) (peak : Peak) : Type 0 where
   pub first : peak.first < n
   pub second : peak.second < n
   pub few : peak.count ≤ 8
@@ -127,6 +125,6 @@ pub record UnjoinedIn (rules : List ℕ) (n : ℕ) (goal bounds one two : List �
   pub shown : (p : Program) (h : Holds p rules n) → (o : Overlap) × ShownIn p h.names rules goal bounds one two s o
 
 -- what deciding promises: the verdict on every program of the table
-pub record VerdictIn (rules : List ℕ) (n : ℕ) (goal bounds one two : List ℕ) (r : Verdict) : Type 0 where
-  pub passes : (k : ℕ) → r.answer ≡ Confluent k → (p : Program) → Holds p rules n → verdict p ≡ confluent k
-  pub shows : r.answer ≡ Unjoined → UnjoinedIn rules n goal bounds one two r.shown
+abbrev pub VerdictIn : (rules : List ℕ) (n : ℕ) (goal bounds one two : List ℕ) → Result ℕ Shown → Type 0
+VerdictIn rules n goal bounds one two (Ok k) = (p : Program) → Holds p rules n → verdict p ≡ confluent k
+VerdictIn rules n goal bounds one two (Err shown) = UnjoinedIn rules n goal bounds one two shown

@@ -2,13 +2,13 @@
 ghost use Rattle.std.specs.Prelude.{◌*◌};
 ghost use Rattle.critical.specs.Verdicts.{Deciding, Stopped, Remade, Runs, BothRun, UnjoinedIn, VerdictIn};
 
-use crate::walking::{Reply, walk_all};
+use crate::walking::{Met, row_of, walk_all};
 use engine::derivation::Final;
 use judging::{Ends, Peak};
 use overlaps::finishing::second_positions;
 use overlaps::overlapping::overlap_by;
 use sides::side;
-use tables::layout::{CONSTRAINT_SIZE, HEADS_CELL, ROW_SIZE};
+use tables::layout::{CONSTRAINT_SIZE, HEADS_CELL};
 use tables::wide;
 
 // An overlap that does not join: the numbers of its rules, how many heads the first has, the partner of each of these (from 1,
@@ -25,38 +25,20 @@ pub struct Shown {
     pub two: Final,
 }
 
-// The answer to whether all overlaps join: yes, and how many there are, or no.
-#[derive(Drop)]
-pub enum Answer {
-    Confluent(usize),
-    Unjoined,
-}
-
-// The verdict on a program: the answer, and for `Unjoined` the first overlap that does not join.
-#[derive(Drop)]
-pub struct Verdict {
-    pub answer: Answer,
-    pub shown: Shown,
-}
-
 // The goal of the overlap that was met, in front of the cells, and what its sides are run by.
-pub fn remake(rules: &[u16], n: usize, met: Reply, goal: &mut [u16]) -> Peak
+pub fn remake(rules: &[u16], n: usize, met: Met, goal: &mut [u16]) -> Peak
     requires { Stopped rules.now n goal.old met }
     ensures { Remade rules.now n met goal.new result }
 {
     let i = met.first;
     let j = met.second;
     let partners = met.partners;
-    let a = ROW_SIZE * i;
-    let b = a + ROW_SIZE;
-    let c = ROW_SIZE * j;
-    let d = c + ROW_SIZE;
-    let first = &rules[a..b];
-    let second = &rules[c..d];
+    let first = row_of(rules, i);
+    let second = row_of(rules, j);
     let heads = wide(first[HEADS_CELL]);
     let others = wide(second[HEADS_CELL]);
     let e = CONSTRAINT_SIZE * (heads + others);
-    let made = overlap_by(first, second, partners, &mut goal[..e]);
+    let made = overlap_by(first, second, partners, &mut goal[..e]).unwrap();
     let positions = second_positions(partners, heads, others);
     Peak {
         rules: n,
@@ -114,7 +96,7 @@ pub fn run_sides(
 pub fn show(
     rules: &[u16],
     n: usize,
-    met: Reply,
+    met: Met,
     goal: &mut [u16],
     bounds: &mut [u16],
     one: &mut [u16],
@@ -125,10 +107,7 @@ pub fn show(
         two.new result }
 {
     let peak = remake(rules, n, met, goal);
-    let a = ROW_SIZE * peak.first;
-    let b = a + ROW_SIZE;
-    let row = &rules[a..b];
-    let heads = wide(row[HEADS_CELL]);
+    let heads = wide(row_of(rules, peak.first)[HEADS_CELL]);
     let count = peak.count;
     let e = CONSTRAINT_SIZE * count;
     let ends = run_sides(rules, peak, &goal[..e], bounds, one, two);
@@ -147,29 +126,9 @@ pub fn show(
     }
 }
 
-// No overlap.
-fn show_none() -> Shown {
-    let end = Final {
-        alive: false,
-        count: 0,
-        next: 0,
-        firings: 0,
-    };
-    let partners = [0; 4];
-    Shown {
-        first: 0,
-        second: 0,
-        heads: 0,
-        partners,
-        count: 0,
-        variables: 0,
-        one: end,
-        two: end,
-    }
-}
-
-// The verdict on the program of a table of n rules. For an overlap that does not join, its goal stands in front of `goal`, the
-// ends' constraints in front of `one` and `two`, and what the goal's variables became in `bounds`.
+// The verdict on the program of a table of n rules: how many overlaps it has, which all join, or the first that does not. Of this
+// the goal stands in front of `goal`, the ends' constraints in front of `one` and `two`, and what the goal's variables became in
+// `bounds`.
 pub fn decide(
     rules: &[u16],
     n: usize,
@@ -177,22 +136,13 @@ pub fn decide(
     bounds: &mut [u16],
     one: &mut [u16],
     two: &mut [u16],
-) -> Verdict
+) -> Result<usize, Shown>
     requires { Deciding rules.now n goal.old bounds.old one.old two.old }
     ensures { VerdictIn rules.now n goal.new bounds.new one.new
         two.new result }
 {
-    let met = walk_all(rules, n, one, two);
-    if met.stopped {
-        let shown = show(rules, n, met, goal, bounds, one, two);
-        return Verdict {
-            answer: Answer::Unjoined,
-            shown,
-        };
-    }
-    let none = show_none();
-    Verdict {
-        answer: Answer::Confluent(met.count),
-        shown: none,
+    match walk_all(rules, n, one, two) {
+        Ok(count) => Ok(count),
+        Err(met) => Err(show(rules, n, met, goal, bounds, one, two)),
     }
 }

@@ -1,6 +1,8 @@
 // The walk over the pairings of two rules, partner by partner, which leaves out what cannot unify and judges each overlap.
-ghost use Rattle.std.specs.Prelude.{◌≡◌, ◌+◌, ◌-◌, ◌≤◌, ◌<◌, eqb, length, take};
+ghost use Rattle.std.specs.Prelude.{◌≡◌, ◌+◌, ◌-◌, ◌*◌, ◌≤◌, ◌<◌, eqb, length, take};
 ghost use Rattle.text.specs.Lists.{every};
+ghost use Rattle.tables.specs.Layout.{row_size};
+ghost use Rattle.tables.specs.Rows.{row_of};
 ghost use Rattle.critical.specs.Walks.{Checkable, Room, Walkable, Walked};
 ghost use Rattle.critical.specs.Walks.{PairWalked, RowWalked, AllWalked};
 
@@ -11,6 +13,15 @@ use overlaps::laying::lay_heads;
 use overlaps::sharing::share_symbol;
 use tables::layout::{CONSTRAINT_SIZE, HEADS_CELL, ROW_SIZE};
 use tables::wide;
+
+// The row of a rule in the table.
+pub fn row_of(rules: &[u16], i: usize) -> &[u16]
+    requires { row_size * i + row_size ≤ length rules.now }
+    ensures { result.now ≡ row_of rules.now i }
+{
+    let a = ROW_SIZE * i;
+    &rules[a..a + ROW_SIZE]
+}
 
 // Two rules of a table of `rules`, by their numbers, and how many heads they have.
 #[derive(Clone, Copy)]
@@ -27,25 +38,21 @@ pub fn is_alone(partners: [usize; 4], m: usize) -> bool
     requires { (m ≤ 4) × (length partners ≡ 4) }
     ensures { result ≡ every (eqb 0) (take m partners) }
 {
-    let mut h = 0;
-    while h < m {
-        if partners[h] != 0 {
-            return false;
-        }
-        h += 1;
-    }
-    true
+    partners[..m].iter().all(|partner| *partner == 0)
 }
 
-// Whether an overlap that does not join was met, with its partners, and how many have joined.
-#[derive(Drop)]
-pub struct Outcome {
-    pub stopped: bool,
+// An overlap that does not join: how many joined before it, the numbers of its rules, and the partner of each head of the first
+// (from 1, or 0).
+#[derive(Clone, Copy)]
+pub struct Met {
     pub count: usize,
+    pub first: usize,
+    pub second: usize,
     pub partners: [usize; 4],
 }
 
-// Judges the overlap of a pairing, if these partners are one: all heads stand in the cells under their unifier.
+// Judges the overlap of a pairing, if these partners are one: all heads stand in the cells under their unifier. The answer, here and
+// below, is how many overlaps have joined, or the one that does not join.
 pub fn judge_pairing(
     rules: &[u16],
     pair: Pair,
@@ -54,20 +61,15 @@ pub fn judge_pairing(
     count: usize,
     one: &mut [u16],
     two: &mut [u16],
-) -> Outcome
+) -> Result<usize, Met>
     requires { Walkable rules.now pair.rules pair.first pair.second pair.m pair.n 0 partners cells count
         × Room one.old two.old }
-    ensures { Walked rules.now pair.rules pair.first pair.second pair.m pair.n 0
-        (take pair.m partners) count result.stopped result.count result.partners }
+    ensures { Walked rules.now pair.rules pair.first pair.second 0 (take pair.m partners) count result }
 {
     let m = pair.m;
     let n = pair.n;
     if is_alone(partners, m) {
-        return Outcome {
-            stopped: false,
-            count,
-            partners,
-        };
+        return Ok(count);
     }
     let e = CONSTRAINT_SIZE * (m + n);
     let mut made = cells;
@@ -83,17 +85,14 @@ pub fn judge_pairing(
         variables: goal.variables,
     };
     if joins(rules, peak, &made[..used], one, two) {
-        return Outcome {
-            stopped: false,
-            count: count + 1,
-            partners,
-        };
+        return Ok(count + 1);
     }
-    Outcome {
-        stopped: true,
+    Err(Met {
         count,
+        first: pair.first,
+        second: pair.second,
         partners,
-    }
+    })
 }
 
 // Judges the overlaps of two rules where the first m - left heads of the first rule have their partners, smaller partners of the
@@ -107,11 +106,11 @@ pub fn walk(
     count: usize,
     one: &mut [u16],
     two: &mut [u16],
-) -> Outcome
+) -> Result<usize, Met>
     requires { Walkable rules.now pair.rules pair.first pair.second pair.m pair.n left partners cells count
         × Room one.old two.old }
-    ensures { Walked rules.now pair.rules pair.first pair.second pair.m pair.n left
-        (take (pair.m - left) partners) count result.stopped result.count result.partners }
+    ensures { Walked rules.now pair.rules pair.first pair.second left
+        (take (pair.m - left) partners) count result }
 {
     if left == 0 {
         return judge_pairing(rules, pair, partners, cells, count, one, two);
@@ -121,26 +120,16 @@ pub fn walk(
     let h = m - left;
     let e = CONSTRAINT_SIZE * (m + n);
     let mut seen = count;
-    let mut d = 0;
-    while d <= n {
-        let partner = d;
-        d += 1;
+    // Not 0..=n: its last turn would be a goal of its own, with the proof of the others over again.
+    for d in 0..n + 1 {
         let mut joined = cells;
-        if join_partner(&mut joined[..e], m, partners, h, partner) {
+        if join_partner(&mut joined[..e], m, partners, h, d) {
             let mut more = partners;
-            more[h] = partner;
-            let met = walk(rules, pair, left - 1, more, joined, seen, one, two);
-            if met.stopped {
-                return met;
-            }
-            seen = met.count;
+            more[h] = d;
+            seen = walk(rules, pair, left - 1, more, joined, seen, one, two)?;
         }
     }
-    Outcome {
-        stopped: false,
-        count: seen,
-        partners,
-    }
+    Ok(seen)
 }
 
 // Judges all overlaps of rules i and j of a table of n, pairing by pairing.
@@ -152,17 +141,13 @@ pub fn walk_pairings(
     count: usize,
     one: &mut [u16],
     two: &mut [u16],
-) -> Outcome
+) -> Result<usize, Met>
     requires { Checkable rules.now n × (i < n) × (j < n) × (count + 625 ≤ 1000000000)
         × Room one.old two.old }
-    ensures { PairWalked rules.now n i j count result.stopped result.count result.partners }
+    ensures { PairWalked rules.now n i j count result }
 {
-    let a = ROW_SIZE * i;
-    let b = a + ROW_SIZE;
-    let c = ROW_SIZE * j;
-    let d = c + ROW_SIZE;
-    let first = &rules[a..b];
-    let second = &rules[c..d];
+    let first = row_of(rules, i);
+    let second = row_of(rules, j);
     let heads = wide(first[HEADS_CELL]);
     let partners = wide(second[HEADS_CELL]);
     let e = CONSTRAINT_SIZE * (heads + partners);
@@ -187,33 +172,15 @@ pub fn walk_pair(
     count: usize,
     one: &mut [u16],
     two: &mut [u16],
-) -> Outcome
+) -> Result<usize, Met>
     requires { Checkable rules.now n × (i < n) × (j < n) × (count + 625 ≤ 1000000000)
         × Room one.old two.old }
-    ensures { PairWalked rules.now n i j count result.stopped result.count result.partners }
+    ensures { PairWalked rules.now n i j count result }
 {
-    let a = ROW_SIZE * i;
-    let b = a + ROW_SIZE;
-    let c = ROW_SIZE * j;
-    let d = c + ROW_SIZE;
-    if share_symbol(&rules[a..b], &rules[c..d]) {
+    if share_symbol(row_of(rules, i), row_of(rules, j)) {
         return walk_pairings(rules, n, i, j, count, one, two);
     }
-    Outcome {
-        stopped: false,
-        count,
-        partners: [0; 4],
-    }
-}
-
-// Whether an overlap that does not join was met, its rules and its partners, and how many have joined.
-#[derive(Clone, Copy)]
-pub struct Reply {
-    pub stopped: bool,
-    pub count: usize,
-    pub first: usize,
-    pub second: usize,
-    pub partners: [usize; 4],
+    Ok(count)
 }
 
 // Judges the overlaps of rule i with itself and with the rules behind it.
@@ -224,60 +191,26 @@ pub fn walk_row(
     count: usize,
     one: &mut [u16],
     two: &mut [u16],
-) -> Reply
+) -> Result<usize, Met>
     requires { Checkable rules.now n × (i < n) × (n ≤ 64) × (count + 40000 ≤ 1000000000)
         × Room one.old two.old }
-    ensures { RowWalked rules.now n i count result.stopped result.count result.second result.partners
-        × (result.first ≡ i) }
+    ensures { RowWalked rules.now n i count result }
 {
-    let rest = n - i;
     let mut seen = count;
-    let mut behind = 0;
-    while behind < rest {
-        let j = i + behind;
-        let met = walk_pair(rules, n, i, j, seen, one, two);
-        seen = met.count;
-        if met.stopped {
-            let partners = met.partners;
-            return Reply {
-                stopped: true,
-                count: seen,
-                first: i,
-                second: j,
-                partners,
-            };
-        }
-        behind += 1;
+    for j in i..n {
+        seen = walk_pair(rules, n, i, j, seen, one, two)?;
     }
-    Reply {
-        stopped: false,
-        count: seen,
-        first: i,
-        second: i,
-        partners: [0; 4],
-    }
+    Ok(seen)
 }
 
 // Judges all overlaps of a table of n rules, in the order of the definition, up to the first that does not join.
-pub fn walk_all(rules: &[u16], n: usize, one: &mut [u16], two: &mut [u16]) -> Reply
+pub fn walk_all(rules: &[u16], n: usize, one: &mut [u16], two: &mut [u16]) -> Result<usize, Met>
     requires { Checkable rules.now n × (n ≤ 64) × Room one.old two.old }
-    ensures { AllWalked rules.now n result.stopped result.count result.first result.second result.partners }
+    ensures { AllWalked rules.now n result }
 {
     let mut seen = 0;
-    let mut i = 0;
-    while i < n {
-        let met = walk_row(rules, n, i, seen, one, two);
-        if met.stopped {
-            return met;
-        }
-        seen = met.count;
-        i += 1;
+    for i in 0..n {
+        seen = walk_row(rules, n, i, seen, one, two)?;
     }
-    Reply {
-        stopped: false,
-        count: seen,
-        first: 0,
-        second: 0,
-        partners: [0; 4],
-    }
+    Ok(seen)
 }

@@ -7,20 +7,20 @@ use native.Mathlib.Omega.{arith}
 use native.Mathlib.Numerals.{add-one}
 use mathlib.Core.Bool.{Bool, true, false}
 use mathlib.Core.List.{List, [], ◌∷◌, ◌++◌, map}
-use mathlib.Core.Option.{none, some}
+use mathlib.Core.Option.{some}
 use mathlib.Core.Path.{◌≡◌, refl, sym, ap, subst, ◌∙◌}
 use lib.Dec.{eqb}
 use lib.ListN.{length, take, drop, get_or, length-map}
 use lib.Seq.{length-take-le, take-suc, take-add}
 use Rattle.text.specs.Lists.{every}
 use Rattle.semantics.specs.Terms.{Constraint, map_terms}
-use Rattle.semantics.specs.Overlaps.{apart, is_one_to_one, Numbered, overlap_of}
+use Rattle.semantics.specs.Overlaps.{apart, Numbered}
 use Rattle.semantics.proofs.Options.{true-false}
 use Rattle.tables.specs.Cells.{cell_constraints}
 use Rattle.tables.specs.Rows.{rule_of_row}
 use Rattle.overlaps.specs.Joins.{join_next, paired, goal_from}
 use Rattle.overlaps.specs.Cells.{joined_of, Partner, RulePair, heads_of}
-use Rattle.overlaps.specs.Overlapped.{Node, Whole, Finished, Partners, AllJoined, OverlapOf}
+use Rattle.overlaps.specs.Overlapped.{Node, Whole, Finished, Partners, AllJoined, OverlapMade, NoOverlap}
 use Rattle.overlaps.proofs.WithinLaws.{within_low, next-within, finished-fewer}
 use Rattle.overlaps.proofs.PairedLaws.{paired-cut, paired-overlap, paired-clash}
 use Rattle.overlaps.proofs.NodeLaws.{heads-count, node-start, node-whole, node-next, node-cut}
@@ -33,12 +33,6 @@ pub record AllJoining (start : List ℕ) (m n : ℕ) (partners cells : List ℕ)
   pub below : Partners partners m n
   pub nodes :
       (hs gs : List Constraint) → length hs ≡ m → length gs ≡ n → Node hs gs [] start → Node hs gs (take h partners) cells
-
-pub all_start :
-    (start : List ℕ) (m n : ℕ) (partners : List ℕ) → Whole start m n partners → Partners partners m n
-    → AllJoining start m n partners start 0
-all_start start m n partners w b =
-    record { there = omega arith; size = refl; whole = w; below = b; nodes = λ hs gs e f v. v }
 
 module _ (start : List ℕ) (m n : ℕ) (partners cells : List ℕ) (h : ℕ) (w : AllJoining start m n partners cells h) where
   -- all are joined
@@ -160,26 +154,15 @@ module _ (first second start partners : List ℕ) (pair : RulePair first second 
 
   module _ (r : Bool) (cells' : List ℕ) (all : AllJoined cells m n partners r cells') where
     -- the heads do not unify
-    pub overlap-none : r ≡ false → OverlapOf first second partners false cells' 0 0
-    unfolding cell_constraints
+    pub overlap-none : r ≡ false → NoOverlap first second partners
     overlap-none t =
         record {
-          same = same;
-          few = omega arith;
-          within = omega arith;
-          fewer = λ h. true-false h refl;
-          variables-few = omega arith;
-          low = refl;
+          same = λ i j a b o.
+              paired-clash i j (take (get_or first 3 0) partners) o
+              (of-rules i j a b (take (get_or first 3 0) partners)
+              ∙ ap (λ k. paired hs (take k partners) gs) (sym em)
+              ∙ all.clashes t hs gs first_count second-count node);
         }
-      where
-        same :
-            (i j : Numbered) → i.rule.heads ≡ (rule_of_row [] first).heads → j.rule.heads ≡ (rule_of_row [] second).heads
-            → is_one_to_one (take (get_or first 3 0) partners) ≡ true → overlap_of i j (take (get_or first 3 0) partners) ≡ none
-        same i j a b o =
-            paired-clash i j (take (get_or first 3 0) partners) o
-            (of-rules i j a b (take (get_or first 3 0) partners)
-            ∙ ap (λ k. paired hs (take k partners) gs) (sym em)
-            ∙ all.clashes t hs gs first_count second-count node)
 
     module _ (t : r ≡ true) where
       joint : Node hs gs (take m partners) cells'
@@ -192,7 +175,7 @@ module _ (first second start partners : List ℕ) (pair : RulePair first second 
       -- they do
       pub overlap-made :
           (made : List ℕ) (count variables : ℕ) → Finished cells' m n partners made count variables
-          → Partners partners (get_or first 3 0) (get_or second 3 0) → OverlapOf first second partners true made count variables
+          → Partners partners (get_or first 3 0) (get_or second 3 0) → OverlapMade first second partners made count variables
       overlap-made made count variables f b =
           record {
             same = λ i j a b o.
@@ -207,7 +190,7 @@ module _ (first second start partners : List ℕ) (pair : RulePair first second 
                 ∙ ap (λ k. some (record { first = i; second = j; partners = ds; goal = k })) g;
             few = omega (arith, f.few, overlap-finish.first-few, overlap-finish.second-few);
             within = omega (arith, f.few, em, en);
-            fewer = λ h z.
+            fewer = λ z.
                 let less = finished-fewer cells' m n partners made count variables overlap-finish (overlap-whole b).1 f
                 (ap (λ k. every (eqb 0) (take k partners)) em ∙ z) in
                 omega (arith, less, em, en);

@@ -1,34 +1,23 @@
 -- Where the second rule's heads stand in the goal.
---   Looking, looking-…           the search for a head's partner
+--   place_of                     the search for a head's partner
 --   Standing, standing-…         the positions of the first heads
---   Alone, alone-…               whether no head has a partner
 -- Assumes nothing.
-use Prim.Native.Nat.{ℕ, suc, ◌+◌, ◌-◌, ◌≤◌, ◌<◌}
+use Prim.Native.Nat.{ℕ, zero, suc, ◌+◌, ◌-◌, ◌≤◌, ◌<◌}
 use native.Mathlib.Omega.{arith}
 use native.Mathlib.Numerals.{add-one}
 use mathlib.Core.Bool.{Bool, true, false, cond, ◌||◌}
 use mathlib.Core.List.{List, [], ◌∷◌, ◌++◌, append_assoc, append-nil}
-use mathlib.Core.Path.{◌≡◌, refl, sym, ap, ◌∙◌}
+use mathlib.Core.Path.{◌≡◌, refl, sym, ◌∙◌}
 use lib.Dec.{eqb}
-use lib.ListN.{length, take, drop, get_or, set, length-set, drop_of_length-le}
-use lib.Seq.{drop-cons, get_or-take, length-take-le, take-suc-set}
+use lib.ListN.{length, take, get_or, set, length-set}
+use lib.Seq.{take-suc-set}
 use borrow.Author.Tests.{eq-eqb, ne_eqb}
-use Rattle.text.specs.Lists.{every, has, index_from}
+use Rattle.std.specs.Prelude.{Option, None, Some, MatchOption}
+use Rattle.text.specs.Lists.{has, index_from}
 use Rattle.semantics.specs.Overlaps.{second_positions}
 use Rattle.semantics.proofs.Configurations.{Or, inl, inr}
 use Rattle.semantics.proofs.Options.{decide, true-false}
 use Rattle.semantics.proofs.Indices.{index_below}
-
--- a test of all numbers from an index on: it fails there, goes on behind it, and is over
-module _ (test : ℕ → Bool) (s : List ℕ) (i : ℕ) where
-  every-fails : i < length s → test (get_or s i 0) ≡ false → every test (drop i s) ≡ false
-  every-fails h e = rw (drop-cons s i 0 h, e)
-
-  every-step : i < length s → test (get_or s i 0) ≡ true → every test (drop i s) ≡ every test (drop (suc i) s)
-  every-step h e = rw (drop-cons s i 0 h, e)
-
-  every-end : length s ≤ i → every test (drop i s) ≡ true
-  every-end h = rw (drop_of_length-le s {i = i} h)
 
 -- the index of a number that does not stand in a list
 index-behind : (x i : ℕ) (ds : List ℕ) → has x ds ≡ false → index_from (eqb x) i ds ≡ i + length ds
@@ -40,41 +29,32 @@ index-behind x i (d ∷ ds) h = go (eqb x d) h (index-behind x (suc i) ds)
     go true e more = true-false refl e
     go false e more = omega (arith, more e)
 
--- none of the first h heads is joined to head d
-pub record Looking (partners : List ℕ) (m d h : ℕ) : Type 0 where
-  pub within : h ≤ m
-  pub room : m ≤ 4
-  pub size : length partners ≡ 4
-  pub same : index_from (eqb d) 0 (take m partners) ≡ index_from (eqb d) h (drop h (take m partners))
+-- the index of a number, by the place where it stands first
+index-first :
+    (x s i : ℕ) (ds : List ℕ) → i < length ds → get_or ds i 0 ≡ x → ((k : ℕ) → k < i → get_or ds k 0 ≡ x → ⊥)
+    → index_from (eqb x) s ds ≡ s + i
+index-first x s i [] l e f = absurd (omega arith)
+index-first x s zero (d ∷ ds) l e f = rw (eq-eqb x d (sym e)) (omega arith)
+index-first x s (suc i) (d ∷ ds) l e f =
+    rw (ne_eqb x d (λ q. f 0 (omega arith) (sym q)))
+    (index-first x (suc s) i ds (omega arith) e (λ k h. f (suc k) (omega arith)) ∙ omega arith)
 
-pub looking-start : (partners : List ℕ) (m d : ℕ) → m ≤ 4 → length partners ≡ 4 → Looking partners m d 0
-looking-start partners m d l e = record { within = omega arith; room = l; size = e; same = refl }
+-- and where it stands nowhere
+index-nowhere :
+    (x s : ℕ) (ds : List ℕ) → ((k : ℕ) → k < length ds → get_or ds k 0 ≡ x → ⊥) → index_from (eqb x) s ds ≡ s + length ds
+index-nowhere x s [] f = omega arith
+index-nowhere x s (d ∷ ds) f =
+    rw (ne_eqb x d (λ q. f 0 (omega arith) (sym q)))
+    (index-nowhere x (suc s) ds (λ k h. f (suc k) (omega arith)) ∙ omega arith)
 
-module _ (partners : List ℕ) (m d h : ℕ) (w : Looking partners m d h) where
-  -- no head is
-  pub looking-end : m ≤ h → m ≡ index_from (eqb d) 0 (take m partners)
-  looking-end l =
-      let e : h ≡ m = omega (arith, w.within) in
-      let s : length (take m partners) ≡ m = length-take-le m partners (omega (arith, w.room, w.size)) in
-      sym (w.same ∙ rw (drop_of_length-le (take m partners) {i = h} (omega arith)) e)
-
-  module _ (l : h < m) where
-    more :
-        index_from (eqb d) 0 (take m partners)
-        ≡ cond (eqb d (get_or partners h 0)) h (index_from (eqb d) (suc h) (drop (suc h) (take m partners)))
-    more =
-        let s : length (take m partners) ≡ m = length-take-le m partners (omega (arith, w.room, w.size)) in
-        w.same ∙ rw (drop-cons (take m partners) h 0 (omega arith), get_or-take m partners h 0 l)
-
-    -- this one is
-    pub looking-found : d ≡ get_or partners h 0 → h ≡ index_from (eqb d) 0 (take m partners)
-    looking-found e = sym (more ∙ rw (eq-eqb d (get_or partners h 0) e))
-
-    -- it is not
-    pub looking-next : (d ≡ get_or partners h 0 → ⊥) → Looking partners m d (h + 1)
-    looking-next n =
-        rw (add-one h)
-        (record { within = l; room = w.room; size = w.size; same = more ∙ rw (ne_eqb d (get_or partners h 0) n) })
+-- what looking for a number's first place answers
+pub place_of :
+    (x : ℕ) (ds : List ℕ) (r : Option ℕ)
+    → MatchOption r ((k : ℕ) → k < length ds → get_or ds k 0 ≡ x → ⊥)
+    (λ i. (i < length ds) × (get_or ds i 0 ≡ x) × ((k : ℕ) → k < i → get_or ds k 0 ≡ x → ⊥))
+    → MatchOption r (index_from (eqb x) 0 ds ≡ length ds) (λ i. (i ≡ index_from (eqb x) 0 ds) × (i < length ds))
+place_of x ds None f = omega (arith, index-nowhere x 0 ds f)
+place_of x ds (Some i) f = (omega (arith, index-first x 0 i ds f.0 f.1 f.2), f.0)
 
 -- the positions of the first g heads of the second rule, and those of the others, are all positions
 pub record Standing (m n : ℕ) (ds positions : List ℕ) (free g : ℕ) : Type 0 where
@@ -84,18 +64,6 @@ pub record Standing (m n : ℕ) (ds positions : List ℕ) (free g : ℕ) : Type 
   pub size : length positions ≡ 4
   pub partners : length ds ≡ m
   pub same : take g positions ++ second_positions (suc g) free (n - g) ds ≡ second_positions 1 m n ds
-
-pub standing-start :
-    (m n : ℕ) (ds positions : List ℕ) → n ≤ 4 → length positions ≡ 4 → length ds ≡ m → Standing m n ds positions m 0
-standing-start m n ds positions l s e =
-    record {
-      within = omega arith;
-      room = l;
-      free-few = omega arith;
-      size = s;
-      partners = e;
-      same = let z : n - 0 ≡ n = omega arith in rw z;
-    }
 
 module _ (m n : ℕ) (ds positions : List ℕ) (free g : ℕ) (w : Standing m n ds positions free g) where
   -- all stand
@@ -107,21 +75,19 @@ module _ (m n : ℕ) (ds positions : List ℕ) (free g : ℕ) (w : Standing m n 
       let s : take g positions ++ [] ≡ second_positions 1 m n ds = rw z at w.same in
       rw (← e) (sym (append-nil (take g positions))) ∙ s
 
-  module _ (l : g < n) (h : ℕ) (e : h ≡ index_from (eqb (g + 1)) 0 ds) where
+  module _ (l : g < n) where
     left : n - g ≡ suc (n - suc g)
     left = omega arith
-
-    place : h ≡ index_from (eqb (suc g)) 0 ds
-    place = rw (add-one g) at e
 
     set-take : (v : ℕ) (rest : List ℕ) → take (suc g) (set positions g v) ++ rest ≡ take g positions ++ (v ∷ rest)
     set-take v rest =
         rw (take-suc-set positions g v (omega (arith, w.size, w.room))) (append_assoc (take g positions) (v ∷ []) rest)
 
     -- a joined head stands at its partner's position
-    pub standing-joined : h < m → Standing m n ds (set positions g h) free (g + 1)
+    pub standing-joined :
+        (h : ℕ) → h ≡ index_from (eqb (g + 1)) 0 ds → h < m → Standing m n ds (set positions g h) free (g + 1)
     unfolding second_positions
-    standing-joined k = rw (add-one g) (record {
+    standing-joined h e k = rw (add-one g) (record {
       within = l;
       room = w.room;
       free-few = omega (arith, w.free-few);
@@ -130,6 +96,9 @@ module _ (m n : ℕ) (ds positions : List ℕ) (free g : ℕ) (w : Standing m n 
       same = set-take h (second_positions (suc (suc g)) free (n - suc g) ds) ∙ rw (left, there, ← place) at w.same;
     })
       where
+        place : h ≡ index_from (eqb (suc g)) 0 ds
+        place = rw (add-one g) at e
+
         there : has (suc g) ds ≡ true
         there = go (decide (has (suc g) ds))
           where
@@ -138,9 +107,9 @@ module _ (m n : ℕ) (ds positions : List ℕ) (free g : ℕ) (w : Standing m n 
             go (inr t) = absurd (omega (arith, index-behind (suc g) 0 ds t, w.partners, place))
 
     -- another behind the first rule's heads
-    pub standing-free : m ≤ h → Standing m n ds (set positions g free) (free + 1) (g + 1)
+    pub standing-free : index_from (eqb (g + 1)) 0 ds ≡ m → Standing m n ds (set positions g free) (free + 1) (g + 1)
     unfolding second_positions
-    standing-free k = rw (add-one g, add-one free) (record {
+    standing-free e = rw (add-one g, add-one free) (record {
       within = l;
       room = w.room;
       free-few = omega (arith, w.free-few);
@@ -149,48 +118,12 @@ module _ (m n : ℕ) (ds positions : List ℕ) (free g : ℕ) (w : Standing m n 
       same = set-take free (second_positions (suc (suc g)) (suc free) (n - suc g) ds) ∙ rw (left, away) at w.same;
     })
       where
+        place : index_from (eqb (suc g)) 0 ds ≡ m
+        place = rw (add-one g) at e
+
         away : has (suc g) ds ≡ false
         away = go (decide (has (suc g) ds))
           where
             go : Or (has (suc g) ds ≡ true) (has (suc g) ds ≡ false) → has (suc g) ds ≡ false
             go (inl t) = absurd (omega (arith, index_below (suc g) ds t, w.partners, place))
             go (inr t) = t
-
--- none of the first h heads has a partner
-pub record Alone (partners : List ℕ) (m h : ℕ) : Type 0 where
-  pub within : h ≤ m
-  pub room : m ≤ 4
-  pub size : length partners ≡ 4
-  pub same : every (eqb 0) (take m partners) ≡ every (eqb 0) (drop h (take m partners))
-
-pub alone-start : (partners : List ℕ) (m : ℕ) → m ≤ 4 → length partners ≡ 4 → Alone partners m 0
-alone-start partners m l e = record { within = omega arith; room = l; size = e; same = refl }
-
-module _ (partners : List ℕ) (m h : ℕ) (w : Alone partners m h) where
-  count : length (take m partners) ≡ m
-  count = length-take-le m partners (omega (arith, w.room, w.size))
-
-  -- none has
-  pub alone-end : m ≤ h → true ≡ every (eqb 0) (take m partners)
-  alone-end l = sym (w.same ∙ every-end (eqb 0) (take m partners) h (omega (arith, count)))
-
-  module _ (l : h < m) where
-    -- this one has
-    pub alone-not : (get_or partners h 0 ≡ 0 → ⊥) → false ≡ every (eqb 0) (take m partners)
-    alone-not n =
-        sym (w.same
-        ∙ every-fails (eqb 0) (take m partners) h (omega (arith, count))
-        (ap (eqb 0) (get_or-take m partners h 0 l) ∙ ne_eqb 0 (get_or partners h 0) (λ e. n (sym e))))
-
-    -- it has none
-    pub alone-next : get_or partners h 0 ≡ 0 → Alone partners m (h + 1)
-    alone-next e =
-        rw (add-one h) (record {
-          within = l;
-          room = w.room;
-          size = w.size;
-          same =
-              w.same
-              ∙ every-step (eqb 0) (take m partners) h (omega (arith, count))
-              (ap (eqb 0) (get_or-take m partners h 0 l) ∙ eq-eqb 0 (get_or partners h 0) (sym e));
-        })

@@ -1,20 +1,17 @@
 -- Rules without a common head symbol have no overlap.
 --   pairing-joins          a pairing joins a head
 --   unshared-overlaps      rules without a common head symbol
---   Sought, sought-…       the search for a head with a symbol
---   Sharing, sharing-…     the search for a head whose symbol the other rule has too
+--   symbols-next, -end     the symbols of a rule's heads from one head on
 -- Assumes nothing.
 use Prim.Native.Nat.{ℕ, zero, suc, ◌+◌, ◌*◌, ◌≤◌, ◌<◌}
 use native.Mathlib.Omega.{arith}
-use native.Mathlib.Numerals.{add-one}
-use mathlib.Core.Bool.{Bool, true, false, not, ◌||◌}
+use mathlib.Core.Bool.{Bool, true, false, not}
 use mathlib.Core.List.{List, [], ◌∷◌, ◌++◌, map}
 use mathlib.Core.Option.{Option, none, some}
 use mathlib.Core.Path.{◌≡◌, refl, sym, ap, subst, ◌∙◌}
 use lib.Dec.{eqb}
 use lib.ListN.{length, take, drop, get_or, get_elem?, length-map, length-drop, drop_of_length-le}
 use lib.Seq.{length-take-le, get_or-take, get_or-drop}
-use borrow.Author.Tests.{eq-eqb, ne_eqb}
 use Rattle.text.specs.Lists.{bind, every, has}
 use Rattle.text.proofs.Bools.{and-true, or-false}
 use Rattle.semantics.specs.Terms.{Constraint, map_terms}
@@ -108,10 +105,10 @@ module _ (row : List ℕ) (r : RuleRow row) (h : ℕ) where
   unfolding head_symbols symbols_of
   symbols-count = length-map (rule_of_row [] row).heads (λ c. c.symbol) ∙ heads-count row r
 
-  symbols-end : get_or row 3 0 ≤ h → drop h (head_symbols row) ≡ []
+  pub symbols-end : get_or row 3 0 ≤ h → drop h (head_symbols row) ≡ []
   symbols-end l = drop_of_length-le (head_symbols row) {i = h} (omega (arith, symbols-count))
 
-  symbols-next : h < get_or row 3 0 → drop h (head_symbols row) ≡ get_or row (6 + 5 * h) 0 ∷ drop (suc h) (head_symbols row)
+  pub symbols-next : h < get_or row 3 0 → drop h (head_symbols row) ≡ get_or row (6 + 5 * h) 0 ∷ drop (suc h) (head_symbols row)
   unfolding head_symbols symbols_of rule_of_row row_constraint
   symbols-next l =
       let n = get_or row 3 0 in
@@ -132,81 +129,3 @@ module _ (row : List ℕ) (r : RuleRow row) (h : ℕ) where
       map-drop f zero l = refl
       map-drop f (suc k) [] = refl
       map-drop f (suc k) (a ∷ l) = map-drop f k l
-
--- none of the first h heads of a rule, which has n, has symbol x
-pub record Sought (row : List ℕ) (x n h : ℕ) : Type 0 where
-  pub given : RuleRow row
-  pub counted : n ≡ get_or row 3 0
-  pub within : h ≤ n
-  pub same : has x (head_symbols row) ≡ has x (drop h (head_symbols row))
-
-pub sought-start : (row : List ℕ) (x n : ℕ) → RuleRow row → n ≡ get_or row 3 0 → Sought row x n 0
-sought-start row x n r e = record { given = r; counted = e; within = omega arith; same = refl }
-
-module _ (row : List ℕ) (x n h : ℕ) (w : Sought row x n h) where
-  -- none has
-  pub sought-end : n ≤ h → false ≡ has x (head_symbols row)
-  sought-end l = sym (w.same ∙ ap (has x) (symbols-end row w.given h (omega (arith, w.counted))))
-
-  module _ (l : h < n) where
-    step : has x (head_symbols row) ≡ (eqb x (get_or row (6 + 5 * h) 0) || has x (drop (suc h) (head_symbols row)))
-    step = w.same ∙ ap (has x) (symbols-next row w.given h (omega (arith, w.counted)))
-
-    -- this one has
-    pub sought-found : get_or row (6 + 5 * h) 0 ≡ x → true ≡ has x (head_symbols row)
-    sought-found e =
-        sym (step ∙ ap (◌|| has x (drop (suc h) (head_symbols row))) (eq-eqb x (get_or row (6 + 5 * h) 0) (sym e)))
-
-    -- it has not
-    pub sought-next : (get_or row (6 + 5 * h) 0 ≡ x → ⊥) → Sought row x n (h + 1)
-    sought-next d =
-        rw (add-one h) (record {
-          given = w.given;
-          counted = w.counted;
-          within = l;
-          same =
-              step
-              ∙ ap (◌|| has x (drop (suc h) (head_symbols row))) (ne_eqb x (get_or row (6 + 5 * h) 0) (λ e. d (sym e)));
-        })
-
--- none of the first h heads of the first rule, which has m, has a symbol of the second
-pub record Sharing (one two : List ℕ) (m h : ℕ) : Type 0 where
-  pub given : RuleRow one
-  pub other : RuleRow two
-  pub counted : m ≡ get_or one 3 0
-  pub within : h ≤ m
-  pub same : is_shared (head_symbols one) (head_symbols two) ≡ is_shared (drop h (head_symbols one)) (head_symbols two)
-
-pub sharing-start :
-    (one two : List ℕ) (m : ℕ) → RuleRow one → RuleRow two → m ≡ get_or one 3 0 → Sharing one two m 0
-sharing-start one two m r q e = record { given = r; other = q; counted = e; within = omega arith; same = refl }
-
-module _ (one two : List ℕ) (m h : ℕ) (w : Sharing one two m h) where
-  -- none has
-  pub sharing-end : m ≤ h → false ≡ is_shared (head_symbols one) (head_symbols two)
-  unfolding is_shared
-  sharing-end l =
-      sym (w.same ∙ ap (λ k. is_shared k (head_symbols two)) (symbols-end one w.given h (omega (arith, w.counted))))
-
-  module _ (l : h < m) (r : Bool) (e : r ≡ has (get_or one (6 + 5 * h) 0) (head_symbols two)) where
-    shares :
-        is_shared (head_symbols one) (head_symbols two) ≡ (r || is_shared (drop (suc h) (head_symbols one)) (head_symbols two))
-    unfolding is_shared
-    shares =
-        w.same ∙ ap (λ k. is_shared k (head_symbols two)) (symbols-next one w.given h (omega (arith, w.counted)))
-        ∙ ap (◌|| is_shared (drop (suc h) (head_symbols one)) (head_symbols two)) (sym e)
-
-    -- this one has
-    pub sharing-found : r ≡ true → true ≡ is_shared (head_symbols one) (head_symbols two)
-    sharing-found t = sym (shares ∙ ap (◌|| is_shared (drop (suc h) (head_symbols one)) (head_symbols two)) t)
-
-    -- it has not
-    pub sharing-next : r ≡ false → Sharing one two m (h + 1)
-    sharing-next t =
-        rw (add-one h) (record {
-          given = w.given;
-          other = w.other;
-          counted = w.counted;
-          within = l;
-          same = shares ∙ ap (◌|| is_shared (drop (suc h) (head_symbols one)) (head_symbols two)) t;
-        })

@@ -105,9 +105,6 @@ pub record Joining (start : List ℕ) (a b : ℕ) (cells : List ℕ) (c : ℕ) :
       joined_terms (terms_from cells (a + c) (5 - c)) (terms_from cells (b + c) (5 - c)) (cell_constraints cells)
       ≡ joined_terms (terms_from start (a + 1) 4) (terms_from start (b + 1) 4) (cell_constraints start)
 
-pub joining-start : (start : List ℕ) (a b : ℕ) → Heads start a b → Joining start a b start 1
-joining-start start a b h = record { heads = h; within = omega arith; size = refl; same = refl }
-
 -- no terms are left: all are equal
 nothing_left : (cs : List Constraint) → joined_terms [] [] cs ≡ some cs
 unfolding joined_terms equate_terms solve

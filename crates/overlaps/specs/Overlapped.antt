@@ -2,9 +2,10 @@
 --   Node             all heads of two rules, joined by the partners chosen so far
 --   Finished         the goal made of them
 --   AllJoined        all heads joined
---   OverlapOf        an overlap by its partners
+--   OverlapMade, NoOverlap, OverlapOf      an overlap by its partners, or none
 -- Assumes nothing.
-use Rattle.std.specs.Prelude.{ℕ, ◌+◌, ◌*◌, ◌≤◌, ◌<◌, Bool, true, false, cond, List, [], ◌≡◌, eqb, length, take, drop, get_or}
+use Rattle.std.specs.Prelude.{ℕ, ◌+◌, ◌*◌, ◌≤◌, ◌<◌, Bool, true, false, List, [], ◌≡◌, eqb, length, take, drop, get_or}
+use Rattle.std.specs.Prelude.{Option, Some, None}
 use Rattle.std.proofs.Math.Option.{none, some}
 use Rattle.text.specs.Lists.{every}
 use Rattle.semantics.specs.Terms.{Constraint}
@@ -13,6 +14,7 @@ use Rattle.tables.specs.Layout.{constraint_size, heads_cell}
 use Rattle.tables.specs.Cells.{cell_constraints, is_low}
 use Rattle.tables.specs.Rows.{rule_of_row}
 use Rattle.tables.specs.Numbers.{is_within}
+use Rattle.overlaps.specs.declared.finishing.Goal.{Goal}
 use Rattle.overlaps.specs.Joins.{paired, goal_from}
 
 -- how many variables two rules have: 26 letters each
@@ -59,24 +61,35 @@ pub record AllJoined (cells : List ℕ) (m n : ℕ) (partners : List ℕ) (unify
       → paired hs (take m partners) gs ≡ none
   pub size : length cells' ≡ length cells
 
--- the overlap of two rules by partners that join heads one to one: there is none, or this is it, whatever the rules' names and
--- numbers are; where a head has a partner, its goal has fewer constraints than the rules have heads
-pub record OverlapOf (first second partners : List ℕ) (unify : Bool) (cells : List ℕ) (count variables : ℕ) : Type 0 where
+-- the overlap of two rules by partners that join heads one to one, whatever the rules' names and numbers are; where a head has a
+-- partner, its goal has fewer constraints than the rules have heads
+pub record OverlapMade (first second partners cells : List ℕ) (count variables : ℕ) : Type 0 where
   pub same :
       (i j : Numbered) → i.rule.heads ≡ (rule_of_row [] first).heads → j.rule.heads ≡ (rule_of_row [] second).heads
       → is_one_to_one (take (get_or first heads_cell 0) partners) ≡ true
       → overlap_of i j (take (get_or first heads_cell 0) partners)
-      ≡ cond unify
-      (some (record {
+      ≡ some (record {
         first = i;
         second = j;
         partners = take (get_or first heads_cell 0) partners;
         goal = record { variables = variables; constraints = cell_constraints (take (constraint_size * count) cells) };
-      })) none
+      })
   pub few : count ≤ 8
   pub within : count ≤ get_or first heads_cell 0 + get_or second heads_cell 0
   pub fewer :
-      unify ≡ true → every (eqb 0) (take (get_or first heads_cell 0) partners) ≡ false
+      every (eqb 0) (take (get_or first heads_cell 0) partners) ≡ false
       → count < get_or first heads_cell 0 + get_or second heads_cell 0
   pub variables-few : variables ≤ 4 * count
   pub low : every is_low (cell_constraints (take (constraint_size * count) cells)) ≡ true
+
+-- there is none by these partners
+pub record NoOverlap (first second partners : List ℕ) : Type 0 where
+  pub same :
+      (i j : Numbered) → i.rule.heads ≡ (rule_of_row [] first).heads → j.rule.heads ≡ (rule_of_row [] second).heads
+      → is_one_to_one (take (get_or first heads_cell 0) partners) ≡ true
+      → overlap_of i j (take (get_or first heads_cell 0) partners) ≡ none
+
+-- what making an overlap by its partners answers
+abbrev pub OverlapOf : (first second partners cells : List ℕ) → Option Goal → Type 0
+OverlapOf first second partners cells (Some g) = OverlapMade first second partners cells g.count g.variables
+OverlapOf first second partners cells None = NoOverlap first second partners

@@ -1,6 +1,6 @@
 // The goal of an overlap: the heads of the first rule and the unjoined heads of the second, their variables counted by first
 // appearance; and where the second rule fires in it.
-ghost use Rattle.std.specs.Prelude.{◌≡◌, ◌+◌, ◌*◌, ◌≤◌, eqb, length, take};
+ghost use Rattle.std.specs.Prelude.{MatchOption, ◌≡◌, ◌+◌, ◌*◌, ◌≤◌, ◌<◌, eqb, length, take};
 ghost use Rattle.text.specs.Lists.{index_from};
 ghost use Rattle.semantics.specs.Overlaps.{second_positions};
 ghost use Rattle.tables.specs.Layout.{constraint_size};
@@ -17,32 +17,23 @@ pub fn drop_joined(cells: &mut [u16], m: usize, n: usize, partners: [usize; 4]) 
     requires { (length cells.old ≡ constraint_size * (m + n)) × (m ≤ 4) × (n ≤ 4) × (length partners ≡ 4) }
     ensures { Unjoined m n (take m partners) cells.old cells.new result }
 {
-    let mut g = 0;
     let mut k = m;
-    while g < n {
-        let from = m + g;
-        g += 1;
-        if !is_chosen(partners, m, g) {
-            move_row(cells, from, k);
+    for g in 0..n {
+        if !is_chosen(partners, m, g + 1) {
+            move_row(cells, m + g, k);
             k += 1;
         }
     }
     k
 }
 
-// The head of the first rule, of its m, that is joined to head d of the second; m where none is.
-pub fn partner_of(partners: [usize; 4], m: usize, d: usize) -> usize
+// The head of the first rule, of its m, that is joined to head d of the second; None where none is.
+pub fn partner_of(partners: [usize; 4], m: usize, d: usize) -> Option<usize>
     requires { (m ≤ 4) × (length partners ≡ 4) }
-    ensures { (result ≡ index_from (eqb d) 0 (take m partners)) × (result ≤ m) }
+    ensures { MatchOption result (index_from (eqb d) 0 (take m partners) ≡ m)
+        (λ h. (h ≡ index_from (eqb d) 0 (take m partners)) × (h < m)) }
 {
-    let mut h = 0;
-    while h < m {
-        if d == partners[h] {
-            return h;
-        }
-        h += 1;
-    }
-    m
+    partners[..m].iter().position(|partner| *partner == d)
 }
 
 // Where the n heads of the second rule stand in the goal: a joined one at its partner's position, the others behind the first
@@ -53,23 +44,20 @@ pub fn second_positions(partners: [usize; 4], m: usize, n: usize) -> [usize; 4]
 {
     let mut positions = [0; 4];
     let mut free = m;
-    let mut g = 0;
-    while g < n {
-        let at = g;
-        g += 1;
-        let h = partner_of(partners, m, g);
-        if h < m {
-            positions[at] = h;
-        } else {
-            positions[at] = free;
-            free += 1;
+    for g in 0..n {
+        match partner_of(partners, m, g + 1) {
+            Some(h) => positions[g] = h,
+            None => {
+                positions[g] = free;
+                free += 1;
+            }
         }
     }
     positions
 }
 
 // How many constraints and variables a goal has.
-#[derive(Drop)]
+#[derive(Clone, Copy)]
 pub struct Goal {
     pub count: usize,
     pub variables: usize,

@@ -19,8 +19,7 @@ pub fn join_terms(cells: &mut [u16], a: usize, b: usize) -> bool
 {
     let mut equations = [0u16; 0];
     let mut bound = [0u16; 0];
-    let mut c = 1;
-    while c < CONSTRAINT_SIZE {
+    for c in 1..CONSTRAINT_SIZE {
         let x = cells[a + c];
         let y = cells[b + c];
         if x == 0 {
@@ -32,7 +31,6 @@ pub fn join_terms(cells: &mut [u16], a: usize, b: usize) -> bool
         if !unify(x, y, &mut equations, &mut bound, cells) {
             return false;
         }
-        c += 1;
     }
     true
 }

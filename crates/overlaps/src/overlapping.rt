@@ -4,7 +4,7 @@ ghost use Rattle.std.specs.Prelude.{length, get_or, ◌≡◌};
 ghost use Rattle.overlaps.specs.Cells.{RulePair};
 ghost use Rattle.overlaps.specs.Overlapped.{Whole, Partners, AllJoined, OverlapOf};
 
-use crate::finishing::finish;
+use crate::finishing::{Goal, finish};
 use crate::joining::join_partner;
 use crate::laying::lay_heads;
 use tables::layout::HEADS_CELL;
@@ -15,45 +15,31 @@ pub fn join_all(cells: &mut [u16], m: usize, n: usize, partners: [usize; 4]) -> 
     requires { Whole cells.old m n partners × Partners partners m n }
     ensures { AllJoined cells.old m n partners result cells.new }
 {
-    let mut h = 0;
-    while h < m {
+    for h in 0..m {
         if !join_partner(cells, m, partners, h, partners[h]) {
             return false;
         }
-        h += 1;
     }
     true
 }
 
-// Whether joined heads unify, and how many constraints and variables the goal has then.
-#[derive(Drop)]
-pub struct Overlap {
-    pub unify: bool,
-    pub count: usize,
-    pub variables: usize,
-}
-
-// The overlap of two rules by partners that join heads one to one; its goal stands in front of the cells.
-pub fn overlap_by(first: &[u16], second: &[u16], partners: [usize; 4], cells: &mut [u16]) -> Overlap
+// The overlap of two rules by partners that join heads one to one, whose goal stands in front of the cells; None where the joined
+// heads do not unify.
+pub fn overlap_by(
+    first: &[u16],
+    second: &[u16],
+    partners: [usize; 4],
+    cells: &mut [u16],
+) -> Option<Goal>
     requires { RulePair first.now second.now cells.old × (length partners ≡ 4)
         × Partners partners (get_or first.now heads_cell 0) (get_or second.now heads_cell 0) }
-    ensures { OverlapOf first.now second.now partners result.unify cells.new result.count
-        result.variables }
+    ensures { OverlapOf first.now second.now partners cells.new result }
 {
     let m = wide(first[HEADS_CELL]);
     let n = wide(second[HEADS_CELL]);
     lay_heads(first, second, cells);
     if !join_all(cells, m, n, partners) {
-        return Overlap {
-            unify: false,
-            count: 0,
-            variables: 0,
-        };
+        return None;
     }
-    let goal = finish(cells, m, n, partners);
-    Overlap {
-        unify: true,
-        count: goal.count,
-        variables: goal.variables,
-    }
+    Some(finish(cells, m, n, partners))
 }

@@ -13,12 +13,10 @@ pub fn has_symbol(row: &[u16], symbol: u16) -> bool
     ensures { result ≡ has symbol (head_symbols row.now) }
 {
     let n = wide(row[HEADS_CELL]);
-    let mut h = 0;
-    while h < n {
+    for h in 0..n {
         if row[FIRST_HEAD + CONSTRAINT_SIZE * h] == symbol {
             return true;
         }
-        h += 1;
     }
     false
 }
@@ -29,12 +27,10 @@ pub fn share_symbol(first: &[u16], second: &[u16]) -> bool
     ensures { result ≡ is_shared (head_symbols first.now) (head_symbols second.now) }
 {
     let m = wide(first[HEADS_CELL]);
-    let mut h = 0;
-    while h < m {
+    for h in 0..m {
         if has_symbol(second, first[FIRST_HEAD + CONSTRAINT_SIZE * h]) {
             return true;
         }
-        h += 1;
     }
     false
 }

@@ -1,18 +1,13 @@
 -- `decide` meets its contract: all overlaps judged, and the one shown that does not join.
 -- Assumes nothing.
-use Rattle.critical.proofs.VerdictLaws.{walked-stopped, verdict-kept, verdict-shown, verdict-passed}
+use Rattle.critical.proofs.VerdictLaws.{walked-stopped, walked-confluent, verdict-kept}
 use Rattle.critical.proofs.deciding.decide.Goals as goal
 
-pub show-shown-requires : goal.show-shown-requires
-show-shown-requires c = (
-  verdict-kept _ _ _ _ _ _ _ _ c.requires c.walk_all-met.auto.one c.walk_all-met.auto.two,
-  walked-stopped _ _ _ _ c.requires.check c.walk_all-met.ensures c.if-met.true
-      c.requires.goal-size,
+pub show-requires : goal.show-requires
+show-requires c = (
+  verdict-kept _ _ _ _ _ _ _ _ c.requires c.walk_all.auto.one c.walk_all.auto.two,
+  walked-stopped _ _ _ _ c.requires.check c.in-Err.ensures c.requires.goal-size,
 )
 
-pub returns-then-met : goal.returns-then-met
-returns-then-met c = verdict-shown _ _ _ _ _ _ _ c.show-shown.ensures
-
-pub returns : goal.returns
-returns c =
-    verdict-passed _ _ _ _ _ _ _ c.walk_all-met.ensures c.if-met.false _ _ _ _ _
+pub returns-in-Ok : goal.returns-in-Ok
+returns-in-Ok c = walked-confluent _ _ _ c.in-Ok.ensures

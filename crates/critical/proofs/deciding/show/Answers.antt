@@ -6,4 +6,4 @@ use Rattle.critical.proofs.deciding.show.Goals as goal
 pub returns : goal.returns
 returns c =
     show-shown _ _ _ _ _ _ _ _ _ c.remake-peak.ensures c.run_sides-ends.ensures c.requires.1.check
-    c.requires.1.partners-size _ c.wide-heads.ensures.0
+    c.requires.1.partners-size _ c.row_of.ensures _ c.wide-heads.ensures.0

@@ -1,14 +1,14 @@
 -- `walk` meets its contract: of the overlaps whose partners begin so, those with partner d or a later one are left. The heads
 -- that are left fall at each call.
 -- Assumes nothing.
-use native.Mathlib.Omega.{arith}
-use mathlib.Core.Path.{refl, ◌∙◌}
-use borrow.Author.Rules.{rules}
+use Rattle.std.proofs.Common.{arith, refl, ◌∙◌}
+use Rattle.std.proofs.lemmas.Result.{err_from_is_err_and}
 use Rattle.critical.proofs.StandLaws.{pair-few}
 use Rattle.critical.proofs.StepLaws.{room-kept, leaf-start, leaf_walked, step_room, step-lent}
 use Rattle.critical.proofs.StepLaws.{step-partner, step_start}
 use Rattle.critical.proofs.StepLaws.{step_cut, step-next, step-stop, step-on, step_end}
 use Rattle.critical.proofs.walking.+walk.Goals as goal
+use Rattle.critical.proofs.walking.+walk.Goals.{then-join_partner+in_ok-seen, else-join_partner}
 
 pub judge_pairing-requires : goal.judge_pairing-requires
 judge_pairing-requires t c =
@@ -16,7 +16,7 @@ judge_pairing-requires t c =
 
 pub returns-then-left-eq0 : goal.returns-then-left-eq0
 returns-then-left-eq0 t c =
-    leaf_walked _ _ _ _ _ _ _ _ _ _ _ _ c.if-left-eq0.true c.judge_pairing.ensures
+    leaf_walked _ _ _ _ _ _ _ _ _ c.if-left-eq0.true c.judge_pairing.ensures
 
 pub overflow_sub-h : goal.overflow_sub-h
 overflow_sub-h t c =
@@ -33,10 +33,6 @@ overflow_mul-e t c =
 pub loop-d-init : goal.loop-d-init
 loop-d-init t c =
     (step_start _ _ _ _ _ _ _ _ _ _ c.requires.0 c.if-left-eq0.false, refl, refl)
-
-pub overflow_add-d : goal.overflow_add-d
-overflow_add-d t c =
-    omega (arith, (pair-few _ _ _ _ _ _ c.requires.0.pair).1)
 
 pub slice_bounds-joined-end : goal.slice_bounds-joined-end
 slice_bounds-joined-end t c =
@@ -61,8 +57,8 @@ bounds-more-h t c =
 pub overflow_sub-left : goal.overflow_sub-left
 overflow_sub-left t c = omega arith
 
-pub walk-met-requires : goal.walk-met-requires
-walk-met-requires t c = (
+pub walk-requires : goal.walk-requires
+walk-requires t c = (
   omega arith,
   (
     step-next _ _ _ _ _ _ _ _ _ _ c.requires.0 c.if-left-eq0.false _ _ c.loop-d.invariant.0
@@ -72,35 +68,34 @@ walk-met-requires t c = (
   ),
 )
 
-pub returns-then-met : goal.returns-then-met
-returns-then-met t c =
-    step-stop _ _ _ _ _ _ _ _ _ _ c.requires.0 c.if-left-eq0.false _ _ c.loop-d.invariant.0
+pub returns-in_err-seen : goal.returns-in_err-seen
+returns-in_err-seen t c =
+    let p = err_from_is_err_and c.from_residual.result c.from_residual.ensures.1 in
+    rw (p.1, p.2)
+    (step-stop _ _ _ _ _ _ _ _ _ _ c.requires.0 c.if-left-eq0.false _ _ c.loop-d.invariant.0
     (omega (arith, c.loop-d-test.true)) _ _ c.join_partner.ensures c.join_partner.auto.cells
-    c.if-join_partner.true _ _ _ c.walk-met.ensures c.if-met.true
-
-pub loop-d-smaller-then-join_partner : goal.loop-d-smaller-then-join_partner
-loop-d-smaller-then-join_partner t c = omega arith
-
-pub loop-d-preserved-then-join_partner : goal.loop-d-preserved-then-join_partner
-loop-d-preserved-then-join_partner t c = (
-  step-on _ _ _ _ _ _ _ _ _ _ c.requires.0 c.if-left-eq0.false _ _ c.loop-d.invariant.0
-      (omega (arith, c.loop-d-test.true)) _ _ c.join_partner.ensures c.join_partner.auto.cells
-      c.if-join_partner.true _ _ _ c.walk-met.ensures c.if-met.false,
-  c.walk-met.auto.one ∙ c.loop-d.invariant.1,
-  c.walk-met.auto.two ∙ c.loop-d.invariant.2,
-)
-
-pub loop-d-smaller : goal.loop-d-smaller
-loop-d-smaller t c = omega arith
+    c.if-join_partner.true _ c.in_err-seen.ensures)
 
 pub loop-d-preserved : goal.loop-d-preserved
-loop-d-preserved t c = (
-  step_cut _ _ _ _ _ _ _ _ _ _ c.requires.0 c.if-left-eq0.false _ _ c.loop-d.invariant.0
-      (omega (arith, c.loop-d-test.true)) _ _ c.join_partner.ensures c.join_partner.auto.cells
-      c.if-join_partner.false,
-  search rules,
-  search rules,
-)
+loop-d-preserved t c =
+    elim c.if-join_partner.branch [
+      | then-join_partner+in_ok-seen w ↦
+          rw (w.one-is, w.two-is, w.seen-is) (
+            step-on _ _ _ _ _ _ _ _ _ _ c.requires.0 c.if-left-eq0.false _ _ c.loop-d.invariant.0
+                (omega (arith, c.loop-d-test.true)) _ _ c.join_partner.ensures c.join_partner.auto.cells
+                w.if-join_partner.true _ w.in_ok-seen.ensures,
+            w.walk.auto.one ∙ c.loop-d.invariant.1,
+            w.walk.auto.two ∙ c.loop-d.invariant.2,
+          )
+      | else-join_partner w ↦
+          rw (w.one-is, w.two-is, w.seen-is) (
+            step_cut _ _ _ _ _ _ _ _ _ _ c.requires.0 c.if-left-eq0.false _ _ c.loop-d.invariant.0
+                (omega (arith, c.loop-d-test.true)) _ _ c.join_partner.ensures c.join_partner.auto.cells
+                w.if-join_partner.false,
+            c.loop-d.invariant.1,
+            c.loop-d.invariant.2,
+          )
+    ]
 
 pub returns : goal.returns
 returns t c =

@@ -1,9 +1,7 @@
 -- `walk` meets its contract: of the overlaps whose partners begin so, those with partner d or a later one are left. The heads
 -- that are left fall at each call.
 -- Assumes nothing.
-use Prim.Native.Nat.{suc, ◌-◌}
-use mathlib.Core.Path.{◌≡◌}
-use lib.ListN.{length}
+use Rattle.std.proofs.Common.{◌≡◌, length}
 use Rattle.critical.proofs.StepLaws.{Steps}
 use Rattle.critical.proofs.walking.+walk.Given as goal
 
@@ -11,9 +9,6 @@ abbrev pub invariant-loop-d : goal.invariant-loop-d
 invariant-loop-d l =
     Steps l.rules l.pair.rules l.pair.first l.pair.second l.pair.m l.pair.n l.left l.partners l.count l.seen l.d
     × (length l.one ≡ length l.initial.one) × (length l.two ≡ length l.initial.two)
-
-abbrev pub decreases-loop-d : goal.decreases-loop-d
-decreases-loop-d l = suc l.pair.n - l.d
 
 -- the heads that are left
 abbrev pub decreases-walk : goal.decreases-walk

@@ -1,17 +1,10 @@
--- `partner_of` meets its contract: none of the first h heads is joined to head d.
+-- `partner_of` meets its contract: the search among the first m partners.
 -- Assumes nothing.
-use native.Mathlib.Omega.{arith}
-use Rattle.overlaps.proofs.PositionLaws.{looking-start, looking-end, looking-found, looking-next}
+use Rattle.std.proofs.Common.{rules, arith, take, ◌≡◌, length, length-take-le}
+use Rattle.overlaps.proofs.PositionLaws.{place_of}
 use Rattle.overlaps.proofs.finishing.partner_of.Goals as goal
 
-pub loop-h-init : goal.loop-h-init
-loop-h-init c = search looking-start
-
-pub returns-then-d-partners : goal.returns-then-d-partners
-returns-then-d-partners c = (search looking-found, omega arith)
-
-pub loop-h-preserved : goal.loop-h-preserved
-loop-h-preserved c = search looking-next
-
 pub returns : goal.returns
-returns c = (search looking-end, omega arith)
+returns c =
+    let size : length (take c.args.m c.args.partners) ≡ c.args.m = length-take-le _ _ (omega arith) in
+    rw size at (place_of c.args.d (take c.args.m c.args.partners) c.position.result (search rules))

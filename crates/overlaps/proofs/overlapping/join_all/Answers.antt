@@ -1,10 +1,7 @@
 -- `join_all` meets its contract: the first h heads are joined, whichever heads these are.
 -- Assumes nothing.
-use Rattle.overlaps.proofs.OverlapLaws.{all_start, all_end, all-partner, all-next, all-cut}
+use Rattle.overlaps.proofs.OverlapLaws.{all-partner, all-next, all-cut}
 use Rattle.overlaps.proofs.overlapping.join_all.Goals as goal
-
-pub loop-h-init : goal.loop-h-init
-loop-h-init c = all_start _ _ _ _ c.requires.0 c.requires.1
 
 pub join_partner-requires : goal.join_partner-requires
 join_partner-requires c = search all-partner
@@ -14,6 +11,3 @@ returns-then-not-join_partner c = search all-cut
 
 pub loop-h-preserved : goal.loop-h-preserved
 loop-h-preserved c = search all-next
-
-pub returns : goal.returns
-returns c = search all_end

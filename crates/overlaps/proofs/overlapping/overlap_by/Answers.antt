@@ -11,8 +11,8 @@ join_all-requires c =
 pub returns-then-not-join_all : goal.returns-then-not-join_all
 returns-then-not-join_all c = search overlap-none
 
-pub finish-goal-requires : goal.finish-goal-requires
-finish-goal-requires c =
+pub finish-requires : goal.finish-requires
+finish-requires c =
     overlap-finish _ _ _ _ c.requires.0 c.requires.1 _ c.lay_heads.auto.cells c.lay_heads.ensures _ _
     c.wide-m.ensures.0 c.wide-n.ensures.0 _ _ c.join_all.ensures
     c.if-not-join_all.false

@@ -1,16 +1,20 @@
 -- `has_symbol` meets its contract: none of the first h heads has the symbol.
 -- Assumes nothing.
-use Rattle.overlaps.proofs.ShareLaws.{sought-start, sought-end, sought-found, sought-next}
+use Rattle.std.proofs.Common.{arith, sym, add-one, ne_eqb}
+use Rattle.std.proofs.lemmas.Grind.{common_steps}
+use Rattle.overlaps.proofs.ShareLaws.{symbols-next, symbols-end}
 use Rattle.overlaps.proofs.sharing.has_symbol.Goals as goal
 
-pub loop-h-init : goal.loop-h-init
-loop-h-init c = search sought-start
-
 pub returns-then-row-h : goal.returns-then-row-h
-returns-then-row-h c = search sought-found
+returns-then-row-h c =
+    grind (arith, common_steps, symbols-next c.args.row.now c.requires c.loop-h.h (omega arith))
 
 pub loop-h-preserved : goal.loop-h-preserved
-loop-h-preserved c = search sought-next
+loop-h-preserved c =
+    rw (add-one c.loop-h.h)
+    (rw (symbols-next c.args.row.now c.requires c.loop-h.h (omega arith), ne_eqb c.args.symbol _ (λ e. c.if-row-h.false (sym e)))
+    at c.loop-h.invariant)
 
 pub returns : goal.returns
-returns c = search sought-end
+returns c =
+    grind (arith, common_steps, symbols-end c.args.row.now c.requires c.loop-h.h (omega arith))

@@ -1,16 +1,22 @@
 -- `share_symbol` meets its contract: none of the first h heads of the first rule has a symbol of the second.
 -- Assumes nothing.
-use Rattle.overlaps.proofs.ShareLaws.{sharing-start, sharing-end, sharing-found, sharing-next}
+use Rattle.std.proofs.Common.{arith}
+use Rattle.std.proofs.lemmas.Grind.{common_steps}
+use Rattle.overlaps.specs.Shares.{is_shared}
+use Rattle.overlaps.proofs.ShareLaws.{symbols-next, symbols-end}
 use Rattle.overlaps.proofs.sharing.share_symbol.Goals as goal
 
-pub loop-h-init : goal.loop-h-init
-loop-h-init c = search sharing-start
-
 pub returns-then-has_symbol : goal.returns-then-has_symbol
-returns-then-has_symbol c = search sharing-found
+unfolding is_shared
+returns-then-has_symbol c =
+    grind (arith, common_steps, symbols-next c.args.first.now c.requires.0 c.loop-h.h (omega arith))
 
 pub loop-h-preserved : goal.loop-h-preserved
-loop-h-preserved c = search sharing-next
+unfolding is_shared
+loop-h-preserved c =
+    grind (arith, common_steps, symbols-next c.args.first.now c.requires.0 c.loop-h.h (omega arith))
 
 pub returns : goal.returns
-returns c = search sharing-end
+unfolding is_shared
+returns c =
+    grind (arith, common_steps, symbols-end c.args.first.now c.requires.0 c.loop-h.h (omega arith))

@@ -1,11 +1,10 @@
 -- `share_symbol` meets its contract: none of the first h heads of the first rule has a symbol of the second.
 -- Assumes nothing.
-use Prim.Native.Nat.{◌-◌}
-use Rattle.overlaps.proofs.ShareLaws.{Sharing}
+use Rattle.std.proofs.Common.{◌≡◌, drop}
+use Rattle.overlaps.specs.Shares.{head_symbols, is_shared}
 use Rattle.overlaps.proofs.sharing.share_symbol.Given as goal
 
 abbrev pub invariant-loop-h : goal.invariant-loop-h
-invariant-loop-h l = Sharing l.first l.second l.m l.h
-
-abbrev pub decreases-loop-h : goal.decreases-loop-h
-decreases-loop-h l = l.m - l.h
+invariant-loop-h l =
+    is_shared (drop l.h (head_symbols l.first)) (head_symbols l.second)
+    ≡ is_shared (head_symbols l.first) (head_symbols l.second)
