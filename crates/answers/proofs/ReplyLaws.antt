@@ -4,6 +4,7 @@
 --   listed-within                      a listing lies inside the output
 --   byte-few, reply-number             the byte of a letter; the number of a reply's answer is the reply's
 -- Assumes nothing.
+use Rattle.std.specs.Prelude.{Option, None, Some}
 use Prim.Native.Nat.{ℕ, ◌+◌, ◌*◌, ◌≤◌}
 use native.Mathlib.Omega.{arith}
 use mathlib.Core.Bool.{Bool, true, false, cond}
@@ -16,8 +17,6 @@ use Rattle.syntax.specs.Answers.{refused, accepted}
 use Rattle.syntax.specs.Programs.{Reading, read_program}
 use Rattle.syntax.specs.Goals.{read_goal}
 use Rattle.listing.specs.Writing.{listed_in, listed_over, ListedAs}
-use Rattle.listing.specs.declared.Listed.{Listed}
-use Rattle.listing.specs.declared.Listed.TheVariants.{TooShort, Written}
 use Rattle.replies.specs.Replies.{Text, program_text, goal_text, Reply, refusal, listing, reply_of, fitted, run_reply}
 use Rattle.replies.specs.Replies.{output_after}
 use Rattle.answers.specs.Answers.{text_meant, reply_meant, letter_of, answer_of, Replied, name_byte}
@@ -44,13 +43,13 @@ refused-goal program goal output p number line r e = rw (r, e) (record { meant =
 
 -- a listing that does not fit
 pub listed-short :
-    {bytes before after : List ℕ} {reply : Listed} → ListedAs bytes before after reply → reply ≡ TooShort
+    {bytes before after : List ℕ} {reply : Option ℕ} → ListedAs bytes before after reply → reply ≡ None
     → Replied (fitted goal_text (length before) bytes) before after (Refused (record { number = 11; text = G; line = 0 }))
 unfolding fitted listed_in listed_over output_after reply_meant text_meant answer_of letter_of
 listed-short {bytes} {before} {after} {reply} l e = go (ltb (length before) (length bytes)) (sym e ∙ l.answer) l.output
   where
     go :
-        (b : Bool) → TooShort ≡ cond b TooShort (Written (length bytes)) → after ≡ cond b before (bytes ++ drop (length bytes) before)
+        (b : Bool) → None ≡ cond b None (Some (length bytes)) → after ≡ cond b before (bytes ++ drop (length bytes) before)
         → Replied (cond b (refusal 11 goal_text 0) (listing bytes)) before after
         (Refused (record { number = 11; text = G; line = 0 }))
     go true a o = record { meant = refl; answer = refl; output = o }
@@ -58,13 +57,13 @@ listed-short {bytes} {before} {after} {reply} l e = go (ltb (length before) (len
 
 -- a listing that fits
 pub listed-written :
-    {bytes before after : List ℕ} {reply : Listed} (n : ℕ) → ListedAs bytes before after reply → reply ≡ Written n
+    {bytes before after : List ℕ} {reply : Option ℕ} (n : ℕ) → ListedAs bytes before after reply → reply ≡ Some n
     → Replied (fitted goal_text (length before) bytes) before after (ListedTo n)
 unfolding fitted listed_in listed_over output_after reply_meant answer_of
 listed-written {bytes} {before} {after} {reply} n l e = go (ltb (length before) (length bytes)) (sym e ∙ l.answer) l.output
   where
     go :
-        (b : Bool) → Written n ≡ cond b TooShort (Written (length bytes)) → after ≡ cond b before (bytes ++ drop (length bytes) before)
+        (b : Bool) → Some n ≡ cond b None (Some (length bytes)) → after ≡ cond b before (bytes ++ drop (length bytes) before)
         → Replied (cond b (refusal 11 goal_text 0) (listing bytes)) before after (ListedTo n)
     go true a o = absurd (let z : ◌≡◌ {A = ℕ} 0 1 = cc in omega arith)
     go false a o =

@@ -9,6 +9,7 @@
 --   check-refused, check-ready                  a program that is refused, and one that is read
 --   checked-demand                              demand 3 of an answer to a check
 -- Assumes nothing.
+use Rattle.std.specs.Prelude.{Option, None, Some}
 use Prim.Native.Nat.{ℕ, ◌+◌, ◌-◌, ◌*◌, ◌≤◌, ◌<◌}
 use native.Mathlib.Omega.{arith}
 use mathlib.Core.Bool.{Bool, true, false, cond, ◌&&◌}
@@ -56,8 +57,6 @@ use Rattle.listing.specs.Writing.{listed_in, listed_over, ListedAs}
 use Rattle.listing.specs.Ends.{Listable}
 use Rattle.verdicts.specs.Checks.{final_of, OverlapListable, ShownBy, OverlapListed}
 use Rattle.listing.specs.declared.End.{End}
-use Rattle.listing.specs.declared.Listed.{Listed}
-use Rattle.listing.specs.declared.Listed.TheVariants.{TooShort, Written}
 use Rattle.verdicts.specs.declared.Shown.{Shown as Listing}
 use Rattle.verdicts.proofs.CheckLaws.{pass-listed, overlap-named}
 use Rattle.replies.specs.Replies.{program_text, refusal, listing, reply_of, fitted, check_listing, check_reply, plain, output_after}
@@ -79,13 +78,13 @@ use Rattle.answers.proofs.CheckLaws.{demand-plain}
 
 -- a listing that does not fit
 pub check-short :
-    {bytes before after : List ℕ} {reply : Listed} → ListedAs bytes before after reply → reply ≡ TooShort
+    {bytes before after : List ℕ} {reply : Option ℕ} → ListedAs bytes before after reply → reply ≡ None
     → CheckReplied (fitted program_text (length before) bytes) before after (Refused (record { number = 11; text = S; line = 0 }))
 unfolding fitted listed_in listed_over output_after check_meant listed_bytes text_meant
 check-short {bytes} {before} {after} {reply} l e = go (ltb (length before) (length bytes)) (sym e ∙ l.answer) l.output
   where
     go :
-        (b : Bool) → TooShort ≡ cond b TooShort (Written (length bytes))
+        (b : Bool) → None ≡ cond b None (Some (length bytes))
         → after ≡ cond b before (bytes ++ drop (length bytes) before)
         → CheckReplied (cond b (refusal 11 program_text 0) (listing bytes)) before after
         (Refused (record { number = 11; text = S; line = 0 }))
@@ -94,15 +93,15 @@ check-short {bytes} {before} {after} {reply} l e = go (ltb (length before) (leng
 
 -- a listing that fits, as any answer that means it
 written :
-    {bytes before after : List ℕ} {reply : Listed} (n : ℕ) (r : CheckReply) → check_meant r after ≡ listing (take n after)
-    → listed_bytes r ≡ n → ListedAs bytes before after reply → reply ≡ Written n
+    {bytes before after : List ℕ} {reply : Option ℕ} (n : ℕ) (r : CheckReply) → check_meant r after ≡ listing (take n after)
+    → listed_bytes r ≡ n → ListedAs bytes before after reply → reply ≡ Some n
     → CheckReplied (fitted program_text (length before) bytes) before after r
 unfolding fitted listed_in listed_over output_after
 written {bytes} {before} {after} {reply} n r meant counted l e =
     go (ltb (length before) (length bytes)) (sym e ∙ l.answer) l.output
   where
     go :
-        (b : Bool) → Written n ≡ cond b TooShort (Written (length bytes))
+        (b : Bool) → Some n ≡ cond b None (Some (length bytes))
         → after ≡ cond b before (bytes ++ drop (length bytes) before)
         → CheckReplied (cond b (refusal 11 program_text 0) (listing bytes)) before after r
     go true a o = absurd (let z : ◌≡◌ {A = ℕ} 0 1 = cc in omega arith)
@@ -116,13 +115,13 @@ written {bytes} {before} {after} {reply} n r meant counted l e =
         }
 
 pub check-passed :
-    {bytes before after : List ℕ} {reply : Listed} (n : ℕ) → ListedAs bytes before after reply → reply ≡ Written n
+    {bytes before after : List ℕ} {reply : Option ℕ} (n : ℕ) → ListedAs bytes before after reply → reply ≡ Some n
     → CheckReplied (fitted program_text (length before) bytes) before after (Confluent n)
 unfolding check_meant listed_bytes
 check-passed n l e = written n (Confluent n) refl refl l e
 
 pub check-failed :
-    {bytes before after : List ℕ} {reply : Listed} (n : ℕ) → ListedAs bytes before after reply → reply ≡ Written n
+    {bytes before after : List ℕ} {reply : Option ℕ} (n : ℕ) → ListedAs bytes before after reply → reply ≡ Some n
     → CheckReplied (fitted program_text (length before) bytes) before after (Unjoined n)
 unfolding check_meant listed_bytes
 check-failed n l e = written n (Unjoined n) refl refl l e
@@ -141,23 +140,23 @@ pub fail-no-pass : {m : ℕ} → NoPass (Unjoined m)
 fail-no-pass n e = absurd (let z : ◌≡◌ {A = ℕ} 0 1 = cc in omega arith)
 
 -- a pass that is listed, and number 11
-module _ {overlaps : ℕ} {before after : List ℕ} {reply : Listed}
+module _ {overlaps : ℕ} {before after : List ℕ} {reply : Option ℕ}
     (l : ListedAs (line_of (ascii "CONFLUENT") (decimal overlaps ∷ [])) before after reply) where
-  pub pass-short : reply ≡ TooShort → PassReplied overlaps before after (Refused (record { number = 11; text = S; line = 0 }))
+  pub pass-short : reply ≡ None → PassReplied overlaps before after (Refused (record { number = 11; text = S; line = 0 }))
   pass-short e = record { replied = check-short l e; no-fail = refused-no-fail }
 
-  pub pass-written : (n : ℕ) → reply ≡ Written n → PassReplied overlaps before after (Confluent n)
+  pub pass-written : (n : ℕ) → reply ≡ Some n → PassReplied overlaps before after (Confluent n)
   pass-written n e = record { replied = check-passed n l e; no-fail = pass-no-fail }
 
 -- an overlap that is listed, and number 11
-module _ {program places goal bounds one two : List ℕ} {s : Listing} {before after : List ℕ} {reply : Listed}
+module _ {program places goal bounds one two : List ℕ} {s : Listing} {before after : List ℕ} {reply : Option ℕ}
     (l : OverlapListed program places goal bounds one two s before after reply) where
   pub overlap-short :
-      reply ≡ TooShort
+      reply ≡ None
       → OverlapReplied program places goal bounds one two s before after (Refused (record { number = 11; text = S; line = 0 }))
   overlap-short e = record { replied = λ o h. check-short (l.listed o h) e; no-pass = refused-no-pass }
 
-  pub overlap-written : (n : ℕ) → reply ≡ Written n
+  pub overlap-written : (n : ℕ) → reply ≡ Some n
       → OverlapReplied program places goal bounds one two s before after (Unjoined n)
   overlap-written n e = record { replied = λ o h. check-failed n (l.listed o h) e; no-pass = fail-no-pass }
 

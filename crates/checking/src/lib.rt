@@ -13,7 +13,7 @@ ghost use Rattle.checking.specs.Checking.{PassReplied, OverlapReplied, Checked};
 use answers::{CheckReply, Refusal, TextName};
 use critical::deciding::{Shown, decide};
 use engine::derivation::Final;
-use listing::{End, Listed};
+use listing::End;
 use programs::{ProgramRead, read_program};
 use tables::layout::CONSTRAINT_SIZE;
 use tables::wide;
@@ -24,12 +24,12 @@ fn pass(overlaps: usize, output: &mut [u8]) -> CheckReply
     ensures { PassReplied overlaps output.old output.new result }
 {
     match list_pass(output, overlaps) {
-        Listed::TooShort => CheckReply::Refused(Refusal {
+        None => CheckReply::Refused(Refusal {
             number: 11,
             text: TextName::S,
             line: 0,
         }),
-        Listed::Written(n) => CheckReply::Confluent(n),
+        Some(n) => CheckReply::Confluent(n),
     }
 }
 
@@ -49,12 +49,12 @@ fn fail<'a>(
         one.old two.old shown output.old output.new result }
 {
     match list_overlap(output, program, places, goal, bounds, one, two, shown) {
-        Listed::TooShort => CheckReply::Refused(Refusal {
+        None => CheckReply::Refused(Refusal {
             number: 11,
             text: TextName::S,
             line: 0,
         }),
-        Listed::Written(n) => CheckReply::Unjoined(n),
+        Some(n) => CheckReply::Unjoined(n),
     }
 }
 

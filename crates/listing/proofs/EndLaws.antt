@@ -5,6 +5,7 @@
 --   renumbered-is, end-numbered     numbering the variables leaves the listing as it was
 --   listed-short, listed-written     the reply, and the output afterwards
 -- Assumes nothing.
+use Rattle.std.specs.Prelude.{Option, None, Some}
 use mathlib.Core.Path.{◌≡◌, refl, sym, ap, ap₂, ◌∙◌, subst}
 use mathlib.Core.Bool.{Bool, true, false}
 use mathlib.Core.List.{List, [], ◌∷◌, ◌++◌, map}
@@ -26,8 +27,6 @@ use Rattle.listing.specs.Listing.{variable_name, place_name, unbound, bound_line
 use Rattle.listing.specs.Writing.{laid, Countable, Writes, listed_in, listed_over, ListedAs}
 use Rattle.listing.specs.Ends.{placed, live_bytes, numbered_end, end_bytes, Listable, EndNumbered}
 use Rattle.listing.specs.declared.End.{End}
-use Rattle.listing.specs.declared.Listed.{Listed}
-use Rattle.listing.specs.declared.Listed.TheVariants.{TooShort, Written}
 use Rattle.listing.proofs.WriteLaws.{wrote_then, wrote-is, count-is, count-first, count_next}
 use Rattle.listing.proofs.LetterLaws.{own-place, own-order, own-numbers}
 
@@ -160,13 +159,13 @@ end-numbered program goal places letters bound cells cells' e count l n = go e.a
 
 -- the reply where the listing does not fit, and where it does
 module _ {bytes none none' o : List ℕ} {size : ℕ} (counted : Writes bytes 0 none none' size) where
-  pub listed-short : length o < size → ListedAs bytes o o TooShort
+  pub listed-short : length o < size → ListedAs bytes o o None
   unfolding listed_in listed_over
   listed-short h =
       let over : ltb (length o) (length bytes) ≡ true = lt-ltb (length o) (length bytes) (omega (arith, counted.counted)) in
       record { answer = rw over; output = rw over }
 
-  pub listed-written : {p : List ℕ} {n : ℕ} → size ≤ length o → Writes bytes 0 o p n → ListedAs bytes o p (Written size)
+  pub listed-written : {p : List ℕ} {n : ℕ} → size ≤ length o → Writes bytes 0 o p n → ListedAs bytes o p (Some size)
   unfolding listed_in listed_over laid
   listed-written h w =
       let all : size ≡ length bytes = omega (arith, counted.counted) in
@@ -178,5 +177,5 @@ module _ {bytes none none' o : List ℕ} {size : ℕ} (counted : Writes bytes 0 
       }
 
 -- the same bytes by another name
-pub listed-is : {a b o p : List ℕ} {r : Listed} → a ≡ b → ListedAs a o p r → ListedAs b o p r
+pub listed-is : {a b o p : List ℕ} {r : Option ℕ} → a ≡ b → ListedAs a o p r → ListedAs b o p r
 listed-is {a} {b} {o} {p} {r} e l = subst (λ (s : List ℕ). ListedAs s o p r) e l

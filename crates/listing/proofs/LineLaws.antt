@@ -1,5 +1,4 @@
 -- Laws of the pieces that the writers put one behind the other: what each leaves to count, and what it adds.
---   copy-…         a part of a text, byte by byte
 --   digit-…        decimal digits
 --   head-…         a word, a number and the line feed
 --   lettered-…, unlettered-…     a goal variable's name
@@ -11,7 +10,7 @@
 -- Assumes nothing.
 use mathlib.Core.Path.{◌≡◌, refl, sym, ap, ◌∙◌}
 use mathlib.Core.List.{List, [], ◌∷◌, ◌++◌, append_assoc, map}
-use Prim.Native.Nat.{ℕ, suc, ◌+◌, ◌-◌, ◌*◌, ◌/◌, ◌%◌, ◌≤◌, ◌<◌}
+use Prim.Native.Nat.{ℕ, suc, ◌+◌, ◌-◌, ◌/◌, ◌%◌, ◌≤◌, ◌<◌}
 use native.Mathlib.Omega.{arith}
 use native.Mathlib.Numerals.{add-one}
 use borrow.Author.Tests.{lt-ltb, le-ltb}
@@ -21,7 +20,7 @@ use Rattle.text.specs.Bytes.{ascii}
 use Rattle.text.specs.Fields.{decimal}
 use Rattle.tables.specs.Cells.{cell_term, cell_terms, cell_constraints, row_constraint}
 use Rattle.tables.specs.Numbers.{used_cells}
-use Rattle.tables.proofs.CellLaws.{cell-low, cell-high, constraints-at, constraints-short}
+use Rattle.tables.proofs.CellLaws.{cell-low, cell-high, constraints-short}
 use Rattle.tables.proofs.NumberLaws.{used-terms}
 use Rattle.listing.specs.Listing.{Naming, fields_behind, line_of, term_shown, constraint_shown, constraint_lines}
 use Rattle.listing.specs.Listing.{numbered_as, variable_name, place_name, bound_lines}
@@ -29,20 +28,8 @@ use Rattle.listing.specs.Writing.{Countable, Writes}
 use Rattle.listing.specs.Ends.{placed, cell_shown, bound_line}
 use Rattle.text.proofs.Decimals.{decimal-low, decimal-high}
 use Rattle.listing.proofs.WriteLaws.{wrote_then, wrote-is, count-is, count-first, count_next}
-use Rattle.listing.proofs.WriteLaws.{Writing, writing-count, writing-next, writing-end}
+use Rattle.listing.proofs.WriteLaws.{Writing, writing-count, writing-next}
 use Rattle.listing.proofs.WriteLaws.{writing-last}
-
--- a part of a text, one byte on
-module _ {part o p : List ℕ} {at end : ℕ} (i : ℕ) (w : Writing part at o p end (drop i part)) where
-  pub copy-count : i < length part → Countable at part → Countable end (get_or part i 0 ∷ [])
-  copy-count h c = count-first (drop (suc i) part) (count-is (drop-cons part i 0 h) (writing-count c w))
-
-  pub copy-next : {q : List ℕ} {more : ℕ} → i < length part → Writes (get_or part i 0 ∷ []) end p q more → length q ≡ length p
-      → Writing part at o q more (drop (i + 1) part)
-  copy-next h v k = rw (add-one i) (writing-next (drop (suc i) part) (drop-cons part i 0 h) w v k)
-
-  pub copy-end : length part ≤ i → Writes part at o p end
-  copy-end h = writing-end w (drop_of_length-le part h)
 
 -- a number below ten is one digit, any other the digits of its tenth and one more
 module _ (n : ℕ) {at : ℕ} (c : Countable at (decimal n)) where
@@ -246,30 +233,34 @@ module _ (naming : Naming) (letters : List ℕ) (line variables : ℕ) (row : Li
   line_wrote k u e f w v x g y h i j =
       wrote-is (sym (row-pieces u g)) (wrote_then w (wrote_then v (wrote_then (wrote-is (f ∙ ap naming e) x) y j) i) h)
 
--- a line for each constraint, from place i on: that of the five cells as they are lent, and those behind it
-abbrev pub rows_from : Naming → List ℕ → ℕ → ℕ → List ℕ → ℕ → List ℕ
-rows_from naming letters line variables cells i =
-    constraint_lines (line ∷ []) naming (placed letters variables) (cell_constraints (drop (5 * i) cells))
+-- the constraints of a row of five cells and those behind it
+constraints-row : (row behind : List ℕ) → length row ≡ 5
+    → cell_constraints (row ++ behind) ≡ row_constraint row ∷ cell_constraints behind
+unfolding cell_constraints row_constraint
+constraints-row (k ∷ a ∷ b ∷ c ∷ d ∷ []) behind h = refl
+constraints-row [] behind h = absurd (omega arith)
+constraints-row (k ∷ []) behind h = absurd (omega arith)
+constraints-row (k ∷ a ∷ []) behind h = absurd (omega arith)
+constraints-row (k ∷ a ∷ b ∷ []) behind h = absurd (omega arith)
+constraints-row (k ∷ a ∷ b ∷ c ∷ []) behind h = absurd (omega arith)
+constraints-row (k ∷ a ∷ b ∷ c ∷ d ∷ e ∷ row) behind h = absurd (omega arith)
 
-pub cut-size : (cells : List ℕ) (i : ℕ) → 5 * i + 5 ≤ length cells → length (take ((5 * i + 5) - 5 * i) (drop (5 * i) cells)) ≡ 5
-cut-size cells i h = omega (arith, length-take ((5 * i + 5) - 5 * i) (drop (5 * i) cells), length-drop (5 * i) cells)
+-- a line for each constraint in cells: that of a row of five, and those behind it
+abbrev pub rows_of : Naming → List ℕ → ℕ → ℕ → List ℕ → List ℕ
+rows_of naming letters line variables cells =
+    constraint_lines (line ∷ []) naming (placed letters variables) (cell_constraints cells)
 
-module _ (naming : Naming) (letters : List ℕ) (line variables : ℕ) (cells : List ℕ) (i : ℕ) where
-  abbrev cut : List ℕ
-  cut = take ((5 * i + 5) - 5 * i) (drop (5 * i) cells)
-
-  pub rows-here : 5 * i + 5 ≤ length cells
-      → rows_from naming letters line variables cells i
-      ≡ line_of (line ∷ []) (constraint_shown naming (placed letters variables) (row_constraint cut))
-      ++ rows_from naming letters line variables cells (i + 1)
+module _ (naming : Naming) (letters : List ℕ) (line variables : ℕ) where
+  pub rows-here : (cells row behind : List ℕ) → cells ≡ row ++ behind → length row ≡ 5
+      → rows_of naming letters line variables cells
+      ≡ line_of (line ∷ []) (constraint_shown naming (placed letters variables) (row_constraint row))
+      ++ rows_of naming letters line variables behind
   unfolding constraint_lines
-  rows-here h =
-      let five : (5 * i + 5) - 5 * i ≡ 5 = omega arith in
-      rw (add-one i, constraints-at cells i h, five)
+  rows-here cells row behind e h = rw (e, constraints-row row behind h)
 
-  pub rows-done : length cells < 5 * i + 5 → rows_from naming letters line variables cells i ≡ []
+  pub rows-done : (cells : List ℕ) → length cells < 5 → rows_of naming letters line variables cells ≡ []
   unfolding constraint_lines
-  rows-done h = rw (constraints-short cells i h)
+  rows-done cells h = rw (constraints-short cells 0 h)
 
 -- a goal variable's line: the letter A, its name, what it became, and the line feed
 module _ (naming : Naming) (letters : List ℕ) (n i x : ℕ) where

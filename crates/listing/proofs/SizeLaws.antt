@@ -6,6 +6,7 @@
 --   end-few, end-writable     the listing of an end, which can be counted where it fails or has at most 65,000 cells
 --   end-ample          and which fits an ample output
 -- Assumes nothing.
+use Rattle.std.specs.Prelude.{Some}
 use mathlib.Core.Path.{◌≡◌, refl, sym}
 use mathlib.Core.Bool.{Bool, true, false, cond}
 use mathlib.Core.List.{List, [], ◌∷◌, ◌++◌, map}
@@ -28,7 +29,6 @@ use Rattle.listing.specs.Listing.{numbered_as, variable_name, place_name, bound_
 use Rattle.listing.specs.Writing.{Writes, ListedAs, ample}
 use Rattle.listing.specs.Ends.{placed, live_bytes, numbered_end, Writable, max_cells, max_bound, Ample}
 use Rattle.listing.specs.declared.End.{End}
-use Rattle.listing.specs.declared.Listed.TheVariants.{Written}
 use Rattle.text.proofs.Decimals.{decimal-low, decimal-high}
 use Rattle.listing.proofs.EndLaws.{numbered-live, numbered-failed, listed-written}
 
@@ -244,7 +244,7 @@ module _ (naming : Naming) (names : (n : ℕ) → Short (naming n)) (letters bou
   -- and fits an ample output, where it is written at once
   pub end-ample : (e : End) {o p : List ℕ} {n : ℕ} → Ample (length o) (length bound) (length cells)
       → e.firings < 18446744073709551616 → Writes (numbered_end naming letters bound cells e) 0 o p n
-      → ListedAs (numbered_end naming letters bound cells e) o p (Written n)
+      → ListedAs (numbered_end naming letters bound cells e) o p (Some n)
   unfolding ample max_bound max_cells
   end-ample e a k w =
       let few = end-few e 28 2590 (omega arith) (λ l. (a.few-bound, a.few-cells)) k in

@@ -60,6 +60,17 @@ wrote-byte o at b h = record { counted = refl; placed = λ k. laid-byte o at b h
 pub wrote-over : (o : List ℕ) (at b : ℕ) → length o ≤ at → Writes (b ∷ []) at o o (at + 1)
 wrote-over o at b h = record { counted = refl; placed = λ k. absurd (omega arith) }
 
+-- bytes that fit, and bytes that do not
+pub wrote-part : {bytes o now : List ℕ} (at end : ℕ) → end ≡ at + length bytes → now ≡ bytes
+    → Writes bytes at o (take at o ++ (now ++ drop (end - at) (drop at o))) end
+unfolding laid
+wrote-part {bytes} {o} {now} at end k e =
+    let size : end - at ≡ length bytes = omega arith in
+    record { counted = k; placed = λ h. rw (e, size, drop-drop (length bytes) at o) }
+
+pub wrote-past : (bytes o : List ℕ) (at end : ℕ) → end ≡ at + length bytes → length o < end → Writes bytes at o o end
+wrote-past bytes o at end k h = record { counted = k; placed = λ l. absurd (omega arith) }
+
 -- a piece behind another
 pub wrote_then : {a b o p q : List ℕ} {at m n : ℕ} → Writes a at o p m → Writes b m p q n → length p ≡ length o
     → Writes (a ++ b) at o q n

@@ -6,10 +6,8 @@
 --   ample        room for every listing of a run and of a check
 -- A writer asks no room: where its bytes do not fit it only counts them, so that counting is writing into no output.
 -- Assumes nothing.
-use Rattle.std.specs.Prelude.{ℕ, ◌+◌, ◌≤◌, ◌<◌, cond, List, ◌++◌, ◌≡◌, ltb, length, take, drop}
+use Rattle.std.specs.Prelude.{ℕ, ◌+◌, ◌≤◌, ◌<◌, cond, List, ◌++◌, ◌≡◌, Option, None, Some, ltb, length, take, drop}
 use Rattle.text.specs.Lists.{overlaid}
-use Rattle.listing.specs.declared.Listed.{Listed}
-use Rattle.listing.specs.declared.Listed.TheVariants.{TooShort, Written}
 
 -- an output with bytes laid over it from a place on
 unfoldable pub laid : ℕ → List ℕ → List ℕ → List ℕ
@@ -24,16 +22,16 @@ pub record Writes (bytes : List ℕ) (at : ℕ) (before after : List ℕ) (end :
   pub counted : end ≡ at + length bytes
   pub placed : at + length bytes ≤ length before → after ≡ laid at bytes before
 
--- the reply for an output of some room
-unfoldable pub listed_in : ℕ → List ℕ → Listed
-listed_in room bytes = cond (ltb room (length bytes)) TooShort (Written (length bytes))
+-- the reply for an output of some room: none where the listing does not fit, and otherwise how many bytes it has
+unfoldable pub listed_in : ℕ → List ℕ → Option ℕ
+listed_in room bytes = cond (ltb room (length bytes)) None (Some (length bytes))
 
 -- every byte of the output afterwards: untouched where the listing does not fit; the listing, and then the old bytes, otherwise
 unfoldable pub listed_over : List ℕ → List ℕ → List ℕ
 listed_over bytes before = cond (ltb (length before) (length bytes)) before (overlaid bytes before)
 
 -- what a listing promises
-pub record ListedAs (bytes before after : List ℕ) (reply : Listed) : Type 0 where
+pub record ListedAs (bytes before after : List ℕ) (reply : Option ℕ) : Type 0 where
   pub answer : reply ≡ listed_in (length before) bytes
   pub output : after ≡ listed_over bytes before
 

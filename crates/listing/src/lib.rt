@@ -13,13 +13,6 @@ ghost use Rattle.listing.specs.Ends.{numbered_end, end_bytes, Listable, Writable
 
 use ends::{number_end, put_end};
 
-// Whether a listing was written, and how many bytes it has.
-#[derive(Drop)]
-pub enum Listed {
-    TooShort,
-    Written(usize),
-}
-
 // The end of a run: whether its state lives, a number above every variable in use, and how often a rule fired.
 #[derive(Clone, Copy)]
 pub struct End {
@@ -58,7 +51,7 @@ fn list_numbered<'a>(
     bound: &[u16],
     cells: &[u16],
     end: End,
-) -> Listed
+) -> Option<usize>
     requires { Writable (name_in program.now goal.now places.now) letters.now bound.now cells.now end }
     ensures { ListedAs
         (numbered_end (name_in program.now goal.now places.now) letters.now
@@ -66,7 +59,7 @@ fn list_numbered<'a>(
 {
     if is_ample(out.len(), bound.len(), cells.len()) {
         let all = put_end(out, program, goal, places, letters, bound, cells, end);
-        return Listed::Written(all);
+        return Some(all);
     }
     let mut none = [0; 1];
     let size = put_end(
@@ -80,10 +73,10 @@ fn list_numbered<'a>(
         end,
     );
     if out.len() < size {
-        return Listed::TooShort;
+        return None;
     }
     put_end(out, program, goal, places, letters, bound, cells, end);
-    Listed::Written(size)
+    Some(size)
 }
 
 // The listing of a final state; its variables are numbered in place.
@@ -96,7 +89,7 @@ pub fn list_end<'a>(
     bound: &[u16],
     cells: &mut [u16],
     end: End,
-) -> Listed
+) -> Option<usize>
     requires { Listable end.alive end.next bound.now cells.old }
     ensures { ListedAs (end_bytes program.now goal.now places.now letters.now
         bound.now cells.old end) out.old out.new result }

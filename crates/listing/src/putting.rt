@@ -99,11 +99,9 @@ pub fn put_fields<'a>(
         letters.now n) cells.now)) at out.old out.new result }
 {
     let mut end = at;
-    let mut i = 0;
-    while i < cells.len() {
+    for cell in cells {
         let field = put_byte(out, end, b',');
-        end = put_cell(out, field, program, goal, places, letters, n, cells[i]);
-        i += 1;
+        end = put_cell(out, field, program, goal, places, letters, n, *cell);
     }
     put_byte(out, end, b'\n')
 }
@@ -163,22 +161,10 @@ pub fn put_rows<'a>(
         out.old out.new result }
 {
     let mut end = at;
-    let mut i = 0;
-    while CONSTRAINT_SIZE * i + CONSTRAINT_SIZE <= cells.len() {
-        let a = CONSTRAINT_SIZE * i;
-        let e = a + CONSTRAINT_SIZE;
+    for row in cells.chunks_exact(CONSTRAINT_SIZE) {
         let from = behind(end, out.len());
-        let size = put_row(
-            &mut out[from..],
-            program,
-            goal,
-            places,
-            letters,
-            mark,
-            &cells[a..e],
-        );
+        let size = put_row(&mut out[from..], program, goal, places, letters, mark, row);
         end += size;
-        i += 1;
     }
     end
 }
@@ -225,8 +211,7 @@ pub fn put_bounds<'a>(
         (map cell_term bound.now)) at out.old out.new result }
 {
     let mut end = at;
-    let mut i = 0;
-    while i < bound.len() {
+    for (i, x) in bound.iter().enumerate() {
         let start = behind(end, out.len());
         let size = put_bound(
             &mut out[start..],
@@ -236,10 +221,9 @@ pub fn put_bounds<'a>(
             letters,
             bound.len(),
             i,
-            bound[i],
+            *x,
         );
         end += size;
-        i += 1;
     }
     end
 }

@@ -28,11 +28,9 @@ pub fn copy(out: &mut [u8], at: usize, part: &[u8]) -> usize
     requires { Countable at part.now }
     ensures { Writes part.now at out.old out.new result }
 {
-    let mut end = at;
-    let mut i = 0;
-    while i < part.len() {
-        end = put_byte(out, end, part[i]);
-        i += 1;
+    let end = at + part.len();
+    if end <= out.len() {
+        out[at..end].copy_from_slice(part);
     }
     end
 }

@@ -1,5 +1,5 @@
 -- Laws of the lines and pages that the writers put one behind the other: what each leaves to count, and what it adds.
---   fill-…         spaces up to a place
+--   fill-…         spaces up to a place: none, those that fit, those that do not
 --   indent-…       what stands before a row's bytes
 --   margin-…, aligned-…     a number at the right of 4 columns, and how many spaces stand before it
 --   line-…         a line of a page
@@ -9,25 +9,25 @@
 --   Paging, paging-…     the pages of a listing, one page on
 --   pages-count, pages-ample     all of them can be counted, and fit an ample output
 -- Assumes nothing.
-use mathlib.Core.Path.{◌≡◌, refl, ap, ◌∙◌}
+use Rattle.std.specs.Prelude.{Some}
+use mathlib.Core.Path.{◌≡◌, refl, sym, ap, ◌∙◌}
 use mathlib.Core.Bool.{Bool, true, false}
 use mathlib.Core.List.{List, [], ◌∷◌, ◌++◌}
-use Prim.Native.Nat.{ℕ, suc, ◌+◌, ◌-◌, ◌*◌, ◌/◌, ◌≤◌, ◌<◌, min}
+use Prim.Native.Nat.{ℕ, zero, suc, ◌+◌, ◌-◌, ◌*◌, ◌/◌, ◌≤◌, ◌<◌, min}
 use native.Mathlib.Decide.{dec_lt}
 use native.Mathlib.Nat.{not-suc-le-zero}
 use native.Mathlib.Numerals.{add-one}
 use native.Mathlib.Omega.{arith}
-use lib.ListN.{length, drop, length-append}
+use lib.ListN.{length, take, drop, replicate, length-append, length-take, length-drop}
 use lib.Seq.{drop-drop}
 use Rattle.text.specs.Fields.{decimal}
 use Rattle.text.specs.Keys.{word}
 use Rattle.text.specs.Splits.{part}
 use Rattle.text.proofs.Decimals.{decimal-low, decimal-high}
 use Rattle.listing.specs.Writing.{Countable, Writes, ListedAs}
-use Rattle.listing.specs.declared.Listed.TheVariants.{Written}
-use Rattle.listing.proofs.WriteLaws.{wrote_none, wrote_then, wrote-is, part_from, part_back, wrote-behind, size-behind}
+use Rattle.listing.proofs.WriteLaws.{wrote_none, wrote-part, wrote-past, wrote_then, wrote-is, part_from, part_back, wrote-behind, size-behind}
 use Rattle.listing.proofs.WriteLaws.{count-front, count-first, count_next}
-use Rattle.listing.proofs.WriteLaws.{Writing, writing_start, writing-first, writing-room, writing-next, writing-line, writing-end}
+use Rattle.listing.proofs.WriteLaws.{Writing, writing_start, writing-first, writing-room, writing-line, writing-end}
 use Rattle.listing.proofs.EndLaws.{listed-written}
 use Rattle.pages.specs.Pages.{spaces, filled, page_line, pieces, row_lines, aligned, head_line, page_of, pages_from, pages_of}
 use Rattle.pages.specs.Pages.{page_size, max_pages}
@@ -38,18 +38,28 @@ use Rattle.pages.proofs.PieceLaws.{pieces-cons, row_lines-take}
 use Rattle.pages.proofs.SizeLaws.{spaces-size}
 use Rattle.pages.proofs.PlaceLaws.{rows_whole, rows_none, rows_left}
 
--- spaces up to a place, one on
-pub fill-next : {whole o p q : List ℕ} {from end more : ℕ} (to : ℕ) → Writing whole from o p end (spaces (to - end)) → end < to
-    → Writes (32 ∷ []) end p q more → length q ≡ length p → Writing whole from o q more (spaces (to - more))
+-- spaces are so many of one byte
+spaces-are : (n : ℕ) → spaces n ≡ replicate n 32
 unfolding spaces
-fill-next {end = end} {more = more} to w h v k =
-    let step : to - end ≡ suc (to - more) = omega (arith, v.counted) in
-    writing-next (spaces (to - more)) (ap spaces step) w v k
+spaces-are zero = refl
+spaces-are (suc n) = ap (λ (l : List ℕ). 32 ∷ l) (spaces-are n)
 
-pub fill_end : {whole o p : List ℕ} {from end : ℕ} (to : ℕ) → Writing whole from o p end (spaces (to - end)) → to ≤ end
-    → Writes whole from o p end
+-- no spaces, spaces that fit, and spaces that do not
+pub fill-none : (o : List ℕ) (from to : ℕ) → to ≤ from → Writes (spaces (to - from)) from o o from
 unfolding spaces
-fill_end {end = end} to w h = writing-end w (ap spaces (let z : to - end ≡ 0 = omega arith in z))
+fill-none o from to h = let none : to - from ≡ 0 = omega arith in rw none (wrote_none o from)
+
+pub fill-part : {o now : List ℕ} (from to : ℕ) → from < to → to ≤ length o
+    → now ≡ replicate (length (take (to - from) (drop from o))) 32
+    → Writes (spaces (to - from)) from o (take from o ++ (now ++ drop (to - from) (drop from o))) to
+fill-part {o} {now} from to h k e =
+    let size : length (take (to - from) (drop from o)) ≡ to - from =
+    omega (arith, length-take (to - from) (drop from o), length-drop from o) in
+    let same : now ≡ spaces (to - from) = e ∙ ap (λ (n : ℕ). replicate n 32) size ∙ sym (spaces-are (to - from)) in
+    wrote-part from to (omega (arith, spaces-size (to - from))) same
+
+pub fill-past : (o : List ℕ) (from to : ℕ) → from < to → length o < to → Writes (spaces (to - from)) from o o to
+fill-past o from to h k = wrote-past (spaces (to - from)) o from to (omega (arith, spaces-size (to - from))) k
 
 -- what stands before a row's bytes
 pub indent-put : {inside : Bool} {end : ℕ} {o p : List ℕ} → inside ≡ true → Writes (32 ∷ 32 ∷ []) 0 o p end
@@ -396,6 +406,6 @@ module _ (s : List ℕ) (few : length (pages_of s) ≤ max_pages * page_size) wh
   unfolding max_pages page_size
   pages-count = record { few = omega arith }
 
-  pub pages-ample : {o p : List ℕ} {n : ℕ} → 41820 ≤ length o → Writes (pages_of s) 0 o p n → ListedAs (pages_of s) o p (Written n)
+  pub pages-ample : {o p : List ℕ} {n : ℕ} → 41820 ≤ length o → Writes (pages_of s) 0 o p n → ListedAs (pages_of s) o p (Some n)
   unfolding max_pages page_size
   pages-ample h w = listed-written w (omega (arith, w.counted)) w

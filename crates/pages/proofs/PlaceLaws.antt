@@ -4,6 +4,10 @@
 --   rows_whole                 the rows from the beginning of a line are those of the lines
 --   row_cut, row-ended, row_last     the row at a place: cut where the line is longer, up to its line feed, up to the end
 -- Assumes nothing.
+use Rattle.std.specs.Prelude.{Option, MatchOption}
+use Rattle.std.specs.Option.{unwrap_or}
+use Rattle.std.specs.List.{AllWithin, HoldsAt}
+use Rattle.std.proofs.lemmas.Iterator.{index_from_first}
 use mathlib.Core.Path.{◌≡◌, refl, sym, ap, ◌∙◌}
 use mathlib.Core.Bool.{Bool, true, false}
 use mathlib.Core.List.{List, [], ◌∷◌, ◌++◌, map}
@@ -12,8 +16,8 @@ use native.Mathlib.Decide.{ℕ_discrete}
 use native.Mathlib.Nat.{not-suc-le-zero, zero-add}
 use native.Mathlib.Numerals.{add-one}
 use native.Mathlib.Omega.{arith}
-use lib.ListN.{length, take, drop, get_or, length-take, length-drop, drop_of_length-le}
-use lib.Seq.{drop-cons, drop-drop, take-take, take_all, length-take-le}
+use lib.ListN.{length, take, drop, length-take, length-drop, drop_of_length-le}
+use lib.Seq.{drop-drop, take-take, take_all, length-take-le}
 use Rattle.text.specs.Cursors.{before}
 use Rattle.text.specs.Lines.{Line, lines}
 use Rattle.text.specs.Lists.{gather}
@@ -45,25 +49,22 @@ before-behind (suc k) x (b ∷ s) h = go (before-behind k x s)
       | no e ↦ omega (arith, before-not x b s e, more (omega (arith, h, before-not x b s e)))
     ]
 
--- no byte from `at` up to i is a line feed
-module _ (s : List ℕ) (at i : ℕ) (same : i + before 10 (drop i s) ≡ at + before 10 (drop at s)) where
-  pub feed-here : i < length s → get_or s i 0 ≡ 10 → i ≡ line_end s at
-  unfolding line_end
-  feed-here h e =
-      let none : before 10 (drop i s) ≡ 0 = rw (drop-cons s i 0 h) (before-is 10 (get_or s i 0) (drop (suc i) s) e) in
-      omega arith
+-- what is left of a listing, as it is lent, and its first line feed
+abbrev left : List ℕ → ℕ → List ℕ
+left s at = take (length s - at) (drop at s)
 
-  pub feed-step : i < length s → (get_or s i 0 ≡ 10 → ⊥) → i + 1 + before 10 (drop (i + 1) s) ≡ at + before 10 (drop at s)
-  feed-step h e =
-      let more : before 10 (drop i s) ≡ suc (before 10 (drop (suc i) s)) =
-      rw (drop-cons s i 0 h) (before-not 10 (get_or s i 0) (drop (suc i) s) e) in
-      rw (add-one i) (omega arith)
-
-  pub feed-none : length s ≤ i → i ≡ line_end s at
-  unfolding before line_end
-  feed-none h =
-      let none : before 10 (drop i s) ≡ 0 = rw (drop_of_length-le s h) in
-      omega arith
+pub feed-first : (s : List ℕ) (at : ℕ) (r : Option ℕ)
+    → MatchOption r (AllWithin (λ (x : ℕ). x ≡ 10 → ⊥) (left s at) 0 (length (left s at)))
+    (λ i. (i < length (left s at)) × HoldsAt (λ (x : ℕ). x ≡ 10) (left s at) i
+    × AllWithin (λ (x : ℕ). x ≡ 10 → ⊥) (left s at) 0 i)
+    → at + unwrap_or r (length (left s at)) ≡ line_end s at
+unfolding before line_end
+feed-first s at r h =
+    let all : left s at ≡ drop at s = take_all (length s - at) (drop at s) (omega (arith, length-drop at s)) in
+    let first : before 10 (left s at) ≡ unwrap_or r (length (left s at)) =
+    index_from_first (before 10) (λ (x : ℕ). x ≡ 10) (λ (x : ℕ). x ≡ 10 → ⊥) refl (λ x xs e. before-is 10 x xs e)
+    (λ x xs e. before-not 10 x xs e ∙ sym (add-one (before 10 xs))) (left s at) r h in
+    ap (λ (n : ℕ). at + n) (sym first ∙ ap (before 10) all)
 
 -- a line ends within the listing, and not before a place of it
 feed-within : (s : List ℕ) (at : ℕ) → at ≤ length s → line_end s at ≤ length s

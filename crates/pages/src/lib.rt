@@ -8,7 +8,6 @@ ghost use Rattle.std.specs.Prelude.{◌*◌, ◌≤◌, length};
 ghost use Rattle.listing.specs.Writing.{Countable, Writes, ListedAs};
 ghost use Rattle.pages.specs.Pages.{pages_of, page_size, max_pages};
 
-use listing::Listed;
 use listing::writing::behind;
 use page::put_page;
 use text::fields::word_at;
@@ -54,19 +53,19 @@ fn put_pages(out: &mut [u8], listing: &[u8]) -> usize
 }
 
 // The pages of a listing: written at once where those of every listing of a check fit, and elsewhere counted first.
-pub fn list_pages(out: &mut [u8], listing: &[u8]) -> Listed
+pub fn list_pages(out: &mut [u8], listing: &[u8]) -> Option<usize>
     requires { length (pages_of listing.now) ≤ max_pages * page_size }
     ensures { ListedAs (pages_of listing.now) out.old out.new result }
 {
     if AMPLE_PAGES <= out.len() {
         let all = put_pages(out, listing);
-        return Listed::Written(all);
+        return Some(all);
     }
     let mut none = [0; 1];
     let size = put_pages(&mut none[..0], listing);
     if out.len() < size {
-        return Listed::TooShort;
+        return None;
     }
     put_pages(out, listing);
-    Listed::Written(size)
+    Some(size)
 }

@@ -13,11 +13,13 @@ use listing::writing::{behind, copy, put_byte, put_decimal};
 fn fill(out: &mut [u8], from: usize, to: usize) -> usize
     ensures { Writes (spaces (to - from)) from out.old out.new result }
 {
-    let mut end = from;
-    while end < to {
-        end = put_byte(out, end, b' ');
+    if to <= from {
+        return from;
     }
-    end
+    if to <= out.len() {
+        out[from..to].fill(b' ');
+    }
+    to
 }
 
 // The two spaces in front of bytes that continue a line, at the front of an output.
@@ -88,8 +90,7 @@ fn put_rows(out: &mut [u8], from: usize, listing: &[u8], start: usize, continued
     let mut end = from;
     let mut at = start;
     let mut inside = continued;
-    let mut i: usize = 0;
-    while i < 58 {
+    for _ in 0..58usize {
         let row = next_row(listing, at, inside);
         let e = row.end;
         let begin = behind(end, out.len());
@@ -97,7 +98,6 @@ fn put_rows(out: &mut [u8], from: usize, listing: &[u8], start: usize, continued
         end += size;
         at = row.next;
         inside = row.inside;
-        i += 1;
     }
     Place { end, at, inside }
 }

@@ -10,14 +10,8 @@ fn line_end(listing: &[u8], at: usize) -> usize
     requires { at ≤ length listing.now }
     ensures { result ≡ line_end listing.now at }
 {
-    let mut i = at;
-    while i < listing.len() {
-        if listing[i] == b'\n' {
-            return i;
-        }
-        i += 1;
-    }
-    i
+    let rest = &listing[at..];
+    at + rest.iter().position(|b| *b == b'\n').unwrap_or(rest.len())
 }
 
 // How many bytes of a line a row holds: fewer where they continue it.

@@ -5,6 +5,7 @@
 --   pages-refused, pages-passed, pages-failed     what is promised of the answer with pages
 --   answer-small, pages-returned     its number, for the C export
 -- Assumes nothing.
+use Rattle.std.specs.Prelude.{Option, None, Some}
 use Prim.Native.Nat.{ℕ, ◌*◌, ◌≤◌, ◌<◌}
 use native.Mathlib.Omega.{arith}
 use mathlib.Core.Bool.{Bool, true, false}
@@ -14,8 +15,6 @@ use lib.ListN.{length, take}
 use Rattle.syntax.specs.Answers.{Answer, refused, accepted}
 use Rattle.syntax.specs.Programs.{Reading, read_program}
 use Rattle.listing.specs.Writing.{ListedAs}
-use Rattle.listing.specs.declared.Listed.{Listed}
-use Rattle.listing.specs.declared.Listed.TheVariants.{TooShort, Written}
 use Rattle.pages.specs.Pages.{pages_of, page_size, max_pages}
 use Rattle.replies.specs.Replies.{Text, program_text, Reply, refusal, listing, reply_of, fitted, check_listing, check_reply, ample}
 use Rattle.replies.specs.Replies.{Layout, plain, paged, laid_reply, output_after}
@@ -78,13 +77,13 @@ laid-listed layout s room bytes h =
     rw e (ap (λ (l : List ℕ). fitted program_text room (layout.laid l)) same)
 
 -- the pages of a listing as an answer
-module _ {bytes before after : List ℕ} {reply : Listed} (l : ListedAs (pages_of bytes) before after reply) where
-  pub lay-short : (passes : Bool) → reply ≡ TooShort
+module _ {bytes before after : List ℕ} {reply : Option ℕ} (l : ListedAs (pages_of bytes) before after reply) where
+  pub lay-short : (passes : Bool) → reply ≡ None
       → PagesReplied passes bytes before after (Refused (record { number = 11; text = S; line = 0 }))
   lay-short passes e =
       record { replied = check-short l e; no-fail = λ _. refused-no-fail; no-pass = λ _. refused-no-pass }
 
-  pub lay-passed : {passes : Bool} → passes ≡ true → (n : ℕ) → reply ≡ Written n
+  pub lay-passed : {passes : Bool} → passes ≡ true → (n : ℕ) → reply ≡ Some n
       → PagesReplied passes bytes before after (Confluent n)
   lay-passed {passes} is n e =
       record {
@@ -93,7 +92,7 @@ module _ {bytes before after : List ℕ} {reply : Listed} (l : ListedAs (pages_o
         no-pass = λ h. absurd (let z : ◌≡◌ {A = ℕ} 0 1 = cc in omega arith);
       }
 
-  pub lay-failed : {passes : Bool} → passes ≡ false → (n : ℕ) → reply ≡ Written n
+  pub lay-failed : {passes : Bool} → passes ≡ false → (n : ℕ) → reply ≡ Some n
       → PagesReplied passes bytes before after (Unjoined n)
   lay-failed {passes} is n e =
       record {

@@ -10,7 +10,6 @@ ghost use Rattle.paging.specs.Paging.{PagesReplied};
 
 use answers::{CheckReply, Refusal, TextName};
 use checking::check;
-use listing::Listed;
 use pages::list_pages;
 
 // The pages of a listing, or number 11; `passes` says that it is a pass's.
@@ -19,12 +18,12 @@ fn lay(listing: &[u8], passes: bool, output: &mut [u8]) -> CheckReply
     ensures { PagesReplied «passes» listing.now output.old output.new result }
 {
     match list_pages(output, listing) {
-        Listed::TooShort => CheckReply::Refused(Refusal {
+        None => CheckReply::Refused(Refusal {
             number: 11,
             text: TextName::S,
             line: 0,
         }),
-        Listed::Written(n) => {
+        Some(n) => {
             if passes {
                 return CheckReply::Confluent(n);
             }

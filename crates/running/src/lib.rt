@@ -14,7 +14,7 @@ use answers::{Refusal, RunReply, TextName};
 use engine::derivation::{Final, normalise};
 use engine::entering::start_bound;
 use goals::{GoalRead, read_goal};
-use listing::{End, Listed, list_end};
+use listing::{End, list_end};
 use programs::{Counts, ProgramRead, read_program};
 use tables::layout::{CONSTRAINT_SIZE, MAX_SYMBOLS, SYMBOL_SIZE};
 use tables::wide;
@@ -61,12 +61,12 @@ fn list<'a>(
         output.old output.new result }
 {
     match list_end(output, program, goal, places, letters, bound, cells, end) {
-        Listed::TooShort => RunReply::Refused(Refusal {
+        None => RunReply::Refused(Refusal {
             number: 11,
             text: TextName::G,
             line: 0,
         }),
-        Listed::Written(n) => RunReply::Listed(n),
+        Some(n) => RunReply::Listed(n),
     }
 }
 

@@ -8,6 +8,7 @@
 --   overlap-listed           it is that of the verdict on the overlap that the tables hold
 --   overlap-named            and the same under namings that agree on what it holds
 -- Assumes nothing.
+use Rattle.std.specs.Prelude.{Option}
 use mathlib.Core.Path.{◌≡◌, refl, sym, ap, ap₂, ◌∙◌, subst}
 use mathlib.Core.Bool.{Bool, true}
 use mathlib.Core.List.{List, [], ◌∷◌, ◌++◌, map, append_assoc, append-nil}
@@ -36,7 +37,6 @@ use Rattle.listing.specs.Writing.{Countable, Writes, ListedAs}
 use Rattle.listing.specs.Ends.{placed, numbered_end, end_bytes, Listable, EndNumbered, Writable}
 use Rattle.verdicts.specs.Checks.{rules_line, front_bytes, numbered_ends, shown_bytes, final_of, Shaped, OverlapWritable}
 use Rattle.verdicts.specs.Checks.{OverlapListable, ShownBy, OverlapListed}
-use Rattle.listing.specs.declared.Listed.{Listed}
 use Rattle.verdicts.specs.declared.Shown.{Shown}
 use Rattle.listing.proofs.WriteLaws.{wrote_none, wrote-is, wrote-both, count-is}
 use Rattle.listing.proofs.WriteLaws.{part_from, part_back}
@@ -297,7 +297,7 @@ verdict-is program places goal bounds one two s o h =
     (append_assoc rules (pairs ++ rows) ends ∙ ap (λ (l : List ℕ). rules ++ l) (append_assoc pairs rows ends))
 
 pub overlap-listed : (program places goal bounds one one' two two' : List ℕ) (s : Shown) (m n : ℕ)
-    {before after : List ℕ} {reply : Listed} → OverlapListable goal bounds one two s
+    {before after : List ℕ} {reply : Option ℕ} → OverlapListable goal bounds one two s
     → EndNumbered s.one.alive (length (take s.variables bounds)) one one' m
     → EndNumbered s.two.alive (length (drop s.variables bounds)) two two' n
     → ListedAs (shown_bytes (name_in program [] places) goal bounds one' two' s) before after reply

@@ -6,7 +6,7 @@
 --   OverlapListable, OverlapListed     what listing an overlap asks and promises
 -- The names are in the program's text alone. What the goal's variables became is in `bounds`: for the first end, then for the
 -- second. Assumes nothing.
-use Rattle.std.specs.Prelude.{ℕ, ◌+◌, ◌≤◌, ◌<◌, true, List, [], ◌∷◌, ◌++◌, ◌≡◌, length, take, drop}
+use Rattle.std.specs.Prelude.{ℕ, ◌+◌, ◌≤◌, ◌<◌, true, List, [], ◌∷◌, ◌++◌, ◌≡◌, Option, length, take, drop}
 use Rattle.text.specs.Bytes.{ascii}
 use Rattle.text.specs.Lists.{every}
 use Rattle.semantics.specs.Terms.{is_below}
@@ -21,7 +21,6 @@ use Rattle.verdicts.specs.Verdicts.{pair_lines, verdict_listing}
 use Rattle.listing.specs.Writing.{Countable, ListedAs}
 use Rattle.listing.specs.Ends.{placed, numbered_end, Listable, Writable}
 use Rattle.listing.specs.declared.End.{End}
-use Rattle.listing.specs.declared.Listed.{Listed}
 use Rattle.verdicts.specs.declared.Shown.{Shown}
 
 -- the line of an overlap's rules
@@ -88,7 +87,7 @@ pub record ShownBy (naming : Naming) (goal : List ℕ) (s : Shown) (o : Overlap)
   pub goal-own : every (λ c. every (is_below s.variables) c.terms) o.goal.constraints ≡ true
 
 -- what it promises: the listing of the verdict on the overlap that the tables hold, with the ends that they hold
-pub record OverlapListed (program places goal bounds one two : List ℕ) (s : Shown) (before after : List ℕ) (reply : Listed)
+pub record OverlapListed (program places goal bounds one two : List ℕ) (s : Shown) (before after : List ℕ) (reply : Option ℕ)
     : Type 0 where
   pub listed : (o : Overlap) → ShownBy (name_in program [] places) goal s o
       → ListedAs

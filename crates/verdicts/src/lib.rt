@@ -12,10 +12,10 @@ ghost use Rattle.verdicts.specs.Verdicts.{pair_lines};
 ghost use Rattle.verdicts.specs.Checks.{rules_line, front_bytes, numbered_ends, shown_bytes};
 ghost use Rattle.verdicts.specs.Checks.{Shaped, EndsWritable, OverlapWritable, OverlapListable, OverlapListed};
 
+use listing::End;
 use listing::ends::{number_end, put_end};
 use listing::putting::{Mark, put_head, put_rows};
 use listing::writing::{behind, copy, put_byte, put_decimal};
-use listing::{End, Listed};
 use tables::layout::FIRST_RULE;
 use tables::names::name;
 
@@ -33,16 +33,16 @@ pub struct Shown {
 }
 
 // The listing of a pass: its one line.
-pub fn list_pass(out: &mut [u8], n: usize) -> Listed
+pub fn list_pass(out: &mut [u8], n: usize) -> Option<usize>
     ensures { ListedAs (line_of (ascii "CONFLUENT") (decimal n ∷ [])) out.old out.new result }
 {
     let mut none = [0; 1];
     let size = put_head(&mut none[..0], b"CONFLUENT,", n);
     if out.len() < size {
-        return Listed::TooShort;
+        return None;
     }
     put_head(out, b"CONFLUENT,", n);
-    Listed::Written(size)
+    Some(size)
 }
 
 // The first line of an overlap: the names of its rules.
@@ -88,12 +88,10 @@ pub fn put_pairs(out: &mut [u8], at: usize, partners: &[usize]) -> usize
     ensures { Writes (pair_lines 1 partners.now) at out.old out.new result }
 {
     let mut end = at;
-    let mut i = 0;
-    while i < partners.len() {
+    for (i, partner) in partners.iter().enumerate() {
         let from = behind(end, out.len());
-        let size = put_pair(&mut out[from..], i + 1, partners[i]);
+        let size = put_pair(&mut out[from..], i + 1, *partner);
         end += size;
-        i += 1;
     }
     end
 }
@@ -204,7 +202,7 @@ fn list_shown<'a>(
     one: &[u16],
     two: &[u16],
     shown: Shown,
-) -> Listed
+) -> Option<usize>
     requires { OverlapWritable (name_in program.now [] places.now) goal.now bounds.now one.now two.now shown }
     ensures { ListedAs
         (shown_bytes (name_in program.now [] places.now) goal.now bounds.now
@@ -222,10 +220,10 @@ fn list_shown<'a>(
         shown,
     );
     if out.len() < size {
-        return Listed::TooShort;
+        return None;
     }
     put_overlap(out, program, places, goal, bounds, one, two, shown);
-    Listed::Written(size)
+    Some(size)
 }
 
 // The listing of an unjoined overlap; the variables of its ends are numbered in place.
@@ -238,7 +236,7 @@ pub fn list_overlap<'a>(
     one: &mut [u16],
     two: &mut [u16],
     shown: Shown,
-) -> Listed
+) -> Option<usize>
     requires { OverlapListable goal.now bounds.now one.old two.old shown }
     ensures { OverlapListed program.now places.now goal.now bounds.now
         one.old two.old shown out.old out.new result }

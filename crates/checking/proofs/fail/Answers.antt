@@ -2,10 +2,10 @@
 use Rattle.checking.proofs.CheckingLaws.{overlap-short, overlap-written}
 use Rattle.checking.proofs.fail.Goals as goal
 
-pub returns-in-TooShort : goal.returns-in-TooShort
-returns-in-TooShort c =
-    overlap-short c.list_overlap.ensures c.in-TooShort.is
+pub returns-in-None : goal.returns-in-None
+returns-in-None c =
+    overlap-short c.list_overlap.ensures c.in-None.is
 
-pub returns-in-Written : goal.returns-in-Written
-returns-in-Written c =
-    overlap-written c.list_overlap.ensures _ c.in-Written.is
+pub returns-in-Some : goal.returns-in-Some
+returns-in-Some c =
+    overlap-written c.list_overlap.ensures _ c.in-Some.is

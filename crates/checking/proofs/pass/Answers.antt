@@ -2,9 +2,9 @@
 use Rattle.checking.proofs.CheckingLaws.{pass-short, pass-written}
 use Rattle.checking.proofs.pass.Goals as goal
 
-pub returns-in-TooShort : goal.returns-in-TooShort
-returns-in-TooShort c = pass-short c.list_pass.ensures c.in-TooShort.is
+pub returns-in-None : goal.returns-in-None
+returns-in-None c = pass-short c.list_pass.ensures c.in-None.is
 
-pub returns-in-Written : goal.returns-in-Written
-returns-in-Written c =
-    pass-written c.list_pass.ensures _ c.in-Written.is
+pub returns-in-Some : goal.returns-in-Some
+returns-in-Some c =
+    pass-written c.list_pass.ensures _ c.in-Some.is

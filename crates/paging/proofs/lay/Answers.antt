@@ -4,11 +4,11 @@ use Rattle.paging.proofs.lay.Goals as goal
 
 pub returns-then-passes : goal.returns-then-passes
 returns-then-passes c =
-    lay-passed c.list_pages.ensures c.if-passes.true _ c.in-Written.is
+    lay-passed c.list_pages.ensures c.if-passes.true _ c.in-Some.is
 
-pub returns-in-TooShort : goal.returns-in-TooShort
-returns-in-TooShort c = lay-short c.list_pages.ensures _ c.in-TooShort.is
+pub returns-in-None : goal.returns-in-None
+returns-in-None c = lay-short c.list_pages.ensures _ c.in-None.is
 
 pub returns-else-passes : goal.returns-else-passes
 returns-else-passes c =
-    lay-failed c.list_pages.ensures c.if-passes.false _ c.in-Written.is
+    lay-failed c.list_pages.ensures c.if-passes.false _ c.in-Some.is

@@ -3,8 +3,8 @@ use borrow.Author.Rules.{rules}
 use Rattle.answers.proofs.ReplyLaws.{listed-short, listed-written}
 use Rattle.running.proofs.list.Goals as goal
 
-pub returns-in-TooShort : goal.returns-in-TooShort
-returns-in-TooShort c = search (rules, listed-short)
+pub returns-in-None : goal.returns-in-None
+returns-in-None c = search (rules, listed-short)
 
-pub returns-in-Written : goal.returns-in-Written
-returns-in-Written c = search (rules, listed-written)
+pub returns-in-Some : goal.returns-in-Some
+returns-in-Some c = search (rules, listed-written)

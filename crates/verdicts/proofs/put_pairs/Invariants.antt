@@ -1,6 +1,4 @@
 -- `verdicts::put_pairs` meets its contract: the lines of the heads before i are written. Assumes nothing.
-use Prim.Native.Nat.{◌≤◌, ◌-◌}
-use lib.ListN.{length}
 use Rattle.verdicts.specs.Verdicts.{pair_lines}
 use Rattle.listing.proofs.WriteLaws.{Writing}
 use Rattle.verdicts.proofs.CheckLaws.{pairs_from}
@@ -8,7 +6,4 @@ use Rattle.verdicts.proofs.put_pairs.Given as goal
 
 abbrev pub invariant-loop-i : goal.invariant-loop-i
 invariant-loop-i l =
-    (l.i ≤ length l.partners) × Writing (pair_lines 1 l.partners) l.at l.initial.out l.out l.end (pairs_from l.partners l.i)
-
-abbrev pub decreases-loop-i : goal.decreases-loop-i
-decreases-loop-i l = length l.partners - l.i
+    Writing (pair_lines 1 l.partners) l.at l.initial.out l.out l.end (pairs_from l.partners l.i)

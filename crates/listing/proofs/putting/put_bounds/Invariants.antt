@@ -1,7 +1,5 @@
 -- `listing::putting::put_bounds` meets its contract: the lines before i are written. Assumes nothing.
-use mathlib.Core.List.{map}
-use Prim.Native.Nat.{◌≤◌, ◌-◌}
-use lib.ListN.{length}
+use Rattle.std.proofs.Common.{map, length}
 use Rattle.tables.specs.Cells.{cell_term}
 use Rattle.tables.specs.Names.{name_in}
 use Rattle.listing.specs.Listing.{variable_name, bound_lines}
@@ -14,7 +12,4 @@ abbrev pub invariant-loop-i : goal.invariant-loop-i
 invariant-loop-i l =
     let naming = name_in l.program l.goal l.places in
     let whole = bound_lines naming (placed l.letters (length l.bound)) (variable_name l.letters) 0 (map cell_term l.bound) in
-    (l.i ≤ length l.bound) × Writing whole l.at l.initial.out l.out l.end (bounds_from naming l.letters l.bound l.i)
-
-abbrev pub decreases-loop-i : goal.decreases-loop-i
-decreases-loop-i l = length l.bound - l.i
+    Writing whole l.at l.initial.out l.out l.end (bounds_from naming l.letters l.bound l.i)

@@ -1,17 +1,10 @@
--- `listing::writing::copy` meets its contract: the bytes before i are written. Assumes nothing.
-use native.Mathlib.Omega.{arith}
-use Rattle.listing.proofs.WriteLaws.{writing_start}
-use Rattle.listing.proofs.LineLaws.{copy-count, copy-next, copy-end}
+-- `listing::writing::copy` meets its contract: where the part fits it is laid over the output. Assumes nothing.
+use Rattle.std.proofs.Common.{refl}
+use Rattle.listing.proofs.WriteLaws.{wrote-part, wrote-past}
 use Rattle.listing.proofs.writing.copy.Goals as goal
 
-pub loop-i-init : goal.loop-i-init
-loop-i-init c = (omega arith, writing_start _ _ _)
+pub returns-then-end-out : goal.returns-then-end-out
+returns-then-end-out c = wrote-part _ _ refl c.copy_from_slice.ensures.after
 
-pub put_byte-end-requires : goal.put_byte-end-requires
-put_byte-end-requires c = search copy-count
-
-pub loop-i-preserved : goal.loop-i-preserved
-loop-i-preserved c = (omega arith, search copy-next)
-
-pub returns : goal.returns
-returns c = search copy-end
+pub returns-else-end-out : goal.returns-else-end-out
+returns-else-end-out c = wrote-past _ _ _ _ refl c.if-end-out.false

@@ -1,22 +1,12 @@
--- `pages::page::fill` meets its contract: the spaces before `end` are written. Assumes nothing.
-use native.Mathlib.Omega.{arith}
-use Rattle.listing.proofs.WriteLaws.{writing_start}
-use Rattle.pages.proofs.PageLaws.{fill-next, fill_end}
+-- `pages::page::fill` meets its contract: no spaces, spaces that fit, and spaces that do not. Assumes nothing.
+use Rattle.pages.proofs.PageLaws.{fill-none, fill-part, fill-past}
 use Rattle.pages.proofs.page.fill.Goals as goal
 
-pub loop-end-init : goal.loop-end-init
-loop-end-init c = writing_start _ _ _
+pub returns-then-to-from : goal.returns-then-to-from
+returns-then-to-from c = fill-none _ _ _ c.if-to-from.true
 
-pub put_byte-end-requires : goal.put_byte-end-requires
-put_byte-end-requires c = record { few = omega arith }
+pub returns-then-to-out : goal.returns-then-to-out
+returns-then-to-out c = fill-part _ _ c.if-to-from.false c.if-to-out.true (c.fill.ensures.after (λ y e. e))
 
-pub loop-end-smaller : goal.loop-end-smaller
-loop-end-smaller c = omega (arith, c.put_byte-end.ensures.counted)
-
-pub loop-end-preserved : goal.loop-end-preserved
-loop-end-preserved c =
-    fill-next _ c.loop-end.invariant c.loop-end-test.true c.put_byte-end.ensures
-    c.put_byte-end.auto.out
-
-pub returns : goal.returns
-returns c = fill_end _ c.loop-end.invariant c.loop-end-test.false
+pub returns-else-to-out : goal.returns-else-to-out
+returns-else-to-out c = fill-past _ _ _ c.if-to-from.false c.if-to-out.false
