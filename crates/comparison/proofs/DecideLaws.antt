@@ -1,17 +1,12 @@
 -- The comparison step by step: what each step says of the answer.
 --   cells-…               two lists of cells
 --   renumbered-same       variables numbered anew
---   side-ready, numbered-…, compare-…   one step after the other
+--   straight-same, numbered-…, compare-answer   one step after the other
 -- Assumes nothing.
-use Prim.Native.Nat.{ℕ, suc, ◌+◌, ◌*◌, ◌≤◌, ◌<◌, max}
-use native.Mathlib.Omega.{arith}
-use native.Mathlib.Numerals.{add-one}
-use mathlib.Core.Bool.{Bool, true, false}
-use mathlib.Core.List.{List, []}
-use mathlib.Core.Logic.{◌⊎◌, inl, inr, ⊎_elim}
-use mathlib.Core.Path.{◌≡◌, refl, sym, ap, ◌∙◌}
-use lib.ListN.{length, get_or}
-use lib.Seq.{ext_get_or}
+use Rattle.std.proofs.Common.{◌≡◌, ℕ, ◌+◌, ◌*◌, ◌<◌, Bool, true, false, not, List, [], length, get_or, sym, ap, ◌∙◌, arith}
+use Rattle.std.specs.Str.{bytes_eq}
+use Rattle.std.proofs.lemmas.Slice.Eq.{bytes_eq-Decides}
+use borrow.Author.Tests.{not-true, not-false}
 use Rattle.text.specs.Lists.{every}
 use Rattle.text.proofs.ListLaws.{every-at}
 use Rattle.semantics.specs.Terms.{Constraint, State}
@@ -24,12 +19,10 @@ use Rattle.semantics.proofs.Comparison.{same_state-complete}
 use Rattle.tables.specs.Cells.{cell_term, cell_constraints}
 use Rattle.tables.specs.Cells.{is_low}
 use Rattle.tables.proofs.CellLaws.{constraints-length}
-use Rattle.tables.proofs.CellLaws.{le-or-lt, low-symbol}
+use Rattle.tables.proofs.CellLaws.{low-symbol}
 use Rattle.colours.specs.Rows.{row_of}
-use Rattle.colours.specs.Bounds.{Below}
 use Rattle.colours.specs.Ends.{end_of}
-use Rattle.comparison.specs.Comparing.{Side, Alike, BothNumbered}
-use Rattle.colours.specs.Classes.{Colourable}
+use Rattle.comparison.specs.Comparing.{Side, BothNumbered}
 use Rattle.colours.specs.Numbering.{Renames, Numbering, Renumbered}
 use Rattle.colours.specs.Colours.{digest, clipped}
 use Rattle.colours.proofs.RowLaws.{pointwise-at, rows-pointwise, row_at}
@@ -37,31 +30,15 @@ use Rattle.colours.proofs.AgreeLaws.{prefix-agree}
 use Rattle.colours.proofs.ClassLaws.{same-iff}
 use Rattle.colours.proofs.FirstLaws.{bound-differs, first-differs}
 
--- the cells before i are the same
-pub record Matching (a b : List ℕ) (i : ℕ) : Type 0 where
-  pub within : i ≤ length a
-  pub same : (k : ℕ) → k < i → get_or a k 0 ≡ get_or b k 0
+-- two lists of cells, by what `==` and `!=` find
+pub cells-same : (a b : List ℕ) → true ≡ bytes_eq a b → a ≡ b
+cells-same a b e = (bytes_eq-Decides a b).0 (sym e)
 
-pub cells-start : (a b : List ℕ) → Matching a b 0
-cells-start a b = record { within = omega arith; same = λ k h. absurd (omega arith) }
+pub cells-kept : (a b : List ℕ) → false ≡ not (bytes_eq a b) → a ≡ b
+cells-kept a b e = (bytes_eq-Decides a b).0 (not-false (bytes_eq a b) (sym e))
 
-pub cells-apart : (a b : List ℕ) (i : ℕ) → (get_or a i 0 ≡ get_or b i 0 → ⊥) → Alike false a b
-cells-apart a b i d = record { same = λ z. true-false z refl; apart = λ z e. d (ap (λ l. get_or l i 0) e) }
-
-module _ (a b : List ℕ) (i : ℕ) (s : length a ≡ length b) (w : Matching a b i) where
-  pub cells-done : length a ≤ i → Alike true a b
-  cells-done h =
-      record { same = λ z. ext_get_or 0 a b s (λ k l. w.same k (omega arith)); apart = λ z. true-false refl z }
-
-  pub cells-next : i < length a → get_or a i 0 ≡ get_or b i 0 → Matching a b (i + 1)
-  cells-next h e = rw (add-one i) (record { within = h; same = λ k l. go k l (le-cases k l) })
-    where
-      le-cases : (k : ℕ) → k < suc i → (k < i) ⊎ (k ≡ i)
-      le-cases k l = ⊎_elim (λ q. inr (omega arith)) (λ q. inl q) (le-or-lt i k)
-
-      go : (k : ℕ) → k < suc i → (k < i) ⊎ (k ≡ i) → get_or a k 0 ≡ get_or b k 0
-      go k l (inl q) = w.same k q
-      go k l (inr q) = rw q e
+pub cells-apart : (a b : List ℕ) → true ≡ not (bytes_eq a b) → a ≡ b → ⊥
+cells-apart a b e d = true-false ((bytes_eq-Decides a b).1 d) (not-true (bytes_eq a b) (sym e))
 
 -- variants of both states
 pub variants-same :
@@ -112,16 +89,6 @@ module _ (n : ℕ) (cells bound out bound' : List ℕ) (limit next : ℕ) (s : l
     multiset-of-pointwise (rows-pointwise n cells out s (l ∙ s) row-renumbered),
   )
 
-  -- its cells lie below the next number
-  pub renumbered-colourable : (size : ℕ) → next ≤ size → size ≤ 2844 → Colourable out bound' size n
-  renumbered-colourable size h k =
-      record {
-        count = l ∙ s;
-        room = k;
-        terms = record { below = λ i j m. omega (arith, r.below (5 * i + (1 + j))) };
-        bound-below = record { below = λ i. omega (arith, r.bound-below i) };
-      }
-
 -- states in the same order
 pub straight-same :
     (f a g b : List ℕ) → f ≡ g → a ≡ b → true ≡ same_state (end_of f a) (end_of g b)
@@ -130,30 +97,14 @@ straight-same f a g b e d =
 
 module _ (a f b g : List ℕ) (n limit size : ℕ) (p : BothNumbered a f b g n limit size) where
   -- what the goal variables became differs
-  pub numbered-bound : (s : Bool) → Alike s f g → s ≡ false → false ≡ same_state (end_of f a) (end_of g b)
-  numbered-bound s u e = sym (bound-differs f a g b limit p.limit-second p.ascending p.ascending-second (u.apart e))
+  pub numbered-bound : (f ≡ g → ⊥) → false ≡ same_state (end_of f a) (end_of g b)
+  numbered-bound d = sym (bound-differs f a g b limit p.limit-second p.ascending p.ascending-second d)
 
-  -- what deciding asks
-  pub numbered-ready : Colourable a f size n × Colourable b g size n × (length f ≡ length g) × (n ≤ 512)
-  numbered-ready = (p.first, p.second, p.bounds, p.few)
-
-  module _ (s : Bool) (u : Alike s f g) (e : s ≡ true) where
-    -- states in the same order
-    pub numbered-straight : (r : Bool) → Alike r a b → r ≡ true → true ≡ same_state (end_of f a) (end_of g b)
-    numbered-straight r v d = straight-same f a g b (u.same e) (v.same d)
-
-    -- the first digests differ
-    pub numbered-digest :
-        (x y : ℕ) → x ≡ digest (clipped limit) (cell_constraints a) → y ≡ digest (clipped limit) (cell_constraints b)
-        → (x ≡ y → ⊥) → false ≡ same_state (end_of f a) (end_of g b)
-    numbered-digest x y ex ey d = rw (← u.same e) (sym (first-differs f a b limit x y p.ascending ex ey d))
-
--- what numbering a state's variables asks, in room of these sizes
-pub side-ready :
-    (a : List ℕ) (n : ℕ) (f : List ℕ) (u v : ℕ) → Side a n f → u ≡ 5 * n → v ≡ length f
-    → Below 13596 a × Below 13596 f × (u ≡ length a) × (v ≡ length f) × (length a ≤ 2560) × (length f ≤ 28)
-side-ready a n f u v s e k =
-    (s.below, s.bound-below, e ∙ sym s.size, k, omega (arith, s.size, s.few), s.bound-few)
+  -- the first digests differ
+  pub numbered-digest :
+      f ≡ g → (x y : ℕ) → x ≡ digest (clipped limit) (cell_constraints a) → y ≡ digest (clipped limit) (cell_constraints b)
+      → (x ≡ y → ⊥) → false ≡ same_state (end_of f a) (end_of g b)
+  numbered-digest e x y ex ey d = rw (← e) (sym (first-differs f a b limit x y p.ascending ex ey d))
 
 -- two states with as many constraints and goal variables, and the two with their variables numbered
 module _ (a : List ℕ) (n : ℕ) (f b : List ℕ) (m : ℕ) (g : List ℕ) (s : Side a n f) (t : Side b m g) (e : n ≡ m)
@@ -172,20 +123,3 @@ module _ (a : List ℕ) (n : ℕ) (f b : List ℕ) (m : ℕ) (g : List ℕ) (s :
       h ∙ variants-same (end_of f a) (end_of g b) (end_of l ca) (end_of r cb)
       (renumbered-variant n a f ca l i x s.size size-a ll s.low ra)
       (renumbered-variant m b g cb r j y t.size size-b (lr ∙ o) t.low rb)
-
-  -- what the later steps ask
-  pub compare-ready : (size : ℕ) → size ≡ max x y → BothNumbered ca l cb r n i size
-  compare-ready size h =
-      let left-room : x ≤ 2844 = omega (arith, ra.most, s.size, s.few, s.bound-few) in
-      let right-room : y ≤ 2844 = omega (arith, rb.most, t.size, t.few, t.bound-few) in
-      let second' : Colourable cb r size m =
-      renumbered-colourable m b g cb r j y t.size size-b (lr ∙ o) t.low rb size (omega arith) (omega arith) in
-      record {
-        first = renumbered-colourable n a f ca l i x s.size size-a ll s.low ra size (omega arith) (omega arith);
-        second = rw (← e) at second';
-        bounds = ll ∙ sym lr;
-        few = s.few;
-        ascending = ra.ascending;
-        limit-second = j;
-        ascending-second = rb.ascending;
-      }

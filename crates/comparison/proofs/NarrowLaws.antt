@@ -1,17 +1,10 @@
 -- Classes made finer step by step: one law for each way that the code goes.
---   colourable-…      what colouring asks, with more room and after a step
---   order_same, order-right   another order of the constraints of one state
---   weigh-…           one step
---   narrowing-…       one step after the other
+--   colourable-after      what colouring asks, after a step
+--   order_same, order-right      another order of the constraints of one state
+--   narrowing-…           one step after the other
 -- Assumes nothing.
-use Prim.Native.Nat.{ℕ, ◌≤◌, ◌*◌}
-use native.Mathlib.Omega.{arith}
-use mathlib.Core.Bool.{Bool, true, false}
-use mathlib.Core.List.{List}
-use mathlib.Core.Path.{◌≡◌, refl, sym, ◌∙◌}
-use lib.ListN.{length}
+use Rattle.std.proofs.Common.{◌≡◌, ℕ, Bool, true, List, length, refl, sym, ◌∙◌}
 use Rattle.semantics.specs.Variants.{same_state}
-use Rattle.semantics.proofs.Options.{true-false}
 use Rattle.semantics.proofs.Multisets.{multiset-left, multiset-right, multiset-back}
 use Rattle.colours.specs.Bounds.{TermsBelow}
 use Rattle.colours.specs.Ends.{end_of}
@@ -19,20 +12,6 @@ use Rattle.colours.specs.Classes.{Colourable, Classified}
 use Rattle.colours.specs.Order.{Reordered}
 use Rattle.colours.proofs.ClassLaws.{same-iff}
 use Rattle.comparison.specs.Settlements.{Found}
-use Rattle.comparison.specs.Narrowings.{Weighed}
-
--- terms that have places in a table have them in a larger one
-terms-more : (m k : ℕ) (cells : List ℕ) → m ≤ k → TermsBelow m cells → TermsBelow k cells
-terms-more m k cells h b = record { below = λ i j l. omega (arith, b.below i j l) }
-
-pub colourable-more : (cells bound : List ℕ) (size n : ℕ) → Colourable cells bound size n → Colourable cells bound 2844 n
-colourable-more cells bound size n c =
-    record {
-      count = c.count;
-      room = omega arith;
-      terms = terms-more size 2844 cells c.room c.terms;
-      bound-below = record { below = λ i. omega (arith, c.bound-below.below i, c.room) };
-    }
 
 pub colourable-after :
     (cells bound cells' : List ℕ) (size n : ℕ) → Colourable cells bound size n → length cells' ≡ length cells
@@ -57,41 +36,6 @@ order-right f a g b b' r =
     same-iff (end_of f a) (end_of g b) (end_of f a) (end_of g b')
     (λ v. (v.0, v.1, v.2, multiset-right v.3 (multiset-back r.same)))
     (λ v. (v.0, v.1, v.2, multiset-right v.3 r.same))
-
-module _ (f a g b : List ℕ) (r : Bool) (a' b' : List ℕ) (k : Classified r f a g b a' b') where
-  -- the classes differ
-  pub classes-apart : r ≡ false → false ≡ same_state (end_of f a) (end_of g b)
-  classes-apart e = sym (k.apart e)
-
-  pub weigh-apart : r ≡ false → Weighed true false f a g b a' b'
-  weigh-apart e =
-      record {
-        answer = λ z. classes-apart e;
-        same = λ z. true-false refl z;
-        left = λ z. true-false refl z;
-        right = λ z. true-false refl z;
-      }
-
-  module _ (t : r ≡ true) where
-    -- all constraints are placed
-    pub weigh-found : (q : Bool) → Found q f a' g b' → q ≡ true → Weighed true true f a g b a' b'
-    weigh-found q w e =
-        record {
-          answer = λ z. sym (w.same e) ∙ k.same t;
-          same = λ z. true-false refl z;
-          left = λ z. true-false refl z;
-          right = λ z. true-false refl z;
-        }
-
-    -- the question is left
-    pub weigh-open : Weighed false false f a g b a' b'
-    weigh-open =
-        record {
-          answer = λ z. true-false z refl;
-          same = λ z. k.same t;
-          left = λ z. k.left t;
-          right = λ z. k.right t;
-        }
 
 -- two states that answer for two others
 pub record Narrowing (f a₀ g b₀ a b : List ℕ) (size n : ℕ) : Type 0 where
@@ -119,17 +63,6 @@ narrowing-classes f a g b size n ca cb r a' b' k t la lb =
     }
 
 module _ (f a₀ g b₀ a b : List ℕ) (size n : ℕ) (w : Narrowing f a₀ g b₀ a b size n) where
-  -- what the search asks
-  pub narrowing-left : Colourable a f 2844 n
-  narrowing-left = colourable-more a f size n w.left
-
-  pub narrowing-right : Colourable b g 2844 n
-  narrowing-right = colourable-more b g size n w.right
-
-  -- what the order asks
-  pub narrowing-arrange : (length a ≡ 5 * n) × TermsBelow 2844 a
-  narrowing-arrange = (w.left.count, narrowing-left.terms)
-
   -- the first state in another order
   pub narrowing-order : (a' : List ℕ) → length a' ≡ length a → Reordered a a' → Narrowing f a₀ g b₀ a' b size n
   narrowing-order a' l o =
@@ -159,20 +92,3 @@ module _ (f a₀ g b₀ a b : List ℕ) (size n : ℕ) (w : Narrowing f a₀ g b
   -- what a search finds
   pub narrowing-answer : (r : Bool) → r ≡ same_state (end_of f a) (end_of g b) → r ≡ same_state (end_of f a₀) (end_of g b₀)
   narrowing-answer r e = e ∙ w.same
-
-  module _ (decided equal : Bool) (a' b' : List ℕ) (v : Weighed decided equal f a g b a' b') where
-    -- a step decided
-    pub narrowing-decided : decided ≡ true → equal ≡ same_state (end_of f a₀) (end_of g b₀)
-    narrowing-decided t = v.answer t ∙ w.same
-
-    -- a step left the question
-    pub narrowing-next :
-        decided ≡ false → length a' ≡ length a → length b' ≡ length b → Narrowing f a₀ g b₀ a' b' size n
-    narrowing-next t la lb =
-        record {
-          left = colourable-after a f a' size n w.left la (v.left t);
-          right = colourable-after b g b' size n w.right lb (v.right t);
-          same = v.same t ∙ w.same;
-          left-size = la ∙ w.left-size;
-          right-size = lb ∙ w.right-size;
-        }

@@ -3,15 +3,11 @@
 --   pair-…, try-…              one partner
 --   placing-…                  one partner after the other
 -- Assumes nothing.
-use Prim.Native.Nat.{ℕ, zero, suc, ◌+◌, ◌-◌, ◌*◌, ◌≤◌, ◌<◌}
-use native.Mathlib.Omega.{arith}
-use native.Mathlib.Numerals.{add-one}
-use mathlib.Core.Bool.{Bool, true, false, cond, ◌||◌}
-use mathlib.Core.List.{List, [], ◌∷◌, ◌++◌}
-use mathlib.Core.Logic.{◌⊎◌, inl, inr}
-use mathlib.Core.Path.{◌≡◌, refl, sym, ap, ◌∙◌}
-use lib.Dec.{eqb}
-use lib.ListN.{length, get_or, set, take, drop, replicate, length-set, length-drop, drop_of_length-le}
+use Rattle.std.proofs.Common.{◌≡◌, ℕ, zero, suc, ◌+◌, ◌-◌, ◌*◌, ◌≤◌, ◌<◌, Bool, true, false, cond, ◌||◌, List, [], ◌∷◌, ◌++◌}
+use Rattle.std.proofs.Common.{length, get_or, set, take, drop, replicate, refl, sym, ap, ◌∙◌, arith, add-one, ◌⊎◌, inl, inr, eqb}
+use Rattle.std.proofs.Common.{length-set, length-drop}
+use Rattle.std.specs.Prelude.{Ok, Err}
+use lib.ListN.{drop_of_length-le}
 use lib.Seq.{get_or-set_same, get_or-set_other, set-set, set-get_or, get_or-drop, get_or-take, length-take-le, take_all}
 use borrow.Author.Tests.{eq-eqb, ne_eqb, eqb-true, eqb-false}
 use Rattle.text.specs.Lists.{onward, has}
@@ -22,7 +18,7 @@ use Rattle.tables.specs.Cells.{cell_constraints, cell_terms}
 use Rattle.tables.specs.Cells.{row_constraint}
 use Rattle.tables.proofs.CellLaws.{either, constraints-at}
 use Rattle.pairing.specs.Renamings.{Graph, Marks, Rows, RowsLinked, cleared}
-use Rattle.comparison.specs.Placements.{attempted, placed, Placing, PairedAt, Tried}
+use Rattle.comparison.specs.Placements.{attempted, placed, Placing, Unpaired, Paired, Tried}
 use Rattle.colours.proofs.RowLaws.{terms-row, terms-drop}
 
 -- no mark is set
@@ -86,27 +82,10 @@ behind-length a h = rw (behind-drop a) (omega (arith, length-drop 5 a))
 
 module _ (a b : List ℕ) (j : ℕ) (used : List Bool) (f g : List ℕ) (s : Placing a b used f g) (l : j < length used)
     (h : 5 ≤ length a) where
-  -- a partner that will not do
-  not-paired :
-      (fits : Bool) → fits ≡ false → (fresh : List Bool) → length fresh ≡ 4 → (f'' g'' : List ℕ) → f'' ≡ f → g'' ≡ g
-      → ((us : List ℕ) (ps : List Pair) → Marks used us → Graph f g ps → attempted a b j us ps ≡ false)
-      → PairedAt fits fresh a b j used f g used f'' g''
-  not-paired fits e fresh n f'' g'' ef eg d =
-      record {
-        apart = λ z. d;
-        kept = λ z. (refl, ef, eg);
-        free = λ z. true-false z e;
-        marked = λ z. true-false z e;
-        on = λ z. true-false z e;
-        size = n;
-        forth-back = λ z. true-false z e;
-        back-back = λ z. true-false z e;
-      }
-
   -- it is used
-  pub pair-used : get_or used j false ≡ true → (fresh : List Bool) → length fresh ≡ 4 → PairedAt false fresh a b j used f g used f g
+  pub pair-used : get_or used j false ≡ true → Unpaired a b j used f g used f g
   unfolding attempted
-  pair-used e fresh n = not-paired false refl fresh n f g refl refl (λ us ps m k. rw (← m.marked j, e))
+  pair-used e = record { apart = λ us ps m k. rw (← m.marked j, e); kept = (refl, refl, refl) }
 
   row : 5 * j + 5 ≤ length b
   row = omega (arith, s.partners)
@@ -150,16 +129,15 @@ module _ (a b : List ℕ) (j : ℕ) (used : List Bool) (f g : List ℕ) (s : Pla
         get_or-take 5 (drop (5 * j) b) 0 0 (omega arith) ∙ get_or-drop (5 * j) b 0 0 ∙ ap (λ n. get_or b n 0) e
 
     -- it has another symbol
-    pub pair-symbol :
-        (get_or a 0 0 ≡ get_or b (5 * j) 0 → ⊥) → (fresh : List Bool) → length fresh ≡ 4
-        → PairedAt false fresh a b j used f g used f g
+    pub pair-symbol : (get_or a 0 0 ≡ get_or b (5 * j) 0 → ⊥) → Unpaired a b j used f g used f g
     unfolding pair_constraint row_constraint
-    pair-symbol d fresh n =
-        not-paired false refl fresh n f g refl refl
-        (λ us ps m k. at-free us ps m ∙ rw (first-left, first-right, ne_eqb (get_or a 0 0) (get_or b (5 * j) 0) d))
+    pair-symbol d =
+        record {
+          apart = λ us ps m k. at-free us ps m ∙ rw (first-left, first-right, ne_eqb (get_or a 0 0) (get_or b (5 * j) 0) d);
+          kept = (refl, refl, refl);
+        }
 
-    module _ (e : get_or a 0 0 ≡ get_or b (5 * j) 0) (fits : Bool) (fresh : List Bool) (f' g' : List ℕ)
-        (w : RowsLinked (take 5 a) (lent b j) fits fresh f g f' g') where
+    module _ (e : get_or a 0 0 ≡ get_or b (5 * j) 0) where
       at-terms : (us : List ℕ) (ps : List Pair) → Marks used us
           → attempted a b j us ps
           ≡ onward (pair_terms (cell_terms (drop 1 (take 5 a))) (cell_terms (drop 1 (lent b j))) ps) false
@@ -170,78 +148,75 @@ module _ (a b : List ℕ) (j : ℕ) (used : List Bool) (f g : List ℕ) (s : Pla
 
       -- its terms cannot be made equal
       pub pair-apart :
-          fits ≡ false → (f'' g'' : List ℕ) → f'' ≡ cleared fresh (drop 1 (take 5 a)) f' → g'' ≡ cleared fresh (drop 1 (lent b j)) g'
-          → PairedAt fits fresh a b j used f g used f'' g''
-      pair-apart t f'' g'' cf cg =
-          not-paired fits t fresh w.size f'' g'' (cf ∙ w.forth-back) (cg ∙ w.back-back)
-          (λ us ps m k. at-terms us ps m ∙ rw (w.same.apart ps k t))
-
-      -- they can
-      pub pair-done : fits ≡ true → PairedAt fits fresh a b j used f g (set used j true) f' g'
-      unfolding placed
-      pair-done t =
+          (fresh : List Bool) (f' g' : List ℕ) → RowsLinked (take 5 a) (lent b j) (Err fresh) f g f' g' → (f'' g'' : List ℕ)
+          → f'' ≡ cleared fresh (drop 1 (take 5 a)) f' → g'' ≡ cleared fresh (drop 1 (lent b j)) g'
+          → Unpaired a b j used f g used f'' g''
+      pair-apart fresh f' g' w f'' g'' cf cg =
           record {
-            apart = λ z. true-false t z;
-            kept = λ z. true-false t z;
-            free = λ z. free;
-            marked = λ z. refl;
-            on = λ z us ps m k.
-                let (qs, x, q) = w.same.joined ps k t in
-                (qs, q, at-terms us ps m ∙ rw x);
-            size = w.size;
-            forth-back = λ z. w.forth-back;
-            back-back = λ z. rw (five j) at w.back-back;
+            apart = λ us ps m k. at-terms us ps m ∙ rw (w.same.apart ps k refl);
+            kept = (refl, cf ∙ w.forth-back, cg ∙ w.back-back);
           }
 
-  module _ (fits : Bool) (fresh : List Bool) (used' : List Bool) (f' g' : List ℕ)
-      (w : PairedAt fits fresh a b j used f g used' f' g') where
-    -- the first constraint cannot be placed there
-    pub try-apart : fits ≡ false → Tried false (attempted a b j) used f g used' f' g'
-    try-apart t = record { same = λ us ps m k. sym (w.apart t us ps m k); kept = λ z. w.kept t }
+      -- they can
+      pub pair-done :
+          (fresh : List Bool) (f' g' : List ℕ) → RowsLinked (take 5 a) (lent b j) (Ok fresh) f g f' g'
+          → Paired fresh a b j used f g (set used j true) f' g'
+      unfolding placed
+      pair-done fresh f' g' w =
+          record {
+            free = free;
+            marked = refl;
+            on = λ us ps m k.
+                let (qs, x, q) = w.same.joined ps k refl in
+                (qs, q, at-terms us ps m ∙ rw x);
+            size = w.size;
+            forth-back = w.forth-back;
+            back-back = rw (five j) at w.back-back;
+          }
 
-    module _ (t : fits ≡ true) where
-      -- what placing the others asks
-      pub try-others : length f' ≡ length f → length g' ≡ length g → Placing (behind a) b used' f' g'
-      try-others lf lg =
-          rw (behind-drop a, w.marked t)
-          (record {
-            partners = rw (length-set used j true) s.partners;
-            left = rw lf (terms-drop (length f) a s.left);
-            right = rw lg s.right;
-          })
+  module _ (fresh : List Bool) (used' : List Bool) (f' g' : List ℕ) (w : Paired fresh a b j used f g used' f' g') where
+    -- what placing the others asks
+    pub try-others : length f' ≡ length f → length g' ≡ length g → Placing (behind a) b used' f' g'
+    try-others lf lg =
+        rw (behind-drop a, w.marked)
+        (record {
+          partners = rw (length-set used j true) s.partners;
+          left = rw lf (terms-drop (length f) a s.left);
+          right = rw lg s.right;
+        })
 
-      module _ (r : Bool) (used'' : List Bool) (f₁ g₁ : List ℕ) (p₀ : Tried r (placed (behind a) b) used' f' g' used'' f₁ g₁) where
-        p : Tried r (placed (drop 5 a) b) (set used j true) f' g' used'' f₁ g₁
-        p = rw (behind-drop a, w.marked t) at p₀
+    module _ (r : Bool) (used'' : List Bool) (f₁ g₁ : List ℕ) (p₀ : Tried r (placed (behind a) b) used' f' g' used'' f₁ g₁) where
+      p : Tried r (placed (drop 5 a) b) (set used j true) f' g' used'' f₁ g₁
+      p = rw (behind-drop a, w.marked) at p₀
 
-        at_others : (us : List ℕ) (ps : List Pair) → Marks used us → Graph f g ps → r ≡ attempted a b j us ps
-        at_others us ps m k =
-            let (qs, q, e) = w.on t us ps m k in
-            p.same (us ++ (j ∷ [])) qs (marks-more used us j l m) q ∙ sym e
+      at_others : (us : List ℕ) (ps : List Pair) → Marks used us → Graph f g ps → r ≡ attempted a b j us ps
+      at_others us ps m k =
+          let (qs, q, e) = w.on us ps m k in
+          p.same (us ++ (j ∷ [])) qs (marks-more used us j l m) q ∙ sym e
 
-        -- the others are placed
-        pub try-found : r ≡ true → Tried true (attempted a b j) used f g used'' f₁ g₁
-        try-found y =
-            record { same = λ us ps m k. sym y ∙ at_others us ps m k; kept = λ z. true-false refl z }
+      -- the others are placed
+      pub try-found : r ≡ true → Tried true (attempted a b j) used f g used'' f₁ g₁
+      try-found y =
+          record { same = λ us ps m k. sym y ∙ at_others us ps m k; kept = λ z. true-false refl z }
 
-        module _ (y : r ≡ false) where
-          used-again : set used'' j false ≡ used
-          used-again =
-              rw (p.kept y).0 (set-set used j true false ∙ ap (set used j) (sym (w.free t)) ∙ set-get_or used j false)
+      module _ (y : r ≡ false) where
+        used-again : set used'' j false ≡ used
+        used-again =
+            rw (p.kept y).0 (set-set used j true false ∙ ap (set used j) (sym (w.free)) ∙ set-get_or used j false)
 
-          -- they are not
-          pub try-dead :
-              (f'' g'' : List ℕ) → f'' ≡ cleared fresh (drop 1 (take 5 a)) f₁ → g'' ≡ cleared fresh (drop 1 (lent b j)) g₁
-              → Tried false (attempted a b j) used f g (set used'' j false) f'' g''
-          try-dead f'' g'' cf cg =
-              record {
-                same = λ us ps m k. sym y ∙ at_others us ps m k;
-                kept = λ z. (
-                  used-again,
-                  cf ∙ rw (p.kept y).1 (w.forth-back t),
-                  (rw (five j) at cg) ∙ rw (p.kept y).2 (w.back-back t),
-                );
-              }
+        -- they are not
+        pub try-dead :
+            (f'' g'' : List ℕ) → f'' ≡ cleared fresh (drop 1 (take 5 a)) f₁ → g'' ≡ cleared fresh (drop 1 (lent b j)) g₁
+            → Tried false (attempted a b j) used f g (set used'' j false) f'' g''
+        try-dead f'' g'' cf cg =
+            record {
+              same = λ us ps m k. sym y ∙ at_others us ps m k;
+              kept = λ z. (
+                used-again,
+                cf ∙ rw (p.kept y).1 w.forth-back,
+                (rw (five j) at cg) ∙ rw (p.kept y).2 w.back-back,
+              );
+            }
 
 -- what trying partners tries at each position
 abbrev attempts : List ℕ → List ℕ → List ℕ → List Pair → ℕ → Constraint → Bool
@@ -252,7 +227,6 @@ attempts a b us ps =
 
 -- the positions from j on give the answer for all, and all is as it was
 pub record Seeking (a b : List ℕ) (used₀ : List Bool) (f₀ g₀ : List ℕ) (used : List Bool) (f g : List ℕ) (j : ℕ) : Type 0 where
-  pub within : j ≤ length used₀
   pub used-same : used ≡ used₀
   pub forth-same : f ≡ f₀
   pub back-same : g ≡ g₀
@@ -279,7 +253,6 @@ module _ (a b : List ℕ) (used : List Bool) (f g : List ℕ) (s : Placing a b u
     unfolding placed place
     placing-start =
         record {
-          within = omega arith;
           used-same = refl;
           forth-same = refl;
           back-same = refl;
@@ -287,21 +260,17 @@ module _ (a b : List ℕ) (used : List Bool) (f g : List ℕ) (s : Placing a b u
         }
 
     module _ (used' : List Bool) (f' g' : List ℕ) (j : ℕ) (w : Seeking a b used f g used' f' g' j) where
-      -- what trying the next partner asks
-      pub placing-one : Placing a b used' f' g'
-      placing-one = rw (w.used-same, w.forth-same, w.back-same) s
-
       -- no partner is left
-      pub placing-end : length used' ≤ j → Tried false (placed a b) used f g used' f' g'
+      pub placing-end : length used ≤ j → Tried false (placed a b) used f g used' f' g'
       unfolding try_partners cell_constraints
       placing-end k =
-          let z : length b ≤ 5 * j = omega (arith, s.partners, ap length w.used-same) in
+          let z : length b ≤ 5 * j = omega (arith, s.partners) in
           record {
             same = λ us ps m q. rw (drop_of_length-le b {i = 5 * j} z) at (w.rest us ps m q);
             kept = λ y. (w.used-same, w.forth-same, w.back-same);
           }
 
-      module _ (k : j < length used') (r : Bool) (used'' : List Bool) (f'' g'' : List ℕ)
+      module _ (k : j < length used) (r : Bool) (used'' : List Bool) (f'' g'' : List ℕ)
           (t : Tried r (attempted a b j) used' f' g' used'' f'' g'') where
         near : Tried r (attempted a b j) used f g used'' f'' g''
         near = rw (w.used-same, w.forth-same, w.back-same) at t
@@ -311,7 +280,7 @@ module _ (a b : List ℕ) (used : List Bool) (f g : List ℕ) (s : Placing a b u
             ≡ placed a b us ps
         unfolding try_partners attempted
         split us ps m q =
-            rw (constraints-at b j (omega (arith, s.partners, ap length w.used-same))) at (w.rest us ps m q)
+            rw (constraints-at b j (omega (arith, s.partners))) at (w.rest us ps m q)
 
         -- the partner will do
         pub placing-found : r ≡ true → Tried true (placed a b) used f g used'' f'' g''
@@ -326,7 +295,6 @@ module _ (a b : List ℕ) (used : List Bool) (f g : List ℕ) (s : Placing a b u
         placing-next y =
             rw (add-one j)
             (record {
-              within = omega (arith, ap length w.used-same);
               used-same = (near.kept y).0;
               forth-same = (near.kept y).1;
               back-same = (near.kept y).2;

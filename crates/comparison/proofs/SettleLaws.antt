@@ -4,13 +4,10 @@
 --   terms-later           the terms of later constraints
 --   all-…                 all constraints
 -- Assumes nothing.
-use Prim.Native.Nat.{ℕ, zero, suc, ◌+◌, ◌-◌, ◌*◌, ◌≤◌, ◌<◌}
-use native.Mathlib.Omega.{arith}
-use native.Mathlib.Numerals.{add-one}
-use mathlib.Core.Bool.{Bool, true, false, ◌||◌}
-use mathlib.Core.List.{List, [], ◌∷◌, ◌++◌, map}
-use mathlib.Core.Path.{◌≡◌, refl, ap, ◌∙◌}
-use lib.ListN.{length, take, drop, replicate, length-drop, drop_of_length-le}
+use Rattle.std.proofs.Common.{◌≡◌, ℕ, zero, suc, ◌+◌, ◌-◌, ◌*◌, ◌≤◌, ◌<◌, Bool, true, false, ◌||◌, List, [], ◌∷◌, ◌++◌, map}
+use Rattle.std.proofs.Common.{length, take, drop, replicate, refl, ◌∙◌, arith, add-one, length-drop}
+use Rattle.std.specs.Prelude.{Option, Some, None, is_some}
+use lib.ListN.{drop_of_length-le}
 use lib.Seq.{take_all, drop-drop, get_or-drop}
 use borrow.Author.Tests.{eq-eqb}
 use Rattle.semantics.specs.Terms.{Constraint}
@@ -23,7 +20,7 @@ use Rattle.tables.proofs.CellLaws.{constraints-length}
 use Rattle.tables.proofs.CellLaws.{constraints-at}
 use Rattle.pairing.specs.Renamings.{Graph, Marks, Joined}
 use Rattle.colours.specs.Bounds.{TermsBelow}
-use Rattle.comparison.specs.Placements.{attempted, placed, Placing, PairedAt}
+use Rattle.comparison.specs.Placements.{attempted, placed, Placing, Paired, PairedAt}
 use Rattle.comparison.specs.Settlements.{Settled, SettledAll, Found}
 use Rattle.pairing.proofs.PairLaws.{graph-empty}
 use Rattle.comparison.proofs.PlaceLaws.{marks-more, marks-none}
@@ -55,56 +52,51 @@ module _ (a b : List ℕ) (j : ℕ) (used : List Bool) (f g : List ℕ) (s : Pla
 
   -- it is placed there
   pub paired-settled :
-      (fits : Bool) (fresh : List Bool) (used' : List Bool) (f' g' : List ℕ)
-      → PairedAt fits fresh a b j used f g used' f' g' → Settled fits a b used f g used' f' g'
-  paired-settled fits fresh used' f' g' w =
+      (fresh : List Bool) (used' : List Bool) (f' g' : List ℕ)
+      → Paired fresh a b j used f g used' f' g' → Settled true a b used f g used' f' g'
+  paired-settled fresh used' f' g' w =
       record {
         on = λ z us ps m k.
-            let (qs, q, e) = w.on z us ps m k in (
+            let (qs, q, e) = w.on us ps m k in (
               us ++ (j ∷ []),
               qs,
-              rw (w.marked z) (marks-more used us j l m),
+              rw w.marked (marks-more used us j l m),
               q,
               λ y. placed_by us ps (e ∙ y),
             );
       }
 
 -- all is as it was
-pub record Trying (used₀ : List Bool) (f₀ g₀ : List ℕ) (used : List Bool) (f g : List ℕ) (j : ℕ) : Type 0 where
-  pub within : j ≤ length used₀
+pub record Trying (used₀ : List Bool) (f₀ g₀ : List ℕ) (used : List Bool) (f g : List ℕ) : Type 0 where
   pub used-same : used ≡ used₀
   pub forth-same : f ≡ f₀
   pub back-same : g ≡ g₀
 
-pub settle-start : (used : List Bool) (f g : List ℕ) → Trying used f g used f g 0
-settle-start used f g = record { within = omega arith; used-same = refl; forth-same = refl; back-same = refl }
-
--- no position will do
-pub settle-none :
-    (a b : List ℕ) (used : List Bool) (f g : List ℕ) (used' : List Bool) (f' g' : List ℕ) → Settled false a b used f g used' f' g'
-settle-none a b used f g used' f' g' = record { on = λ z. true-false z refl }
-
 module _ (a b : List ℕ) (used₀ : List Bool) (f₀ g₀ : List ℕ) (used : List Bool) (f g : List ℕ) (j : ℕ)
-    (w : Trying used₀ f₀ g₀ used f g j) where
+    (w : Trying used₀ f₀ g₀ used f g) where
   pub settle-asks : Placing a b used₀ f₀ g₀ → Placing a b used f g
   settle-asks s = rw (w.used-same, w.forth-same, w.back-same) s
 
-  module _ (s : Placing a b used₀ f₀ g₀) (h : j < length used) (n : 5 ≤ length a) (r : Bool) (fresh : List Bool)
-      (used' : List Bool) (f' g' : List ℕ) (k : PairedAt r fresh a b j used f g used' f' g') where
-    pub settle-found : r ≡ true → Settled true a b used₀ f₀ g₀ used' f' g'
-    settle-found e =
-        rw (e, w.used-same, w.forth-same, w.back-same) at
-        (paired-settled a b j used f g (settle-asks s) h n r fresh used' f' g' k)
+  -- the position will do
+  pub settle-found :
+      Placing a b used₀ f₀ g₀ → j < length used₀ → 5 ≤ length a → (o : Option (List Bool)) (used' : List Bool) (f' g' : List ℕ)
+      → PairedAt o a b j used f g used' f' g' → is_some o ≡ true → Settled true a b used₀ f₀ g₀ used' f' g'
+  settle-found s h n None used' f' g' k e = true-false e refl
+  settle-found s h n (Some fresh) used' f' g' k e =
+      rw (w.used-same, w.forth-same, w.back-same) at
+      (paired-settled a b j used f g (settle-asks s) (rw w.used-same h) n fresh used' f' g' k)
 
-    pub settle-next : r ≡ false → Trying used₀ f₀ g₀ used' f' g' (j + 1)
-    settle-next e =
-        rw (add-one j)
-        (record {
-          within = omega (arith, ap length w.used-same);
-          used-same = (k.kept e).0 ∙ w.used-same;
-          forth-same = (k.kept e).1 ∙ w.forth-same;
-          back-same = (k.kept e).2 ∙ w.back-same;
-        })
+  -- it will not
+  pub settle-next :
+      (o : Option (List Bool)) (used' : List Bool) (f' g' : List ℕ) → PairedAt o a b j used f g used' f' g' → is_some o ≡ false
+      → Trying used₀ f₀ g₀ used' f' g'
+  settle-next None used' f' g' k e =
+      record {
+        used-same = k.kept.0 ∙ w.used-same;
+        forth-same = k.kept.1 ∙ w.forth-same;
+        back-same = k.kept.2 ∙ w.back-same;
+      }
+  settle-next (Some fresh) used' f' g' k e = true-false refl e
 
 -- the terms of the constraints from number i on have their places
 pub terms-later : (m : ℕ) (a : List ℕ) (d i : ℕ) → d ≡ 5 * i → TermsBelow m a → TermsBelow m (drop d a)
@@ -118,7 +110,6 @@ terms-later m a d i e t =
 -- the constraints before i are placed: those from i on answer for all
 pub record SettlingAll (a : List ℕ) (n : ℕ) (b : List ℕ) (used₀ : List Bool) (f₀ g₀ : List ℕ) (used : List Bool) (f g : List ℕ)
     (i : ℕ) : Type 0 where
-  pub within : i ≤ n
   pub used-size : length used ≡ length used₀
   pub forth-size : length f ≡ length f₀
   pub back-size : length g ≡ length g₀
@@ -132,15 +123,11 @@ module _ (a : List ℕ) (n : ℕ) (b : List ℕ) (used₀ : List Bool) (f₀ g�
   pub all_start : SettlingAll a n b used₀ f₀ g₀ used₀ f₀ g₀ 0
   all_start =
       record {
-        within = omega arith;
         used-size = refl;
         forth-size = refl;
         back-size = refl;
         on = λ us ps m k. (us, ps, m, k, λ t. t);
       }
-
-  pub all-stuck : SettledAll false a b used₀ f₀ g₀
-  all-stuck = record { all = λ z. true-false z refl }
 
   module _ (used : List Bool) (f g : List ℕ) (i : ℕ) (w : SettlingAll a n b used₀ f₀ g₀ used f g i) where
     pub all_done : n ≤ i → SettledAll true a b used₀ f₀ g₀
@@ -178,7 +165,6 @@ module _ (a : List ℕ) (n : ℕ) (b : List ℕ) (used₀ : List Bool) (f₀ g�
       all-next r used' f' g' t e lu lf lg =
           rw (add-one i)
           (record {
-            within = h;
             used-size = lu ∙ w.used-size;
             forth-size = lf ∙ w.forth-size;
             back-size = lg ∙ w.back-size;
@@ -192,9 +178,6 @@ module _ (a : List ℕ) (n : ℕ) (b : List ℕ) (used₀ : List Bool) (f₀ g�
 -- two states found to be equal
 module _ (f a g b : List ℕ) (n : ℕ) (s : length a ≡ 5 * n) (t : length b ≡ 5 * n) (h : ℕ) (r : Bool) (f' g' : List ℕ)
     (j : Joined r (pair_terms (map cell_term f) (map cell_term g)) (replicate h 0) (replicate h 0) f' g') where
-  pub found_none : Found false f a g b
-  found_none = record { same = λ z. true-false z refl }
-
   pub found_all :
       r ≡ true → (q : Bool) → SettledAll q a b (take n (replicate 512 false)) f' g' → Found q f a g b
   unfolding same_state placed

@@ -10,22 +10,18 @@ pub mod placing;
 pub mod search;
 pub mod settling;
 
-ghost use Rattle.std.specs.Prelude.{◌≡◌, max};
+ghost use Rattle.std.specs.Prelude.{◌≡◌};
 ghost use Rattle.semantics.specs.Variants.{same_state};
 ghost use Rattle.colours.specs.Ends.{end_of};
 ghost use Rattle.comparison.specs.Comparing.{Side, BothNumbered};
 
-use crate::search::{decide, same_cells};
+use crate::search::decide;
 use colours::first::first_digest;
 use colours::numbering::number_state;
 use tables::wide;
 
-// The larger of two numbers.
-pub fn larger(x: u16, y: u16) -> usize
-    ensures { result ≡ max x y }
-{
-    if x < y { wide(y) } else { wide(x) }
-}
+// Room for all cells: constants, 28 goal variables, and as many more as 512 constraints have cells.
+const ROOM: usize = 2844;
 
 // Whether two states with their variables numbered are equal. What the goal variables became must be the same then, and the
 // digest of the constraints in which it stands for itself; states in the same order are the same cells.
@@ -41,10 +37,10 @@ pub fn compare_numbered(
     requires { BothNumbered a.old left.now b.old right.now n limit size }
     ensures { result ≡ same_state (end_of left.now a.old) (end_of right.now b.old) }
 {
-    if !same_cells(left, right) {
+    if left != right {
         return false;
     }
-    if same_cells(a, b) {
+    if *a == *b {
         return true;
     }
     if first_digest(a, n, limit) != first_digest(b, n, limit) {
@@ -67,10 +63,7 @@ pub fn same_state(
     ensures { result ≡ same_state (end_of bound_a.now a.now)
         (end_of bound_b.now b.now) }
 {
-    if n != m {
-        return false;
-    }
-    if bound_a.len() != bound_b.len() {
+    if n != m || bound_a.len() != bound_b.len() {
         return false;
     }
     let e = 5 * n;
@@ -85,6 +78,6 @@ pub fn same_state(
     let right = &mut bounds_b[..k];
     let x = number_state(a, bound_a, cells_a, left);
     let y = number_state(b, bound_b, cells_b, right);
-    let size = larger(x.all, y.all);
+    let size = wide(x.all.max(y.all));
     compare_numbered(cells_a, left, cells_b, right, n, x.bound, size)
 }

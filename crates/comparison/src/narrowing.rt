@@ -10,14 +10,7 @@ use crate::search::search;
 use crate::settling::settles;
 use colours::classes::{Depth, classify};
 
-// Whether a step decided the question, and how.
-#[derive(Drop)]
-pub struct Verdict {
-    pub decided: bool,
-    pub equal: bool,
-}
-
-// One step: classes of one depth, then constraints placed without going back.
+// One step: classes of one depth, then constraints placed without going back. The answer, or None where the step does not tell.
 pub fn weigh(
     a: &mut [u16],
     bound_a: &[u16],
@@ -26,28 +19,18 @@ pub fn weigh(
     n: usize,
     size: usize,
     depth: Depth,
-) -> Verdict
+) -> Option<bool>
     requires { Colourable a.old bound_a.now size n × Colourable b.old bound_b.now size n
         × (length bound_a.now ≡ length bound_b.now) × (n ≤ 512) }
-    ensures { Weighed result.decided result.equal bound_a.now a.old bound_b.now
-        b.old a.new b.new }
+    ensures { Weighed result bound_a.now a.old bound_b.now b.old a.new b.new }
 {
     if !classify(a, bound_a, b, bound_b, n, size, depth) {
-        return Verdict {
-            decided: true,
-            equal: false,
-        };
+        return Some(false);
     }
     if settles(a, bound_a, b, bound_b, n) {
-        return Verdict {
-            decided: true,
-            equal: true,
-        };
+        return Some(true);
     }
-    Verdict {
-        decided: false,
-        equal: false,
-    }
+    None
 }
 
 // Nine rounds and a quarter of n constraints, or some more: by comparing, since a quarter would be a division. A ring of
@@ -64,32 +47,9 @@ fn enough(n: usize) -> usize
     if n <= 252 { 72 } else { 137 }
 }
 
-// The depth of a step: marked constraints, for one round, which tells most of what signatures do not, at a ninth of the cost of
-// nine; signatures after as many rounds as there are constraints; then marked constraints, for nine rounds and for enough.
-fn depth_at(step: usize, n: usize) -> Depth {
-    if step == 0 {
-        return Depth {
-            rounds: 1,
-            deep: true,
-        };
-    }
-    if step == 1 {
-        return Depth {
-            rounds: n,
-            deep: false,
-        };
-    }
-    if step == 2 {
-        return Depth {
-            rounds: 9,
-            deep: true,
-        };
-    }
-    let rounds = enough(n);
-    Depth { rounds, deep: true }
-}
-
-// Whether two states are equal, by finer and finer classes, and by a search at last.
+// Whether two states are equal, by finer and finer classes, and by a search at last. The steps' depths: marked constraints, for one
+// round, which tells most of what signatures do not, at a ninth of the cost of nine; signatures after as many rounds as there are
+// constraints; then marked constraints, for nine rounds and for enough.
 pub fn narrow(
     a: &mut [u16],
     bound_a: &[u16],
@@ -103,14 +63,28 @@ pub fn narrow(
     ensures { result ≡ same_state (end_of bound_a.now a.old)
         (end_of bound_b.now b.old) }
 {
-    let mut step = 0;
-    while step < 4 {
-        let depth = depth_at(step, n);
-        let verdict = weigh(a, bound_a, b, bound_b, n, size, depth);
-        if verdict.decided {
-            return verdict.equal;
+    let depths = [
+        Depth {
+            rounds: 1,
+            deep: true,
+        },
+        Depth {
+            rounds: n,
+            deep: false,
+        },
+        Depth {
+            rounds: 9,
+            deep: true,
+        },
+        Depth {
+            rounds: enough(n),
+            deep: true,
+        },
+    ];
+    for depth in depths {
+        if let Some(equal) = weigh(a, bound_a, b, bound_b, n, size, depth) {
+            return equal;
         }
-        step += 1;
     }
     search(a, bound_a, b, bound_b, n)
 }

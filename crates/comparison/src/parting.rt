@@ -17,13 +17,7 @@ pub fn cancels(a: &[u16], bound_a: &[u16], b: &[u16], bound_b: &[u16], n: usize,
         × (length bound_a.now ≡ length bound_b.now) × (n ≤ 512) × (k ≤ n) }
     ensures { Cancelled result bound_a.now a.now bound_b.now b.now k }
 {
-    if k == 0 {
-        return false;
-    }
-    if !is_parted(a, k, bound_a) {
-        return false;
-    }
-    if !is_parted(b, k, bound_b) {
+    if k == 0 || !is_parted(a, k, bound_a) || !is_parted(b, k, bound_b) {
         return false;
     }
     let e = 5 * k;

@@ -3,34 +3,16 @@ ghost use Rattle.std.specs.Prelude.{◌≡◌, ◌*◌, ◌≤◌, length};
 ghost use Rattle.semantics.specs.Variants.{same_state};
 ghost use Rattle.colours.specs.Bounds.{TermsBelow};
 ghost use Rattle.colours.specs.Ends.{end_of};
-ghost use Rattle.comparison.specs.Comparing.{Alike};
 ghost use Rattle.colours.specs.Classes.{Colourable};
 ghost use Rattle.colours.specs.Order.{Reordered};
 
+use crate::ROOM;
 use crate::parting::part_fixed;
 use crate::placing::place;
 use crate::settling::settles;
 use colours::classes::{Depth, classify};
 use colours::order::arrange_by;
 use pairing::pair_bound;
-
-// Room for all cells: constants, 28 goal variables, and as many more as 512 constraints have cells.
-const ROOM: usize = 2844;
-
-// Whether two lists of cells are the same.
-pub fn same_cells(a: &[u16], b: &[u16]) -> bool
-    requires { length a.now ≡ length b.now }
-    ensures { Alike result a.now b.now }
-{
-    let mut i = 0;
-    while i < a.len() {
-        if a[i] != b[i] {
-            return false;
-        }
-        i += 1;
-    }
-    true
-}
 
 // The search for a renaming, from no partners and no position used.
 pub fn search(a: &[u16], bound_a: &[u16], b: &[u16], bound_b: &[u16], n: usize) -> bool

@@ -5,11 +5,9 @@ ghost use Rattle.comparison.specs.Placements.{Placing};
 ghost use Rattle.comparison.specs.Settlements.{Settled, Found, SettledAll};
 ghost use Rattle.colours.specs.Classes.{Colourable};
 
+use crate::ROOM;
 use crate::placing::pair_at;
 use pairing::pair_bound;
-
-// Room for all cells: constants, 28 goal variables, and as many more as 512 constraints have cells.
-const ROOM: usize = 2844;
 
 // Places the first of the constraints that are left at the first position that will do.
 pub fn settle(a: &[u16], b: &[u16], used: &mut [bool], forth: &mut [u16], back: &mut [u16]) -> bool
@@ -17,13 +15,10 @@ pub fn settle(a: &[u16], b: &[u16], used: &mut [bool], forth: &mut [u16], back: 
     ensures { Settled result a.now b.now used.old forth.old back.old
         used.new forth.new back.new }
 {
-    let mut j = 0;
-    while j < used.len() {
-        let links = pair_at(a, b, j, used, forth, back);
-        if links.fits {
+    for j in 0..used.len() {
+        if pair_at(a, b, j, used, forth, back).is_some() {
             return true;
         }
-        j += 1;
     }
     false
 }
@@ -40,13 +35,11 @@ pub fn settle_all(
     requires { Placing a.now b.now used.old forth.old back.old × (length a.now ≡ 5 * n) }
     ensures { SettledAll result a.now b.now used.old forth.old back.old }
 {
-    let mut i = 0;
-    while i < n {
+    for i in 0..n {
         let p = 5 * i;
         if !settle(&a[p..], b, used, forth, back) {
             return false;
         }
-        i += 1;
     }
     true
 }

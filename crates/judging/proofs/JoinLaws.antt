@@ -1,6 +1,6 @@
 -- Whether the two ends of an overlap are equal: one law for each way that the code goes.
 --   states-same                      a state is equal to itself
---   ends-alike, ends-side, ends-answer   two ends that live, tidied and compared
+--   ends-alike, ends-side            two ends that live, tidied and compared
 --   live-room, lent_length           cells that are lent
 --   joins-…                          the answer
 -- Assumes nothing.
@@ -13,9 +13,8 @@ use lib.ListN.{length, get_or, take, replicate, length-take, length-replicate}
 use lib.Seq.{length-take-le}
 use borrow.Author.Tests.{ne_eqb}
 use Rattle.text.specs.Lists.{every}
-use Rattle.semantics.specs.Terms.{Program, State, is_below}
-use Rattle.semantics.specs.Strategy.{Final}
-use Rattle.semantics.specs.Overlaps.{Overlap, first_end, second_end}
+use Rattle.semantics.specs.Terms.{State, is_below}
+use Rattle.semantics.specs.Overlaps.{first_end, second_end}
 use Rattle.semantics.specs.Variants.{same_state}
 use Rattle.semantics.specs.Verdict.{is_joinable}
 use Rattle.text.proofs.Bools.{and-true}
@@ -29,7 +28,7 @@ use Rattle.tables.specs.Numbers.{is_within}
 use Rattle.tables.proofs.CellLaws.{constraints-length}
 use Rattle.tables.proofs.CellLaws.{every_first, every_rest}
 use Rattle.colours.specs.Ends.{end_of}
-use Rattle.comparison.specs.Comparing.{Side, Alike}
+use Rattle.comparison.specs.Comparing.{Side}
 use Rattle.judging.specs.Tidying.{Tidied}
 use Rattle.judging.specs.Judging.{end_in, LiveEnd, EndOf, Joins}
 use Rattle.judging.proofs.TidyLaws.{cell_below, tidied-below}
@@ -62,24 +61,8 @@ states-same s t e = rw e (sym (same_state-complete t t (variant-refl t)))
 
 -- ends in the same cells are equal
 pub ends-alike :
-    (n : ℕ) (f a g b : List ℕ) (r q : Bool) → LiveEnd a n f → LiveEnd b n g → Alike r f g → r ≡ true → Alike q a b → q ≡ true
-    → true ≡ same_state (end_of f a) (end_of g b)
-ends-alike n f a g b r q c d s x t y =
-    states-same (end_of f a) (end_of g b) (λ i. end_of (s.same x i) (t.same y i))
-
--- the answer is that of the ends as they were
-pub ends-answer :
-    (n : ℕ) (f a a' g b b' : List ℕ) (r : Bool) → LiveEnd a n f → LiveEnd b n g → Tidied n a a' → Tidied n b b'
-    → r ≡ same_state (end_of f a') (end_of g b') → r ≡ same_state (end_of f a) (end_of g b)
-ends-answer n f a a' g b b' r c d s t e = rw (s.same, t.same) at e
-
--- an end that lives, by another's count
-pub live-by :
-    {end : Program → Overlap → Final} {rules : List ℕ} {n i j : ℕ} {positions : List ℕ} {v : ℕ} {goal : List ℕ} {alive : Bool}
-    {count next firings : ℕ} {bound cells : List ℕ}
-    → EndOf end rules n i j positions v goal alive count next firings bound cells → alive ≡ true → (k : ℕ) → count ≡ k
-    → LiveEnd (take (5 * k) cells) k bound
-live-by e y k s = rw (← s) (e.live y)
+    (f a g b : List ℕ) → f ≡ g → a ≡ b → true ≡ same_state (end_of f a) (end_of g b)
+ends-alike f a g b s t = states-same (end_of f a) (end_of g b) (λ i. end_of (s i) (t i))
 
 -- it is within its cells
 pub live-room : (k : ℕ) (bound cells : List ℕ) → LiveEnd (take (5 * k) cells) k bound → 5 * k ≤ length cells

@@ -1,21 +1,16 @@
 -- Sides in the same state after their own firings: one law for each way that the code goes.
 --   steps-ask                what comparing the two states asks
---   step-apart, step-failed, step_same    what it promises
+--   step-failed, step_same    what it promises
 --   step-joins               then the overlap joins
 -- Assumes nothing.
-use Prim.Native.Nat.{ℕ, ◌+◌, ◌*◌, ◌≤◌}
-use native.Mathlib.Omega.{arith}
-use mathlib.Core.Bool.{Bool, true, false, not}
-use mathlib.Core.List.{List, [], ◌∷◌}
-use mathlib.Core.Path.{◌≡◌, refl, sym, ap, subst, ◌∙◌}
-use lib.ListN.{length, take}
+use Rattle.std.proofs.Common.{◌≡◌, ℕ, ◌+◌, ◌*◌, ◌≤◌, Bool, true, false, not, List, [], ◌∷◌, refl, sym, ap, subst, ◌∙◌, take, arith}
+use Rattle.std.specs.Str.{bytes_eq}
 use borrow.Author.Tests.{not-true}
 use Rattle.semantics.specs.Strategy.{Final}
 use Rattle.semantics.specs.Overlaps.{first_end, second_end}
 use Rattle.semantics.specs.Verdict.{is_joinable}
-use Rattle.semantics.proofs.Options.{true-false}
 use Rattle.tables.specs.Cells.{state_of}
-use Rattle.comparison.specs.Comparing.{Alike}
+use Rattle.comparison.proofs.DecideLaws.{cells-same}
 use Rattle.sides.specs.Sides.{Begun}
 use Rattle.sides.proofs.EndLaws.{sides-meet}
 use Rattle.judging.specs.declared.Peak.{Peak}
@@ -63,17 +58,6 @@ module _ {rules : List ℕ} {peak : Peak} {goal : List ℕ} {steps : Steps} {bou
       }
 
 module _ {steps : Steps} {bound₁ cells₁ bound₂ cells₂ : List ℕ} where
-  -- the second state's cells, by the first one's count
-  pub second-room :
-      Stepped steps bound₁ cells₁ bound₂ cells₂ → steps.second.count ≡ steps.first.count
-      → 5 * steps.first.count ≤ length cells₂
-  second-room s e = omega (arith, s.second)
-
-  -- nothing is found
-  pub step-apart : SameStep false steps bound₁ cells₁ bound₂ cells₂
-  step-apart =
-      record { first = λ y. true-false y refl; second = λ y. true-false y refl; same = λ y. true-false y refl }
-
   -- the first has failed: so must the second
   pub step-failed :
       steps.first.fired ≡ true → steps.second.fired ≡ true → steps.first.alive ≡ false
@@ -84,14 +68,15 @@ module _ {steps : Steps} {bound₁ cells₁ bound₂ cells₂ : List ℕ} where
 
   -- the cells are the same
   pub step_same :
-      {q r : Bool} → steps.first.fired ≡ true → steps.second.fired ≡ true → steps.first.alive ≡ true
-      → steps.second.alive ≡ true → steps.second.count ≡ steps.first.count → Alike q bound₁ bound₂ → q ≡ true
-      → Alike r (take (5 * steps.first.count) cells₁) (take (5 * steps.first.count) cells₂)
+      steps.first.fired ≡ true → steps.second.fired ≡ true → steps.first.alive ≡ true
+      → steps.second.alive ≡ true → steps.second.count ≡ steps.first.count → bound₁ ≡ bound₂ → (r : Bool)
+      → r ≡ bytes_eq (take (5 * steps.first.count) cells₁) (take (5 * steps.first.count) cells₂)
       → SameStep r steps bound₁ cells₁ bound₂ cells₂
-  step_same a b c d e s x t =
+  step_same a b c d e s r t =
       record {
         first = λ y. a;
         second = λ y. b;
         same = λ y next k.
-            state_of ((c ∙ sym d) k) next (s.same x k) ((t.same y ∙ ap (λ (n : ℕ). take (5 * n) cells₂) (sym e)) k);
+            let w = cells-same _ _ (sym y ∙ t) in
+            state_of ((c ∙ sym d) k) next (s k) ((w ∙ ap (λ (n : ℕ). take (5 * n) cells₂) (sym e)) k);
       }

@@ -1,20 +1,13 @@
 -- Constraints with nothing behind their last terms: one law for each way that the code goes.
---   behind-…            a cell behind another
---   ending-…            one constraint, column by column
---   tidying-…           one constraint after the other
---   tidied-below        then every cell lies as its symbol or its term does
+--   Ending, ending-next   one constraint, column by column
+--   Tidying               one constraint after the other
+--   tidied-below          then every cell lies as its symbol or its term does
 -- Assumes nothing.
-use Prim.Native.Nat.{ℕ, zero, suc, ◌+◌, ◌-◌, ◌*◌, ◌≤◌, ◌<◌}
-use native.Mathlib.Omega.{arith}
-use native.Mathlib.Numerals.{add-one}
-use mathlib.Core.Bool.{true, false, cond}
-use mathlib.Core.List.{List, [], ◌∷◌}
-use mathlib.Core.Logic.{◌⊎◌, inl, inr, ⊎_elim}
-use mathlib.Core.Path.{◌≡◌, refl, sym, ap, ◌∙◌}
-use lib.Dec.{eqb}
-use lib.ListN.{length, get_or, set, take, drop, length-set, length-drop, get_or-eq_default}
+use Rattle.std.proofs.Common.{◌≡◌, ℕ, zero, suc, ◌+◌, ◌-◌, ◌*◌, ◌≤◌, ◌<◌, true, false, cond, List, [], ◌∷◌, ◌⊎◌, inl, inr, ⊎_elim, eqb}
+use Rattle.std.proofs.Common.{length, get_or, set, take, drop, refl, sym, ap, ◌∙◌, arith, add-one, length-set, length-drop}
+use lib.ListN.{get_or-eq_default}
 use lib.Seq.{length-take-le, get_or-take, get_or-drop, get_or-set_same, get_or-set_other}
-use borrow.Author.Tests.{eq-eqb, ne_eqb, eqb-true, ltb-true}
+use borrow.Author.Tests.{eqb-true, ltb-true}
 use Rattle.text.specs.Lists.{every}
 use Rattle.semantics.specs.Terms.{is_below}
 use Rattle.text.proofs.Bools.{and-true}
@@ -22,18 +15,11 @@ use Rattle.semantics.proofs.Weights.{every-at}
 use Rattle.tables.specs.Cells.{cell_term, cell_terms, row_constraint, cell_constraints, is_low}
 use Rattle.tables.specs.Numbers.{is_within}
 use Rattle.tables.proofs.CellLaws.{either, le-or-lt, cell-high, low-symbol, every_first, every_rest, element-row}
-use Rattle.judging.specs.Tidying.{Ended, RowEnded, Tidied}
+use Rattle.judging.specs.Tidying.{Ended}
 
 -- what the code stores behind cell q
 abbrev stored_behind : List ℕ → ℕ → List ℕ
 stored_behind l q = set l (suc q) (cond (eqb (get_or l q 0) 0) 0 (get_or l (suc q) 0))
-
--- the two answers of `behind`
-pub behind-zero : (before x : ℕ) → before ≡ 0 → 0 ≡ cond (eqb before 0) 0 x
-behind-zero before x e = rw (eq-eqb before 0 e)
-
-pub behind-term : (before x : ℕ) → (before ≡ 0 → ⊥) → x ≡ cond (eqb before 0) 0 x
-behind-term before x e = rw (ne_eqb before 0 e)
 
 -- terms end at a 0, whatever is stored behind it
 terms-stored : (l : List ℕ) (q : ℕ) → cell_terms (stored_behind l q) ≡ cell_terms l
@@ -66,27 +52,12 @@ constraints-stored (s ∷ a ∷ b ∷ c ∷ d ∷ l) (suc i) j h k =
 
 -- the columns before j of constraint i are done
 pub record Ending (i : ℕ) (cells₀ cells : List ℕ) (j : ℕ) : Type 0 where
-  pub within : j ≤ 3
   pub size : length cells ≡ length cells₀
   pub same : cell_constraints cells ≡ cell_constraints cells₀
   pub made : (k : ℕ) → k < j → get_or cells (5 * i + (1 + k)) 0 ≡ 0 → get_or cells (5 * i + (2 + k)) 0 ≡ 0
   pub others : (k c : ℕ) → k < i → c < 5 → get_or cells (5 * k + c) 0 ≡ get_or cells₀ (5 * k + c) 0
 
-pub ending-start : (i : ℕ) (cells : List ℕ) → Ending i cells cells 0
-ending-start i cells =
-    record { within = omega arith; size = refl; same = refl; made = λ k h. absurd (omega arith); others = λ k c h l. refl }
-
 module _ (i : ℕ) (cells₀ cells : List ℕ) (j : ℕ) (room : 5 * i + 5 ≤ length cells₀) (w : Ending i cells₀ cells j) where
-  pub ending-done : 3 ≤ j → RowEnded i cells₀ cells
-  ending-done h =
-      record {
-        same = w.same;
-        ended = record { zero = λ k l. w.made k (omega arith) };
-        others = λ k l e. record {
-          zero = λ c m z. w.others k (2 + c) l (omega arith) ∙ e.zero c m (sym (w.others k (1 + c) l (omega arith)) ∙ z);
-        };
-      }
-
   module _ (h : j < 3) (q x : ℕ) (e : q ≡ 5 * i + 1 + j) (s : x ≡ cond (eqb (get_or cells q 0) 0) 0 (get_or cells (q + 1) 0)) where
     stored : set cells (q + 1) x ≡ stored_behind cells (5 * i + (1 + j))
     stored =
@@ -120,7 +91,6 @@ module _ (i : ℕ) (cells₀ cells : List ℕ) (j : ℕ) (room : 5 * i + 5 ≤ l
     ending-next =
         rw (stored, add-one j)
         (record {
-          within = h;
           size = length-set cells (suc (5 * i + (1 + j)))
               (cond (eqb (get_or cells (5 * i + (1 + j)) 0) 0) 0 (get_or cells (suc (5 * i + (1 + j))) 0))
               ∙ w.size;
@@ -130,36 +100,10 @@ module _ (i : ℕ) (cells₀ cells : List ℕ) (j : ℕ) (room : 5 * i + 5 ≤ l
         })
 
 -- the constraints before i are done
-pub record Tidying (cells₀ cells : List ℕ) (i n : ℕ) : Type 0 where
-  pub within : i ≤ n
+pub record Tidying (cells₀ cells : List ℕ) (i : ℕ) : Type 0 where
   pub size : length cells ≡ length cells₀
   pub same : cell_constraints cells ≡ cell_constraints cells₀
   pub made : (k : ℕ) → k < i → Ended cells k
-
-pub tidying-start : (n : ℕ) (cells : List ℕ) → Tidying cells cells 0 n
-tidying-start n cells = record { within = omega arith; size = refl; same = refl; made = λ k h. absurd (omega arith) }
-
-module _ (cells₀ cells : List ℕ) (i n : ℕ) (w : Tidying cells₀ cells i n) where
-  pub tidying-room : length cells₀ ≡ 5 * n → i < n → 5 * i + 5 ≤ length cells
-  tidying-room e h = omega (arith, w.size)
-
-  pub tidying-next :
-      (cells' : List ℕ) → i < n → length cells' ≡ length cells → RowEnded i cells cells' → Tidying cells₀ cells' (i + 1) n
-  tidying-next cells' h e r =
-      rw (add-one i)
-      (record {
-        within = h;
-        size = e ∙ w.size;
-        same = r.same ∙ w.same;
-        made = λ k l. go k l (le-or-lt i k);
-      })
-    where
-      go : (k : ℕ) → k < suc i → (i ≤ k) ⊎ (k < i) → Ended cells' k
-      go k l (inl m) = let a : k ≡ i = omega arith in rw a r.ended
-      go k l (inr m) = r.others k m (w.made k m)
-
-  pub tidying-done : n ≤ i → Tidied n cells₀ cells
-  tidying-done h = record { same = w.same; ended = λ k l. w.made k (omega arith) }
 
 -- a cell lies as its term does
 pub cell_below : (m x : ℕ) → is_below m (cell_term x) ≡ true → x < 256 + m

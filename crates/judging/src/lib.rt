@@ -10,7 +10,6 @@ ghost use Rattle.judging.specs.Judging.{LiveEnd, Overlapping, Lent, BothBegun, B
 
 use crate::tidying::tidy;
 use comparison::same_state;
-use comparison::search::same_cells;
 use engine::derivation::{Final, Step};
 use sides::{begin, follow};
 use tables::layout::CONSTRAINT_SIZE;
@@ -99,27 +98,17 @@ pub fn same_step(
 {
     let own = steps.first;
     let other = steps.second;
-    if !own.fired {
-        return false;
-    }
-    if !other.fired {
+    if !own.fired || !other.fired {
         return false;
     }
     if !own.alive {
         return !other.alive;
     }
-    if !other.alive {
+    if !other.alive || other.count != own.count {
         return false;
     }
-    let n = own.count;
-    if other.count != n {
-        return false;
-    }
-    if !same_cells(bound_one, bound_two) {
-        return false;
-    }
-    let e = CONSTRAINT_SIZE * n;
-    same_cells(&one[..e], &two[..e])
+    let e = CONSTRAINT_SIZE * own.count;
+    bound_one == bound_two && one[..e] == two[..e]
 }
 
 // Whether two ends that live are equal, both of n constraints. Cells that hold no term become 0.
@@ -135,10 +124,8 @@ pub fn same_ends(
     ensures { result ≡ same_state (end_of bound_one.now one.old)
         (end_of bound_two.now two.old) }
 {
-    if same_cells(bound_one, bound_two) {
-        if same_cells(one, two) {
-            return true;
-        }
+    if bound_one == bound_two && *one == *two {
+        return true;
     }
     tidy(one, n);
     tidy(two, n);
@@ -167,11 +154,8 @@ pub fn judge_from(
         return !second.alive;
     }
     let lives = second.alive;
-    if !lives {
-        return false;
-    }
     let n = first.count;
-    if second.count != n {
+    if !lives || second.count != n {
         return false;
     }
     let e = CONSTRAINT_SIZE * n;

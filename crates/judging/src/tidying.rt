@@ -17,11 +17,9 @@ pub fn end_row(cells: &mut [u16], i: usize)
     ensures { RowEnded i cells.old cells.new }
 {
     let p = CONSTRAINT_SIZE * i + 1;
-    let mut j = 0;
-    while j < 3 {
+    for j in 0..3 {
         let q = p + j;
         cells[q + 1] = behind(cells[q], cells[q + 1]);
-        j += 1;
     }
 }
 
@@ -30,9 +28,7 @@ pub fn tidy(cells: &mut [u16], n: usize)
     requires { length cells.old ≡ 5 * n }
     ensures { Tidied n cells.old cells.new }
 {
-    let mut i = 0;
-    while i < n {
+    for i in 0..n {
         end_row(cells, i);
-        i += 1;
     }
 }

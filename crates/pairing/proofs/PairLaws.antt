@@ -5,24 +5,19 @@
 --   columns-…                   the terms of two constraints
 --   bound-…                     what the goal variables became
 -- Assumes nothing.
-use Prim.Native.Nat.{ℕ, zero, suc, ◌+◌, ◌-◌, ◌≤◌, ◌<◌}
-use native.Mathlib.Omega.{arith}
-use native.Mathlib.Numerals.{add-one}
-use mathlib.Core.Bool.{Bool, true, false, cond, not, ◌&&◌, ◌||◌}
-use mathlib.Core.List.{List, [], ◌∷◌, map}
-use mathlib.Core.Logic.{◌⊎◌, inl, inr, ⊎_elim}
-use mathlib.Core.Option.{Option, none, some}
-use mathlib.Core.Path.{◌≡◌, refl, sym, ap, ◌∙◌}
-use lib.Dec.{eqb}
-use lib.ListN.{length, get_or, set, take, drop, replicate, length-set, length-drop, drop_of_length-le}
-use lib.Seq.{get_or-set_same, get_or-set_other, set-set, set-get_or, drop-cons, get_or-drop, take_all}
+use Rattle.std.proofs.Common.{◌≡◌, ℕ, zero, suc, ◌+◌, ◌-◌, ◌≤◌, ◌<◌, Bool, true, false, cond, not, ◌&&◌, ◌||◌, List, [], ◌∷◌, map}
+use Rattle.std.proofs.Common.{length, get_or, set, take, drop, replicate, refl, sym, ap, ◌∙◌, arith, add-one, ◌⊎◌, inl, inr, ⊎_elim, eqb}
+use Rattle.std.proofs.Common.{length-set, length-drop}
+use Rattle.std.specs.Prelude.{Option, Some, None, is_some, Ok, Err}
+use Rattle.std.proofs.Math.Option.{none, some}
+use lib.ListN.{drop_of_length-le}
+use lib.Seq.{get_or-set_same, get_or-set_other, set-set, set-get_or, drop-cons, get_or-drop}
 use borrow.Author.Tests.{eq-eqb, ne_eqb, eqb-true, eqb-false}
 use Rattle.semantics.specs.Variants.{Pair, are_partners, are_paired, pair_term, pair_terms}
 use Rattle.semantics.proofs.Options.{true-false}
 use Rattle.tables.specs.Cells.{cell_term, cell_terms}
 use Rattle.tables.proofs.CellLaws.{either, le-or-lt, cell-low, cell-high, eqb-iff, terms-none, terms-more}
 use Rattle.pairing.specs.Renamings.{Graph, Joined, Linked, RowsLinked, Rows, cleared}
-use Rattle.colours.specs.Bounds.{Below}
 
 -- a test, or false
 or-none : (t : Bool) → (t || false) ≡ t
@@ -134,37 +129,40 @@ pair-apart x y ps h k = rw (cell-high x h, cell-low y k)
 
 module _ (x y : ℕ) (f b : List ℕ) where
   -- tables that stay as they are
-  unchanged : (fits : Bool) → Joined fits (pair_term (cell_term x) (cell_term y)) f b f b → Linked x y fits false f b f b
-  unchanged fits j = record { same = j; forth-back = refl; back-back = refl }
+  same-always : ((ps : List Pair) → Graph f b ps → pair_term (cell_term x) (cell_term y) ps ≡ some ps) → Linked x y (Some false) f b f b
+  same-always a =
+      record {
+        same = record { joined = λ ps g t. (ps, a ps g, g); apart = λ ps g t. true-false refl t };
+        forth-back = refl;
+        back-back = refl;
+      }
 
-  pub link-constant : x < 256 → Linked x y (eqb x y) false f b f b
-  link-constant h =
-      unchanged (eqb x y)
-      (record {
-        joined = λ ps g e. (ps, pair-low x y ps h ∙ rw e, g);
-        apart = λ ps g e. pair-low x y ps h ∙ rw e;
-      })
+  apart-always : ((ps : List Pair) → Graph f b ps → pair_term (cell_term x) (cell_term y) ps ≡ none) → Linked x y None f b f b
+  apart-always a =
+      record {
+        same = record { joined = λ ps g e. true-false e refl; apart = λ ps g e. a ps g };
+        forth-back = refl;
+        back-back = refl;
+      }
 
-  apart-always : ((ps : List Pair) → Graph f b ps → pair_term (cell_term x) (cell_term y) ps ≡ none) → Linked x y false false f b f b
-  apart-always a = unchanged false (record { joined = λ ps g e. true-false e refl; apart = λ ps g e. a ps g })
+  pub link-constant : x < 256 → x ≡ y → Linked x y (Some false) f b f b
+  link-constant h e = same-always (λ ps g. pair-low x y ps h ∙ rw (eq-eqb x y e))
 
-  pub link_apart : 256 ≤ x → y < 256 → Linked x y false false f b f b
+  pub link-constants : x < 256 → (x ≡ y → ⊥) → Linked x y None f b f b
+  link-constants h d = apart-always (λ ps g. pair-low x y ps h ∙ rw (ne_eqb x y d))
+
+  pub link_apart : 256 ≤ x → y < 256 → Linked x y None f b f b
   link_apart h k = apart-always (λ ps g. pair-apart x y ps h k)
 
   module _ (i j : ℕ) (ei : i ≡ x) (ej : j ≡ y) (hx : 256 ≤ x) (hy : 256 ≤ y) where
-    pub link-partners : get_or f i 0 ≡ y → Linked x y true false f b f b
-    link-partners e =
-        unchanged true
-        (record {
-          joined = λ ps g t. (ps, pair-high f b ps g x y hx hy ∙ rw (← ei, eq-eqb (get_or f i 0) y e), g);
-          apart = λ ps g t. true-false refl t;
-        })
+    pub link-partners : get_or f i 0 ≡ y → Linked x y (Some false) f b f b
+    link-partners e = same-always (λ ps g. pair-high f b ps g x y hx hy ∙ rw (← ei, eq-eqb (get_or f i 0) y e))
 
     module _ (d : get_or f i 0 ≡ y → ⊥) where
       other-partner : get_or f x 0 ≡ y → ⊥
       other-partner e = d (rw ei e)
 
-      pub link_left : (get_or f i 0 ≡ 0 → ⊥) → Linked x y false false f b f b
+      pub link_left : (get_or f i 0 ≡ 0 → ⊥) → Linked x y None f b f b
       link_left z =
           let n : eqb (get_or f x 0) 0 ≡ false = ne_eqb (get_or f x 0) 0 (λ e. z (rw ei e)) in
           apart-always (λ ps g. pair-high f b ps g x y hx hy ∙ rw (ne_eqb (get_or f x 0) y other-partner, n))
@@ -173,7 +171,7 @@ module _ (x y : ℕ) (f b : List ℕ) where
         zx : get_or f x 0 ≡ 0
         zx = rw ei at z
 
-        pub link-right : (get_or b j 0 ≡ 0 → ⊥) → Linked x y false false f b f b
+        pub link-right : (get_or b j 0 ≡ 0 → ⊥) → Linked x y None f b f b
         link-right w =
             let n : eqb (get_or b y 0) 0 ≡ false = ne_eqb (get_or b y 0) 0 (λ e. w (rw ej e)) in
             apart-always
@@ -181,7 +179,7 @@ module _ (x y : ℕ) (f b : List ℕ) where
             ∙ rw (ne_eqb (get_or f x 0) y other-partner, n, and_none (eqb (get_or f x 0) 0)))
 
         pub link-new :
-            get_or b j 0 ≡ 0 → x < length f → y < length b → Linked x y true true f b (set f i y) (set b j x)
+            get_or b j 0 ≡ 0 → x < length f → y < length b → Linked x y (Some true) f b (set f i y) (set b j x)
         link-new w lx ly =
             let zy : get_or b y 0 ≡ 0 = rw ej at w in
             rw (ei, ej)
@@ -235,7 +233,6 @@ cleared-last (suc k) (b ∷ bs) (x ∷ xs) t h l = rw (cleared-last k bs xs t (o
 
 -- the columns before i are paired: those from i on, under the renaming by now, give the answer for all
 pub record Columns (a b forth₀ back₀ forth back : List ℕ) (fresh : List Bool) (i : ℕ) : Type 0 where
-  pub within : i ≤ 4
   pub size : length fresh ≡ 4
   pub none-later : (k : ℕ) → i ≤ k → get_or fresh k false ≡ false
   pub forth-size : length forth ≡ length forth₀
@@ -248,12 +245,6 @@ pub record Columns (a b forth₀ back₀ forth back : List ℕ) (fresh : List Bo
   pub forth-back : cleared fresh (drop 1 a) forth ≡ forth₀
   pub back-back : cleared fresh (drop 1 b) back ≡ back₀
 
--- the cell of a column has its place
-second : (n : ℕ) (l : List ℕ) (i : ℕ) → Below n (drop 1 l) → get_or l (i + 1) 0 < n
-second n l i b =
-    let e : 1 + i ≡ i + 1 = omega arith in
-    rw (get_or-drop 1 l i 0, e) at (b.below i)
-
 -- no column yet
 no-flags : (k : ℕ) → get_or (false ∷ false ∷ false ∷ false ∷ []) k false ≡ false
 no-flags zero = refl
@@ -265,7 +256,6 @@ no-flags (suc (suc (suc (suc k)))) = refl
 pub columns-start : (a b f g : List ℕ) → Columns a b f g f g (replicate 4 false) 0
 columns-start a b f g =
     record {
-      within = omega arith;
       size = refl;
       none-later = λ k h. no-flags k;
       forth-size = refl;
@@ -277,22 +267,32 @@ columns-start a b f g =
 
 module _ (a b f₀ g₀ f g : List ℕ) (fresh : List Bool) (i : ℕ) (r : Rows a b f₀ g₀)
     (w : Columns a b f₀ g₀ f g fresh i) where
-  abbrev all : List Pair → Option (List Pair)
-  all = pair_terms (cell_terms (drop 1 a)) (cell_terms (drop 1 b))
-
-  -- the answer is one that the columns left give
-  answer :
-      (fits : Bool)
-      → ((qs : List Pair) → Graph f g qs → fits ≡ true
+  -- the columns left are paired
+  joined-columns :
+      ((qs : List Pair) → Graph f g qs
       → pair_terms (cell_terms (drop (suc i) a)) (cell_terms (drop (suc i) b)) qs ≡ some qs)
-      → ((qs : List Pair) → Graph f g qs → fits ≡ false
-      → pair_terms (cell_terms (drop (suc i) a)) (cell_terms (drop (suc i) b)) qs ≡ none)
-      → RowsLinked a b fits fresh f₀ g₀ f g
-  answer fits y n =
+      → RowsLinked a b (Ok fresh) f₀ g₀ f g
+  joined-columns y =
       record {
         same = record {
-          joined = λ ps h t. let (qs, k, e) = w.same ps h in (qs, sym e ∙ y qs k t, k);
-          apart = λ ps h t. let (qs, k, e) = w.same ps h in sym e ∙ n qs k t;
+          joined = λ ps h t. let (qs, k, e) = w.same ps h in (qs, sym e ∙ y qs k, k);
+          apart = λ ps h t. true-false refl t;
+        };
+        size = w.size;
+        forth-back = w.forth-back;
+        back-back = w.back-back;
+      }
+
+  -- they cannot be made equal
+  apart-columns :
+      ((qs : List Pair) → Graph f g qs
+      → pair_terms (cell_terms (drop (suc i) a)) (cell_terms (drop (suc i) b)) qs ≡ none)
+      → RowsLinked a b (Err fresh) f₀ g₀ f g
+  apart-columns n =
+      record {
+        same = record {
+          joined = λ ps h t. true-false t refl;
+          apart = λ ps h t. let (qs, k, e) = w.same ps h in sym e ∙ n qs k;
         };
         size = w.size;
         forth-back = w.forth-back;
@@ -300,15 +300,14 @@ module _ (a b f₀ g₀ f g : List ℕ) (fresh : List Bool) (i : ℕ) (r : Rows 
       }
 
   -- no column is left
-  pub columns-done : 4 ≤ i → RowsLinked a b true fresh f₀ g₀ f g
+  pub columns-done : 4 ≤ i → RowsLinked a b (Ok fresh) f₀ g₀ f g
   unfolding pair_terms cell_terms
   columns-done l =
-      answer true
-      (λ qs k t. rw (
+      joined-columns
+      (λ qs k. rw (
         drop_of_length-le a {i = suc i} (omega (arith, r.left-size)),
         drop_of_length-le b {i = suc i} (omega (arith, r.right-size)),
       ))
-      (λ qs k t. true-false (sym t) refl)
 
   module _ (l : i < 4) where
     inside : suc i < length a
@@ -317,114 +316,101 @@ module _ (a b f₀ g₀ f g : List ℕ) (fresh : List Bool) (i : ℕ) (r : Rows 
     inside' : suc i < length b
     inside' = omega (arith, r.right-size)
 
-    -- the first constraint has no term left
-    pub columns-end : get_or a (i + 1) 0 ≡ 0 → RowsLinked a b (eqb (get_or b (i + 1) 0) 0) fresh f₀ g₀ f g
-    unfolding pair_terms
-    columns-end z =
-        rw (add-one i) (answer (eqb (get_or b (suc i) 0) 0)
-        (λ qs k t. rw (
-          terms-none a (suc i) inside (rw (add-one i) at z),
-          terms-none b (suc i) inside' (eqb-true (get_or b (suc i) 0) 0 t),
-        ))
-        (λ qs k t. rw (
-          terms-none a (suc i) inside (rw (add-one i) at z),
-          terms-more b (suc i) inside' (eqb-false (get_or b (suc i) 0) 0 t),
-        )))
+    module _ (z : get_or a (i + 1) 0 ≡ 0) where
+      -- no constraint has a term left
+      pub columns-end : get_or b (i + 1) 0 ≡ 0 → RowsLinked a b (Ok fresh) f₀ g₀ f g
+      unfolding pair_terms
+      columns-end t =
+          joined-columns
+          (λ qs k. rw (terms-none a (suc i) inside (rw (add-one i) at z), terms-none b (suc i) inside' (rw (add-one i) at t)))
+
+      -- the first has none left
+      pub columns-over : (get_or b (i + 1) 0 ≡ 0 → ⊥) → RowsLinked a b (Err fresh) f₀ g₀ f g
+      unfolding pair_terms
+      columns-over t =
+          apart-columns
+          (λ qs k. rw (
+            terms-none a (suc i) inside (rw (add-one i) at z),
+            terms-more b (suc i) inside' (λ e. t (rw (add-one i) e)),
+          ))
 
     module _ (nz : get_or a (i + 1) 0 ≡ 0 → ⊥) where
       more : cell_terms (drop (suc i) a) ≡ cell_term (get_or a (suc i) 0) ∷ cell_terms (drop (suc (suc i)) a)
       more = terms-more a (suc i) inside (λ e. nz (rw (add-one i) e))
 
       -- the second has none left
-      pub columns-short : get_or b (i + 1) 0 ≡ 0 → RowsLinked a b false fresh f₀ g₀ f g
+      pub columns-short : get_or b (i + 1) 0 ≡ 0 → RowsLinked a b (Err fresh) f₀ g₀ f g
       unfolding pair_terms
       columns-short z =
-          answer false (λ qs k t. true-false t refl)
-          (λ qs k t. rw (more, terms-none b (suc i) inside' (rw (add-one i) at z)))
+          apart-columns (λ qs k. rw (more, terms-none b (suc i) inside' (rw (add-one i) at z)))
 
-      -- what pairing the next terms asks
-      pub columns-left : get_or a (i + 1) 0 < length f
-      columns-left = rw w.forth-size (second (length f₀) a i r.left)
-
-      pub columns-right : get_or b (i + 1) 0 < length g
-      columns-right = rw w.back-size (second (length g₀) b i r.right)
-
-      module _ (nz' : get_or b (i + 1) 0 ≡ 0 → ⊥) (fits made : Bool) (f' g' : List ℕ)
-          (k : Linked (get_or a (i + 1) 0) (get_or b (i + 1) 0) fits made f g f' g') where
+      module _ (nz' : get_or b (i + 1) 0 ≡ 0 → ⊥) where
         more' : cell_terms (drop (suc i) b) ≡ cell_term (get_or b (suc i) 0) ∷ cell_terms (drop (suc (suc i)) b)
         more' = terms-more b (suc i) inside' (λ e. nz' (rw (add-one i) e))
 
-        linked : Linked (get_or a (suc i) 0) (get_or b (suc i) 0) fits made f g f' g'
-        linked = rw (add-one i) at k
-
-        forget : cleared (set fresh i made) (drop 1 a) f' ≡ f₀
-        forget =
-            let s : i < length (drop 1 a) = omega (arith, length-drop 1 a, r.left-size) in
-            let e : get_or (drop 1 a) i 0 ≡ get_or a (suc i) 0 = get_or-drop 1 a i 0 ∙ ap (λ n. get_or a n 0) (omega arith) in
-            cleared-set i made fresh (drop 1 a) f' w.none-later (omega (arith, w.size)) s
-            ∙ rw (e, linked.forth-back) w.forth-back
-
-        forget' : cleared (set fresh i made) (drop 1 b) g' ≡ g₀
-        forget' =
-            let s : i < length (drop 1 b) = omega (arith, length-drop 1 b, r.right-size) in
-            let e : get_or (drop 1 b) i 0 ≡ get_or b (suc i) 0 = get_or-drop 1 b i 0 ∙ ap (λ n. get_or b n 0) (omega arith) in
-            cleared-set i made fresh (drop 1 b) g' w.none-later (omega (arith, w.size)) s
-            ∙ rw (e, linked.back-back) w.back-back
-
         -- the next terms cannot be made equal
-        pub columns-apart : fits ≡ false → RowsLinked a b false (set fresh i made) f₀ g₀ f' g'
+        pub columns-apart :
+            (f' g' : List ℕ) → Linked (get_or a (i + 1) 0) (get_or b (i + 1) 0) None f g f' g'
+            → RowsLinked a b (Err fresh) f₀ g₀ f' g'
         unfolding pair_terms
-        columns-apart t =
+        columns-apart f' g' k =
+            let linked = rw (add-one i) at k in
             record {
               same = record {
                 joined = λ ps h e. true-false e refl;
-                apart = λ ps h e. let (qs, q, s) = w.same ps h in sym s ∙ rw (more, more', linked.same.apart qs q t);
+                apart = λ ps h e. let (qs, q, s) = w.same ps h in sym s ∙ rw (more, more', linked.same.apart qs q refl);
               };
-              size = length-set fresh i made ∙ w.size;
-              forth-back = forget;
-              back-back = forget';
+              size = w.size;
+              forth-back = rw linked.forth-back w.forth-back;
+              back-back = rw linked.back-back w.back-back;
             }
 
-        flags-later : (j : ℕ) → suc i ≤ j → get_or (set fresh i made) j false ≡ false
-        flags-later j h = get_or-set_other fresh i j made false (λ e. omega arith) ∙ w.none-later j (omega arith)
+        module _ (made : Bool) (f' g' : List ℕ) (k : Linked (get_or a (i + 1) 0) (get_or b (i + 1) 0) (Some made) f g f' g') where
+          linked : Linked (get_or a (suc i) 0) (get_or b (suc i) 0) (Some made) f g f' g'
+          linked = rw (add-one i) at k
 
-        -- the next terms are paired
-        pub columns-next :
-            fits ≡ true → length f' ≡ length f → length g' ≡ length g → Columns a b f₀ g₀ f' g' (set fresh i made) (i + 1)
-        unfolding pair_terms
-        columns-next t lf lg =
-            rw (add-one i)
-            (record {
-              within = omega arith;
-              size = length-set fresh i made ∙ w.size;
-              none-later = flags-later;
-              forth-size = lf ∙ w.forth-size;
-              back-size = lg ∙ w.back-size;
-              same = λ ps h.
-                  let (qs, q, s) = w.same ps h in
-                  let (os, e, o) = linked.same.joined qs q t in
-                  (os, o, rw (more, more', e) at s);
-              forth-back = forget;
-              back-back = forget';
-            })
+          forget : cleared (set fresh i made) (drop 1 a) f' ≡ f₀
+          forget =
+              let s : i < length (drop 1 a) = omega (arith, length-drop 1 a, r.left-size) in
+              let e : get_or (drop 1 a) i 0 ≡ get_or a (suc i) 0 = get_or-drop 1 a i 0 ∙ ap (λ n. get_or a n 0) (omega arith) in
+              cleared-set i made fresh (drop 1 a) f' w.none-later (omega (arith, w.size)) s
+              ∙ rw (e, linked.forth-back) w.forth-back
+
+          forget' : cleared (set fresh i made) (drop 1 b) g' ≡ g₀
+          forget' =
+              let s : i < length (drop 1 b) = omega (arith, length-drop 1 b, r.right-size) in
+              let e : get_or (drop 1 b) i 0 ≡ get_or b (suc i) 0 = get_or-drop 1 b i 0 ∙ ap (λ n. get_or b n 0) (omega arith) in
+              cleared-set i made fresh (drop 1 b) g' w.none-later (omega (arith, w.size)) s
+              ∙ rw (e, linked.back-back) w.back-back
+
+          flags-later : (j : ℕ) → suc i ≤ j → get_or (set fresh i made) j false ≡ false
+          flags-later j h = get_or-set_other fresh i j made false (λ e. omega arith) ∙ w.none-later j (omega arith)
+
+          -- the next terms are paired
+          pub columns-next :
+              length f' ≡ length f → length g' ≡ length g → Columns a b f₀ g₀ f' g' (set fresh i made) (i + 1)
+          unfolding pair_terms
+          columns-next lf lg =
+              rw (add-one i)
+              (record {
+                size = length-set fresh i made ∙ w.size;
+                none-later = flags-later;
+                forth-size = lf ∙ w.forth-size;
+                back-size = lg ∙ w.back-size;
+                same = λ ps h.
+                    let (qs, q, s) = w.same ps h in
+                    let (os, e, o) = linked.same.joined qs q refl in
+                    (os, o, rw (more, more', e) at s);
+                forth-back = forget;
+                back-back = forget';
+              })
 
 -- the columns from i on are cleared: the others still to clear give the answer for all
 pub record Clearing (a b forth₀ back₀ forth back : List ℕ) (fresh : List Bool) (i : ℕ) : Type 0 where
-  pub within : i ≤ 4
   pub forth-size : length forth ≡ length forth₀
   pub back-size : length back ≡ length back₀
   pub forth-same : cleared (take i fresh) (drop 1 a) forth ≡ cleared fresh (drop 1 a) forth₀
   pub back-same : cleared (take i fresh) (drop 1 b) back ≡ cleared fresh (drop 1 b) back₀
-
-pub clearing-start : (a b f g : List ℕ) (fresh : List Bool) → length fresh ≡ 4 → Clearing a b f g f g fresh 4
-clearing-start a b f g fresh e =
-    record {
-      within = omega arith;
-      forth-size = refl;
-      back-size = refl;
-      forth-same = rw (take_all 4 fresh (omega arith));
-      back-same = rw (take_all 4 fresh (omega arith));
-    }
 
 module _ (a b f₀ g₀ f g : List ℕ) (fresh : List Bool) (i : ℕ) (r : Rows a b f₀ g₀) (n : length fresh ≡ 4)
     (w : Clearing a b f₀ g₀ f g fresh i) where
@@ -436,9 +422,12 @@ module _ (a b f₀ g₀ f g : List ℕ) (fresh : List Bool) (i : ℕ) (r : Rows 
       let e : i ≡ 0 = omega arith in
       (rw e at w.forth-same, rw e at w.back-same)
 
-  module _ (h : 0 < i) where
+  module _ (h : 0 < i) (k : i ≤ 4) where
     back_one : suc (i - 1) ≡ i
     back_one = omega arith
+
+    at-column : i - 1 + 1 ≡ i
+    at-column = omega arith
 
     -- the last column left, of one side
     last-column :
@@ -447,57 +436,40 @@ module _ (a b f₀ g₀ f g : List ℕ) (fresh : List Bool) (i : ℕ) (r : Rows 
         ≡ cleared (take (i - 1) fresh) (drop 1 c) (cond (get_or fresh (i - 1) false) (set t (get_or c i 0) 0) t)
     last-column c t s =
         let e : get_or (drop 1 c) (i - 1) 0 ≡ get_or c i 0 = get_or-drop 1 c (i - 1) 0 ∙ ap (λ k. get_or c k 0) (omega arith) in
-        let l : i - 1 < length (drop 1 c) = omega (arith, length-drop 1 c, w.within) in
+        let l : i - 1 < length (drop 1 c) = omega (arith, length-drop 1 c) in
         rw back_one at
-        (rw e at (cleared-last (i - 1) fresh (drop 1 c) t (omega (arith, w.within)) l))
+        (rw e at (cleared-last (i - 1) fresh (drop 1 c) t (omega arith) l))
 
     -- partners were made there
     pub clearing-made :
-        (x y : ℕ) → x ≡ get_or a i 0 → y ≡ get_or b i 0 → get_or fresh (i - 1) false ≡ true
+        (x y : ℕ) → x ≡ get_or a (i - 1 + 1) 0 → y ≡ get_or b (i - 1 + 1) 0 → get_or fresh (i - 1) false ≡ true
         → Clearing a b f₀ g₀ (set f x 0) (set g y 0) fresh (i - 1)
     clearing-made x y ex ey t =
         record {
-          within = omega (arith, w.within);
           forth-size = length-set f x 0 ∙ w.forth-size;
           back-size = length-set g y 0 ∙ w.back-size;
-          forth-same = rw ex (sym (rw t at (last-column a f r.left-size)) ∙ w.forth-same);
-          back-same = rw ey (sym (rw t at (last-column b g r.right-size)) ∙ w.back-same);
+          forth-same = rw (ex, at-column) (sym (rw t at (last-column a f r.left-size)) ∙ w.forth-same);
+          back-same = rw (ey, at-column) (sym (rw t at (last-column b g r.right-size)) ∙ w.back-same);
         }
 
     -- none were
     pub clearing-kept : get_or fresh (i - 1) false ≡ false → Clearing a b f₀ g₀ f g fresh (i - 1)
     clearing-kept t =
         record {
-          within = omega (arith, w.within);
           forth-size = w.forth-size;
           back-size = w.back-size;
           forth-same = sym (rw t at (last-column a f r.left-size)) ∙ w.forth-same;
           back-same = sym (rw t at (last-column b g r.right-size)) ∙ w.back-same;
         }
 
-    -- the cells have their places
-    at-column : i - 1 + 1 ≡ i
-    at-column = omega arith
-
-    pub clearing-left : (x : ℕ) → x ≡ get_or a i 0 → x < length f
-    clearing-left x e = rw (e, w.forth-size) (rw at-column at (second (length f₀) a (i - 1) r.left))
-
-    pub clearing-right : (y : ℕ) → y ≡ get_or b i 0 → y < length g
-    clearing-right y e = rw (e, w.back-size) (rw at-column at (second (length g₀) b (i - 1) r.right))
-
 -- the terms before i are paired: those from i on, under the renaming by now, give the answer for all
 pub record Binding (a b forth₀ back₀ forth back : List ℕ) (i : ℕ) : Type 0 where
-  pub within : i ≤ length a
   pub forth-size : length forth ≡ length forth₀
   pub back-size : length back ≡ length back₀
   pub same :
       (ps : List Pair) → Graph forth₀ back₀ ps
       → (qs : List Pair) × Graph forth back qs
       × (pair_terms (map cell_term (drop i a)) (map cell_term (drop i b)) qs ≡ pair_terms (map cell_term a) (map cell_term b) ps)
-
-pub bound-start : (a b f g : List ℕ) → Binding a b f g f g 0
-bound-start a b f g =
-    record { within = omega arith; forth-size = refl; back-size = refl; same = λ ps h. (ps, h, refl) }
 
 module _ (a b f₀ g₀ f g : List ℕ) (i : ℕ) (e : length a ≡ length b) (w : Binding a b f₀ g₀ f g i) where
   -- no term is left
@@ -518,9 +490,9 @@ module _ (a b f₀ g₀ f g : List ℕ) (i : ℕ) (e : length a ≡ length b) (w
     first-right : map cell_term (drop i b) ≡ cell_term (get_or b i 0) ∷ map cell_term (drop (suc i) b)
     first-right = rw (drop-cons b i 0 (omega arith))
 
-    module _ (fits made : Bool) (f' g' : List ℕ) (k : Linked (get_or a i 0) (get_or b i 0) fits made f g f' g') where
+    module _ (link : Option Bool) (f' g' : List ℕ) (k : Linked (get_or a i 0) (get_or b i 0) link f g f' g') where
       -- the next terms cannot be made equal
-      pub bound-apart : fits ≡ false → Joined false (pair_terms (map cell_term a) (map cell_term b)) f₀ g₀ f' g'
+      pub bound-apart : is_some link ≡ false → Joined false (pair_terms (map cell_term a) (map cell_term b)) f₀ g₀ f' g'
       unfolding pair_terms
       bound-apart t =
           record {
@@ -531,12 +503,12 @@ module _ (a b f₀ g₀ f g : List ℕ) (i : ℕ) (e : length a ≡ length b) (w
           }
 
       -- the next terms are paired
-      pub bound-next : fits ≡ true → length f' ≡ length f → length g' ≡ length g → Binding a b f₀ g₀ f' g' (i + 1)
+      pub bound-next :
+          is_some link ≡ true → length f' ≡ length f → length g' ≡ length g → Binding a b f₀ g₀ f' g' (i + 1)
       unfolding pair_terms
       bound-next t lf lg =
           rw (add-one i)
           (record {
-            within = l;
             forth-size = lf ∙ w.forth-size;
             back-size = lg ∙ w.back-size;
             same = λ ps h.

@@ -9,99 +9,61 @@ ghost use Rattle.tables.specs.Cells.{cell_term, cell_terms};
 ghost use Rattle.pairing.specs.Renamings.{Linked, RowsLinked, Rows, Joined, cleared};
 ghost use Rattle.colours.specs.Bounds.{Below};
 
+use tables::layout::FIRST_VARIABLE;
 use tables::wide;
 
-// From this cell on, cells are variables.
-const VARIABLES: u16 = 256;
-
-// Whether two terms can be made equal, and whether they became partners for it.
-#[derive(Drop)]
-pub struct Link {
-    pub fits: bool,
-    pub fresh: bool,
-}
-
-// Two terms: constants must be the same, and variables each other's partners, which they become where neither has one.
-pub fn pair(x: u16, y: u16, forth: &mut [u16], back: &mut [u16]) -> Link
+// Two terms: constants must be the same, and variables each other's partners, which they become where neither has one. None where
+// they cannot be made equal; else whether they became partners.
+pub fn pair(x: u16, y: u16, forth: &mut [u16], back: &mut [u16]) -> Option<bool>
     requires { (x < length forth.old) × (y < length back.old) }
-    ensures { Linked x y result.fits result.fresh forth.old back.old
-        forth.new back.new }
+    ensures { Linked x y result forth.old back.old forth.new back.new }
 {
-    if x < VARIABLES {
-        return Link {
-            fits: x == y,
-            fresh: false,
-        };
+    if x < FIRST_VARIABLE {
+        return if x == y { Some(false) } else { None };
     }
-    if y < VARIABLES {
-        return Link {
-            fits: false,
-            fresh: false,
-        };
+    if y < FIRST_VARIABLE {
+        return None;
     }
     let i = wide(x);
     let j = wide(y);
     if forth[i] == y {
-        return Link {
-            fits: true,
-            fresh: false,
-        };
+        return Some(false);
     }
-    if forth[i] != 0 {
-        return Link {
-            fits: false,
-            fresh: false,
-        };
-    }
-    if back[j] != 0 {
-        return Link {
-            fits: false,
-            fresh: false,
-        };
+    if forth[i] != 0 || back[j] != 0 {
+        return None;
     }
     forth[i] = y;
     back[j] = x;
-    Link {
-        fits: true,
-        fresh: true,
-    }
+    Some(true)
 }
 
-// Whether two constraints' terms can be made equal, and in which columns partners were made.
-#[derive(Drop)]
-pub struct Links {
-    pub fresh: [bool; 4],
-    pub fits: bool,
-}
-
-// The terms of two constraints, column by column; a 0 stands behind the last.
-pub fn pair_rows(a: &[u16], b: &[u16], forth: &mut [u16], back: &mut [u16]) -> Links
+// The terms of two constraints, column by column; a 0 stands behind the last. The columns in which partners were made, as an error
+// where the terms cannot be made equal.
+pub fn pair_rows(
+    a: &[u16],
+    b: &[u16],
+    forth: &mut [u16],
+    back: &mut [u16],
+) -> Result<[bool; 4], [bool; 4]>
     requires { Rows a.now b.now forth.old back.old }
-    ensures { RowsLinked a.now b.now result.fits result.fresh
-        forth.old back.old forth.new back.new }
+    ensures { RowsLinked a.now b.now result forth.old back.old forth.new back.new }
 {
     let mut fresh = [false; 4];
-    let mut i = 0;
-    while i < 4 {
+    for i in 0..4 {
         let x = a[i + 1];
         let y = b[i + 1];
         if x == 0 {
-            return Links {
-                fits: y == 0,
-                fresh,
-            };
+            return if y == 0 { Ok(fresh) } else { Err(fresh) };
         }
         if y == 0 {
-            return Links { fits: false, fresh };
+            return Err(fresh);
         }
-        let link = pair(x, y, forth, back);
-        fresh[i] = link.fresh;
-        if !link.fits {
-            return Links { fits: false, fresh };
-        }
-        i += 1;
+        let Some(made) = pair(x, y, forth, back) else {
+            return Err(fresh);
+        };
+        fresh[i] = made;
     }
-    Links { fits: true, fresh }
+    Ok(fresh)
 }
 
 // Removes the partners that were made in the columns of two constraints.
@@ -110,14 +72,10 @@ pub fn unpair(a: &[u16], b: &[u16], fresh: [bool; 4], forth: &mut [u16], back: &
     ensures { (forth.new ≡ cleared fresh (drop 1 a.now) forth.old)
         × (back.new ≡ cleared fresh (drop 1 b.now) back.old) }
 {
-    let mut i = 4;
-    while i > 0 {
-        let x = wide(a[i]);
-        let y = wide(b[i]);
-        i -= 1;
+    for i in (0..4).rev() {
         if fresh[i] {
-            forth[x] = 0;
-            back[y] = 0;
+            forth[wide(a[i + 1])] = 0;
+            back[wide(b[i + 1])] = 0;
         }
     }
 }
@@ -128,13 +86,10 @@ pub fn pair_bound(a: &[u16], b: &[u16], forth: &mut [u16], back: &mut [u16]) -> 
     ensures { Joined result (pair_terms (map cell_term a.now) (map cell_term b.now))
         forth.old back.old forth.new back.new }
 {
-    let mut i = 0;
-    while i < a.len() {
-        let link = pair(a[i], b[i], forth, back);
-        if !link.fits {
+    for i in 0..a.len() {
+        if pair(a[i], b[i], forth, back).is_none() {
             return false;
         }
-        i += 1;
     }
     true
 }

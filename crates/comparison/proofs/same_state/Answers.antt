@@ -1,23 +1,22 @@
 -- `same_state` meets its contract: sizes first, then the comparison with variables numbered, in room of its own.
 -- Assumes nothing.
-use native.Mathlib.Omega.{arith}
-use Prim.Native.Nat.{◌*◌, ◌≤◌}
-use mathlib.Core.Path.{◌∙◌}
+use Rattle.std.proofs.Common.{arith, ◌*◌, ◌≤◌, ◌∙◌}
 use Rattle.comparison.proofs.SearchLaws.{count-apart, bound-count-apart}
 use Rattle.colours.proofs.ClassLaws.{zeros-length}
 use Rattle.comparison.proofs.DecideLaws.{compare-answer}
 use Rattle.comparison.proofs.same_state.Goals as goal
+use Rattle.comparison.proofs.same_state.Goals.{then-n-m-via-then-n-m, then-n-m-via-else-n-m+then-bound_a-bound_b}
 
 pub returns-then-n-m : goal.returns-then-n-m
 returns-then-n-m c =
-    count-apart c.args.a.now _ c.args.bound_a.now c.args.b.now _ c.args.bound_b.now c.requires.0.size
-    c.requires.1.size c.if-n-m.true
-
-pub returns-then-bound_a-bound_b : goal.returns-then-bound_a-bound_b
-returns-then-bound_a-bound_b c =
-    bound-count-apart c.args.a.now _ c.args.bound_a.now c.args.b.now _ c.args.bound_b.now c.requires.0.size
-    c.requires.1.size
-    c.if-bound_a-bound_b.true
+    elim c.then-n-m.branch [
+      | then-n-m-via-then-n-m w ↦
+          count-apart c.args.a.now _ c.args.bound_a.now c.args.b.now _ c.args.bound_b.now c.requires.0.size
+          c.requires.1.size w.if-n-m.true
+      | then-n-m-via-else-n-m+then-bound_a-bound_b w ↦
+          bound-count-apart c.args.a.now _ c.args.bound_a.now c.args.b.now _ c.args.bound_b.now c.requires.0.size
+          c.requires.1.size w.if-bound_a-bound_b.true
+    ]
 
 pub returns : goal.returns
 returns c =

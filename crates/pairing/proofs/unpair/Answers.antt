@@ -1,6 +1,5 @@
 -- `pairing::unpair` meets its contract. Assumes nothing.
-use Rattle.pairing.proofs.PairLaws.{clearing-made}
-use Rattle.pairing.proofs.PairLaws.{clearing-kept, clearing-end}
+use Rattle.pairing.proofs.PairLaws.{clearing-made, clearing-kept, clearing-end}
 use Rattle.pairing.proofs.unpair.Goals as goal
 
 pub returns : goal.returns

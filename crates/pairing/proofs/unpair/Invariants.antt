@@ -4,6 +4,3 @@ use Rattle.pairing.proofs.unpair.Given as goal
 
 abbrev pub invariant-loop-i : goal.invariant-loop-i
 invariant-loop-i l = Clearing l.a l.b l.initial.forth l.initial.back l.forth l.back l.fresh l.i
-
-abbrev pub decreases-loop-i : goal.decreases-loop-i
-decreases-loop-i l = l.i
