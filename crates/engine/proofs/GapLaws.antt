@@ -5,7 +5,7 @@ use Prim.Native.Nat.{ℕ, zero, suc, ◌+◌, ◌-◌, ◌*◌, ◌≤◌, ◌<�
 use native.Mathlib.Nat.{add-zero}
 use native.Mathlib.Omega.{arith}
 use native.Mathlib.Numerals.{add-one}
-use mathlib.Core.Bool.{true, false}
+use mathlib.Core.Bool.{Bool, true, false}
 use mathlib.Core.List.{List, [], ◌∷◌, ◌++◌, append_assoc, append-nil}
 use mathlib.Core.Path.{◌≡◌, sym, ◌∙◌}
 use lib.Dec.{eqb}
@@ -20,38 +20,65 @@ use Rattle.semantics.proofs.Bools.{or_right}
 use Rattle.tables.specs.Cells.{cell_constraints}
 use Rattle.tables.proofs.CellLaws.{constraints-length}
 use Rattle.engine.specs.Cells.{closed_gap}
-use Rattle.engine.specs.States.{Highest}
+use Rattle.std.specs.Ordering.{nat_cmp, partial_lt}
+use Rattle.std.specs.Prelude.{Option, None, Some}
+use Rattle.std.specs.Option.{option_partial_cmp}
+use Rattle.std.proofs.lemmas.Bool.Decides.{nat_tests}
+use Rattle.engine.specs.States.{Highest, Removed}
 use Rattle.tables.proofs.CellLaws.{constraints-take}
 use Rattle.fitting.proofs.PartLaws.{drop-constraints}
 use Rattle.engine.proofs.FireLaws.{constraints-append}
 
--- a highest of the first i positions, and one position more
-module _ (positions : List ℕ) (p top i : ℕ) (w : Highest (take i positions) p top) (l : i < length positions) where
-  one_more : take (suc i) positions ≡ take i positions ++ (get_or positions i 0 ∷ [])
-  one_more = take-suc positions i 0 l
+-- whether a position lies above the highest so far
+abbrev pub above : Option ℕ → ℕ → Bool
+above top q = partial_lt (option_partial_cmp (λ x y. Some (nat_cmp x y))) top (Some q)
 
-  -- it lies below p, and higher
-  pub highest-higher : get_or positions i 0 < p → top ≤ get_or positions i 0
-      → Highest (take (i + 1) positions) p (get_or positions i 0 + 1)
-  highest-higher h k =
-      let same : get_or positions i 0 + 1 - 1 ≡ get_or positions i 0 = omega arith in
-      rw (add-one i, one_more) (record {
-        below = omega arith;
-        there = λ z. rw same (has_last (get_or positions i 0) (take i positions));
-        free = λ q a b. has_other q (get_or positions i 0) (take i positions) (λ e. omega arith) ∙ w.free q (omega arith) b;
-      })
+above-true : (t q : ℕ) → above (Some t) q ≡ true → t < q
+above-true t q h = grind (arith, nat_tests)
 
-  -- it changes nothing: it is lower, or lies at p or behind
-  pub highest-other : (get_or positions i 0 < p → get_or positions i 0 < top) → Highest (take (i + 1) positions) p top
-  highest-other f =
-      rw (add-one i, one_more) (record {
-        below = w.below;
-        there = λ z. has-front (top - 1) (get_or positions i 0) (take i positions)
-            ∙ or_right (eqb (top - 1) (get_or positions i 0)) (has (top - 1) (take i positions)) (w.there z);
-        free = λ q a b.
-            has_other q (get_or positions i 0) (take i positions)
-            (λ e. absurd (omega (arith, f (omega arith)))) ∙ w.free q a b;
-      })
+above-false : (t q : ℕ) → above (Some t) q ≡ false → q ≤ t
+above-false t q h = grind (arith, nat_tests)
+
+-- the highest of the first i positions, and one position more
+module _ (positions : List ℕ) (p i : ℕ) (l : i < length positions) where
+  abbrev q : ℕ
+  q = get_or positions i 0
+
+  one_more : take (i + 1) positions ≡ take i positions ++ (q ∷ [])
+  one_more = rw (add-one i) (take-suc positions i 0 l)
+
+  -- it is the highest
+  pub highest-higher :
+      (top : Option ℕ) → Highest (take i positions) p top → q < p → above top q ≡ true
+      → Highest (take (i + 1) positions) p (Some q)
+  highest-higher None w h e =
+      rw one_more (
+        h,
+        has_last q (take i positions),
+        λ r a b.
+            has_other r q (take i positions) (λ n. omega arith) ∙ w r b,
+      )
+  highest-higher (Some t) w h e =
+      rw one_more (
+        h,
+        has_last q (take i positions),
+        λ r a b.
+            has_other r q (take i positions) (λ n. omega arith) ∙ w.2 r (omega (arith, above-true t q e)) b,
+      )
+
+  -- it changes nothing: it lies at p or behind, or is not above the highest
+  pub highest-other :
+      (top : Option ℕ) → Highest (take i positions) p top → (q < p → above top q ≡ false)
+      → Highest (take (i + 1) positions) p top
+  highest-other None w f =
+      rw one_more (λ r b. has_other r q (take i positions) (λ n. let z : true ≡ false = f (omega arith) in cc) ∙ w r b)
+  highest-other (Some t) w f =
+      rw one_more (
+        w.0,
+        has-front t q (take i positions) ∙ or_right (eqb t q) (has t (take i positions)) w.1,
+        λ r a b.
+            has_other r q (take i positions) (λ n. absurd (omega (arith, above-false t q (f (omega arith))))) ∙ w.2 r a b,
+      )
 
 -- part of a part
 pub drop-part : (a n : ℕ) (l : List ℕ) → a + n ≤ length l → drop a (take (a + n) l) ≡ take n (drop a l)
@@ -116,68 +143,64 @@ stay-between (suc d) p ps cs l f =
     rw next (stays_here (p + d) ps cs (omega arith) (f (p + d) (omega arith) (omega arith)))
     ∙ stay-between d p ps cs (omega arith) (λ q a b. f q a (omega arith))
 
--- k constraints are there: those below top, and those from it on that stay
-pub record Removing (m : ℕ) (ps start cells : List ℕ) (k top : ℕ) : Type 0 where
+-- k constraints are there: those below a position, and those from it on that stay
+pub record Removing (m : ℕ) (ps start cells : List ℕ) (k below : ℕ) : Type 0 where
   pub few : k ≤ m
-  pub there : 0 < top → has (top - 1) ps ≡ true
-  pub fits : top ≤ k
-  pub same : cell_constraints (take (5 * k) cells) ≡ staying top ps (cell_constraints start)
+  pub fits : below ≤ k
+  pub same : cell_constraints (take (5 * k) cells) ≡ staying below ps (cell_constraints start)
 
-pub removing-start :
-    (m : ℕ) (ps start : List ℕ) (top : ℕ) → length start ≡ 5 * m → Highest ps m top → Removing m ps start start m top
-unfolding without
-removing-start m ps start top e h =
-    let all : length (cell_constraints start) ≡ m = constraints-length m start e in
-    let between : top + (m - top) ≡ m = omega (arith, h.below) in
-    record {
-      few = omega arith;
-      there = h.there;
-      fits = h.below;
-      same =
-          rw (take_all (5 * m) start (omega arith))
-          (sym (append-nil (cell_constraints start))
-          ∙ rw (
-            take_all m (cell_constraints start) (omega arith),
-            drop_of_length-le (cell_constraints start) {i = m}
-                (omega arith),
-          ) at
-          (rw between at (stay-between (m - top) top ps (cell_constraints start) (omega arith)
-          (λ q a b. h.free q a (omega (arith, h.below))))));
-    }
+module _ (m : ℕ) (ps start : List ℕ) (e : length start ≡ 5 * m) where
+  all : length (cell_constraints start) ≡ m
+  all = constraints-length m start e
 
-module _ (m : ℕ) (ps start cells : List ℕ) (k top : ℕ) (w : Removing m ps start cells k top)
-    (e : length start ≡ 5 * m) (size : length cells ≡ length start) where
-  module _ (l : 0 < top) where
+  pub removing-start : Removing m ps start start m m
+  unfolding without
+  removing-start =
+      record {
+        few = omega arith;
+        fits = omega arith;
+        same = rw (
+          take_all (5 * m) start (omega arith),
+          take_all m (cell_constraints start) (omega (arith, all)),
+          drop_of_length-le (cell_constraints start) {i = m} (omega (arith, all)),
+          append-nil,
+        );
+      }
+
+  module _ (cells : List ℕ) (k below : ℕ) (w : Removing m ps start cells k below) where
+    -- no position is left
+    pub removing-end : Highest ps below None → Removed m ps start cells k
+    removing-end free =
+        let whole : 0 + below ≡ below = omega arith in
+        record {
+          few = w.few;
+          same = w.same ∙ rw whole at (stay-between below 0 ps (cell_constraints start) (omega (arith, w.fits, w.few, all))
+              (λ q a b. free q (omega arith)));
+        }
+
     -- one constraint less
     pub removing-next :
-        (c : List ℕ) (top' : ℕ) → c ≡ closed_gap k (top - 1) cells → Highest ps (top - 1) top'
-        → Removing m ps start c (k - 1) top'
-    removing-next c top' g h =
+        (c : List ℕ) (p : ℕ) → length cells ≡ length start → Highest ps below (Some p) → c ≡ closed_gap k p cells
+        → Removing m ps start c (k - 1) p
+    removing-next c p size h g =
         let few-left : k ≤ m = w.few in
-        let fits : top ≤ k = w.fits in
-        let all : length (cell_constraints start) ≡ m = constraints-length m start e in
-        let now : suc (top - 1) ≡ top = omega arith in
-        let between : top' + (top - 1 - top') ≡ top - 1 = omega (arith, h.below) in
-        let front : length (take top (cell_constraints start))
-        ≡ top = length-take-le top (cell_constraints start) (omega arith) in
-        let closed : cell_constraints (take (5 * (k - 1)) c) ≡ take (top - 1) (cell_constraints start) ++ without top ps
-        (drop top (cell_constraints start)) =
-        let decoded = gap-closed k (top - 1) cells (omega arith) (omega arith) in
-        rw g (decoded ∙ rw (
-          now,
-          w.same,
-          take-append-le (top - 1) (take top (cell_constraints start)) (without top ps (drop top
-              (cell_constraints start))) (omega arith),
-          take-take (top - 1) top (cell_constraints start) (omega arith),
-          drop_at (take top (cell_constraints start)) (without top ps (drop top (cell_constraints start))) top front,
-        )) in
-        let gone : take (top - 1) (cell_constraints start) ++ without top ps (drop top (cell_constraints start))
-        ≡ staying (top - 1) ps (cell_constraints start) =
-        rw now at (goes-here (top - 1) ps (cell_constraints start) (omega arith) (w.there l)) in
+        let fits : below ≤ k = w.fits in
+        let lower : p < below = h.0 in
+        let between : suc p + (below - suc p) ≡ below = omega arith in
+        let here : cell_constraints (take (5 * k) cells) ≡ staying (suc p) ps (cell_constraints start) =
+        w.same ∙ rw between at (stay-between (below - suc p) (suc p) ps (cell_constraints start) (omega (arith, all))
+        (λ q a b. h.2 q (omega arith) (omega arith))) in
+        let front : length (take (suc p) (cell_constraints start)) ≡ suc p =
+        length-take-le (suc p) (cell_constraints start) (omega (arith, all)) in
         record {
           few = omega arith;
-          there = h.there;
-          fits = omega (arith, h.below);
-          same = closed ∙ gone ∙ rw between at (stay-between (top - 1 - top') top' ps (cell_constraints start) (omega arith)
-              (λ q a b. h.free q a (omega (arith, h.below))));
+          fits = omega arith;
+          same = rw g (gap-closed k p cells (omega arith) (omega arith) ∙ rw (
+            here,
+            take-append-le p (take (suc p) (cell_constraints start)) (without (suc p) ps (drop (suc p)
+                (cell_constraints start))) (omega arith),
+            take-take p (suc p) (cell_constraints start) (omega arith),
+            drop_at (take (suc p) (cell_constraints start)) (without (suc p) ps (drop (suc p) (cell_constraints start)))
+                (suc p) front,
+          )) ∙ goes-here p ps (cell_constraints start) (omega (arith, all)) h.1;
         }

@@ -5,7 +5,7 @@
 --   Fires, Fired                a firing
 --   Skips, Placed               where the state begins in its cells
 -- Assumes nothing.
-use Rattle.std.specs.Prelude.{ℕ, ◌+◌, ◌-◌, ◌*◌, ◌≤◌, ◌<◌, Bool, true, false, not, List, [], ◌++◌, map, ◌≡◌, leb, length, take, drop, get_or}
+use Rattle.std.specs.Prelude.{Option, None, Some, ℕ, ◌+◌, ◌*◌, ◌≤◌, ◌<◌, Bool, true, false, not, List, [], ◌++◌, map, ◌≡◌, leb, length, take, drop, get_or}
 use Rattle.text.specs.Lists.{every, has}
 use Rattle.semantics.specs.Terms.{map_terms, map_sides}
 use Rattle.semantics.specs.Solving.{solve}
@@ -36,11 +36,10 @@ pub record Solved (alive : Bool) (equations bound cells bound' cells' : List ℕ
       (next : ℕ) → state_of alive next bound' cells'
       ≡ settle (solve (cell_equations equations) (λ t. t)) next (map cell_term bound) (cell_constraints cells)
 
--- one more than the highest of the positions below p, or 0
-pub record Highest (ps : List ℕ) (p top : ℕ) : Type 0 where
-  pub below : top ≤ p
-  pub there : 0 < top → has (top - 1) ps ≡ true
-  pub free : (q : ℕ) → top ≤ q → q < p → has q ps ≡ false
+-- the highest of the positions below p, if one lies there
+abbrev pub Highest : List ℕ → ℕ → Option ℕ → Type 0
+Highest ps p None = (q : ℕ) → q < p → has q ps ≡ false
+Highest ps p (Some top) = (top < p) × (has top ps ≡ true) × ((q : ℕ) → top < q → q < p → has q ps ≡ false)
 
 -- k constraints are left in front, those of m at none of the positions
 pub record Removed (m : ℕ) (ps cells cells' : List ℕ) (k : ℕ) : Type 0 where

@@ -62,14 +62,14 @@ pub fn close_gap(cells: &mut [u16], k: usize, p: usize)
     cells.copy_within(at + CONSTRAINT_SIZE..CONSTRAINT_SIZE * k, at);
 }
 
-// One more than the highest of the positions that lie below p; 0 where none does.
-pub fn highest(positions: &[usize], p: usize) -> usize
+// The highest of the positions that lie below p, if one does.
+pub fn highest(positions: &[usize], p: usize) -> Option<usize>
     ensures { Highest positions.now p result }
 {
-    let mut top = 0;
+    let mut top = None;
     for q in positions {
-        if *q < p && top <= *q {
-            top = *q + 1;
+        if *q < p && top < Some(*q) {
+            top = Some(*q);
         }
     }
     top
@@ -81,12 +81,11 @@ pub fn remove(cells: &mut [u16], m: usize, positions: &[usize]) -> usize
     ensures { Removed m positions.now cells.old cells.new result }
 {
     let mut k = m;
-    let mut top = highest(positions, m);
-    while 0 < top {
-        let p = top - 1;
+    let mut below = m;
+    while let Some(p) = highest(positions, below) {
         close_gap(cells, k, p);
         k -= 1;
-        top = highest(positions, p);
+        below = p;
     }
     k
 }
