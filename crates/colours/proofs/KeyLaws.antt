@@ -5,7 +5,7 @@
 --   sum-…               their sum
 --   relabel-…           classes in the place of symbols
 -- Assumes nothing.
-use Rattle.std.proofs.Common.{◌≡◌, ℕ, suc, ◌+◌, ◌*◌, ◌%◌, ◌^◌, ◌<◌, ◌≤◌, Bool, true, false, eqb, ◌⊎◌, List, [], ◌∷◌, map, length, get_or, drop, set, sym, refl, ap, ◌∙◌, subst, inl, inr, add-one, arith, length-set, drop_of_length-le, drop-cons, get_or-set_other, get_or-set_same, eqb-true}
+use Rattle.std.proofs.Common.{◌≡◌, ℕ, suc, ◌+◌, ◌*◌, ◌%◌, ◌^◌, ◌<◌, ◌≤◌, Bool, true, false, eqb, ◌⊎◌, List, [], ◌∷◌, map, length, get_or, drop, set, sym, ap, ◌∙◌, subst, inl, inr, add-one, arith, length-set, drop_of_length-le, drop-cons, get_or-set_other, get_or-set_same, eqb-true}
 use borrow.Author.Tests.{eqb-false}
 use Rattle.semantics.specs.Terms.{Term, Constraint}
 use Rattle.tables.specs.Cells.{cell_terms, cell_constraints}
@@ -131,9 +131,6 @@ key-deep t cells i colours s v g ev κ c = ev ∙ rw (g.same κ c)
 -- the keys from i on, from the sum by now, give the sum of all
 pub record Totalling (keys : List ℕ) (total i : ℕ) : Type 0 where
   pub same : summed (drop i keys) total ≡ summed keys 0
-
-pub sum-start : (keys : List ℕ) → Totalling keys 0 0
-sum-start keys = record { same = refl }
 
 module _ (keys : List ℕ) (total i : ℕ) (w : Totalling keys total i) where
   pub sum_done : length keys ≤ i → total ≡ summed keys 0
