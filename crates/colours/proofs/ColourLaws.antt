@@ -116,12 +116,10 @@ module _ (start : ℕ) (terms received₀ received : List ℕ) (s i : ℕ) (w : 
 
 -- one constraint gives to its terms
 pub give-one :
-    (symbol start s : ℕ) (terms colours received received' : List ℕ) → start ≡ symbol
-    → Signed s start (cell_terms terms) colours → Spread s (cell_terms terms) received received'
-    → Given (with_terms symbol terms ∷ []) colours received received'
+    (symbol s : ℕ) (terms colours received received' : List ℕ) → Signed s symbol (cell_terms terms) colours
+    → Spread s (cell_terms terms) received received' → Given (with_terms symbol terms ∷ []) colours received received'
 unfolding gathered signature with_terms
-give-one symbol start s terms colours received received' e m p =
-    record { at = λ κ k x h. p.at x h ∙ rw (m.same κ k, e) }
+give-one symbol s terms colours received received' m p = record { at = λ κ k x h. p.at x h ∙ rw (m.same κ k) }
 
 -- the constraints from i on, from the table by now, give the answer for all
 pub record Giving (cells : List ℕ) (n : ℕ) (colours received₀ received : List ℕ) (i : ℕ) : Type 0 where

@@ -98,17 +98,17 @@ module _ (answer : ℕ → ℕ → Type 0) (cells : List ℕ) (n sum i : ℕ) (s
   digest-done h = record { same = λ κ k. rw (drop_of_length-le cells {i = 5 * i} (omega arith)) at (w.same κ k) }
 
   pub digest-next :
-      i < n → (start r m sum' : ℕ) → start ≡ get_or (lent cells i) 0 0 → (lent-answer : ℕ → ℕ → Type 0)
-      → ((x c : ℕ) → lent-answer x c → answer x c) → SignedBy lent-answer r start (lent_terms cells i) → m ≡ mixed r 2
-      → sum' ≡ plus sum m → Summing answer cells sum' (i + 1)
+      i < n → (r m sum' : ℕ) → (lent-answer : ℕ → ℕ → Type 0) → ((x c : ℕ) → lent-answer x c → answer x c)
+      → SignedBy lent-answer r (get_or (lent cells i) 0 0) (lent_terms cells i) → m ≡ mixed r 2 → sum' ≡ plus sum m
+      → Summing answer cells sum' (i + 1)
   unfolding added
-  digest-next h start r m sum' e lent-answer f g em es =
+  digest-next h r m sum' lent-answer f g em es =
       rw (add-one i)
       (record {
         same = λ κ k.
             let told = lent-all (λ x. (c : ℕ) → answer x c → c ≡ κ (cell_term x)) cells i (λ i j l c. k i j c l) in
             let one : r ≡ signature κ (row_constraint (take 5 (drop (5 * i) cells))) =
-            g.same κ (λ j c a. told j c (f _ c a)) ∙ rw e (row-signed cells i κ) in
+            g.same κ (λ j c a. told j c (f _ c a)) ∙ row-signed cells i κ in
             rw (es, em, one) (rw (constraints-at cells i (omega arith)) at (w.same κ k));
       })
 

@@ -25,13 +25,6 @@ pub fn mix(s: u32, c: u32) -> u32
     ((t as u64 + 2 * q as u64 + carried(t) as u64) % 4294967296) as u32
 }
 
-// A symbol's number.
-pub fn widened(x: u16) -> u32
-    ensures { result ≡ x }
-{
-    x as u32
-}
-
 // The colours of terms in their order, from a number on, mixed into one; `colour` gives a cell its colour.
 pub fn sign_by<F: Fn(u16) -> u32>(start: u32, terms: &[u16], colour: F) -> u32
     requires { (i : ℕ) → F.pre colour (slice_index terms.now i) }
@@ -77,7 +70,7 @@ pub fn give(symbol: u16, terms: &[u16], colours: &[u32], received: &mut [u32])
     ensures { Given (with_terms symbol terms.now ∷ []) colours.now received.old
         received.new }
 {
-    let s = sign(widened(symbol), terms, colours);
+    let s = sign(symbol as u32, terms, colours);
     spread(s, terms, received);
 }
 
@@ -164,7 +157,7 @@ pub fn digest_by<F: Fn(u16) -> u32>(cells: &[u16], n: usize, colour: F) -> u32
     let mut sum: u32 = 0;
     for i in 0..n {
         let row = &cells[5 * i..5 * i + 5];
-        let s = sign_by(widened(row[0]), &row[1..], &colour);
+        let s = sign_by(row[0] as u32, &row[1..], &colour);
         sum = sum.wrapping_add(mix(s, 2));
     }
     sum

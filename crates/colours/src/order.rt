@@ -35,8 +35,7 @@ fn is_seen(cells: &[u16], i: usize, seen: &[bool]) -> bool
 {
     let row = &cells[5 * i..5 * i + 5];
     for x in &row[1..] {
-        let p = wide(*x);
-        if *x >= FIRST_VARIABLE && !seen[p] {
+        if *x >= FIRST_VARIABLE && !seen[wide(*x)] {
             return false;
         }
     }
@@ -48,10 +47,7 @@ fn smaller(least: u16, c: u16, seen: &[bool], counts: &[u16]) -> u16
     requires { (c < length seen.now) × (length counts.now ≡ length seen.now) }
 {
     let x = wide(c);
-    if !seen[x] {
-        return least;
-    }
-    if counts[x] < least { counts[x] } else { least }
+    if seen[x] { least.min(counts[x]) } else { least }
 }
 
 // The least count of a variable of constraint i that was seen; 65535 where none was.

@@ -12,8 +12,8 @@ loop-i-init g c = digest-start _ _
 pub loop-i-preserved : goal.loop-i-preserved
 unfolding plus
 loop-i-preserved g c =
-    digest-next _ _ _ _ _ c.requires.0 c.loop-i.invariant c.loop-i-test.true _ c.sign_by-s.result c.mix-sum.result _
-    c.widened.ensures _ (λ x r a. a) c.sign_by-s.ensures c.mix-sum.ensures refl
+    digest-next _ _ _ _ _ c.requires.0 c.loop-i.invariant c.loop-i-test.true _ _ _ _ (λ x r a. a)
+    c.sign_by-s.ensures c.mix-sum.ensures refl
 
 pub returns : goal.returns
 returns g c = digest-done _ _ _ _ _ c.requires.0 c.loop-i.invariant c.loop-i-test.false
