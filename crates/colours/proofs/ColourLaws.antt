@@ -3,16 +3,16 @@
 --   give-…            constraints
 --   absorb-…          one round ends
 -- Assumes nothing.
-use Rattle.std.proofs.Common.{◌≡◌, ℕ, suc, ◌+◌, ◌-◌, ◌*◌, ◌<◌, ◌≤◌, true, false, eqb, ◌⊎◌, List, [], ◌∷◌, length, get_or, take, drop, set, ap, ◌∙◌, inl, inr, add-one, arith, length-drop, length-set, drop_of_length-le, length-take-le, take_all, get_or-set_other, get_or-set_same, eqb-true}
+use Rattle.std.proofs.Common.{◌≡◌, ℕ, suc, ◌+◌, ◌-◌, ◌*◌, ◌<◌, ◌≤◌, true, false, eqb, ◌⊎◌, List, [], ◌∷◌, length, get_or, take, drop, set, ap, ◌∙◌, inl, inr, add-one, arith, length-drop, length-set, drop_of_length-le, take_all, get_or-set_other, get_or-set_same, eqb-true}
 use borrow.Author.Tests.{eqb-false}
 use Rattle.semantics.specs.Terms.{Term, same_term}
 use Rattle.tables.specs.Cells.{cell_term, cell_terms, cell_constraints}
 use Rattle.tables.specs.Cells.{row_constraint}
 use Rattle.tables.proofs.CellLaws.{either, same-cell, terms-none, terms-more, constraints-at}
 use Rattle.colours.specs.Bounds.{Below, TermsBelow}
-use Rattle.colours.specs.Colours.{mixed, plus, added, signed, signature, gains, gathered, with_terms, Colours, Signed}
+use Rattle.colours.specs.Colours.{mixed, plus, added, signed, signature, gains, gathered, with_terms, Colours, Tells, SignedBy, Signed}
 use Rattle.colours.specs.Colours.{Spread, Given}
-use Rattle.colours.proofs.RowLaws.{terms-row}
+use Rattle.colours.proofs.RowLaws.{terms-all}
 
 -- at a 0, and behind the last cell, the terms end
 pub terms-end : (l : List ℕ) (i : ℕ) → length l ≤ i → cell_terms (drop i l) ≡ []
@@ -20,30 +20,35 @@ unfolding cell_terms
 terms-end l i h = rw (drop_of_length-le l {i = i} h)
 
 -- the terms from i on, from the number by now, give the answer for all
-pub record Signing (start : ℕ) (terms colours : List ℕ) (s i : ℕ) : Type 0 where
-  pub same : (κ : Term → ℕ) → Colours colours κ → signed κ s (cell_terms (drop i terms)) ≡ signed κ start (cell_terms terms)
+pub record Signing (answer : ℕ → ℕ → Type 0) (start : ℕ) (terms : List ℕ) (s i : ℕ) : Type 0 where
+  pub same :
+      (κ : Term → ℕ) → Tells answer terms κ → signed κ s (cell_terms (drop i terms)) ≡ signed κ start (cell_terms terms)
 
-module _ (start : ℕ) (terms colours : List ℕ) (s i : ℕ) (w : Signing start terms colours s i) where
-  pub sign-done : length terms ≤ i → Signed s start (cell_terms terms) colours
+module _ (answer : ℕ → ℕ → Type 0) (start : ℕ) (terms : List ℕ) (s i : ℕ) (w : Signing answer start terms s i) where
+  pub sign-done : length terms ≤ i → SignedBy answer s start terms
   unfolding signed
   sign-done h = record { same = λ κ k. rw (terms-end terms i h) at (w.same κ k) }
 
   module _ (h : i < length terms) where
-    pub sign-end : get_or terms i 0 ≡ 0 → Signed s start (cell_terms terms) colours
+    pub sign-end : get_or terms i 0 ≡ 0 → SignedBy answer s start terms
     unfolding signed
     sign-end z = record { same = λ κ k. rw (terms-none terms i h z) at (w.same κ k) }
 
     pub sign-next :
-        (get_or terms i 0 ≡ 0 → ⊥) → Below (length colours) terms → (p : ℕ) → p ≡ get_or terms i 0
-        → (s' : ℕ) → s' ≡ mixed s (get_or colours p 0) → Signing start terms colours s' (i + 1)
+        (get_or terms i 0 ≡ 0 → ⊥) → (c s' : ℕ) → answer (get_or terms i 0) c → s' ≡ mixed s c
+        → Signing answer start terms s' (i + 1)
     unfolding signed
-    sign-next z b p e s' f =
+    sign-next z c s' a f =
         rw (add-one i)
-        (record {
-          same = λ κ k.
-              let g : s' ≡ mixed s (κ (cell_term (get_or terms i 0))) = f ∙ rw (e, k.at (get_or terms i 0) (b.below i)) in
-              rw g (rw (terms-more terms i h z) at (w.same κ k));
-        })
+        (record { same = λ κ k. rw (f, k i c a) (rw (terms-more terms i h z) at (w.same κ k)) })
+
+-- answers by a table are what the table stands for
+pub sign-table :
+    (answer : ℕ → ℕ → Type 0) (r start : ℕ) (terms colours : List ℕ) → Below (length colours) terms
+    → ((x c : ℕ) → answer x c → c ≡ get_or colours x 0) → SignedBy answer r start terms
+    → Signed r start (cell_terms terms) colours
+sign-table answer r start terms colours b f s =
+    record { same = λ κ k. s.same κ (λ i c a. f (get_or terms i 0) c a ∙ k.at (get_or terms i 0) (b.below i)) }
 
 -- the terms from i on, from the number and the table by now, give the answer for all
 pub record Spreading (start : ℕ) (terms received₀ received : List ℕ) (s i : ℕ) : Type 0 where
@@ -111,12 +116,10 @@ module _ (start : ℕ) (terms received₀ received : List ℕ) (s i : ℕ) (w : 
 
 -- one constraint gives to its terms
 pub give-one :
-    (symbol start s : ℕ) (terms colours received received' : List ℕ) → start ≡ symbol
-    → Signed s start (cell_terms terms) colours → Spread s (cell_terms terms) received received'
-    → Given (with_terms symbol terms ∷ []) colours received received'
+    (symbol s : ℕ) (terms colours received received' : List ℕ) → Signed s symbol (cell_terms terms) colours
+    → Spread s (cell_terms terms) received received' → Given (with_terms symbol terms ∷ []) colours received received'
 unfolding gathered signature with_terms
-give-one symbol start s terms colours received received' e m p =
-    record { at = λ κ k x h. p.at x h ∙ rw (m.same κ k, e) }
+give-one symbol s terms colours received received' m p = record { at = λ κ k x h. p.at x h ∙ rw (m.same κ k) }
 
 -- the constraints from i on, from the table by now, give the answer for all
 pub record Giving (cells : List ℕ) (n : ℕ) (colours received₀ received : List ℕ) (i : ℕ) : Type 0 where
@@ -141,14 +144,15 @@ lent-terms l i =
     take_all (length (lent l i) - 1) (drop 1 (lent l i)) (omega (arith, length-drop 1 (lent l i)))
     ∙ ap (drop 1) (lent_row l i)
 
+-- what holds of all terms holds of them
+pub lent-all :
+    (P : ℕ → Type 0) (l : List ℕ) (i : ℕ) → ((k j : ℕ) → j < 4 → P (get_or l (5 * k + (1 + j)) 0))
+    → (j : ℕ) → P (get_or (lent_terms l i) j 0)
+lent-all P l i f j = rw (lent-terms l i) (terms-all P l i f j)
+
 -- they have their places
 pub lent_below : (m : ℕ) (l : List ℕ) (i : ℕ) → TermsBelow m l → Below m (lent_terms l i)
-lent_below m l i b = rw (lent-terms l i) (terms-row m l i b)
-
--- the row's length
-pub lent_length : (l : List ℕ) (i n : ℕ) → length l ≡ 5 * n → i < n → length (lent l i) ≡ 5
-lent_length l i n s h =
-    rw (lent_row l i) (length-take-le 5 (drop (5 * i) l) (omega (arith, length-drop (5 * i) l)))
+lent_below m l i b = record { below = lent-all (λ x. x < m) l i b.below }
 
 -- the row as a constraint
 pub lent-constraint :

@@ -3,20 +3,17 @@
 --   ascending-own           a renaming leaves it as it is
 --   bound-differs           states where it differs are not equal
 --   first-differs           nor are states whose digests differ
---   clip-…, first-…, sum-…  one law for each way that the code goes
+--   clip-cell, first-told      one law for each way that the code goes
 -- Assumes nothing.
-use Rattle.std.proofs.Common.{◌≡◌, ℕ, suc, ◌+◌, ◌-◌, ◌*◌, ◌<◌, ◌≤◌, min, true, false, eqb, ◌⊎◌, List, [], ◌∷◌, map, length, get_or, take, drop, sym, refl, ap, ◌∙◌, inl, inr, ⊎_elim, add-one, arith, drop_of_length-le, eq-eqb, eqb-true}
+use Rattle.std.proofs.Common.{◌≡◌, ℕ, suc, ◌+◌, ◌-◌, ◌*◌, ◌<◌, ◌≤◌, min, true, false, eqb, ◌⊎◌, List, [], ◌∷◌, map, get_or, sym, refl, ap, ◌∙◌, inl, inr, ⊎_elim, arith, eq-eqb, eqb-true}
 use borrow.Author.Tests.{eqb-false}
 use Rattle.semantics.specs.Terms.{Term, var, same_term}
 use Rattle.semantics.specs.Variants.{OneToOne, TermVariant, same_con, partners, Pointwise, each, same_state}
-use Rattle.tables.specs.Cells.{cell_term, cell_terms, cell_constraints, row_constraint}
+use Rattle.tables.specs.Cells.{cell_term, cell_constraints}
 use Rattle.tables.proofs.CellLaws.{either, le-or-lt, cell-low, cell-high, same-cell}
-use Rattle.tables.proofs.CellLaws.{terms-none, terms-more, constraints-at}
 use Rattle.colours.specs.Ends.{end_of}
 use Rattle.colours.specs.Numbering.{Ascending, none, known, new}
-use Rattle.colours.specs.Colours.{mixed, plus, added, signed, signature, digest, clipped}
-use Rattle.colours.proofs.ColourLaws.{lent, lent_terms, terms-end}
-use Rattle.colours.proofs.RoundLaws.{row-signed}
+use Rattle.colours.specs.Colours.{digest, clipped, DigestBy}
 use Rattle.colours.proofs.AgreeLaws.{Agree, digest-agree}
 use Rattle.colours.proofs.ClassLaws.{not-variant}
 
@@ -113,60 +110,14 @@ first-differs f a b limit x y u ex ey d =
     ∙ sym ey)))
 
 -- a cell, clipped
-clip-cell : (x limit : ℕ) → clipped limit (cell_term x) ≡ min x limit
+pub clip-cell : (x limit : ℕ) → clipped limit (cell_term x) ≡ min x limit
 unfolding clipped
 clip-cell x limit =
     ⊎_elim (λ h. rw (cell-high x h) (omega arith)) (λ h. rw (cell-low x h)) (le-or-lt 256 x)
 
-pub clip-low : (x limit : ℕ) → x < limit → x ≡ clipped limit (cell_term x)
-clip-low x limit h = rw (clip-cell x limit) (omega arith)
-
-pub clip-high : (x limit : ℕ) → limit ≤ x → limit ≡ clipped limit (cell_term x)
-clip-high x limit h = rw (clip-cell x limit) (omega arith)
-
--- the terms from i on, from the number by now, give the answer for all
-pub record FirstSigning (limit start : ℕ) (terms : List ℕ) (s i : ℕ) : Type 0 where
-  pub same : signed (clipped limit) s (cell_terms (drop i terms)) ≡ signed (clipped limit) start (cell_terms terms)
-
-module _ (limit start : ℕ) (terms : List ℕ) (s i : ℕ) (w : FirstSigning limit start terms s i) where
-  pub first_done : length terms ≤ i → s ≡ signed (clipped limit) start (cell_terms terms)
-  unfolding signed
-  first_done h = rw (terms-end terms i h) at w.same
-
-  module _ (h : i < length terms) where
-    pub first-end : get_or terms i 0 ≡ 0 → s ≡ signed (clipped limit) start (cell_terms terms)
-    unfolding signed
-    first-end z = rw (terms-none terms i h z) at w.same
-
-    pub first_next :
-        (get_or terms i 0 ≡ 0 → ⊥) → (k s' : ℕ) → k ≡ clipped limit (cell_term (get_or terms i 0)) → s' ≡ mixed s k
-        → FirstSigning limit start terms s' (i + 1)
-    unfolding signed
-    first_next z k s' e f =
-        rw (add-one i) (record { same = rw (f, e) (rw (terms-more terms i h z) at w.same) })
-
--- the constraints from i on, from the sum by now, give the answer for all
-pub record FirstSumming (limit : ℕ) (cells : List ℕ) (n sum i : ℕ) : Type 0 where
-  pub same :
-      added sum (map (λ c. mixed (signature (clipped limit) c) 2) (cell_constraints (drop (5 * i) cells)))
-      ≡ digest (clipped limit) (cell_constraints cells)
-
-pub sum-start : (limit : ℕ) (cells : List ℕ) (n : ℕ) → FirstSumming limit cells n 0 0
-unfolding digest
-sum-start limit cells n = record { same = refl }
-
-module _ (limit : ℕ) (cells : List ℕ) (n sum i : ℕ) (s : length cells ≡ 5 * n) (w : FirstSumming limit cells n sum i) where
-  pub sum_done : n ≤ i → sum ≡ digest (clipped limit) (cell_constraints cells)
-  unfolding added cell_constraints
-  sum_done h = rw (drop_of_length-le cells {i = 5 * i} (omega arith)) at w.same
-
-  pub sum-next :
-      i < n → (start r m sum' : ℕ) → start ≡ get_or (lent cells i) 0 0
-      → r ≡ signed (clipped limit) start (cell_terms (lent_terms cells i)) → m ≡ mixed r 2 → sum' ≡ plus sum m
-      → FirstSumming limit cells n sum' (i + 1)
-  unfolding added
-  sum-next h start r m sum' e g em es =
-      let one : r ≡ signature (clipped limit) (row_constraint (take 5 (drop (5 * i) cells))) =
-      g ∙ rw e (row-signed cells i (clipped limit)) in
-      rw (add-one i)
-      (record { same = rw (es, em, one) (rw (constraints-at cells i (omega arith)) at w.same) })
+-- the digest by clipped cells
+pub first-told :
+    (answer : ℕ → ℕ → Type 0) (limit r : ℕ) (cells : List ℕ)
+    → ((x c : ℕ) → answer x c → c ≡ clipped limit (cell_term x)) → DigestBy answer r cells
+    → r ≡ digest (clipped limit) (cell_constraints cells)
+first-told answer limit r cells f d = d.same (clipped limit) (λ i j c h a. f (get_or cells (5 * i + (1 + j)) 0) c a)

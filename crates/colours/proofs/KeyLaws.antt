@@ -5,7 +5,7 @@
 --   sum-…               their sum
 --   relabel-…           classes in the place of symbols
 -- Assumes nothing.
-use Rattle.std.proofs.Common.{◌≡◌, ℕ, suc, ◌+◌, ◌*◌, ◌%◌, ◌^◌, ◌<◌, ◌≤◌, Bool, true, false, eqb, ◌⊎◌, List, [], ◌∷◌, map, length, get_or, drop, set, sym, refl, ap, ◌∙◌, subst, inl, inr, add-one, arith, length-set, drop_of_length-le, drop-cons, get_or-set_other, get_or-set_same, eqb-true}
+use Rattle.std.proofs.Common.{◌≡◌, ℕ, suc, ◌+◌, ◌*◌, ◌%◌, ◌^◌, ◌<◌, ◌≤◌, Bool, true, false, eqb, ◌⊎◌, List, [], ◌∷◌, map, length, get_or, drop, set, sym, ap, ◌∙◌, subst, inl, inr, add-one, arith, length-set, drop_of_length-le, drop-cons, get_or-set_other, get_or-set_same, eqb-true}
 use borrow.Author.Tests.{eqb-false}
 use Rattle.semantics.specs.Terms.{Term, Constraint}
 use Rattle.tables.specs.Cells.{cell_terms, cell_constraints}
@@ -100,14 +100,14 @@ module _ (t : ℕ) (deep : Bool) (cells : List ℕ) (n : ℕ) (colours keys₀ k
 
 -- a key by a signature
 pub key-plain :
-    (cells : List ℕ) (n i : ℕ) (colours : List ℕ) (start s v : ℕ) → length cells ≡ 5 * n → i < n
-    → start ≡ get_or (lent cells i) 0 0 → Signed s start (cell_terms (lent_terms cells i)) colours
+    (cells : List ℕ) (n i : ℕ) (colours : List ℕ) (s v : ℕ) → length cells ≡ 5 * n → i < n
+    → Signed s (get_or (lent cells i) 0 0) (cell_terms (lent_terms cells i)) colours
     → v ≡ s * 65536 + get_or (lent cells i) 0 0
     → (κ : Term → ℕ) → Colours colours κ → v ≡ key_of 0 false κ (cell_constraints cells) (row_of cells i)
 unfolding key_of coded row_of with_terms
-key-plain cells n i colours start s v e h es g ev κ c =
+key-plain cells n i colours s v e h g ev κ c =
     let one : s ≡ signature κ (row_of cells i) =
-    g.same κ c ∙ (rw es (row-signed cells i κ) ∙ ap (signature κ) (row_same cells i (omega arith))) in
+    g.same κ c ∙ (row-signed cells i κ ∙ ap (signature κ) (row_same cells i (omega arith))) in
     ev ∙ rw (one, symbol-of cells n i e h)
   where
     symbol-of : (cells : List ℕ) (n i : ℕ) → length cells ≡ 5 * n → i < n → get_or (lent cells i) 0 0 ≡ get_or cells (5 * i) 0
@@ -131,9 +131,6 @@ key-deep t cells i colours s v g ev κ c = ev ∙ rw (g.same κ c)
 -- the keys from i on, from the sum by now, give the sum of all
 pub record Totalling (keys : List ℕ) (total i : ℕ) : Type 0 where
   pub same : summed (drop i keys) total ≡ summed keys 0
-
-pub sum-start : (keys : List ℕ) → Totalling keys 0 0
-sum-start keys = record { same = refl }
 
 module _ (keys : List ℕ) (total i : ℕ) (w : Totalling keys total i) where
   pub sum_done : length keys ≤ i → total ≡ summed keys 0

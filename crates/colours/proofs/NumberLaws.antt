@@ -3,12 +3,11 @@
 --   cells-…         all cells
 --   state-…         a state
 -- Assumes nothing.
-use Rattle.std.proofs.Common.{◌≡◌, ℕ, zero, suc, ◌+◌, ◌-◌, ◌<◌, ◌≤◌, true, false, eqb, ◌⊎◌, List, ◌++◌, length, get_or, take, set, replicate, sym, refl, ◌∙◌, subst, inl, inr, ⊎_elim, add-one, arith, length-set, take_all, get_or-set_other, get_or-set_same, take-suc-set, eqb-true}
-use lib.ListN.{get_or-eq_default}
+use Rattle.std.proofs.Common.{◌≡◌, ℕ, zero, suc, ◌+◌, ◌-◌, ◌<◌, ◌≤◌, true, false, eqb, ◌⊎◌, List, ◌++◌, length, get_or, take, set, replicate, sym, refl, ◌∙◌, inl, inr, add-one, arith, length-set, get_or-set_other, get_or-set_same, take-suc-set, eqb-true}
 use borrow.Author.Tests.{eqb-false}
 use Rattle.semantics.specs.Variants.{TermVariant, same_con, partners}
 use Rattle.tables.specs.Cells.{cell_term}
-use Rattle.tables.proofs.CellLaws.{either, le-or-lt, cell-low, cell-high}
+use Rattle.tables.proofs.CellLaws.{either, cell-low, cell-high}
 use Rattle.colours.specs.Numbering.{Renames, Numbering, Ascending, none, known, new}
 use Rattle.colours.specs.Numbering.{Numbered, CellsNumbered, Renumbered}
 
@@ -152,26 +151,6 @@ cells-start cells out numbers first n =
 
 module _ (cells out₀ out numbers₀ : List ℕ) (first : ℕ) (numbers : List ℕ) (next i : ℕ) (s : length out₀ ≡ length cells)
     (w : Progress cells out₀ out numbers₀ first numbers next i) where
-  pub cells-done : length cells ≤ i → i ≤ length cells → CellsNumbered cells out numbers₀ first numbers next
-  cells-done h b =
-      record {
-        numbering = w.numbering;
-        kept = w.kept;
-        same = λ k l. w.same k (omega arith);
-        constant = λ k l. ⊎_elim (λ q. behind k q) (λ q. w.constant k (omega arith) l) (le-or-lt (length cells) k);
-        ascending = subst (λ l. Ascending first l next) (take_all i out (omega (arith, w.size))) w.ascending;
-        below = λ k. ⊎_elim (λ q. rw (out-behind k q) (omega (arith, w.numbering.low))) (λ q. w.below k (omega arith))
-            (le-or-lt (length cells) k);
-        least = w.least;
-        most = omega (arith, w.most, b);
-      }
-    where
-      out-behind : (k : ℕ) → length cells ≤ k → get_or out k 0 ≡ 0
-      out-behind k q = get_or-eq_default out 0 (omega (arith, w.size))
-
-      behind : (k : ℕ) → length cells ≤ k → get_or out k 0 ≡ get_or cells k 0
-      behind k q = out-behind k q ∙ sym (get_or-eq_default cells 0 q)
-
   module _ (h : i < length cells) (y : ℕ) (numbers' : List ℕ) (next' : ℕ) (t : length numbers' ≡ length numbers)
       (n : Numbered (get_or cells i 0) y numbers next numbers' next') where
     in-room : i < length out

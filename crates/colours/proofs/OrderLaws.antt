@@ -1,11 +1,9 @@
 -- Constraints in another order: one law for each way that the code goes.
---   term_room          a term has its place
 --   swapping-…         two constraints change positions
 --   swapped-multiset   they are the same constraints then
 --   reordered-…        one change after the other
 -- Assumes nothing.
-use Rattle.std.proofs.Common.{◌≡◌, ℕ, zero, suc, ◌+◌, ◌-◌, ◌*◌, ◌<◌, ◌≤◌, true, false, eqb, ◌⊎◌, List, [], ◌∷◌, length, get_or, take, drop, set, sym, refl, ap, ◌∙◌, subst, inl, inr, add-one, arith, length-set, length-take, get_or-drop, get_or-take, get_or-set_other, get_or-set_same, ext_get_or, eqb-true}
-use lib.ListN.{get_or-eq_default}
+use Rattle.std.proofs.Common.{◌≡◌, ℕ, zero, suc, ◌+◌, ◌*◌, ◌<◌, ◌≤◌, true, false, eqb, ◌⊎◌, List, [], ◌∷◌, length, get_or, set, sym, refl, ap, ◌∙◌, subst, inl, inr, add-one, arith, length-set, get_or-set_other, get_or-set_same, ext_get_or, eqb-true}
 use borrow.Author.Tests.{eqb-false}
 use Rattle.std.specs.List.{swap}
 use Rattle.std.proofs.lemmas.List.Edits.{swap_is}
@@ -14,29 +12,11 @@ use Rattle.semantics.specs.Variants.{SameMultiset, put, Inserted, here, there}
 use Rattle.semantics.proofs.Multisets.{multiset-refl, multiset-right}
 use Rattle.tables.specs.Cells.{cell_constraints}
 use Rattle.tables.proofs.CellLaws.{constraints-length}
-use Rattle.tables.proofs.CellLaws.{either, le-or-lt}
+use Rattle.tables.proofs.CellLaws.{either}
 use Rattle.colours.specs.Rows.{row_of}
 use Rattle.colours.specs.Bounds.{TermsBelow}
 use Rattle.colours.specs.Order.{Ordering, swapped, Swapped, Reordered}
 use Rattle.colours.proofs.RowLaws.{row_at}
-
--- a term of constraint i, as the code lends its row, has its place
-pub term_room :
-    (m : ℕ) (cells : List ℕ) (i j : ℕ) → TermsBelow m cells
-    → get_or (take (5 * i + 5 - (5 * i + 1)) (drop (5 * i + 1) cells)) j 0 < m
-term_room m cells i j b = rw four (go (le-or-lt 4 j))
-  where
-    four : 5 * i + 5 - (5 * i + 1) ≡ 4
-    four = omega arith
-
-    go : (4 ≤ j) ⊎ (j < 4) → get_or (take 4 (drop (5 * i + 1) cells)) j 0 < m
-    go (inr h) =
-        let k : 5 * i + 1 + j ≡ 5 * i + (1 + j) = omega arith in
-        rw (get_or-take 4 (drop (5 * i + 1) cells) j 0 h, get_or-drop (5 * i + 1) cells j 0, k) (b.below i j h)
-    go (inl h) =
-        let e : length (take 4 (drop (5 * i + 1) cells)) ≤ j = omega (arith, length-take 4 (drop (5 * i + 1) cells)) in
-        let z : 0 < m = omega (arith, b.below 0 0 (omega arith)) in
-        rw (get_or-eq_default (take 4 (drop (5 * i + 1) cells)) 0 e) z
 
 -- the columns before c are exchanged, the others are as they were
 pub record Swapping (i j : ℕ) (cells₀ cells : List ℕ) (c : ℕ) : Type 0 where

@@ -3,14 +3,15 @@
 --   start-…         the colours at the start
 --   digest-…        one number for all constraints
 -- Assumes nothing.
-use Rattle.std.proofs.Common.{◌≡◌, ℕ, suc, ◌+◌, ◌-◌, ◌*◌, ◌<◌, ◌≤◌, List, map, length, get_or, take, drop, refl, ap, ◌∙◌, subst, add-one, arith, drop_of_length-le}
+use Rattle.std.proofs.Common.{◌≡◌, ℕ, suc, ◌+◌, ◌-◌, ◌*◌, ◌<◌, ◌≤◌, min, List, map, length, get_or, take, drop, refl, ap, ◌∙◌, subst, ⊎_elim, add-one, arith, drop_of_length-le}
 use Rattle.semantics.specs.Terms.{Term, Constraint}
 use Rattle.tables.specs.Cells.{cell_term, cell_terms, cell_constraints}
 use Rattle.tables.specs.Cells.{row_constraint}
-use Rattle.tables.proofs.CellLaws.{cell-low, cell-high, constraints-at}
+use Rattle.tables.proofs.CellLaws.{le-or-lt, cell-low, cell-high, constraints-at}
+use Rattle.colours.specs.Bounds.{TermsBelow}
 use Rattle.colours.specs.Colours.{mixed, plus, added, signed, signature, refined, rounds, digest, base, with_terms}
-use Rattle.colours.specs.Colours.{Colours, Signed, Given, Absorbed, Empty, Ready, Recoloured, Summed}
-use Rattle.colours.proofs.ColourLaws.{lent, lent_terms, lent-constraint}
+use Rattle.colours.specs.Colours.{Colours, TermsTell, SignedBy, DigestBy, Given, Absorbed, Empty, Ready, Recoloured, Summed}
+use Rattle.colours.proofs.ColourLaws.{lent, lent_terms, lent-all, lent-constraint}
 
 -- what was received, mixed in, is one round
 pub round-one :
@@ -68,13 +69,9 @@ module _ (k : ℕ) (cells : List ℕ) (n : ℕ) (colours₀ received₀ : List �
     )
 
 -- the colour of a cell at the start
-pub start-low : (x : ℕ) → x < 256 → x ≡ base (cell_term x)
+pub start-cell : (x : ℕ) → base (cell_term x) ≡ min x 256
 unfolding base
-start-low x h = rw (cell-low x h)
-
-pub start-high : (x : ℕ) → 256 ≤ x → 256 ≡ base (cell_term x)
-unfolding base
-start-high x h = rw (cell-high x h)
+start-cell x = ⊎_elim (λ h. rw (cell-high x h) (omega arith)) (λ h. rw (cell-low x h) (omega arith)) (le-or-lt 256 x)
 
 -- the signature of a row, of its symbol and its terms
 pub row-signed :
@@ -85,31 +82,43 @@ unfolding signature with_terms
 row-signed cells i κ = ap (signature κ) (lent-constraint cells i)
 
 -- the constraints from i on, from the sum by now, give the answer for all
-pub record Summing (cells : List ℕ) (n : ℕ) (colours : List ℕ) (sum i : ℕ) : Type 0 where
+pub record Summing (answer : ℕ → ℕ → Type 0) (cells : List ℕ) (sum i : ℕ) : Type 0 where
   pub same :
-      (κ : Term → ℕ) → Colours colours κ
+      (κ : Term → ℕ) → TermsTell answer cells κ
       → added sum (map (λ c. mixed (signature κ c) 2) (cell_constraints (drop (5 * i) cells))) ≡ digest κ (cell_constraints cells)
 
-pub digest-start : (cells : List ℕ) (n : ℕ) (colours : List ℕ) → Summing cells n colours 0 0
+pub digest-start : (answer : ℕ → ℕ → Type 0) (cells : List ℕ) → Summing answer cells 0 0
 unfolding digest
-digest-start cells n colours = record { same = λ κ k. refl }
+digest-start answer cells = record { same = λ κ k. refl }
 
-module _ (cells : List ℕ) (n : ℕ) (colours : List ℕ) (sum i : ℕ) (s : length cells ≡ 5 * n)
-    (w : Summing cells n colours sum i) where
-  pub digest-done : n ≤ i → Summed sum (λ κ. digest κ (cell_constraints cells)) colours
+module _ (answer : ℕ → ℕ → Type 0) (cells : List ℕ) (n sum i : ℕ) (s : length cells ≡ 5 * n)
+    (w : Summing answer cells sum i) where
+  pub digest-done : n ≤ i → DigestBy answer sum cells
   unfolding added cell_constraints
-  digest-done h =
-      record { same = λ κ k. rw (drop_of_length-le cells {i = 5 * i} (omega arith)) at (w.same κ k) }
+  digest-done h = record { same = λ κ k. rw (drop_of_length-le cells {i = 5 * i} (omega arith)) at (w.same κ k) }
 
   pub digest-next :
-      i < n → (start r m sum' : ℕ) → start ≡ get_or (lent cells i) 0 0
-      → Signed r start (cell_terms (lent_terms cells i)) colours → m ≡ mixed r 2 → sum' ≡ plus sum m
-      → Summing cells n colours sum' (i + 1)
+      i < n → (r m sum' : ℕ) → (lent-answer : ℕ → ℕ → Type 0) → ((x c : ℕ) → lent-answer x c → answer x c)
+      → SignedBy lent-answer r (get_or (lent cells i) 0 0) (lent_terms cells i) → m ≡ mixed r 2 → sum' ≡ plus sum m
+      → Summing answer cells sum' (i + 1)
   unfolding added
-  digest-next h start r m sum' e g em es =
+  digest-next h r m sum' lent-answer f g em es =
       rw (add-one i)
       (record {
         same = λ κ k.
-            let one : r ≡ signature κ (row_constraint (take 5 (drop (5 * i) cells))) = g.same κ k ∙ rw e (row-signed cells i κ) in
+            let told = lent-all (λ x. (c : ℕ) → answer x c → c ≡ κ (cell_term x)) cells i (λ i j l c. k i j c l) in
+            let one : r ≡ signature κ (row_constraint (take 5 (drop (5 * i) cells))) =
+            g.same κ (λ j c a. told j c (f _ c a)) ∙ row-signed cells i κ in
             rw (es, em, one) (rw (constraints-at cells i (omega arith)) at (w.same κ k));
       })
+
+-- answers by a table are what the table stands for
+pub digest-table :
+    (answer : ℕ → ℕ → Type 0) (r : ℕ) (cells colours : List ℕ) → TermsBelow (length colours) cells
+    → ((x c : ℕ) → answer x c → c ≡ get_or colours x 0) → DigestBy answer r cells
+    → Summed r (λ κ. digest κ (cell_constraints cells)) colours
+digest-table answer r cells colours b f d =
+    record {
+      same = λ κ k. d.same κ (λ i j c h a.
+          f (get_or cells (5 * i + (1 + j)) 0) c a ∙ k.at (get_or cells (5 * i + (1 + j)) 0) (b.below i j h));
+    }

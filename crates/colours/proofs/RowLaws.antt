@@ -3,7 +3,8 @@
 --   row_same           the same, of the five cells
 --   rows-map           a list of constraints that is another's image, by its rows
 --   rows-pointwise     two lists of constraints, row by row
---   terms-row          the terms of a row have their places
+--   terms-all          what holds of all terms holds of the terms of a row
+--   terms-row          they have their places
 -- Assumes nothing.
 use Rattle.std.proofs.Common.{◌≡◌, ℕ, zero, suc, ◌+◌, ◌*◌, ◌<◌, ◌≤◌, ◌⊎◌, List, [], ◌∷◌, map, length, get_or, take, drop, sym, refl, ap, ◌∙◌, inl, inr, arith, length-drop, length-take, get_or-drop, get_or-take, ext_get_or}
 use lib.ListN.{length-map, get_or-eq_default}
@@ -117,17 +118,23 @@ rows-pointwise {R} n l l' s s' f =
     let k : i < n = rw (constraints-length n l s) at h in
     rw (row_at i l nothing (omega arith), row_at i l' nothing (omega arith)) (f i k))
 
--- the terms of a row have their places
-pub terms-row : (n : ℕ) (l : List ℕ) (i : ℕ) → TermsBelow n l → Below n (drop 1 (take 5 (drop (5 * i) l)))
-terms-row n l i b = record { below = λ j. rw (get_or-drop 1 (take 5 (drop (5 * i) l)) j 0) (go j (le-or-lt 4 j)) }
+-- what holds of all terms holds of the terms of a row
+pub terms-all :
+    (P : ℕ → Type 0) (l : List ℕ) (i : ℕ) → ((k j : ℕ) → j < 4 → P (get_or l (5 * k + (1 + j)) 0))
+    → (j : ℕ) → P (get_or (drop 1 (take 5 (drop (5 * i) l))) j 0)
+terms-all P l i f j = rw (get_or-drop 1 (take 5 (drop (5 * i) l)) j 0) (go (le-or-lt 4 j))
   where
-    go : (j : ℕ) → (4 ≤ j) ⊎ (j < 4) → get_or (take 5 (drop (5 * i) l)) (1 + j) 0 < n
-    go j (inr h) =
-        rw (get_or-take 5 (drop (5 * i) l) (1 + j) 0 (omega arith), get_or-drop (5 * i) l (1 + j) 0) (b.below i j h)
-    go j (inl h) =
+    go : (4 ≤ j) ⊎ (j < 4) → P (get_or (take 5 (drop (5 * i) l)) (1 + j) 0)
+    go (inr h) =
+        rw (get_or-take 5 (drop (5 * i) l) (1 + j) 0 (omega arith), get_or-drop (5 * i) l (1 + j) 0) (f i j h)
+    go (inl h) =
         let e : length (take 5 (drop (5 * i) l)) ≤ 1 + j = omega (arith, length-take 5 (drop (5 * i) l)) in
-        let z : 0 < n = omega (arith, b.below 0 0 (omega arith)) in
-        rw (get_or-eq_default (take 5 (drop (5 * i) l)) 0 e) z
+        let z : get_or l (5 * length l + (1 + 0)) 0 ≡ 0 = get_or-eq_default l 0 (omega arith) in
+        rw (get_or-eq_default (take 5 (drop (5 * i) l)) 0 e) (rw z at (f (length l) 0 (omega arith)))
+
+-- they have their places
+pub terms-row : (n : ℕ) (l : List ℕ) (i : ℕ) → TermsBelow n l → Below n (drop 1 (take 5 (drop (5 * i) l)))
+terms-row n l i b = record { below = terms-all (λ x. x < n) l i b.below }
 
 -- so have those of the other constraints
 pub terms-drop : (n : ℕ) (l : List ℕ) → TermsBelow n l → TermsBelow n (drop 5 l)

@@ -6,12 +6,13 @@
 --   digest                   one number for all constraints
 --   clipped                  cells below a number as colours of their own
 --   Colours                  a table of colours
---   Signed, Spread, Given, Absorbed, Recoloured, Summed      what the functions promise
+--   Tells, TermsTell         what gives cells their colours
+--   SignedBy, DigestBy, Signed, Spread, Given, Absorbed, Recoloured, Summed      what the functions promise
 --   Empty, Ready             what they ask
 -- Assumes nothing.
 use Rattle.std.specs.Prelude.{◌≡◌, ℕ, zero, suc, ◌+◌, ◌*◌, ◌%◌, ◌^◌, ◌<◌, min, cond, List, [], ◌∷◌, map, length, nat_lt, slice_index}
 use Rattle.semantics.specs.Terms.{Term, con, var, Constraint, same_term}
-use Rattle.tables.specs.Cells.{cell_term, cell_terms}
+use Rattle.tables.specs.Cells.{cell_term, cell_terms, cell_constraints}
 use Rattle.colours.specs.Bounds.{TermsBelow}
 
 -- the lowest 32 bits of a number
@@ -87,6 +88,23 @@ with_terms symbol terms = record { symbol = symbol; terms = cell_terms terms }
 -- a table of colours, by cells
 pub record Colours (table : List ℕ) (κ : Term → ℕ) : Type 0 where
   pub at : (x : ℕ) → x < length table → slice_index table x ≡ κ (cell_term x)
+
+-- answers for the cells of a list are the colours of their terms
+abbrev pub Tells : (ℕ → ℕ → Type 0) → List ℕ → (Term → ℕ) → Type 0
+Tells answer cells κ = (i r : ℕ) → answer (slice_index cells i) r → r ≡ κ (cell_term (slice_index cells i))
+
+-- a number made of terms, by the colours that such answers are
+pub record SignedBy (answer : ℕ → ℕ → Type 0) (r start : ℕ) (terms : List ℕ) : Type 0 where
+  pub same : (κ : Term → ℕ) → Tells answer terms κ → r ≡ signed κ start (cell_terms terms)
+
+-- answers for the terms of constraints, five cells to each, are their colours
+abbrev pub TermsTell : (ℕ → ℕ → Type 0) → List ℕ → (Term → ℕ) → Type 0
+TermsTell answer cells κ =
+    (i j r : ℕ) → j < 4 → answer (slice_index cells (5 * i + (1 + j))) r → r ≡ κ (cell_term (slice_index cells (5 * i + (1 + j))))
+
+-- one number for all constraints, by the colours that such answers are
+pub record DigestBy (answer : ℕ → ℕ → Type 0) (r : ℕ) (cells : List ℕ) : Type 0 where
+  pub same : (κ : Term → ℕ) → TermsTell answer cells κ → r ≡ digest κ (cell_constraints cells)
 
 -- a number made of terms, by the colours that a table stands for
 pub record Signed (r start : ℕ) (terms : List Term) (colours : List ℕ) : Type 0 where

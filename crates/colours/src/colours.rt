@@ -1,11 +1,12 @@
 // Colours of terms, which a renaming cannot change: numbers in a lent table, made finer by what each term receives from the
 // constraints that it stands in.
-ghost use Rattle.std.specs.Prelude.{◌≡◌, ◌*◌, ◌<◌, ◌≤◌, [], ◌∷◌, length};
+ghost use Rattle.std.specs.Prelude.{◌≡◌, ℕ, ◌+◌, ◌*◌, ◌<◌, ◌≤◌, [], ◌∷◌, length, slice_index};
 ghost use Rattle.tables.specs.Cells.{cell_term, cell_terms, cell_constraints};
 ghost use Rattle.colours.specs.Bounds.{Below, TermsBelow};
-ghost use Rattle.colours.specs.Colours.{carry, mixed, Signed, Spread, Given, Absorbed, Recoloured, Summed};
+ghost use Rattle.colours.specs.Colours.{carry, mixed, SignedBy, Signed, DigestBy, Spread, Given, Absorbed, Recoloured, Summed};
 ghost use Rattle.colours.specs.Colours.{with_terms, refined, rounds, digest, base, Colours, Empty, Ready};
 
+use tables::layout::FIRST_VARIABLE;
 use tables::wide;
 
 // What is added to a number by its highest bit: sums and products alone would never tell lower bits of upper ones.
@@ -24,27 +25,27 @@ pub fn mix(s: u32, c: u32) -> u32
     ((t as u64 + 2 * q as u64 + carried(t) as u64) % 4294967296) as u32
 }
 
-// A symbol's number.
-pub fn widened(x: u16) -> u32
-    ensures { result ≡ x }
-{
-    x as u32
-}
-
-// The colours of terms in their order, from a number on, mixed into one.
-pub fn sign(start: u32, terms: &[u16], colours: &[u32]) -> u32
-    requires { Below (length colours.now) terms.now }
-    ensures { Signed result start (cell_terms terms.now) colours.now }
+// The colours of terms in their order, from a number on, mixed into one; `colour` gives a cell its colour.
+pub fn sign_by<F: Fn(u16) -> u32>(start: u32, terms: &[u16], colour: F) -> u32
+    requires { (i : ℕ) → F.pre colour (slice_index terms.now i) }
+    ensures { SignedBy (F.post colour) result start terms.now }
 {
     let mut s = start;
     for x in terms {
         if *x == 0 {
             return s;
         }
-        let p = wide(*x);
-        s = mix(s, colours[p]);
+        s = mix(s, colour(*x));
     }
     s
+}
+
+// The same by a table of colours.
+pub fn sign(start: u32, terms: &[u16], colours: &[u32]) -> u32
+    requires { Below (length colours.now) terms.now }
+    ensures { Signed result start (cell_terms terms.now) colours.now }
+{
+    sign_by(start, terms, |x| colours[wide(x)])
 }
 
 // Gives each term a number that goes by its column, from a number on.
@@ -69,7 +70,7 @@ pub fn give(symbol: u16, terms: &[u16], colours: &[u32], received: &mut [u32])
     ensures { Given (with_terms symbol terms.now ∷ []) colours.now received.old
         received.new }
 {
-    let s = sign(widened(symbol), terms, colours);
+    let s = sign(symbol as u32, terms, colours);
     spread(s, terms, received);
 }
 
@@ -134,7 +135,7 @@ pub fn start_colour(x: usize) -> u32
     requires { x < 65536 }
     ensures { result ≡ base (cell_term x) }
 {
-    if x < 256 { x as u32 } else { 256 }
+    x.min(wide(FIRST_VARIABLE)) as u32
 }
 
 // The colours at the start.
@@ -147,16 +148,25 @@ pub fn start(colours: &mut [u32])
     }
 }
 
-// One number for all constraints, in any order.
-pub fn digest_of(cells: &[u16], n: usize, colours: &[u32]) -> u32
-    requires { (length cells.now ≡ 5 * n) × TermsBelow (length colours.now) cells.now }
-    ensures { Summed result (λ κ. digest κ (cell_constraints cells.now)) colours.now }
+// One number for all constraints, in any order; `colour` gives a cell its colour.
+pub fn digest_by<F: Fn(u16) -> u32>(cells: &[u16], n: usize, colour: F) -> u32
+    requires { (length cells.now ≡ 5 * n)
+        × ((i j : ℕ) → j < 4 → F.pre colour (slice_index cells.now (5 * i + (1 + j)))) }
+    ensures { DigestBy (F.post colour) result cells.now }
 {
     let mut sum: u32 = 0;
     for i in 0..n {
         let row = &cells[5 * i..5 * i + 5];
-        let s = sign(widened(row[0]), &row[1..], colours);
+        let s = sign_by(row[0] as u32, &row[1..], &colour);
         sum = sum.wrapping_add(mix(s, 2));
     }
     sum
+}
+
+// The same by a table of colours.
+pub fn digest_of(cells: &[u16], n: usize, colours: &[u32]) -> u32
+    requires { (length cells.now ≡ 5 * n) × TermsBelow (length colours.now) cells.now }
+    ensures { Summed result (λ κ. digest κ (cell_constraints cells.now)) colours.now }
+{
+    digest_by(cells, n, |x| colours[wide(x)])
 }

@@ -6,7 +6,7 @@ ghost use Rattle.colours.specs.Bounds.{Below, TermsBelow};
 ghost use Rattle.colours.specs.Colours.{Colours, Empty, Ready, Summed};
 ghost use Rattle.colours.specs.Keys.{plain_of, deep_of, key_of, summed, class_of, Keyed, Relabelled};
 
-use crate::colours::{digest_of, light, refine_times, sign, start, widened};
+use crate::colours::{digest_of, light, refine_times, sign, start};
 use tables::names::find_key;
 
 // The colours of a state's terms: what the goal variables became is marked before t rounds.
@@ -63,7 +63,7 @@ pub fn plain_keys(cells: &[u16], n: usize, colours: &[u32], keys: &mut [u64])
 {
     for i in 0..n {
         let row = &cells[5 * i..5 * i + 5];
-        let s = sign(widened(row[0]), &row[1..], colours);
+        let s = sign(row[0] as u32, &row[1..], colours);
         keys[i] = code(s, row[0]);
     }
 }

@@ -12,7 +12,8 @@ pub fn tally(cells: &[u16], i: usize, counts: &mut [u16])
     requires { TermsBelow (length counts.old) cells.now × (5 * i + 5 ≤ length cells.now) }
     ensures { length counts.new ≡ length counts.old }
 {
-    for x in &cells[5 * i + 1..5 * i + 5] {
+    let row = &cells[5 * i..5 * i + 5];
+    for x in &row[1..] {
         let p = wide(*x);
         counts[p] = counts[p].wrapping_add(1);
     }
@@ -32,9 +33,9 @@ pub fn tally_all(cells: &[u16], n: usize, counts: &mut [u16])
 fn is_seen(cells: &[u16], i: usize, seen: &[bool]) -> bool
     requires { TermsBelow (length seen.now) cells.now × (5 * i + 5 ≤ length cells.now) }
 {
-    for x in &cells[5 * i + 1..5 * i + 5] {
-        let p = wide(*x);
-        if *x >= FIRST_VARIABLE && !seen[p] {
+    let row = &cells[5 * i..5 * i + 5];
+    for x in &row[1..] {
+        if *x >= FIRST_VARIABLE && !seen[wide(*x)] {
             return false;
         }
     }
@@ -46,10 +47,7 @@ fn smaller(least: u16, c: u16, seen: &[bool], counts: &[u16]) -> u16
     requires { (c < length seen.now) × (length counts.now ≡ length seen.now) }
 {
     let x = wide(c);
-    if !seen[x] {
-        return least;
-    }
-    if counts[x] < least { counts[x] } else { least }
+    if seen[x] { least.min(counts[x]) } else { least }
 }
 
 // The least count of a variable of constraint i that was seen; 65535 where none was.
@@ -57,8 +55,9 @@ fn least_count(cells: &[u16], i: usize, seen: &[bool], counts: &[u16]) -> u16
     requires { TermsBelow (length seen.now) cells.now × (5 * i + 5 ≤ length cells.now)
         × (length counts.now ≡ length seen.now) }
 {
+    let row = &cells[5 * i..5 * i + 5];
     let mut least = 65535;
-    for x in &cells[5 * i + 1..5 * i + 5] {
+    for x in &row[1..] {
         least = smaller(least, *x, seen, counts);
     }
     least
@@ -102,7 +101,8 @@ pub fn see(cells: &[u16], i: usize, seen: &mut [bool], counts: &mut [u16])
     ensures { (length seen.new ≡ length seen.old)
         × (length counts.new ≡ length counts.old) }
 {
-    for x in &cells[5 * i + 1..5 * i + 5] {
+    let row = &cells[5 * i..5 * i + 5];
+    for x in &row[1..] {
         let p = wide(*x);
         seen[p] = *x >= FIRST_VARIABLE;
         counts[p] = counts[p].wrapping_sub(1);

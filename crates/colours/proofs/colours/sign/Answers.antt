@@ -1,13 +1,8 @@
--- `sign` meets its contract: the terms from i on, from the number by now, give the answer for all.
+-- `sign` meets its contract: answers by a table are what the table stands for.
 -- Assumes nothing.
-use Rattle.colours.proofs.ColourLaws.{sign-end, sign-next, sign-done}
+use Rattle.std.proofs.Common.{rules}
+use Rattle.colours.proofs.ColourLaws.{sign-table}
 use Rattle.colours.proofs.colours.sign.Goals as goal
 
-pub returns-then-x-eq0 : goal.returns-then-x-eq0
-returns-then-x-eq0 c = search sign-end
-
-pub loop-x-preserved : goal.loop-x-preserved
-loop-x-preserved c = search sign-next
-
 pub returns : goal.returns
-returns c = search sign-done
+returns c = sign-table _ _ _ _ _ c.requires (λ x r a. search rules) c.sign_by.ensures
