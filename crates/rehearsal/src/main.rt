@@ -15,14 +15,32 @@ use std::rt::{Env, Files};
 use std::{env, fs, io};
 use sweep::swept;
 
+// What an input is: a program and a goal; a program; a program whose pages are printed.
+#[derive(Clone, Copy, PartialEq, Eq)]
+enum Kind {
+    Run,
+    Check,
+    Pages,
+}
+
+// What an input is whose name begins with a letter.
+fn kind_of(letter: u8) -> Kind {
+    match letter {
+        b'r' => Kind::Run,
+        b'p' => Kind::Pages,
+        _ => Kind::Check,
+    }
+}
+
 // What `sheetrun` prints on an input, or `sheetcheck`, into the front of an output; answers how many bytes.
 fn put_answer(input: &[u8], with_goal: bool, out: &mut [u8; 32768]) -> usize
     ensures { Printed (answer_bytes with_goal input.now) out.old out.new result }
 {
     if with_goal {
-        return put_run(input, out);
+        put_run(input, out)
+    } else {
+        put_check(input, out)
     }
-    put_check(input, out)
 }
 
 // Writes bytes as they stand.
@@ -49,17 +67,17 @@ fn print_pages(rt: &impl Print, program: &[u8]) -> io::Result<()> {
 }
 
 // Writes what is printed on an input of a kind.
-fn answer(rt: &impl Print, input: &[u8], kind: u8) -> io::Result<()> {
-    if kind == b'p' {
+fn answer(rt: &impl Print, input: &[u8], kind: Kind) -> io::Result<()> {
+    if kind == Kind::Pages {
         return print_pages(rt, input);
     }
     let mut out = [0u8; 32768];
-    let n = put_answer(input, kind == b'r', &mut out);
+    let n = put_answer(input, kind == Kind::Run, &mut out);
     print_bytes(rt, &out[..n])
 }
 
 // The reply to the input of a file; where it cannot be opened, a line on standard error.
-fn rehearse(rt: &(impl Print + Eprint + Files), path: &str, kind: u8) -> io::Result<()> {
+fn rehearse(rt: &(impl Print + Eprint + Files), path: &str, kind: Kind) -> io::Result<()> {
     match fs::open(rt, path) {
         Ok(mut file) => {
             let mut input = [0u8; 40000];
@@ -73,12 +91,12 @@ fn rehearse(rt: &(impl Print + Eprint + Files), path: &str, kind: u8) -> io::Res
 // The reply to the input that an argument names.
 fn rehearse_argument(rt: &(impl Print + Eprint + Files), path: &str) -> io::Result<()> {
     let name = path.as_bytes();
-    if name.is_empty() {
+    let Some(letter) = name.first() else {
         return Ok(());
-    }
+    };
     print_bytes(rt, name)?;
     print_bytes(rt, b"\n")?;
-    rehearse(rt, path, name[0])
+    rehearse(rt, path, kind_of(*letter))
 }
 
 // The digit of a text swept, printed.
