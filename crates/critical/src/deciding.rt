@@ -38,6 +38,7 @@ pub fn remake(rules: &[u16], n: usize, met: Met, goal: &mut [u16]) -> Peak
     let heads = wide(first[HEADS_CELL]);
     let others = wide(second[HEADS_CELL]);
     let e = CONSTRAINT_SIZE * (heads + others);
+    // It was met, so its heads unify.
     let made = overlap_by(first, second, partners, &mut goal[..e]).unwrap();
     let positions = second_positions(partners, heads, others);
     Peak {

@@ -98,10 +98,6 @@ module _ (m n : ℕ) (ds start cells : List ℕ) (g k : ℕ) (w : Dropping m n d
         f' : r ≡ has (suc g) ds
         f' = rw (add-one g) at f
 
-    -- what the copy asks
-    pub dropping-room : (k ≤ m + g) × (5 * (m + g) + 5 ≤ length cells)
-    dropping-room = (w.fewer, omega (arith, w.size, w.start-size))
-
     -- it stays
     pub dropping-kept :
         (r : Bool) (c : List ℕ) → r ≡ false → r ≡ has (g + 1) ds → c ≡ moved_row (m + g) k cells

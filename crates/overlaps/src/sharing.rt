@@ -13,6 +13,7 @@ pub fn has_symbol(row: &[u16], symbol: u16) -> bool
     ensures { result ≡ has symbol (head_symbols row.now) }
 {
     let n = wide(row[HEADS_CELL]);
+    // Not `contains`: the symbols stand five cells apart, and a step over cells divides.
     for h in 0..n {
         if row[FIRST_HEAD + CONSTRAINT_SIZE * h] == symbol {
             return true;

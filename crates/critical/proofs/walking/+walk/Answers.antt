@@ -18,10 +18,6 @@ pub returns-then-left-eq0 : goal.returns-then-left-eq0
 returns-then-left-eq0 t c =
     leaf_walked _ _ _ _ _ _ _ _ _ c.if-left-eq0.true c.judge_pairing.ensures
 
-pub overflow_sub-h : goal.overflow_sub-h
-overflow_sub-h t c =
-    omega (arith, c.requires.0.there)
-
 pub overflow_add-e : goal.overflow_add-e
 overflow_add-e t c =
     omega (arith, step_room _ _ _ _ _ _ _ _ _ _ c.requires.0 c.if-left-eq0.false)
@@ -53,9 +49,6 @@ offset_bounds-more-h t c =
 pub bounds-more-h : goal.bounds-more-h
 bounds-more-h t c =
     omega (arith, (pair-few _ _ _ _ _ _ c.requires.0.pair).0, c.if-left-eq0.false, c.requires.0.there)
-
-pub overflow_sub-left : goal.overflow_sub-left
-overflow_sub-left t c = omega arith
 
 pub walk-requires : goal.walk-requires
 walk-requires t c = (
