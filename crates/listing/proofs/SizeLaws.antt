@@ -6,7 +6,6 @@
 --   end-few, end-writable     the listing of an end, which can be counted where it fails or has at most 65,000 cells
 --   end-ample          and which fits an ample output
 -- Assumes nothing.
-use Rattle.std.specs.Prelude.{Some}
 use mathlib.Core.Path.{◌≡◌, refl, sym}
 use mathlib.Core.Bool.{Bool, true, false, cond}
 use mathlib.Core.List.{List, [], ◌∷◌, ◌++◌, map}
@@ -26,11 +25,11 @@ use Rattle.tables.specs.Cells.{cell_term, cell_terms, cell_constraints}
 use Rattle.tables.proofs.CellLaws.{cell-low, cell-high, le-or-lt}
 use Rattle.listing.specs.Listing.{Naming, fields_behind, line_of, term_shown, constraint_shown, constraint_lines}
 use Rattle.listing.specs.Listing.{numbered_as, variable_name, place_name, bound_lines}
-use Rattle.listing.specs.Writing.{Writes, ListedAs, ample}
+use Rattle.listing.specs.Writing.{ample}
 use Rattle.listing.specs.Ends.{placed, live_bytes, numbered_end, Writable, max_cells, max_bound, Ample}
 use Rattle.listing.specs.declared.End.{End}
 use Rattle.text.proofs.Decimals.{decimal-low, decimal-high}
-use Rattle.listing.proofs.EndLaws.{numbered-live, numbered-failed, listed-written}
+use Rattle.listing.proofs.EndLaws.{numbered-live, numbered-failed}
 
 -- at most 8 bytes
 abbrev pub Short : List ℕ → Type 0
@@ -241,11 +240,10 @@ module _ (naming : Naming) (names : (n : ℕ) → Short (naming n)) (letters bou
       let few = end-few e 65000 65000 (omega arith) (λ l. (omega (arith, h l), omega (arith, h l))) k in
       record { counted = record { few = omega (arith, few) }; few = λ l. omega (arith, h l) }
 
-  -- and fits an ample output, where it is written at once
-  pub end-ample : (e : End) {o p : List ℕ} {n : ℕ} → Ample (length o) (length bound) (length cells)
-      → e.firings < 18446744073709551616 → Writes (numbered_end naming letters bound cells e) 0 o p n
-      → ListedAs (numbered_end naming letters bound cells e) o p (Some n)
+  -- and fits an ample output
+  pub end-ample : (e : End) {room : ℕ} → Ample room (length bound) (length cells) → e.firings < 18446744073709551616
+      → length (numbered_end naming letters bound cells e) ≤ room
   unfolding ample max_bound max_cells
-  end-ample e a k w =
+  end-ample e a k =
       let few = end-few e 28 2590 (omega arith) (λ l. (a.few-bound, a.few-cells)) k in
-      listed-written w (omega (arith, a.wide, w.counted, few)) w
+      omega (arith, a.wide, few)

@@ -6,9 +6,9 @@ pub mod ends;
 pub mod putting;
 pub mod writing;
 
-ghost use Rattle.std.specs.Prelude.{true, ◌≡◌};
+ghost use Rattle.std.specs.Prelude.{ℕ, true, List, ◌≡◌, ◌≤◌, length};
 ghost use Rattle.tables.specs.Names.{name_in};
-ghost use Rattle.listing.specs.Writing.{ListedAs};
+ghost use Rattle.listing.specs.Writing.{Puts, ListedAs};
 ghost use Rattle.listing.specs.Ends.{numbered_end, end_bytes, Listable, Writable, Ample};
 
 use ends::{number_end, put_end};
@@ -41,7 +41,25 @@ fn is_ample(room: usize, variables: usize, cells: usize) -> bool
     cells <= MAX_CELLS
 }
 
-// The listing of an end whose variables are numbered: written at once where every listing fits, and elsewhere counted first.
+// A listing by what writes it: written at once where it is known to fit, and elsewhere counted first, in no output.
+pub fn list_by<F: Fn(&mut [u8]) -> usize>(out: &mut [u8], fits: bool, put: F) -> Option<usize>
+    requires { F.IsAlwaysCallable put }
+    ensures { (bytes : List ℕ) → Puts F.Fn put bytes → («fits» ≡ true → length bytes ≤ length out.old)
+        → ListedAs bytes out.old out.new result }
+{
+    if fits {
+        let all = put(out);
+        return Some(all);
+    }
+    let size = put(&mut []);
+    if out.len() < size {
+        return None;
+    }
+    put(out);
+    Some(size)
+}
+
+// The listing of an end whose variables are numbered.
 fn list_numbered<'a>(
     out: &mut [u8],
     program: &'a [u8],
@@ -57,26 +75,10 @@ fn list_numbered<'a>(
         (numbered_end (name_in program.now goal.now places.now) letters.now
         bound.now cells.now end) out.old out.new result }
 {
-    if is_ample(out.len(), bound.len(), cells.len()) {
-        let all = put_end(out, program, goal, places, letters, bound, cells, end);
-        return Some(all);
-    }
-    let mut none = [0; 1];
-    let size = put_end(
-        &mut none[..0],
-        program,
-        goal,
-        places,
-        letters,
-        bound,
-        cells,
-        end,
-    );
-    if out.len() < size {
-        return None;
-    }
-    put_end(out, program, goal, places, letters, bound, cells, end);
-    Some(size)
+    let fits = is_ample(out.len(), bound.len(), cells.len());
+    list_by(out, fits, |rest| {
+        put_end(rest, program, goal, places, letters, bound, cells, end)
+    })
 }
 
 // The listing of a final state; its variables are numbered in place.

@@ -1,6 +1,6 @@
 // Bytes, parts of a text and numbers, put into an output from a place on; each answers the place behind them.
 // Where they do not fit nothing is said of the output, and the place is answered all the same.
-ghost use Rattle.std.specs.Prelude.{[], ◌∷◌, ◌≡◌, min, ◌<◌};
+ghost use Rattle.std.specs.Prelude.{[], ◌∷◌, ◌≡◌, min};
 ghost use Rattle.text.specs.Fields.{decimal};
 ghost use Rattle.listing.specs.Writing.{Countable, Writes};
 
@@ -8,7 +8,7 @@ ghost use Rattle.listing.specs.Writing.{Countable, Writes};
 pub fn behind(end: usize, room: usize) -> usize
     ensures { result ≡ min end room }
 {
-    if end < room { end } else { room }
+    end.min(room)
 }
 
 // One byte.
@@ -35,37 +35,13 @@ pub fn copy(out: &mut [u8], at: usize, part: &[u8]) -> usize
     end
 }
 
-// A number below 100 in decimal digits.
-fn put_two(out: &mut [u8], at: usize, n: usize) -> usize
-    requires { Countable at (decimal n) × (n < 100) }
-    ensures { Writes (decimal n) at out.old out.new result }
-{
-    if n < 10 {
-        return put_byte(out, at, b'0' + n as u8);
-    }
-    let end = put_byte(out, at, b'0' + (n / 10) as u8);
-    put_byte(out, end, b'0' + (n % 10) as u8)
-}
-
-// A number below 1,000.
-fn put_three(out: &mut [u8], at: usize, n: usize) -> usize
-    requires { Countable at (decimal n) × (n < 1000) }
-    ensures { Writes (decimal n) at out.old out.new result }
-{
-    if n < 100 {
-        return put_two(out, at, n);
-    }
-    let end = put_two(out, at, n / 10);
-    put_byte(out, end, b'0' + (n % 10) as u8)
-}
-
-// A number in decimal digits; few have more than three.
+// A number in decimal digits: few have more than three, so that one call for each costs little.
 pub fn put_decimal(out: &mut [u8], at: usize, n: usize) -> usize
     requires { Countable at (decimal n) }
     ensures { Writes (decimal n) at out.old out.new result }
 {
-    if n < 1000 {
-        return put_three(out, at, n);
+    if n < 10 {
+        return put_byte(out, at, b'0' + n as u8);
     }
     let end = put_decimal(out, at, n / 10);
     put_byte(out, end, b'0' + (n % 10) as u8)

@@ -9,7 +9,6 @@
 --   Paging, paging-…     the pages of a listing, one page on
 --   pages-count, pages-ample     all of them can be counted, and fit an ample output
 -- Assumes nothing.
-use Rattle.std.specs.Prelude.{Some}
 use mathlib.Core.Path.{◌≡◌, refl, sym, ap, ◌∙◌}
 use mathlib.Core.Bool.{Bool, true, false}
 use mathlib.Core.List.{List, [], ◌∷◌, ◌++◌}
@@ -24,11 +23,10 @@ use Rattle.text.specs.Fields.{decimal}
 use Rattle.text.specs.Keys.{word}
 use Rattle.text.specs.Splits.{part}
 use Rattle.text.proofs.Decimals.{decimal-low, decimal-high}
-use Rattle.listing.specs.Writing.{Countable, Writes, ListedAs}
+use Rattle.listing.specs.Writing.{Countable, Writes}
 use Rattle.listing.proofs.WriteLaws.{wrote_none, wrote-part, wrote-past, wrote_then, wrote-is, part_from, part_back, wrote-behind, size-behind}
 use Rattle.listing.proofs.WriteLaws.{count-front, count-first, count_next}
 use Rattle.listing.proofs.WriteLaws.{Writing, writing_start, writing-first, writing-room, writing-line, writing-end}
-use Rattle.listing.proofs.EndLaws.{listed-written}
 use Rattle.pages.specs.Pages.{spaces, filled, page_line, pieces, row_lines, aligned, head_line, page_of, pages_from, pages_of}
 use Rattle.pages.specs.Pages.{page_size, max_pages}
 use Rattle.pages.specs.Places.{indent, rows_from, NextRow, RowsPut}
@@ -406,6 +404,6 @@ module _ (s : List ℕ) (few : length (pages_of s) ≤ max_pages * page_size) wh
   unfolding max_pages page_size
   pages-count = record { few = omega arith }
 
-  pub pages-ample : {o p : List ℕ} {n : ℕ} → 41820 ≤ length o → Writes (pages_of s) 0 o p n → ListedAs (pages_of s) o p (Some n)
+  pub pages-ample : {room : ℕ} → 41820 ≤ room → length (pages_of s) ≤ room
   unfolding max_pages page_size
-  pages-ample h w = listed-written w (omega (arith, w.counted)) w
+  pages-ample h = omega arith

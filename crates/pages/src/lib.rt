@@ -8,6 +8,7 @@ ghost use Rattle.std.specs.Prelude.{◌*◌, ◌≤◌, length};
 ghost use Rattle.listing.specs.Writing.{Countable, Writes, ListedAs};
 ghost use Rattle.pages.specs.Pages.{pages_of, page_size, max_pages};
 
+use listing::list_by;
 use listing::writing::behind;
 use page::put_page;
 use text::fields::word_at;
@@ -57,15 +58,6 @@ pub fn list_pages(out: &mut [u8], listing: &[u8]) -> Option<usize>
     requires { length (pages_of listing.now) ≤ max_pages * page_size }
     ensures { ListedAs (pages_of listing.now) out.old out.new result }
 {
-    if AMPLE_PAGES <= out.len() {
-        let all = put_pages(out, listing);
-        return Some(all);
-    }
-    let mut none = [0; 1];
-    let size = put_pages(&mut none[..0], listing);
-    if out.len() < size {
-        return None;
-    }
-    put_pages(out, listing);
-    Some(size)
+    let fits = AMPLE_PAGES <= out.len();
+    list_by(out, fits, |rest| put_pages(rest, listing))
 }

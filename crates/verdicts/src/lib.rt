@@ -12,10 +12,10 @@ ghost use Rattle.verdicts.specs.Verdicts.{pair_lines};
 ghost use Rattle.verdicts.specs.Checks.{rules_line, front_bytes, numbered_ends, shown_bytes};
 ghost use Rattle.verdicts.specs.Checks.{Shaped, EndsWritable, OverlapWritable, OverlapListable, OverlapListed};
 
-use listing::End;
 use listing::ends::{number_end, put_end};
 use listing::putting::{Mark, put_head, put_rows};
 use listing::writing::{behind, copy, put_byte, put_decimal};
+use listing::{End, list_by};
 use tables::layout::FIRST_RULE;
 use tables::names::name;
 
@@ -36,13 +36,7 @@ pub struct Shown {
 pub fn list_pass(out: &mut [u8], n: usize) -> Option<usize>
     ensures { ListedAs (line_of (ascii "CONFLUENT") (decimal n ∷ [])) out.old out.new result }
 {
-    let mut none = [0; 1];
-    let size = put_head(&mut none[..0], b"CONFLUENT,", n);
-    if out.len() < size {
-        return None;
-    }
-    put_head(out, b"CONFLUENT,", n);
-    Some(size)
+    list_by(out, false, |rest| put_head(rest, b"CONFLUENT,", n))
 }
 
 // The first line of an overlap: the names of its rules.
@@ -192,7 +186,7 @@ pub fn put_overlap<'a>(
     put_ends(out, at, program, places, bounds, one, two, shown)
 }
 
-// The listing of an overlap, the variables of whose ends are numbered: it is counted first.
+// The listing of an overlap, the variables of whose ends are numbered.
 fn list_shown<'a>(
     out: &mut [u8],
     program: &'a [u8],
@@ -208,22 +202,9 @@ fn list_shown<'a>(
         (shown_bytes (name_in program.now [] places.now) goal.now bounds.now
         one.now two.now shown) out.old out.new result }
 {
-    let mut none = [0; 1];
-    let size = put_overlap(
-        &mut none[..0],
-        program,
-        places,
-        goal,
-        bounds,
-        one,
-        two,
-        shown,
-    );
-    if out.len() < size {
-        return None;
-    }
-    put_overlap(out, program, places, goal, bounds, one, two, shown);
-    Some(size)
+    list_by(out, false, |rest| {
+        put_overlap(rest, program, places, goal, bounds, one, two, shown)
+    })
 }
 
 // The listing of an unjoined overlap; the variables of its ends are numbered in place.

@@ -1,22 +1,12 @@
--- `verdicts::list_pass` meets its contract: counted into no output, and then written. Assumes nothing.
-use native.Mathlib.Omega.{arith}
+-- `verdicts::list_pass` meets its contract: what it writes is the line. Assumes nothing.
+use Rattle.std.proofs.Common.{arith, rules}
 use Rattle.listing.proofs.WriteLaws.{wrote-is}
-use Rattle.listing.proofs.EndLaws.{listed-short, listed-written}
 use Rattle.verdicts.proofs.CheckLaws.{pass-is, pass-count}
 use Rattle.verdicts.proofs.list_pass.Goals as goal
 
-pub put_head-size-requires : goal.put_head-size-requires
-put_head-size-requires c =
-    pass-count _ (omega arith)
-
-pub returns-then-out-size : goal.returns-then-out-size
-returns-then-out-size c = listed-short (wrote-is (pass-is _) c.put_head-size.ensures) c.if-out-size.true
-
-pub put_head-requires : goal.put_head-requires
-put_head-requires c =
-    pass-count _ (omega arith)
+pub list_by-requires : goal.list_by-requires
+list_by-requires c = let few = pass-count c.args.n (omega arith) in record { at = λ a. search rules }
 
 pub returns : goal.returns
 returns c =
-    listed-written (wrote-is (pass-is _) c.put_head-size.ensures) c.if-out-size.false
-    (wrote-is (pass-is _) c.put_head.ensures)
+    c.list_by.ensures _ (record { writes = λ p q n e. wrote-is (pass-is _) (search rules) }) (λ t. absurd cc)
