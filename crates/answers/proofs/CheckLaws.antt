@@ -37,8 +37,9 @@ use Rattle.answers.specs.Promises.{check_meant, listed_bytes, CheckReplied, Told
 use Rattle.answers.specs.declared.TextName.{TextName}
 use Rattle.answers.specs.declared.TextName.TheVariants.{S, G}
 use Rattle.answers.specs.declared.Refusal.{Refusal}
-use Rattle.answers.specs.declared.CheckReply.{CheckReply}
-use Rattle.answers.specs.declared.CheckReply.TheVariants.{Refused, Confluent, Unjoined}
+use Rattle.answers.specs.Results.{CheckReply}
+use Rattle.answers.specs.declared.Verdict.TheVariants.{Confluent, Unjoined}
+use Rattle.std.specs.Prelude.{Ok, Err}
 use Rattle.answers.proofs.OutcomeLaws.{outcome-claim, appearance-claim, counterexample-claim}
 
 -- an answer that means a refusal of the program's text
@@ -46,35 +47,35 @@ pub refusal-answer :
     (number line : ℕ) (output : List ℕ) (r : CheckReply) → check_meant r output ≡ refusal number program_text line
     → r ≡ of_program number line
 unfolding check_meant text_meant of_program
-refusal-answer number line output (Refused f) e = go f.number f.text f.line e
+refusal-answer number line output (Err f) e = go f.number f.text f.line e
   where
     go :
         (n : ℕ) (t : TextName) (l : ℕ) → refusal n (text_meant t) l ≡ refusal number program_text line
-        → Refused (record { number = n; text = t; line = l }) ≡ of_program number line
+        → Err (record { number = n; text = t; line = l }) ≡ of_program number line
     go n S l k =
         let a : n ≡ number = cc in
         let b : l ≡ line = cc in
         rw (a, b)
     go n G l k = absurd (let z : ◌≡◌ {A = ℕ} 0 1 = cc in omega arith)
-refusal-answer number line output (Confluent n) e = absurd (let z : ◌≡◌ {A = ℕ} 0 1 = cc in omega arith)
-refusal-answer number line output (Unjoined n) e = absurd (let z : ◌≡◌ {A = ℕ} 0 1 = cc in omega arith)
+refusal-answer number line output (Ok (Confluent n)) e = absurd (let z : ◌≡◌ {A = ℕ} 0 1 = cc in omega arith)
+refusal-answer number line output (Ok (Unjoined n)) e = absurd (let z : ◌≡◌ {A = ℕ} 0 1 = cc in omega arith)
 
 -- an answer that means a listing
 pub listing-answer :
     (bytes output : List ℕ) (r : CheckReply) → check_meant r output ≡ listing bytes
-    → ((n : ℕ) × (r ≡ Confluent n)) ⊎ ((n : ℕ) × (r ≡ Unjoined n))
+    → ((n : ℕ) × (r ≡ Ok (Confluent n))) ⊎ ((n : ℕ) × (r ≡ Ok (Unjoined n)))
 unfolding check_meant
-listing-answer bytes output (Refused f) e = absurd (let z : ◌≡◌ {A = ℕ} 0 1 = cc in omega arith)
-listing-answer bytes output (Confluent n) e = inl (n, refl)
-listing-answer bytes output (Unjoined n) e = inr (n, refl)
+listing-answer bytes output (Err f) e = absurd (let z : ◌≡◌ {A = ℕ} 0 1 = cc in omega arith)
+listing-answer bytes output (Ok (Confluent n)) e = inl (n, refl)
+listing-answer bytes output (Ok (Unjoined n)) e = inr (n, refl)
 
 -- what is listed lies in the output
 module _ {reply : Reply} {before after : List ℕ} {r : CheckReply} (c : CheckReplied reply before after r) {n : ℕ} where
-  pub pass-within : r ≡ Confluent n → n ≤ length after
+  pub pass-within : r ≡ Ok (Confluent n) → n ≤ length after
   unfolding listed_bytes
   pass-within e = omega (arith, c.counted, ap listed_bytes e)
 
-  pub fail-within : r ≡ Unjoined n → n ≤ length after
+  pub fail-within : r ≡ Ok (Unjoined n) → n ≤ length after
   unfolding listed_bytes
   fail-within e = omega (arith, c.counted, ap listed_bytes e)
 
@@ -147,30 +148,30 @@ module _ (layout : Layout) (s before after : List ℕ) (r : CheckReply)
     demand : Demand3 p.program
     demand = verdict-exact p.program (read-well_formed s e)
 
-    no-outcome : (n : ℕ) → r ≡ Unjoined n → OneOutcome p.program → ⊥
+    no-outcome : (n : ℕ) → r ≡ Ok (Unjoined n) → OneOutcome p.program → ⊥
     no-outcome n h one =
         let (o, a, b, v) = told.fail p e n h in
         verdict-one (demand.exact.1 ((outcome-claim p.program).0 one)).1 v
 
     decided :
-        length (layout.laid (check_listing p)) ≤ length before → ((n : ℕ) × (r ≡ Confluent n)) ⊎ ((n : ℕ) × (r ≡ Unjoined n))
+        length (layout.laid (check_listing p)) ≤ length before → ((n : ℕ) × (r ≡ Ok (Confluent n))) ⊎ ((n : ℕ) × (r ≡ Ok (Unjoined n)))
     decided fits =
         listing-answer (layout.laid (check_listing p)) after r
         (c.meant ∙ (read-reply p e ∙ fitted-listed program_text (length before) (layout.laid (check_listing p)) fits))
 
-    one-outcome : (n : ℕ) → r ≡ Confluent n → OneOutcome p.program
+    one-outcome : (n : ℕ) → r ≡ Ok (Confluent n) → OneOutcome p.program
     one-outcome n h = (outcome-claim p.program).1 (demand.exact.0 (told.pass p e n h))
 
     -- where the listing fits, the earliest unjoined overlap is left
     earliest :
         (o : Overlap) (one two : Final) → length (layout.laid (check_listing p)) ≤ length before
         → Counterexample p.program o one two
-        → (n : ℕ) × (r ≡ Unjoined n) × (listing (layout.held (take n after)) ≡ verdict_reply p (unjoined o one two))
+        → (n : ℕ) × (r ≡ Ok (Unjoined n)) × (listing (layout.held (take n after)) ≡ verdict_reply p (unjoined o one two))
     unfolding check_meant
     earliest o one two fits x =
         let v = (demand.shown o one two).1 ((counterexample-claim p.program o one two).0 x) in
         let (n, h) = ⊎_elim (λ (n, h). verdict-one (told.pass p e n h).1 v) (λ y. y) (decided fits) in
-        (n, h, listed-verdict back p e n (meant-by (Unjoined n) h) (unjoined o one two) v)
+        (n, h, listed-verdict back p e n (meant-by (Ok (Unjoined n)) h) (unjoined o one two) v)
 
     -- demand 3 of the answer to a text that reads
     checked-as : CheckedAs layout p before after r
@@ -184,7 +185,7 @@ module _ (layout : Layout) (s before after : List ℕ) (r : CheckReply)
           );
           passed = λ n h.
               let (k, v) = told.pass p e n h in (
-                listed-verdict back p e n (meant-by (Confluent n) h) (confluent (length (overlaps p.program)))
+                listed-verdict back p e n (meant-by (Ok (Confluent n)) h) (confluent (length (overlaps p.program)))
                     (v ∙ ap confluent (demand.counted k v)),
                 one-outcome n h,
               );
@@ -193,7 +194,7 @@ module _ (layout : Layout) (s before after : List ℕ) (r : CheckReply)
                 o,
                 one,
                 two,
-                listed-verdict back p e n (meant-by (Unjoined n) h) (unjoined o one two) v,
+                listed-verdict back p e n (meant-by (Ok (Unjoined n)) h) (unjoined o one two) v,
                 (counterexample-claim p.program o one two).1 ((demand.shown o one two).0 v),
                 no-outcome n h,
               );
@@ -207,9 +208,9 @@ module _ (layout : Layout) (s before after : List ℕ) (r : CheckReply)
         }
 
   -- the text of a refusal, and the output that it leaves
-  refusing : (f : Refusal) → r ≡ Refused f → (f.text ≡ S) × (after ≡ before)
+  refusing : (f : Refusal) → r ≡ Err f → (f.text ≡ S) × (after ≡ before)
   unfolding check_meant text_meant output_after laid_reply reply_of fitted
-  refusing f h = (named f.text text, c.output ∙ ap (λ (x : Reply). output_after x before) (meant-by (Refused f) h))
+  refusing f h = (named f.text text, c.output ∙ ap (λ (x : Reply). output_after x before) (meant-by (Err f) h))
     where
       -- the text that a reply's refusal names
       text_of : Reply → Text
@@ -227,7 +228,7 @@ module _ (layout : Layout) (s before after : List ℕ) (r : CheckReply)
       always (accepted p) = fits (ltb (length before) (length (layout.laid (check_listing p)))) (layout.laid (check_listing p))
 
       text : text_meant f.text ≡ program_text
-      text = sym (ap text_of (meant-by (Refused f) h)) ∙ always (read_program s)
+      text = sym (ap text_of (meant-by (Err f) h)) ∙ always (read_program s)
 
       named : (t : TextName) → text_meant t ≡ program_text → t ≡ S
       named S k = refl

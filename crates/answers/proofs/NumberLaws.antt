@@ -25,10 +25,10 @@ use Rattle.answers.specs.Numbers.{letter_read, refusal_read, run_read, check_rea
 use Rattle.answers.specs.declared.TextName.{TextName}
 use Rattle.answers.specs.declared.TextName.TheVariants.{S, G}
 use Rattle.answers.specs.declared.Refusal.{Refusal}
-use Rattle.answers.specs.declared.RunReply.{RunReply}
-use Rattle.answers.specs.declared.RunReply.TheVariants.{Refused as RunRefused, Listed as RunListed}
-use Rattle.answers.specs.declared.CheckReply.{CheckReply}
-use Rattle.answers.specs.declared.CheckReply.TheVariants.{Refused, Confluent, Unjoined}
+use Rattle.answers.specs.Results.{RunReply}
+use Rattle.std.specs.Prelude.{Ok, Err}
+use Rattle.answers.specs.Results.{CheckReply}
+use Rattle.answers.specs.declared.Verdict.TheVariants.{Confluent, Unjoined}
 use Rattle.answers.proofs.ReplyLaws.{reply-number}
 
 -- the refusal read off its number
@@ -54,7 +54,7 @@ run-read : (reply : Reply) → Within reply → run_read (answer_number (answer_
 unfolding run_read answer_number answer_of
 run-read (refusal number text line) (least, most, few) =
     rw (le-ltb (4294967296 * number + 65536 * name_byte (letter_of text) + line) 4294967296 (omega (arith, least)))
-    (ap RunRefused (refusal-read number line (letter_of text) few))
+    (ap Err (refusal-read number line (letter_of text) few))
 run-read (listing bytes) few = rw (lt-ltb (length bytes) 4294967296 (omega (arith, few)))
 
 -- the letter of a text names it
@@ -90,33 +90,33 @@ run-number-decodes program goal before after n r =
 check-read :
     (r : CheckReply) (after : List ℕ) → Within (check_meant r after) → listed_bytes r ≤ length after → check_read (check_number r) ≡ r
 unfolding check_read check_number check_meant listed_bytes
-check-read (Refused f) after (least, most, few) h =
+check-read (Err f) after (least, most, few) h =
     let n = 4294967296 * f.number + 65536 * name_byte f.text + f.line in
     rw (le-ltb n 2147483648 (omega (arith, least)), le-ltb n 4294967296 (omega (arith, least)))
-    (ap Refused (refusal-read f.number f.line f.text few))
-check-read (Confluent n) after few h = rw (lt-ltb n 2147483648 (omega (arith, few, length-take-le n after h)))
-check-read (Unjoined n) after few h =
+    (ap Err (refusal-read f.number f.line f.text few))
+check-read (Ok (Confluent n)) after few h = rw (lt-ltb n 2147483648 (omega (arith, few, length-take-le n after h)))
+check-read (Ok (Unjoined n)) after few h =
     let low : n < 2147483648 = omega (arith, few, length-take-le n after h) in
     let back : 2147483648 + n - 2147483648 ≡ n = omega arith in
     rw (le-ltb (2147483648 + n) 2147483648 (omega arith), lt-ltb (2147483648 + n) 4294967296 (omega (arith, low)), back)
 
 -- the number of an answer, by its form
 pub number-refused :
-    {r : CheckReply} {f : Refusal} {n : ℕ} → r ≡ Refused f
+    {r : CheckReply} {f : Refusal} {n : ℕ} → r ≡ Err f
     → n ≡ 4294967296 * f.number + 65536 * name_byte f.text + f.line → n ≡ check_number r
 unfolding check_number
 number-refused e h = h ∙ ap check_number (sym e)
 
-pub number_passed : {r : CheckReply} {n : ℕ} → r ≡ Confluent n → n ≡ check_number r
+pub number_passed : {r : CheckReply} {n : ℕ} → r ≡ Ok (Confluent n) → n ≡ check_number r
 unfolding check_number
 number_passed e = ap check_number (sym e)
 
-pub number-failed : {r : CheckReply} {n : ℕ} → r ≡ Unjoined n → 2147483648 + n ≡ check_number r
+pub number-failed : {r : CheckReply} {n : ℕ} → r ≡ Ok (Unjoined n) → 2147483648 + n ≡ check_number r
 unfolding check_number
 number-failed e = ap check_number (sym e)
 
 -- the bytes of an unjoined overlap's listing, where those of the answer are few
-pub failed-few : {r : CheckReply} {n : ℕ} → r ≡ Unjoined n → listed_bytes r < 2147483648 → n < 2147483648
+pub failed-few : {r : CheckReply} {n : ℕ} → r ≡ Ok (Unjoined n) → listed_bytes r < 2147483648 → n < 2147483648
 unfolding listed_bytes
 failed-few e h = omega (arith, h, ap listed_bytes e)
 
@@ -140,9 +140,9 @@ unfolding check_meant listed_bytes
 answer-few {after = after} {r} within c = go r (subst Within (sym c.meant) within) c.counted
   where
     go : (q : CheckReply) → Within (check_meant q after) → listed_bytes q ≤ length after → listed_bytes q < 2147483648
-    go (Refused f) w h = omega arith
-    go (Confluent n) w h = omega (arith, length-take-le n after h)
-    go (Unjoined n) w h = omega (arith, length-take-le n after h)
+    go (Err f) w h = omega arith
+    go (Ok (Confluent n)) w h = omega (arith, length-take-le n after h)
+    go (Ok (Unjoined n)) w h = omega (arith, length-take-le n after h)
 
 pub check-few :
     (s : List ℕ) {before after : List ℕ} {r : CheckReply} → CheckReplied (check_reply s (length before)) before after r
@@ -172,13 +172,13 @@ check-returned s {before} (c, d) e = laid-returned plain s (check-within s (leng
 
 -- the number of an answer of a run: a refusal's, and that of a listing
 module _ {reply : Reply} {before after : List ℕ} {a : RunReply} (r : Replied reply before after a) where
-  pub returned-refused : {f : Refusal} {n : ℕ} → a ≡ RunRefused f
+  pub returned-refused : {f : Refusal} {n : ℕ} → a ≡ Err f
       → n ≡ 4294967296 * f.number + 65536 * name_byte f.text + f.line → Returned reply before after n
   unfolding answer_number
   returned-refused e h =
       record { answer = h ∙ ap answer_number (sym e ∙ r.answer) ∙ reply-number reply; output = r.output }
 
-  pub returned-listed : {n : ℕ} → a ≡ RunListed n → Returned reply before after n
+  pub returned-listed : {n : ℕ} → a ≡ Ok n → Returned reply before after n
   unfolding answer_number
   returned-listed e = record { answer = ap answer_number (sym e ∙ r.answer) ∙ reply-number reply; output = r.output }
 

@@ -33,10 +33,10 @@ use Rattle.answers.specs.Answers.{text_meant, reply_meant, answer_of, Replied, r
 use Rattle.answers.specs.declared.TextName.{TextName}
 use Rattle.answers.specs.declared.TextName.TheVariants.{S, G}
 use Rattle.answers.specs.declared.Refusal.{Refusal}
-use Rattle.answers.specs.declared.RunReply.{RunReply}
-use Rattle.answers.specs.declared.RunReply.TheVariants.{Refused, Listed}
-use Rattle.answers.specs.declared.CheckReply.{CheckReply}
-use Rattle.answers.specs.declared.CheckReply.TheVariants as check-reply
+use Rattle.answers.specs.Results.{RunReply}
+use Rattle.std.specs.Prelude.{Ok, Err}
+use Rattle.answers.specs.Results.{CheckReply}
+use Rattle.answers.specs.declared.Verdict.TheVariants.{Confluent, Unjoined}
 use Rattle.answers.specs.Promises.{check_meant, listed_bytes, CheckReplied}
 
 -- a number has at most two digits more than its tenth
@@ -155,7 +155,7 @@ refusal-goal number line {r} {o} {a} e w =
 
 -- a refusal's line is printed into an output that it left as it was, and a listing is printed where it stands
 module _ {o a : List ℕ} where
-  pub reply-refused : (x : Refusal) {d : List ℕ} {n : ℕ} (reply : Reply) → Replied reply o a (Refused x)
+  pub reply-refused : (x : Refusal) {d : List ℕ} {n : ℕ} (reply : Reply) → Replied reply o a (Err x)
       → Printed (printed (refusal x.number (text_meant x.text) x.line)) a d n → Printed (printed reply) o d n
   unfolding reply_meant output_after
   reply-refused x {d} {n} reply p w =
@@ -163,12 +163,12 @@ module _ {o a : List ℕ} where
       subst (λ (q : Reply). Printed (printed q) o d n) p.meant
       (subst (λ (l : List ℕ). Printed (printed (refusal x.number (text_meant x.text) x.line)) l d n) same w)
 
-  pub reply-listed : (n : ℕ) (reply : Reply) → Replied reply o a (Listed n) → Printed (printed reply) o a n
+  pub reply-listed : (n : ℕ) (reply : Reply) → Replied reply o a (Ok n) → Printed (printed reply) o a n
   unfolding answer_of output_after printed
   reply-listed n (refusal number text line) p =
       absurd (let e = p.answer in let z : ◌≡◌ {A = ℕ} 0 1 = cc in omega arith)
   reply-listed n (listing bytes) p =
-      let e : ◌≡◌ {A = RunReply} (Listed n) (Listed (length bytes)) = p.answer in
+      let e : ◌≡◌ {A = RunReply} (Ok n) (Ok (length bytes)) = p.answer in
       let size : n ≡ length bytes = cc in
       record { output = p.output; counted = size }
 
@@ -181,13 +181,13 @@ module _ (program goal : List ℕ) {o a : List ℕ} {r : RunReply} (replied : Re
     in-ample = subst (λ (n : ℕ). Replied (run_reply program goal n) o a r) lent replied
 
     -- a refusal, d being the output when its line is put there
-    pub refusal-printed : (x : Refusal) (d : List ℕ) (n : ℕ) → r ≡ Refused x
+    pub refusal-printed : (x : Refusal) (d : List ℕ) (n : ℕ) → r ≡ Err x
         → Printed (printed (refusal x.number (text_meant x.text) x.line)) a d n
         → Printed (printed (run_reply program goal ample)) o d n
     refusal-printed x d n e w = reply-refused x (run_reply program goal ample) (rw e at in-ample) w
 
     -- a listing
-    pub listing-printed : (n : ℕ) → r ≡ Listed n → Printed (printed (run_reply program goal ample)) o a n
+    pub listing-printed : (n : ℕ) → r ≡ Ok n → Printed (printed (run_reply program goal ample)) o a n
     listing-printed n e = reply-listed n (run_reply program goal ample) (rw e at in-ample)
 
 -- the reply of a check into such an output
@@ -199,7 +199,7 @@ module _ (input : List ℕ) {o a : List ℕ} {r : CheckReply} (replied : CheckRe
     check-ample = subst (λ (n : ℕ). CheckReplied (check_reply input n) o a r) lent replied
 
     -- a refusal, d being the output when its line is put there
-    pub check-turned : (x : Refusal) (d : List ℕ) (n : ℕ) → r ≡ check-reply.Refused x
+    pub check-turned : (x : Refusal) (d : List ℕ) (n : ℕ) → r ≡ Err x
         → Printed (printed (refusal x.number (text_meant x.text) x.line)) a d n → Printed (sheetcheck input) o d n
     unfolding sheetcheck check_meant output_after
     check-turned x d n e w =
@@ -218,7 +218,7 @@ module _ (input : List ℕ) {o a : List ℕ} {r : CheckReply} (replied : CheckRe
         subst (λ (q : Reply). Printed (printed q) o a n) is
         (record { output = left; counted = sym (length-take-le n a h) })
 
-    pub check-listed : (n : ℕ) → (r ≡ check-reply.Confluent n) ⊎ (r ≡ check-reply.Unjoined n) → Printed (sheetcheck input) o a n
+    pub check-listed : (n : ℕ) → (r ≡ Ok (Confluent n)) ⊎ (r ≡ Ok (Unjoined n)) → Printed (sheetcheck input) o a n
     unfolding check_meant listed_bytes
     check-listed n (inl e) = listed-check n (ap (λ (q : CheckReply). check_meant q a) e)
         (omega (arith, replied.counted, ap listed_bytes e))

@@ -23,13 +23,13 @@ use Rattle.answers.specs.Answers.{text_meant, reply_meant, letter_of, answer_of,
 use Rattle.answers.specs.Answers.{answer_number, text_byte, reply_number}
 use Rattle.answers.specs.declared.TextName.{TextName}
 use Rattle.answers.specs.declared.TextName.TheVariants.{S, G}
-use Rattle.answers.specs.declared.RunReply.{RunReply}
-use Rattle.answers.specs.declared.RunReply.TheVariants.{Refused, Listed as ListedTo}
+use Rattle.answers.specs.Results.{RunReply}
+use Rattle.std.specs.Prelude.{Ok, Err}
 
 -- a program's text that is refused
 pub refused-program :
     (program goal output : List ℕ) (number line : ℕ) → read_program program ≡ refused number line
-    → Replied (run_reply program goal (length output)) output output (Refused (record { number = number; text = S; line = line }))
+    → Replied (run_reply program goal (length output)) output output (Err (record { number = number; text = S; line = line }))
 unfolding run_reply reply_of reply_meant text_meant answer_of letter_of output_after
 refused-program program goal output number line e = rw e (record { meant = refl; answer = refl; output = refl })
 
@@ -37,34 +37,34 @@ refused-program program goal output number line e = rw e (record { meant = refl;
 pub refused-goal :
     (program goal output : List ℕ) (p : Reading) (number line : ℕ) → read_program program ≡ accepted p
     → read_goal p.program.symbols p.constants goal ≡ refused number line
-    → Replied (run_reply program goal (length output)) output output (Refused (record { number = number; text = G; line = line }))
+    → Replied (run_reply program goal (length output)) output output (Err (record { number = number; text = G; line = line }))
 unfolding run_reply reply_of reply_meant text_meant answer_of letter_of output_after
 refused-goal program goal output p number line r e = rw (r, e) (record { meant = refl; answer = refl; output = refl })
 
 -- a listing that does not fit
 pub listed-short :
     {bytes before after : List ℕ} {reply : Option ℕ} → ListedAs bytes before after reply → reply ≡ None
-    → Replied (fitted goal_text (length before) bytes) before after (Refused (record { number = 11; text = G; line = 0 }))
+    → Replied (fitted goal_text (length before) bytes) before after (Err (record { number = 11; text = G; line = 0 }))
 unfolding fitted listed_in listed_over output_after reply_meant text_meant answer_of letter_of
 listed-short {bytes} {before} {after} {reply} l e = go (ltb (length before) (length bytes)) (sym e ∙ l.answer) l.output
   where
     go :
         (b : Bool) → None ≡ cond b None (Some (length bytes)) → after ≡ cond b before (bytes ++ drop (length bytes) before)
         → Replied (cond b (refusal 11 goal_text 0) (listing bytes)) before after
-        (Refused (record { number = 11; text = G; line = 0 }))
+        (Err (record { number = 11; text = G; line = 0 }))
     go true a o = record { meant = refl; answer = refl; output = o }
     go false a o = absurd (let z : ◌≡◌ {A = ℕ} 0 1 = cc in omega arith)
 
 -- a listing that fits
 pub listed-written :
     {bytes before after : List ℕ} {reply : Option ℕ} (n : ℕ) → ListedAs bytes before after reply → reply ≡ Some n
-    → Replied (fitted goal_text (length before) bytes) before after (ListedTo n)
+    → Replied (fitted goal_text (length before) bytes) before after (Ok n)
 unfolding fitted listed_in listed_over output_after reply_meant answer_of
 listed-written {bytes} {before} {after} {reply} n l e = go (ltb (length before) (length bytes)) (sym e ∙ l.answer) l.output
   where
     go :
         (b : Bool) → Some n ≡ cond b None (Some (length bytes)) → after ≡ cond b before (bytes ++ drop (length bytes) before)
-        → Replied (cond b (refusal 11 goal_text 0) (listing bytes)) before after (ListedTo n)
+        → Replied (cond b (refusal 11 goal_text 0) (listing bytes)) before after (Ok n)
     go true a o = absurd (let z : ◌≡◌ {A = ℕ} 0 1 = cc in omega arith)
     go false a o =
         let size : n ≡ length bytes = cc in
@@ -77,12 +77,12 @@ listed-written {bytes} {before} {after} {reply} n l e = go (ltb (length before) 
 
 -- a listing lies inside the output
 pub listed-within :
-    {reply : Reply} {before after : List ℕ} {r : RunReply} (n : ℕ) → Replied reply before after r → r ≡ ListedTo n
+    {reply : Reply} {before after : List ℕ} {r : RunReply} (n : ℕ) → Replied reply before after r → r ≡ Ok n
     → n ≤ length after
 unfolding answer_of output_after
 listed-within {reply} {before} {after} {r} n p e = go reply (sym e ∙ p.answer) p.output
   where
-    go : (reply : Reply) → ListedTo n ≡ answer_of reply → after ≡ output_after reply before → n ≤ length after
+    go : (reply : Reply) → Ok n ≡ answer_of reply → after ≡ output_after reply before → n ≤ length after
     go (refusal number text line) a o = absurd (let z : ◌≡◌ {A = ℕ} 0 1 = cc in omega arith)
     go (listing bytes) a o =
         let size : n ≡ length bytes = cc in

@@ -12,8 +12,8 @@ use Rattle.text.specs.Fields.{decimal}
 use Rattle.replies.specs.Replies.{Text, program_text, goal_text, Reply, refusal, listing, output_after}
 use Rattle.answers.specs.declared.TextName.{TextName}
 use Rattle.answers.specs.declared.TextName.TheVariants.{S, G}
-use Rattle.answers.specs.declared.RunReply.{RunReply}
-use Rattle.answers.specs.declared.RunReply.TheVariants.{Refused, Listed}
+use Rattle.answers.specs.Results.{RunReply}
+use Rattle.std.specs.Prelude.{Ok, Err}
 
 -- the text that a letter names
 unfoldable pub text_meant : TextName → Text
@@ -22,8 +22,8 @@ text_meant G = goal_text
 
 -- an answer as a reply: a refusal's number, text and line; or the listing that the output holds
 unfoldable pub reply_meant : RunReply → List ℕ → Reply
-reply_meant (Refused r) output = refusal r.number (text_meant r.text) r.line
-reply_meant (Listed n) output = listing (take n output)
+reply_meant (Err r) output = refusal r.number (text_meant r.text) r.line
+reply_meant (Ok n) output = listing (take n output)
 
 -- the letter of a text
 unfoldable pub letter_of : Text → TextName
@@ -32,8 +32,8 @@ letter_of goal_text = G
 
 -- the answer of a reply: a listing's is its length
 unfoldable pub answer_of : Reply → RunReply
-answer_of (refusal number text line) = Refused (record { number = number; text = letter_of text; line = line })
-answer_of (listing bytes) = Listed (length bytes)
+answer_of (refusal number text line) = Err (record { number = number; text = letter_of text; line = line })
+answer_of (listing bytes) = Ok (length bytes)
 
 -- an answer that is a reply's, and an output that is left as the reply says
 pub record Replied (reply : Reply) (before after : List ℕ) (r : RunReply) : Type 0 where
@@ -48,8 +48,8 @@ name_byte G = 71
 
 -- an answer as one number: a listing's length; or 2^32 times a refusal's number, 2^16 times the byte of its letter, and its line
 unfoldable pub answer_number : RunReply → ℕ
-answer_number (Refused r) = 4294967296 * r.number + 65536 * name_byte r.text + r.line
-answer_number (Listed n) = n
+answer_number (Err r) = 4294967296 * r.number + 65536 * name_byte r.text + r.line
+answer_number (Ok n) = n
 
 -- the byte of a text's letter
 unfoldable pub text_byte : Text → ℕ

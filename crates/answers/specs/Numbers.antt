@@ -8,10 +8,10 @@ use Rattle.std.specs.Prelude.{ℕ, ◌-◌, ◌/◌, ◌%◌, cond, eqb, ltb}
 use Rattle.answers.specs.declared.TextName.{TextName}
 use Rattle.answers.specs.declared.TextName.TheVariants.{S, G}
 use Rattle.answers.specs.declared.Refusal.{Refusal}
-use Rattle.answers.specs.declared.RunReply.{RunReply}
-use Rattle.answers.specs.declared.RunReply.TheVariants.{Listed, Refused as RunRefused}
-use Rattle.answers.specs.declared.CheckReply.{CheckReply}
-use Rattle.answers.specs.declared.CheckReply.TheVariants.{Refused, Confluent, Unjoined}
+use Rattle.answers.specs.Results.{RunReply}
+use Rattle.std.specs.Prelude.{Ok, Err}
+use Rattle.answers.specs.Results.{CheckReply}
+use Rattle.answers.specs.declared.Verdict.TheVariants.{Confluent, Unjoined}
 
 -- the letter that a byte is: 83 is S
 unfoldable pub letter_read : ℕ → TextName
@@ -23,10 +23,10 @@ refusal_read n = record { number = n / 4294967296; text = letter_read (n / 65536
 
 -- the answer of a run: a number below 2^32 is the length of a listing
 unfoldable pub run_read : ℕ → RunReply
-run_read n = cond (ltb n 4294967296) (Listed n) (RunRefused (refusal_read n))
+run_read n = cond (ltb n 4294967296) (Ok n) (Err (refusal_read n))
 
 -- the answer of a check: a number below 2^31 is the length of a pass's listing; one from there to below 2^32 is 2^31 more than
 -- the length of an unjoined overlap's
 unfoldable pub check_read : ℕ → CheckReply
 check_read n =
-    cond (ltb n 2147483648) (Confluent n) (cond (ltb n 4294967296) (Unjoined (n - 2147483648)) (Refused (refusal_read n)))
+    cond (ltb n 2147483648) (Ok (Confluent n)) (cond (ltb n 4294967296) (Ok (Unjoined (n - 2147483648))) (Err (refusal_read n)))

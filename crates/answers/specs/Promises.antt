@@ -22,23 +22,24 @@ use Rattle.replies.specs.Replies.{Reply, refusal, listing, check_listing, Layout
 use Rattle.replies.specs.Claims.{verdict_reply}
 use Rattle.answers.specs.declared.TextName.TheVariants.{S}
 use Rattle.answers.specs.declared.Refusal.{Refusal}
-use Rattle.answers.specs.declared.CheckReply.{CheckReply}
-use Rattle.answers.specs.declared.CheckReply.TheVariants.{Refused, Confluent, Unjoined}
+use Rattle.answers.specs.Results.{CheckReply}
+use Rattle.answers.specs.declared.Verdict.TheVariants.{Confluent, Unjoined}
+use Rattle.std.specs.Prelude.{Ok, Err}
 use Rattle.answers.specs.Answers.{text_meant, name_byte}
 use Rattle.answers.specs.Numbers.{check_read}
 use Rattle.answers.specs.Outcomes.{OneOutcome, OneOutcomeByAppearance, Counterexample}
 
 -- an answer as a reply: a refusal's number, text and line; or what the output holds: a listing, or its pages
 unfoldable pub check_meant : CheckReply → List ℕ → Reply
-check_meant (Refused f) output = refusal f.number (text_meant f.text) f.line
-check_meant (Confluent n) output = listing (take n output)
-check_meant (Unjoined n) output = listing (take n output)
+check_meant (Err f) output = refusal f.number (text_meant f.text) f.line
+check_meant (Ok (Confluent n)) output = listing (take n output)
+check_meant (Ok (Unjoined n)) output = listing (take n output)
 
 -- how many bytes an answer lists
 unfoldable pub listed_bytes : CheckReply → ℕ
-listed_bytes (Refused f) = 0
-listed_bytes (Confluent n) = n
-listed_bytes (Unjoined n) = n
+listed_bytes (Err f) = 0
+listed_bytes (Ok (Confluent n)) = n
+listed_bytes (Ok (Unjoined n)) = n
 
 -- an answer that is a reply's, and an output that is left as the reply says
 pub record CheckReplied (reply : Reply) (before after : List ℕ) (r : CheckReply) : Type 0 where
@@ -49,9 +50,9 @@ pub record CheckReplied (reply : Reply) (before after : List ℕ) (r : CheckRepl
 -- an answer that says of a text that reads what the program's verdict says: a pass, or an unjoined overlap
 pub record Told (s : List ℕ) (r : CheckReply) : Type 0 where
   pub pass :
-      (p : Reading) → read_program s ≡ accepted p → (n : ℕ) → r ≡ Confluent n → (k : ℕ) × (verdict p.program ≡ confluent k)
+      (p : Reading) → read_program s ≡ accepted p → (n : ℕ) → r ≡ Ok (Confluent n) → (k : ℕ) × (verdict p.program ≡ confluent k)
   pub fail :
-      (p : Reading) → read_program s ≡ accepted p → (n : ℕ) → r ≡ Unjoined n
+      (p : Reading) → read_program s ≡ accepted p → (n : ℕ) → r ≡ Ok (Unjoined n)
       → (o : Overlap) × (one : Final) × (two : Final) × (verdict p.program ≡ unjoined o one two)
 
 -- demand 3 of the answer to a text that reads as p, with the listing in a layout. Where what is laid down fits, the program is
@@ -64,21 +65,21 @@ pub record Told (s : List ℕ) (r : CheckReply) : Type 0 where
 -- earliest of the goal variables that have become the same. A number is shown in digits without a leading zero, whose value it is
 pub record CheckedAs (layout : Layout) (p : Reading) (before after : List ℕ) (r : CheckReply) : Type 0 where
   pub decided :
-      length (layout.laid (check_listing p)) ≤ length before → ((n : ℕ) × (r ≡ Confluent n)) ⊎ ((n : ℕ) × (r ≡ Unjoined n))
-  pub exact : length (layout.laid (check_listing p)) ≤ length before → ((n : ℕ) × (r ≡ Confluent n)) ↔ OneOutcome p.program
+      length (layout.laid (check_listing p)) ≤ length before → ((n : ℕ) × (r ≡ Ok (Confluent n))) ⊎ ((n : ℕ) × (r ≡ Ok (Unjoined n)))
+  pub exact : length (layout.laid (check_listing p)) ≤ length before → ((n : ℕ) × (r ≡ Ok (Confluent n))) ↔ OneOutcome p.program
   pub passed :
-      (n : ℕ) → r ≡ Confluent n
+      (n : ℕ) → r ≡ Ok (Confluent n)
       → (listing (layout.held (take n after)) ≡ verdict_reply p (confluent (length (overlaps p.program))))
       × OneOutcome p.program
   pub failed :
-      (n : ℕ) → r ≡ Unjoined n
+      (n : ℕ) → r ≡ Ok (Unjoined n)
       → (o : Overlap) × (one : Final) × (two : Final)
       × (listing (layout.held (take n after)) ≡ verdict_reply p (unjoined o one two))
       × Counterexample p.program o one two × (OneOutcome p.program → ⊥)
   pub earliest :
       (o : Overlap) (one two : Final) → length (layout.laid (check_listing p)) ≤ length before
       → Counterexample p.program o one two
-      → (n : ℕ) × (r ≡ Unjoined n) × (listing (layout.held (take n after)) ≡ verdict_reply p (unjoined o one two))
+      → (n : ℕ) × (r ≡ Ok (Unjoined n)) × (listing (layout.held (take n after)) ≡ verdict_reply p (unjoined o one two))
   pub ordered : StrictTotalOrder (IsOverlapOf p.program) Earlier
   pub enough : OneOutcomeByAppearance p.program → OneOutcome p.program
   pub bounded : Bounded p.program
@@ -87,7 +88,7 @@ pub record CheckedAs (layout : Layout) (p : Reading) (before after : List ℕ) (
 
 -- a refusal of the program's text
 unfoldable pub of_program : ℕ → ℕ → CheckReply
-of_program number line = Refused (record { number = number; text = S; line = line })
+of_program number line = Err (record { number = number; text = S; line = line })
 
 -- demand 3 of the answer to any text s, and of the bytes that it leaves: a text that meets one of document 01's numbers 1 to 9 is
 -- refused under it, with its line, and no other is; number 11 is the answer exactly where the text reads and what is laid down
@@ -99,16 +100,16 @@ pub record Demand3Of (layout : Layout) (s before after : List ℕ) (r : CheckRep
   pub eleven :
       ((p : Reading) × (read_program s ≡ accepted p) × (length before < length (layout.laid (check_listing p))))
       ↔ (r ≡ of_program 11 0)
-  pub untouched : (f : Refusal) → r ≡ Refused f → (f.text ≡ S) × (after ≡ before)
+  pub untouched : (f : Refusal) → r ≡ Err f → (f.text ≡ S) × (after ≡ before)
   pub read : (p : Reading) → read_program s ≡ accepted p → CheckedAs layout p before after r
   pub constants : (p : Reading) → read_program s ≡ accepted p → TextByValue s [] p.constants
 
 -- an answer as one number: the length of a pass's listing, or of its pages; 2^31 more than that of an unjoined overlap's; or
 -- 2^32 times a refusal's number, 2^16 times the byte of its letter, and its line
 unfoldable pub check_number : CheckReply → ℕ
-check_number (Refused f) = 4294967296 * f.number + 65536 * name_byte f.text + f.line
-check_number (Confluent n) = n
-check_number (Unjoined n) = 2147483648 + n
+check_number (Err f) = 4294967296 * f.number + 65536 * name_byte f.text + f.line
+check_number (Ok (Confluent n)) = n
+check_number (Ok (Unjoined n)) = 2147483648 + n
 
 -- a number of which all this holds: it is the number of the answer that is read off it (Numbers.antt), and of this answer holds
 -- what `check`, or `pages`, promises of its own

@@ -9,31 +9,29 @@ pub use numbers::{check_number, refusal_number};
 pub use refusals::put_refusal;
 
 // The letter of a text: S for a program's, G for a goal's.
-#[derive(Drop)]
+#[derive(Clone, Copy, PartialEq, Eq)]
 pub enum TextName {
     S,
     G,
 }
 
 // A refusal: document 01's number, the text, and the line counted from 1, or 0 where no line is meant.
-#[derive(Drop)]
+#[derive(Clone, Copy)]
 pub struct Refusal {
     pub number: u8,
     pub text: TextName,
     pub line: u16,
 }
 
-// The answer of a run: a refusal, or the length of the listing that was written.
-#[derive(Drop)]
-pub enum RunReply {
-    Refused(Refusal),
-    Listed(usize),
-}
-
-// The answer of a check: a refusal, or the length of the listing that was written, of a pass or of an unjoined overlap.
-#[derive(Drop)]
-pub enum CheckReply {
-    Refused(Refusal),
+// A verdict as it was listed, with the length of the listing: a pass, or an unjoined overlap.
+#[derive(Clone, Copy)]
+pub enum Verdict {
     Confluent(usize),
     Unjoined(usize),
 }
+
+// The answer of a run: the length of the listing that was written, or a refusal.
+pub type RunReply = Result<usize, Refusal>;
+
+// The answer of a check: the verdict that was listed, or a refusal.
+pub type CheckReply = Result<Verdict, Refusal>;

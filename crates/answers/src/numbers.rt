@@ -1,9 +1,9 @@
 // An answer as one number, for programs in other languages.
-ghost use Rattle.std.specs.Prelude.{◌≡◌, ◌+◌, ◌*◌, ◌<◌};
+ghost use Rattle.std.specs.Prelude.{Ok, ◌≡◌, ◌+◌, ◌*◌, ◌<◌};
 ghost use Rattle.answers.specs.Answers.{name_byte};
 ghost use Rattle.answers.specs.Promises.{listed_bytes, check_number};
 
-use crate::{CheckReply, Refusal, TextName};
+use crate::{CheckReply, Refusal, TextName, Verdict};
 
 // The byte of a text's letter.
 fn name_byte(text: TextName) -> u64
@@ -25,15 +25,24 @@ pub fn refusal_number(refusal: Refusal) -> u64
     4294967296 * number + 65536 * name_byte(text) + line
 }
 
-// The answer of a check as one number: the length of a pass's listing, 2^31 more than that of an unjoined overlap's, or the number
-// of a refusal.
+// A verdict as one number: the length of a pass's listing, or 2^31 more than that of an unjoined overlap's.
+fn verdict_number(verdict: Verdict) -> u64
+    requires { listed_bytes (Ok verdict) < 2147483648 }
+    ensures { result ≡ check_number (Ok verdict) }
+{
+    match verdict {
+        Verdict::Confluent(n) => n as u64,
+        Verdict::Unjoined(n) => 2147483648 + n as u64,
+    }
+}
+
+// The answer of a check as one number: that of the verdict, or of a refusal.
 pub fn check_number(reply: CheckReply) -> u64
     requires { listed_bytes reply < 2147483648 }
     ensures { result ≡ check_number reply }
 {
     match reply {
-        CheckReply::Refused(refusal) => refusal_number(refusal),
-        CheckReply::Confluent(n) => n as u64,
-        CheckReply::Unjoined(n) => 2147483648 + n as u64,
+        Ok(verdict) => verdict_number(verdict),
+        Err(refusal) => refusal_number(refusal),
     }
 }
