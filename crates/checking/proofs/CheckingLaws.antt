@@ -43,8 +43,9 @@ use Rattle.tables.specs.Rows.{symbols_of, constants_of, name_of, rule_of}
 use Rattle.tables.specs.Names.{name_in}
 use Rattle.programs.specs.Read.{program_answer, ProgramIn}
 use Rattle.programs.specs.declared.Counts.{Counts}
-use Rattle.programs.specs.declared.ProgramRead.{ProgramRead}
-use Rattle.programs.specs.declared.ProgramRead.TheVariants as program-read
+use Rattle.std.specs.Prelude.{Result, Err}
+use Rattle.faults.specs.Faults.{number_of}
+use Rattle.faults.specs.declared.FaultAt.{FaultAt}
 use Rattle.engine.specs.declared.derivation.Final.{Final}
 use Rattle.sides.specs.Sides.{cell_goal}
 use Rattle.judging.specs.Judging.{end_in}
@@ -435,13 +436,13 @@ module _ {program places goal bounds one two : List ℕ} {s : Shown} (r : ShowRe
 
 -- a program that is refused, which leaves the output as it was
 pub check-refused :
-    {program names places names' places' symbols' rules' output : List ℕ} {reply : ProgramRead}
-    → ProgramIn program names places names' places' symbols' rules' reply → (number line : ℕ)
-    → reply ≡ program-read.Refused number line
-    → Checked program output output (Refused (record { number = number; text = S; line = line }))
+    {program names places names' places' symbols' rules' output : List ℕ} {reply : Result Counts FaultAt}
+    → ProgramIn program names places names' places' symbols' rules' reply → (at : FaultAt) (number : ℕ)
+    → reply ≡ Err at → number ≡ number_of at.fault
+    → Checked program output output (Refused (record { number = number; text = S; line = at.line }))
 unfolding program_answer check_reply reply_of check_meant listed_bytes text_meant output_after
-check-refused {program} {output = output} r number line h =
-    let e : read_program program ≡ refused number line = sym (rw h at r.answers) in
+check-refused {program} {output = output} r at number h q =
+    let e : read_program program ≡ refused number at.line = rw q (sym (rw h at r.answers)) in
     record {
       replied = rw e (record { meant = refl; counted = omega arith; output = refl });
       told = record {

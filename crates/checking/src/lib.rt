@@ -14,7 +14,7 @@ use answers::{CheckReply, Refusal, TextName};
 use critical::deciding::{Shown, decide};
 use engine::derivation::Final;
 use listing::End;
-use programs::{ProgramRead, read_program};
+use programs::read_program;
 use tables::layout::CONSTRAINT_SIZE;
 use tables::wide;
 use verdicts::{list_overlap, list_pass};
@@ -163,13 +163,11 @@ pub fn check<'a>(program: &'a [u8], output: &mut [u8]) -> CheckReply
     let mut symbols = [0; 128];
     let mut rules = [0; 2048];
     match read_program(program, &mut names, &mut places, &mut symbols, &mut rules) {
-        ProgramRead::Refused(number, line) => CheckReply::Refused(Refusal {
-            number,
+        Err(at) => CheckReply::Refused(Refusal {
+            number: at.fault.number(),
             text: TextName::S,
-            line,
+            line: at.line,
         }),
-        ProgramRead::Accepted(counts) => {
-            check_read(program, &places, &rules, counts.rules, output)
-        }
+        Ok(counts) => check_read(program, &places, &rules, counts.rules, output),
     }
 }

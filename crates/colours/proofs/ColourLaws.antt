@@ -1,7 +1,7 @@
 -- Colours in tables: one law for each way that the code goes.
 --   sign-…, spread-…  the terms of a constraint
 --   give-…            constraints
---   absorb-…          one round ends
+--   Absorbing         one round ends
 -- Assumes nothing.
 use Rattle.std.proofs.Common.{◌≡◌, ℕ, suc, ◌+◌, ◌-◌, ◌*◌, ◌<◌, ◌≤◌, true, false, eqb, ◌⊎◌, List, [], ◌∷◌, length, get_or, take, drop, set, ap, ◌∙◌, inl, inr, add-one, arith, length-drop, length-set, drop_of_length-le, take_all, get_or-set_other, get_or-set_same, eqb-true}
 use borrow.Author.Tests.{eqb-false}

@@ -40,8 +40,8 @@ pub fn still(from: usize, p: usize) -> usize
     if p < from { from } else { 0 }
 }
 
-// The first position from p on whose constraint is wanted, or m: `find` goes on from there, and its loop asks `p < m` of either
-// kind of answer at once, so that an Option would be a test more.
+// The first position from p on whose constraint is wanted, or m. No Option: `find` takes the answer for its own cursor, which
+// spared a quarter of a search's time against a position beside the cursor.
 pub fn seek(cells: &[u16], p: usize, m: usize, symbol: u16, one: u16, two: u16) -> usize
     requires { (p ≤ m) × (length cells.now ≡ constraint_size * m) }
     ensures { FirstWanted symbol one two cells.now p m result }

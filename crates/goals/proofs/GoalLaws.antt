@@ -9,10 +9,15 @@ use mathlib.Core.List.{List, [], ◌∷◌, ◌++◌, map}
 use Prim.Native.Nat.{ℕ, suc, ◌+◌, ◌*◌, ◌≤◌, ◌<◌}
 use native.Mathlib.Numerals.{add-one}
 use native.Mathlib.Omega.{arith}
-use borrow.Author.Tests.{lt-ltb, le-ltb, ne_eqb, eq-eqb, leb-false}
+use borrow.Author.Tests.{lt-ltb, le-ltb, leb-false}
 use lib.Dec.{leb, ltb}
 use lib.ListN.{length, take, drop, get_or, length-map, length-drop}
 use lib.Seq.{paste, take-length, take-paste, length-paste, length-take-le}
+use Rattle.std.specs.Prelude.{Result, Ok, Err}
+use Rattle.faults.specs.Faults.{fault_at}
+use Rattle.faults.specs.declared.Fault.{Fault}
+use Rattle.faults.specs.declared.Fault.TheVariants.{TextTooLong, LineFaulty, FormMisplaced, GoalTooHeavy}
+use Rattle.faults.specs.declared.FaultAt.{FaultAt}
 use Rattle.text.specs.Lists.{index_of}
 use Rattle.text.specs.Lines.{lines}
 use Rattle.text.specs.Fields.{fields}
@@ -22,7 +27,7 @@ use Rattle.text.specs.declared.fields.Fields.{Fields}
 use Rattle.text.proofs.LineLaws.{fields-some}
 use Rattle.text.proofs.SplitLaws.{lines_at, lines_split, lines-done, line-fine}
 use Rattle.semantics.specs.Terms.{Term, Constraint, Symbol, weight}
-use Rattle.syntax.specs.Answers.{Answer, refused, accepted, refuse_if, and_then}
+use Rattle.syntax.specs.Answers.{Answer, accepted, refuse_if, and_then}
 use Rattle.syntax.specs.Forms.{form_of, field_at, constants_after, term_of, letter_number}
 use Rattle.syntax.specs.Programs.{Found}
 use Rattle.syntax.specs.Goals.{GoalDraft, GoalReading, letters_after, read_constraint_of_goal, is_goal_form, read_goal_fields}
@@ -43,10 +48,6 @@ use Rattle.lines.proofs.Weighing.{constraints-append, five-is}
 use Rattle.lines.proofs.Spelling.{spelled-goal}
 use Rattle.goals.specs.declared.GoalCounts.{GoalCounts}
 use Rattle.goals.specs.declared.RowRead.{RowRead}
-use Rattle.goals.specs.declared.GoalLineRead.{GoalLineRead}
-use Rattle.goals.specs.declared.GoalLineRead.TheVariants.{Refused as lineRefused, Next}
-use Rattle.goals.specs.declared.GoalRead.{GoalRead}
-use Rattle.goals.specs.declared.GoalRead.TheVariants.{Refused, Accepted}
 use Rattle.goals.specs.ReadGoal.{with_letters, numbered_cell, RowIn, Room, GoalFits, goal_draft_of, goal_line_answer}
 use Rattle.goals.specs.ReadGoal.{GoalLineIn, goal_lines_answer, GoalLinesIn, goal_reading_of, goal_answer}
 use Rattle.goals.specs.ReadGoal.{GoalIn}
@@ -70,7 +71,7 @@ module _ (f : Fields) (s : GoalCounts) (symbols names places cells letters : Lis
   first-form fs h some = goal (get_or fs 0 []) (key-at fs f.keys h.keyed 0 some (omega arith))
 
   pub line-other-form : not b ≡ true
-      → GoalLineIn f s symbols names places cells letters names places cells letters (lineRefused 3)
+      → GoalLineIn f s symbols names places cells letters names places cells letters (Err FormMisplaced)
   unfolding goal_line_answer read_goal_fields
   line-other-form e =
       record {
@@ -85,7 +86,7 @@ module _ (f : Fields) (s : GoalCounts) (symbols names places cells letters : Lis
 
   module _ (e : not b ≡ false) (fit : GoalFits letters s) (room : Room symbols names places cells letters) (names' places' :
       List ℕ)
-      (r : ConstraintRead)
+      (r : Result ConstraintRead Fault)
       (c : ConstraintIn f (leb 64 s.constraints) goal_place s.constants symbols names places names' places' r) where
     draft-length : length (cell_constraints (take (5 * s.constraints) cells)) ≡ s.constraints
     draft-length =
@@ -123,26 +124,12 @@ module _ (f : Fields) (s : GoalCounts) (symbols names places cells letters : Lis
           (line_other (leb 64 s.constraints) (symbols_of names symbols k) letter_number variable (constants_of names
           s.constants) n fs)))
 
-    refused-is : (n : ℕ) → (r.refusal ≡ 0 → ⊥) → constraint_answer names' n r ≡ refused r.refusal n
-    unfolding constraint_answer
-    refused-is n z = rw (ne_eqb r.refusal 0 z)
-
-    found-is : (n : ℕ) → r.refusal ≡ 0
-        → constraint_answer names' n r ≡ accepted (record {
-          constraint = row_constraint r.cells;
-          constants = constants_of
-              names' r.count;
-        })
-    unfolding constraint_answer
-    found-is n z = rw (eq-eqb r.refusal 0 z)
-
-    pub line_refused : (r.refusal ≡ 0 → ⊥)
-        → GoalLineIn f s symbols names places cells letters names' places' cells letters (lineRefused r.refusal)
+    pub line_refused : (x : Fault) → r ≡ Err x → GoalLineIn f s symbols names places cells letters names' places' cells letters (Err x)
     unfolding goal_line_answer
-    line_refused z =
+    line_refused x z =
         record {
           answers = λ fs n k h some size.
-              ap (λ (a : Answer Found). and_then (and_then a (renumbered fs)) (onto fs)) (sym (refused-is n z))
+              ap (λ (a : Answer Found). and_then (and_then a (renumbered fs)) (onto fs)) (sym (ap (constraint_answer names' n) z))
               ∙ via fs n k h some size;
           fits = tt;
           outside = c.outside;
@@ -152,23 +139,26 @@ module _ (f : Fields) (s : GoalCounts) (symbols names places cells letters : Lis
           keeps = c.keeps;
         }
 
-    module _ (z : r.refusal ≡ 0) where
-      pub line-room : s.constraints < 64
-      line-room = leb-false 64 s.constraints (c.room z)
+    module _ (got : ConstraintRead) (z : r ≡ Ok got) where
+      few-after : got.count ≤ 64
+      few-after = rw z at c.few
 
-      module _ (letters' : List ℕ) (row : RowRead) (w : RowIn r.cells s.letters letters letters' row) where
+      pub line-room : s.constraints < 64
+      line-room = leb-false 64 s.constraints (rw z at c.room)
+
+      module _ (letters' : List ℕ) (row : RowRead) (w : RowIn got.cells s.letters letters letters' row) where
         row-size : length row.cells ≡ 5
         row-size =
             ap length w.numbered
-            ∙ ap suc (length-map (drop 1 r.cells) (numbered_cell (letters_of letters' row.count))
-            ∙ omega (arith, length-drop 1 r.cells, c.size))
+            ∙ ap suc (length-map (drop 1 got.cells) (numbered_cell (letters_of letters' row.count))
+            ∙ omega (arith, length-drop 1 got.cells, (rw z at c.size)))
 
         pub line-fits : 5 * s.constraints + length row.cells ≤ length cells
         line-fits = omega (arith, row-size, room.cells-size, line-room)
 
         module _ (cells' : List ℕ) (stored : cells' ≡ paste cells (5 * s.constraints) row.cells (length row.cells)) where
           abbrev next : GoalCounts
-          next = record { constraints = s.constraints + 1; letters = row.count; constants = r.count }
+          next = record { constraints = s.constraints + 1; letters = row.count; constants = got.count }
 
           -- the cells of all constraints
           taken : take (5 * (s.constraints + 1)) cells' ≡ take (5 * s.constraints) cells ++ row.cells
@@ -188,8 +178,8 @@ module _ (f : Fields) (s : GoalCounts) (symbols names places cells letters : Lis
               row-size)
 
           module _ (fs : List (List ℕ)) (k : ℕ) (h : Holds fs f) (size : length symbols ≡ 2 * k) where
-            means : CellsMean (drop 2 fs) (constants_of names s.constants) names' r
-            means = c.flat fs k h size z
+            means : CellsMean (drop 2 fs) (constants_of names s.constants) names' got
+            means = rw z at (c.flat fs k h size)
 
             abbrev cs : List (List ℕ)
             cs = constants_after (drop 2 fs) (constants_of names s.constants)
@@ -199,8 +189,8 @@ module _ (f : Fields) (s : GoalCounts) (symbols names places cells letters : Lis
               arith,
               name-most g cs,
               ap length (sym means.after),
-              constants-length names' r.count,
-              c.few,
+              constants-length names' got.count,
+              few-after,
             )
 
             letters-are : letters_of letters' row.count ≡ after fs
@@ -208,8 +198,8 @@ module _ (f : Fields) (s : GoalCounts) (symbols names places cells letters : Lis
                 w.lettered ∙ ap (λ (l : List ℕ). with_letters l (letters_of letters s.letters)) means.cells
                 ∙ letters-after 4 cs (drop 2 fs) (letters_of letters s.letters) means.few few means.terms
 
-            terms-are : cell_terms (map (numbered_cell (letters_of letters' row.count)) (drop 1 r.cells))
-                ≡ map (term_of (variable fs) (constants_of names' r.count)) (drop 2 fs)
+            terms-are : cell_terms (map (numbered_cell (letters_of letters' row.count)) (drop 1 got.cells))
+                ≡ map (term_of (variable fs) (constants_of names' got.count)) (drop 2 fs)
             terms-are =
                 ap₂ (λ (l : List (List ℕ)) (x : List ℕ). cell_terms (map (numbered_cell l) x)) letters-are means.cells
                 ∙ cells-numbered 4 cs (drop 2 fs) (after fs) means.few few means.terms
@@ -217,35 +207,35 @@ module _ (f : Fields) (s : GoalCounts) (symbols names places cells letters : Lis
 
             constraint-is : row_constraint row.cells
                 ≡ record {
-                  symbol = (row_constraint r.cells).symbol;
-                  terms = map (term_of (variable fs) (constants_of names' r.count)) (drop 2 fs);
+                  symbol = (row_constraint got.cells).symbol;
+                  terms = map (term_of (variable fs) (constants_of names' got.count)) (drop 2 fs);
                 }
             unfolding row_constraint
             constraint-is =
                 rw w.numbered
-                (ap (λ (ts : List Term). record { symbol = get_or r.cells 0 0; terms = ts }) terms-are)
+                (ap (λ (ts : List Term). record { symbol = get_or got.cells 0 0; terms = ts }) terms-are)
 
             draft-is : goal_draft_of names' cells' letters' next
                 ≡ record {
                   constraints = cell_constraints (take (5 * s.constraints) cells) ++ (record {
-                    symbol = (row_constraint r.cells).symbol;
-                    terms = map (term_of (variable fs) (constants_of names' r.count)) (drop 2 fs);
+                    symbol = (row_constraint got.cells).symbol;
+                    terms = map (term_of (variable fs) (constants_of names' got.count)) (drop 2 fs);
                   } ∷ []);
                   letters = after fs;
-                  constants = constants_of names' r.count;
+                  constants = constants_of names' got.count;
                 }
             unfolding goal_draft_of
             draft-is = rw (constraints-are, letters-are, constraint-is)
 
-          pub line_read : GoalLineIn f s symbols names places cells letters names' places' cells' letters' (Next next)
+          pub line_read : GoalLineIn f s symbols names places cells letters names' places' cells' letters' (Ok next)
           unfolding goal_line_answer
           line_read =
               record {
                 answers = λ fs n k h some size.
                     ap accepted (draft-is fs k h size)
-                    ∙ ap (λ (a : Answer Found). and_then (and_then a (renumbered fs)) (onto fs)) (sym (found-is n z))
+                    ∙ ap (λ (a : Answer Found). and_then (and_then a (renumbered fs)) (onto fs)) (sym (ap (constraint_answer names' n) z))
                     ∙ via fs n k h some size;
-                fits = record { few = omega (arith, line-room); few-constants = c.few; lettered = w.fits };
+                fits = record { few = omega (arith, line-room); few-constants = few-after; lettered = w.fits };
                 outside = c.outside;
                 places-size = c.sized;
                 cells-size = ap length stored
@@ -296,7 +286,7 @@ lines_start goal symbols names places c cells letters room few =
 
 module _ (goal symbols names₀ places₀ : List ℕ) (c : ℕ) (names places cells letters : List ℕ) (at n : ℕ) (s : GoalCounts)
     (w : LinesSoFar goal symbols names₀ places₀ c names places cells letters at n s) where
-  pub lines_end : length goal ≤ at → GoalLinesIn goal symbols names₀ places₀ c names places cells letters (Accepted s)
+  pub lines_end : length goal ≤ at → GoalLinesIn goal symbols names₀ places₀ c names places cells letters (Ok s)
   unfolding goal_lines_answer read_goal_lines
   lines_end h =
       record {
@@ -311,7 +301,7 @@ module _ (goal symbols names₀ places₀ : List ℕ) (c : ℕ) (names places ce
 
   module _ (h : at < length goal) (f : Fields) (split : SplitAt goal at f) where
     -- a line that is faulty
-    pub lines-faulty : f.faulty ≡ true → GoalLinesIn goal symbols names₀ places₀ c names places cells letters (Refused 2 n)
+    pub lines-faulty : f.faulty ≡ true → GoalLinesIn goal symbols names₀ places₀ c names places cells letters (Err (fault_at LineFaulty n))
     unfolding goal_lines_answer read_goal_lines read_goal_line
     lines-faulty e =
         record {
@@ -335,7 +325,7 @@ module _ (goal symbols names₀ places₀ : List ℕ) (c : ℕ) (names places ce
       unfolding read_goal_lines read_goal_line
       line-is S = rw (lines_split goal at f split h fine, line-fine goal at f split fine)
 
-      module _ (names' places' cells' letters' : List ℕ) (r : GoalLineRead)
+      module _ (names' places' cells' letters' : List ℕ) (r : Result GoalCounts Fault)
           (g : GoalLineIn f s symbols names places cells letters names' places' cells' letters' r) where
         answered : (k : ℕ) → length symbols ≡ 2 * k
             → and_then (goal_line_answer names' cells' letters' n r)
@@ -371,8 +361,8 @@ module _ (goal symbols names₀ places₀ : List ℕ) (c : ℕ) (names places ce
               letters-size = g.letters-size ∙ w.room.letters-size;
             }
 
-        pub lines-refused : (x : ℕ) → r ≡ lineRefused x
-            → GoalLinesIn goal symbols names₀ places₀ c names' places' cells' letters' (Refused x n)
+        pub lines-refused : (x : Fault) → r ≡ Err x
+            → GoalLinesIn goal symbols names₀ places₀ c names' places' cells' letters' (Err (fault_at x n))
         unfolding goal_lines_answer goal_line_answer
         lines-refused x e =
             record {
@@ -383,7 +373,7 @@ module _ (goal symbols names₀ places₀ : List ℕ) (c : ℕ) (names places ce
               room = room-on;
             }
 
-        pub lines_next : (next : GoalCounts) → r ≡ Next next
+        pub lines_next : (next : GoalCounts) → r ≡ Ok next
             → LinesSoFar goal symbols names₀ places₀ c names' places' cells' letters' (f.end + 1) (n + 1) next
         unfolding goal_line_answer
         lines_next next e =
@@ -400,7 +390,7 @@ module _ (goal symbols names₀ places₀ : List ℕ) (c : ℕ) (names places ce
 -- a goal's text, by what decides it
 pub goal-long :
     (goal symbols names places : List ℕ) (c : ℕ) (cells letters : List ℕ) → 16384 < length goal
-    → Room symbols names places cells letters → GoalIn goal symbols names places c names places cells letters (Refused 1 0)
+    → Room symbols names places cells letters → GoalIn goal symbols names places c names places cells letters (Err (fault_at TextTooLong 0))
 unfolding goal_answer read_goal
 goal-long goal symbols names places c cells letters h room =
     record {
@@ -413,12 +403,12 @@ goal-long goal symbols names places c cells letters h room =
 
 -- the counts behind all lines, where none is refused
 pub counts-fit :
-    {goal symbols names places : List ℕ} {c : ℕ} {names' places' cells' letters' : List ℕ} {r : GoalRead} (s : GoalCounts)
-    → r ≡ Accepted s → GoalLinesIn goal symbols names places c names' places' cells' letters' r → GoalFits letters' s
+    {goal symbols names places : List ℕ} {c : ℕ} {names' places' cells' letters' : List ℕ} {r : Result GoalCounts FaultAt} (s : GoalCounts)
+    → r ≡ Ok s → GoalLinesIn goal symbols names places c names' places' cells' letters' r → GoalFits letters' s
 counts-fit s e g = rw e at g.fits
 
 module _ (goal symbols names places : List ℕ) (c : ℕ) (names' places' cells' letters' : List ℕ) (h : length goal ≤ 16384) (r
-    : GoalRead)
+    : Result GoalCounts FaultAt)
     (g : GoalLinesIn goal symbols names places c names' places' cells' letters' r) where
   abbrev checked : List Symbol → GoalDraft → Answer GoalReading
   checked S d =
@@ -436,10 +426,10 @@ module _ (goal symbols names places : List ℕ) (c : ℕ) (names' places' cells'
   unfolding read_goal
   short k size = rw (le-ltb 16384 (length goal) h, g.answers k size)
 
-  pub goal-lines : (x n : ℕ) → r ≡ Refused x n
-      → GoalIn goal symbols names places c names' places' cells' letters' (Refused x n)
+  pub goal-lines : (at : FaultAt) → r ≡ Err at
+      → GoalIn goal symbols names places c names' places' cells' letters' (Err at)
   unfolding goal_answer goal_lines_answer
-  goal-lines x n e =
+  goal-lines at e =
       record {
         answers = λ k size. sym (rw e at (short k size));
         fits = tt;
@@ -448,7 +438,7 @@ module _ (goal symbols names places : List ℕ) (c : ℕ) (names' places' cells'
         room = g.room;
       }
 
-  module _ (s : GoalCounts) (e : r ≡ Accepted s) (x : ℕ)
+  module _ (s : GoalCounts) (e : r ≡ Ok s) (x : ℕ)
       (q : (names : List ℕ) (k : ℕ) → length symbols ≡ 2 * k
       → x ≡ weight (symbols_of names symbols k) (cell_constraints (take (5 * s.constraints) cells'))) where
     weighed : (k : ℕ) → length symbols ≡ 2 * k
@@ -459,7 +449,7 @@ module _ (goal symbols names places : List ℕ) (c : ℕ) (names' places' cells'
         rw e at (short k size)
         ∙ rw (← q names k size, letters-length letters' s.letters) refl
 
-    pub goal-heavy : 512 < x → GoalIn goal symbols names places c names' places' cells' letters' (Refused 10 0)
+    pub goal-heavy : 512 < x → GoalIn goal symbols names places c names' places' cells' letters' (Err (fault_at GoalTooHeavy 0))
     unfolding goal_answer
     goal-heavy z =
         record {
@@ -470,7 +460,7 @@ module _ (goal symbols names places : List ℕ) (c : ℕ) (names' places' cells'
           room = g.room;
         }
 
-    pub goal-read : x ≤ 512 → GoalIn goal symbols names places c names' places' cells' letters' (Accepted s)
+    pub goal-read : x ≤ 512 → GoalIn goal symbols names places c names' places' cells' letters' (Ok s)
     unfolding goal_answer
     goal-read z =
         record {

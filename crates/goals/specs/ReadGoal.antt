@@ -6,7 +6,10 @@
 --   goal_draft_of, goal_line_answer, GoalLineIn    what the tables hold behind a line, and what is promised of it
 --   GoalLinesIn, goal_answer, GoalIn            of all lines, and of a goal's text
 -- Assumes nothing.
-use Rattle.std.specs.Prelude.{◌≡◌, ℕ, ◌+◌, ◌-◌, ◌*◌, ◌≤◌, ◌<◌, cond, List, [], ◌∷◌, map, ltb, length, get_or, take, drop}
+use Rattle.std.specs.Prelude.{◌≡◌, ℕ, ◌+◌, ◌-◌, ◌*◌, ◌≤◌, ◌<◌, cond, List, [], ◌∷◌, map, ltb, length, get_or, take, drop, Result, Ok, Err, IfOk}
+use Rattle.faults.specs.Faults.{number_of}
+use Rattle.faults.specs.declared.Fault.{Fault}
+use Rattle.faults.specs.declared.FaultAt.{FaultAt}
 use Rattle.text.specs.Lists.{index_of, with_name}
 use Rattle.text.specs.Lines.{lines}
 use Rattle.text.specs.Splits.{Holds}
@@ -21,10 +24,6 @@ use Rattle.lines.specs.Read.{Outside, KeepsPlaces}
 use Rattle.goals.specs.declared.GoalCounts.{GoalCounts}
 use Rattle.goals.specs.declared.LetterRead.{LetterRead}
 use Rattle.goals.specs.declared.RowRead.{RowRead}
-use Rattle.goals.specs.declared.GoalLineRead.{GoalLineRead}
-use Rattle.goals.specs.declared.GoalLineRead.TheVariants.{Refused as lineRefused, Next}
-use Rattle.goals.specs.declared.GoalRead.{GoalRead}
-use Rattle.goals.specs.declared.GoalRead.TheVariants.{Refused as goalRefused, Accepted}
 
 -- the letters of the first v goal variables: capitals, each another
 pub record LettersFit (letters : List ℕ) (v : ℕ) : Type 0 where
@@ -87,18 +86,17 @@ goal_draft_of names cells letters s =
     }
 
 -- the code's answer to line n
-unfoldable pub goal_line_answer : List ℕ → List ℕ → List ℕ → ℕ → GoalLineRead → Answer GoalDraft
-goal_line_answer names cells letters n (lineRefused x) = refused x n
-goal_line_answer names cells letters n (Next s) = accepted (goal_draft_of names cells letters s)
+unfoldable pub goal_line_answer : List ℕ → List ℕ → List ℕ → ℕ → Result GoalCounts Fault → Answer GoalDraft
+goal_line_answer names cells letters n (Err x) = refused (number_of x) n
+goal_line_answer names cells letters n (Ok s) = accepted (goal_draft_of names cells letters s)
 
 -- what the tables keep to behind a line that is not refused
-abbrev pub goal_line_fits : List ℕ → GoalLineRead → Type 0
-goal_line_fits letters (lineRefused x) = Unit {0}
-goal_line_fits letters (Next s) = GoalFits letters s
+abbrev pub goal_line_fits : List ℕ → Result GoalCounts Fault → Type 0
+goal_line_fits letters r = IfOk r (GoalFits letters)
 
 -- what is promised of a line
 pub record GoalLineIn (f : Fields) (s : GoalCounts) (symbols names places cells letters names' places' cells' letters' : List ℕ)
-    (r : GoalLineRead) : Type 0 where
+    (r : Result GoalCounts Fault) : Type 0 where
   pub answers :
       (fs : List (List ℕ)) (n k : ℕ) → Holds fs f → 0 < length fs → length symbols ≡ symbol_size * k
       → goal_line_answer names' cells' letters' n r
@@ -111,17 +109,16 @@ pub record GoalLineIn (f : Fields) (s : GoalCounts) (symbols names places cells 
   pub keeps : KeepsPlaces goal_place f names places names' places'
 
 -- the code's answer to all lines
-unfoldable pub goal_lines_answer : List ℕ → List ℕ → List ℕ → GoalRead → Answer GoalDraft
-goal_lines_answer names cells letters (goalRefused x n) = refused x n
-goal_lines_answer names cells letters (Accepted s) = accepted (goal_draft_of names cells letters s)
+unfoldable pub goal_lines_answer : List ℕ → List ℕ → List ℕ → Result GoalCounts FaultAt → Answer GoalDraft
+goal_lines_answer names cells letters (Err at) = refused (number_of at.fault) at.line
+goal_lines_answer names cells letters (Ok s) = accepted (goal_draft_of names cells letters s)
 
 -- what the tables keep to behind lines that are not refused
-abbrev pub goal_fits : List ℕ → GoalRead → Type 0
-goal_fits letters (goalRefused x n) = Unit {0}
-goal_fits letters (Accepted s) = GoalFits letters s
+abbrev pub goal_fits : List ℕ → Result GoalCounts FaultAt → Type 0
+goal_fits letters r = IfOk r (GoalFits letters)
 
 -- what is promised of all lines of a goal, over the symbols and the first c constants of the tables
-pub record GoalLinesIn (goal symbols names places : List ℕ) (c : ℕ) (names' places' cells' letters' : List ℕ) (r : GoalRead)
+pub record GoalLinesIn (goal symbols names places : List ℕ) (c : ℕ) (names' places' cells' letters' : List ℕ) (r : Result GoalCounts FaultAt)
     : Type 0 where
   pub answers :
       (k : ℕ) → length symbols ≡ symbol_size * k
@@ -143,13 +140,13 @@ goal_reading_of names cells letters s =
     }
 
 -- the code's answer to a goal's text
-unfoldable pub goal_answer : List ℕ → List ℕ → List ℕ → GoalRead → Answer GoalReading
-goal_answer names cells letters (goalRefused x n) = refused x n
-goal_answer names cells letters (Accepted s) = accepted (goal_reading_of names cells letters s)
+unfoldable pub goal_answer : List ℕ → List ℕ → List ℕ → Result GoalCounts FaultAt → Answer GoalReading
+goal_answer names cells letters (Err at) = refused (number_of at.fault) at.line
+goal_answer names cells letters (Ok s) = accepted (goal_reading_of names cells letters s)
 
 -- what is promised of a goal's text, over the symbols and the first c constants that the tables hold: the answer, that the names
 -- which are not constants stay, and that names stand where their places say, if they did
-pub record GoalIn (goal symbols names places : List ℕ) (c : ℕ) (names' places' cells' letters' : List ℕ) (r : GoalRead)
+pub record GoalIn (goal symbols names places : List ℕ) (c : ℕ) (names' places' cells' letters' : List ℕ) (r : Result GoalCounts FaultAt)
     : Type 0 where
   pub answers :
       (k : ℕ) → length symbols ≡ symbol_size * k

@@ -7,8 +7,9 @@ ghost use Rattle.tables.specs.Layout.{goal_place};
 ghost use Rattle.lines.specs.Read.{Lent};
 ghost use Rattle.goals.specs.ReadGoal.{Room, GoalFits, GoalLineIn, GoalLinesIn, GoalIn};
 
+use crate::GoalCounts;
 use crate::letters::number_letters;
-use crate::{GoalCounts, GoalLineRead, GoalRead};
+use faults::{Fault, FaultAt};
 use lines::LineForm;
 use lines::constraints::read_constraint;
 use lines::forms::form_of;
@@ -22,16 +23,7 @@ use text::fields::Fields;
 fn is_goal(key: u64) -> bool
     ensures { (f : List ℕ) → key ≡ key_of f → result ≡ is_goal_form (form_of f) }
 {
-    match form_of(key) {
-        LineForm::Symbol => false,
-        LineForm::Rule => false,
-        LineForm::Kept => false,
-        LineForm::Head => false,
-        LineForm::Body => false,
-        LineForm::Equation => false,
-        LineForm::Goal => true,
-        LineForm::Nothing => false,
-    }
+    matches!(form_of(key), LineForm::Goal)
 }
 
 // A line of a goal by its fields: number 3, then 4 to 7, and its constraint behind the others.
@@ -43,7 +35,7 @@ fn goal_line(
     places: &mut [u16],
     cells: &mut [u16],
     letters: &mut [u8],
-) -> GoalLineRead
+) -> Result<GoalCounts, Fault>
     requires { Lent f goal_place names.old places.old × Room symbols.now names.old places.old cells.old letters.old
         × GoalFits letters.old counts }
     ensures { GoalLineIn f counts symbols.now names.old places.old cells.old
@@ -51,7 +43,7 @@ fn goal_line(
 {
     let keys = f.keys;
     if !is_goal(keys[0]) {
-        return GoalLineRead::Refused(3);
+        return Err(Fault::FormMisplaced);
     }
     let m = counts.constraints;
     let r = read_constraint(
@@ -62,15 +54,10 @@ fn goal_line(
         symbols,
         names,
         places,
-    );
-    if r.refusal != 0 {
-        return GoalLineRead::Refused(r.refusal);
-    }
-    let found = r.cells;
-    let row = number_letters(found, letters, counts.letters);
-    let values = row.cells;
-    write_cells(cells, CONSTRAINT_SIZE * m, &values);
-    GoalLineRead::Next(GoalCounts {
+    )?;
+    let row = number_letters(r.cells, letters, counts.letters);
+    write_cells(cells, CONSTRAINT_SIZE * m, &row.cells);
+    Ok(GoalCounts {
         constraints: m + 1,
         letters: row.count,
         constants: r.count,
@@ -86,7 +73,7 @@ fn goal_lines(
     constants: usize,
     cells: &mut [u16],
     letters: &mut [u8],
-) -> GoalRead
+) -> Result<GoalCounts, FaultAt>
     requires { Room symbols.now names.old places.old cells.old letters.old × (constants ≤ 64)
         × (length goal.now ≤ 16384) }
     ensures { GoalLinesIn goal.now symbols.now names.old places.old constants
@@ -98,25 +85,19 @@ fn goal_lines(
     let mut counts = GoalCounts {
         constraints: 0,
         letters: 0,
-        constants: constants,
+        constants,
     };
     while at < goal.len() {
         let f = line_at(&classes, goal, at);
         if f.faulty {
-            return GoalRead::Refused(2, number);
+            return Err(Fault::LineFaulty.at(number));
         }
-        match goal_line(f, counts, symbols, names, places, cells, letters) {
-            GoalLineRead::Refused(x) => {
-                return GoalRead::Refused(x, number);
-            }
-            GoalLineRead::Next(next) => {
-                counts = next;
-            }
-        }
+        let read = goal_line(f, counts, symbols, names, places, cells, letters);
+        counts = read.map_err(|fault| fault.at(number))?;
         at = f.end + 1;
         number += 1;
     }
-    GoalRead::Accepted(counts)
+    Ok(counts)
 }
 
 // A goal's text over the symbols and constants of a program: numbers 1 to 7, and 10. The table of symbols is lent as far as it is
@@ -129,22 +110,19 @@ pub fn read_goal(
     constants: usize,
     cells: &mut [u16],
     letters: &mut [u8],
-) -> GoalRead
+) -> Result<GoalCounts, FaultAt>
     requires { Room symbols.now names.old places.old cells.old letters.old × (constants ≤ 64) }
     ensures { GoalIn goal.now symbols.now names.old places.old constants
         names.new places.new cells.new letters.new result }
 {
     if 16384 < goal.len() {
-        return GoalRead::Refused(1, 0);
+        return Err(Fault::TextTooLong.at(0));
     }
-    match goal_lines(goal, symbols, names, places, constants, cells, letters) {
-        GoalRead::Refused(x, number) => GoalRead::Refused(x, number),
-        GoalRead::Accepted(counts) => {
-            let end = CONSTRAINT_SIZE * counts.constraints;
-            if 512 < weight_of(symbols, &cells[..end]) {
-                return GoalRead::Refused(10, 0);
-            }
-            GoalRead::Accepted(counts)
-        }
+    let counts = goal_lines(goal, symbols, names, places, constants, cells, letters)?;
+    let end = CONSTRAINT_SIZE * counts.constraints;
+    let heavy = 512 < weight_of(symbols, &cells[..end]);
+    if heavy {
+        return Err(Fault::GoalTooHeavy.at(0));
     }
+    Ok(counts)
 }

@@ -9,14 +9,12 @@ use crate::{LetterRead, RowRead};
 fn find_letter(letters: &[u8], b: u8) -> usize
     ensures { (result ≡ index_from (eqb b) 0 letters.now) × (result ≤ length letters.now) }
 {
-    let mut i = 0;
-    while i < letters.len() {
-        if b == letters[i] {
+    for (i, letter) in letters.iter().enumerate() {
+        if b == *letter {
             return i;
         }
-        i += 1;
     }
-    i
+    letters.len()
 }
 
 // The cell of a term whose variable, if it is one, is a letter: 256 more than the letter's number by first appearance.
@@ -25,17 +23,14 @@ fn number_letter(cell: u16, letters: &mut [u8], count: usize) -> LetterRead
     ensures { LetterIn cell count letters.old letters.new result }
 {
     if cell < 256 {
-        return LetterRead {
-            cell: cell,
-            count: count,
-        };
+        return LetterRead { cell, count };
     }
     let b = (cell - 191) as u8;
     let k = find_letter(&letters[..count], b);
     if k < count {
         return LetterRead {
             cell: 256 + k as u16,
-            count: count,
+            count,
         };
     }
     letters[count] = b;

@@ -34,8 +34,8 @@ use Rattle.inputs.specs.Inputs.{program_table, ProgramReady}
 use Rattle.inputs.specs.Inputs.{GoalReady}
 use Rattle.programs.specs.Read.{program_answer, reading_of, ProgramIn, ProgramFits}
 use Rattle.programs.specs.declared.Counts.{Counts}
-use Rattle.programs.specs.declared.ProgramRead.{ProgramRead}
-use Rattle.programs.specs.declared.ProgramRead.TheVariants as program-read
+use Rattle.std.specs.Prelude.{Result, Ok}
+use Rattle.faults.specs.declared.FaultAt.{FaultAt}
 
 -- a constant with a number is not 0
 over-used : (k : ℕ) (t : Term) → TermOver (ConstantOf k) t → is_used t ≡ true
@@ -136,11 +136,11 @@ all-zero [] h n = refl
 all-zero (x ∷ l) h zero = sym (eqb-true 0 x (and-true (eqb 0 x) (every (eqb 0) l) h).0)
 all-zero (x ∷ l) h (suc n) = all-zero l (and-true (eqb 0 x) (every (eqb 0) l) h).1 n
 
-module _ {program names places names' places' symbols' rules' : List ℕ} {reply : ProgramRead}
+module _ {program names places names' places' symbols' rules' : List ℕ} {reply : Result Counts FaultAt}
     (r : ProgramIn program names places names' places' symbols' rules' reply) where
   -- a program as read, where no name stood before
   pub program-ready :
-      (counts : Counts) → reply ≡ program-read.Accepted counts → every (eqb 0) names ≡ true
+      (counts : Counts) → reply ≡ Ok counts → every (eqb 0) names ≡ true
       → GoalReady program names' places' symbols' rules' counts
   unfolding program_answer reading_of program_table
   program-ready counts h blank =

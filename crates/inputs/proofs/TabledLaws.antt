@@ -18,11 +18,11 @@ use Rattle.tables.specs.Layout.{symbol_size, first_rule}
 use Rattle.tables.specs.Rows.{symbols_of, constants_of, name_of, symbol_of, rule_of, rules_of, letters_of}
 use Rattle.programs.specs.Read.{ProgramIn, ProgramFits}
 use Rattle.programs.specs.declared.Counts.{Counts}
-use Rattle.programs.specs.declared.ProgramRead.{ProgramRead}
-use Rattle.programs.specs.declared.ProgramRead.TheVariants as program-read
+use Rattle.std.specs.Prelude.{Result, Ok}
+use Rattle.faults.specs.declared.FaultAt.{FaultAt}
 use Rattle.programs.proofs.AddLaws.{symbols-used}
 use Rattle.goals.specs.ReadGoal.{Room, goal_answer, GoalIn}
-use Rattle.goals.specs.declared.GoalRead.{GoalRead}
+use Rattle.goals.specs.declared.GoalCounts.{GoalCounts}
 use Rattle.inputs.specs.Inputs.{Tabled}
 use Rattle.text.specs.Keys.{spell}
 use Rattle.text.proofs.Laws.{tabled-length}
@@ -33,10 +33,10 @@ use Rattle.lines.specs.Read.{Outside}
 use Rattle.inputs.specs.Inputs.{GoalReady}
 use Rattle.inputs.proofs.ProgramLaws.{few-symbols}
 
-module _ {program names places names' places' symbols' rules' : List ℕ} {reply : ProgramRead}
+module _ {program names places names' places' symbols' rules' : List ℕ} {reply : Result Counts FaultAt}
     (r : ProgramIn program names places names' places' symbols' rules' reply) where
   -- the tables of a program that is read
-  pub program-tabled : (counts : Counts) → reply ≡ program-read.Accepted counts → Tabled symbols' names' places' counts
+  pub program-tabled : (counts : Counts) → reply ≡ Ok counts → Tabled symbols' names' places' counts
   program-tabled counts h =
       let fits : ProgramFits rules' counts = rw h at r.fits in
       record {
@@ -67,7 +67,7 @@ module _ {symbols names places : List ℕ} {c : Counts} (t : Tabled symbols name
         letters-size = l;
       }
 
-  module _ (goal : List ℕ) {names' places' cells letters : List ℕ} {reply : GoalRead}
+  module _ (goal : List ℕ) {names' places' cells letters : List ℕ} {reply : Result GoalCounts FaultAt}
       (g : GoalIn goal (take (symbol_size * c.symbols) symbols) names places c.constants names' places' cells letters
       reply) where
     -- the reader's answer is that of the definition

@@ -10,9 +10,13 @@ use mathlib.Core.Bool.{Bool, true, false, ◌||◌}
 use mathlib.Core.List.{List, [], ◌∷◌, map}
 use Prim.Native.Nat.{ℕ, zero, suc, ◌*◌, ◌≤◌, ◌<◌}
 use native.Mathlib.Omega.{arith}
-use borrow.Author.Tests.{lt-ltb, le-ltb, ne_eqb}
+use borrow.Author.Tests.{lt-ltb, le-ltb}
 use lib.Dec.{ltb}
 use lib.ListN.{length, take, drop, get_or, length-drop}
+use Rattle.std.specs.Prelude.{Result, Ok, Err}
+use Rattle.faults.specs.Faults.{number_of}
+use Rattle.faults.specs.declared.Fault.{Fault}
+use Rattle.faults.specs.declared.Fault.TheVariants.{LimitPassed}
 use Rattle.text.specs.Lists.{every}
 use Rattle.text.specs.Fields.{is_term}
 use Rattle.text.specs.Splits.{Holds}
@@ -25,11 +29,9 @@ use Rattle.syntax.specs.Programs.{Found, constraint_line}
 use Rattle.syntax.proofs.Tabled.{name-most}
 use Rattle.tables.specs.Cells.{cell_terms, row_constraint}
 use Rattle.tables.specs.Rows.{symbols_of, constants_of}
-use Rattle.lines.specs.declared.HeadRead.{HeadRead}
-use Rattle.lines.specs.declared.HeadRead.TheVariants.{Refused, Symbol as HeadSymbol}
 use Rattle.lines.specs.declared.TermsRead.{TermsRead}
-use Rattle.lines.specs.Read.{constraint_head, head_answer, head_fits, constraint_answer, refused_read}
-use Rattle.lines.specs.Read.{TermsIn, ConstraintIn}
+use Rattle.lines.specs.Read.{constraint_head, head_answer}
+use Rattle.lines.specs.Read.{Passed, TermsMean, TermsIn, ConstraintIn}
 use Rattle.lines.proofs.Held.{fine-terms}
 use Rattle.lines.proofs.HeadLaws.{symbols-front}
 use Rattle.lines.proofs.TermCells.{padded-terms}
@@ -91,15 +93,8 @@ five-low l s h k (suc (suc (suc zero))) = k 2
 five-low l s h k (suc (suc (suc (suc zero)))) = k 3
 five-low l s h k (suc (suc (suc (suc (suc i))))) = omega arith
 
-zeros-low : (i : ℕ) → get_or (0 ∷ 0 ∷ 0 ∷ 0 ∷ 0 ∷ []) i 0 < 282
-zeros-low i = five-low [] 0 (omega arith) (λ j. omega arith) i
-
-refused-answer : (names : List ℕ) (n x : ℕ) → 0 < x → constraint_answer names n (refused_read x) ≡ refused x n
-unfolding constraint_answer
-refused-answer names n x h = rw (ne_eqb x 0 (λ z. omega (arith, z)))
-
 module _ (f : Fields) (full : Bool) (base count : ℕ) (symbols names places : List ℕ) (few : length symbols ≤ 64)
-    (head : HeadRead)
+    (head : Result ℕ Fault)
     (answer :
     (fs : List (List ℕ)) (n k : ℕ) → Holds fs f → length symbols ≡ 2 * k
     → head_answer n head ≡ constraint_head (symbols_of (take 64 names) symbols k) n fs) where
@@ -110,31 +105,26 @@ module _ (f : Fields) (full : Bool) (base count : ℕ) (symbols names places : L
       answer fs n k h e ∙ ap (λ (s : List Symbol). constraint_head s n fs) (symbols-front names symbols k 64 (omega arith))
 
   -- the line is refused for its form or its symbol
-  pub constraint-refused : (x : ℕ) → head ≡ Refused x → head_fits f (length symbols) head
-      → ConstraintIn f full base count symbols names places names places (refused_read x)
-  unfolding head_answer
-  constraint-refused x q fits =
-      let some : 0 < x = rw q at fits in
+  pub constraint-refused : (x : Fault) → head ≡ Err x → ConstraintIn f full base count symbols names places names places (Err x)
+  constraint-refused x q =
       record {
-        few = omega arith;
-        room = λ z. absurd (omega arith);
-        size = refl;
-        low = zeros-low;
+        few = tt;
+        room = tt;
+        size = tt;
+        low = tt;
         sized = refl;
         outside = outside-same names;
         answers = λ fs n k h e.
-            refused-answer names n x some
-            ∙ ap (λ (a : Answer ℕ). and_then a (behind full letter_number (constants_of names count) n fs))
+            ap (λ (a : Answer ℕ). and_then a (behind full letter_number (constants_of names count) n fs))
             (rw q at (told fs n k h e))
             ∙ sym (line-parts full (symbols_of names symbols k) letter_number (constants_of names count) n fs);
-        flat = λ fs k h e z. absurd (omega arith);
+        flat = λ fs k h e. tt;
         keeps = record { keeps = λ program goal fs h s d. d };
       }
 
-  module _ (s : ℕ) (q : head ≡ HeadSymbol s) where
+  module _ (s : ℕ) (q : head ≡ Ok s) where
     found : (fs : List (List ℕ)) (n k : ℕ) → Holds fs f → length symbols ≡ 2 * k
         → accepted s ≡ constraint_head (symbols_of names symbols k) n fs
-    unfolding head_answer
     found fs n k h e = rw q at (told fs n k h e)
 
     onward : (fs : List (List ℕ)) (n k : ℕ) → Holds fs f → length symbols ≡ 2 * k
@@ -148,78 +138,83 @@ module _ (f : Fields) (full : Bool) (base count : ℕ) (symbols names places : L
     terms fs k h e = fine-terms fs (head-fine (symbols_of names symbols k) 0 s fs (found fs 0 k h e))
 
     -- there are as many constraints as there may be
-    pub constraint-full : full ≡ true → ConstraintIn f full base count symbols names places names places (refused_read 7)
+    pub constraint-full : full ≡ true → ConstraintIn f full base count symbols names places names places (Err LimitPassed)
     constraint-full t =
         record {
-          few = omega arith;
-          room = λ z. absurd (omega arith);
-          size = refl;
-          low = zeros-low;
+          few = tt;
+          room = tt;
+          size = tt;
+          low = tt;
           sized = refl;
           outside = outside-same names;
           answers = λ fs n k h e.
-              refused-answer names n 7 (omega arith)
-              ∙ sym (onward fs n k h e
+              sym (onward fs n k h e
               ∙ ap (λ (b : Bool). behind b letter_number (constants_of names count) n fs s) t);
-          flat = λ fs k h e z. absurd (omega arith);
+          flat = λ fs k h e. tt;
           keeps = record { keeps = λ program goal fs h z d. d };
         }
 
-    module _ (names' places' : List ℕ) (t : TermsRead) (u : TermsIn f 2 base count names places names' places' t)
+    module _ (names' places' : List ℕ) (r : Result TermsRead Fault) (u : TermsIn f 2 base count names places names' places' r)
         (least : full ≡ false) where
       -- the constants pass the limit
-      pub constraint-many : t.full ≡ true
-          → ConstraintIn f full base count symbols names places names' places' (refused_read 7)
-      constraint-many z =
+      pub constraint-many : (x : Fault) → r ≡ Err x
+          → ConstraintIn f full base count symbols names places names' places' (Err x)
+      constraint-many x z =
           record {
-            few = omega arith;
-            room = λ z. absurd (omega arith);
-            size = refl;
-            low = zeros-low;
+            few = tt;
+            room = tt;
+            size = tt;
+            low = tt;
             sized = u.sized;
             outside = u.outside;
-            answers = λ fs n k h e. (let means = u.means fs h (terms fs k h e) in
-                refused-answer names' n 7 (omega arith)
+            answers = λ fs n k h e.
+                (let passed : Passed (constants_after (drop 2 fs) (constants_of names count)) x =
+                rw z at (u.means fs h (terms fs k h e)) in
+                ap (λ (y : Fault). refused (number_of y) n) passed.fault
                 ∙ sym (onward fs n k h e
-                ∙ rw (least, lt-ltb 64 (length (constants_after (drop 2 fs) (constants_of names count))) (means.full z)) refl));
-            flat = λ fs k h e y. absurd (omega arith);
+                ∙ rw (least, lt-ltb 64 (length (constants_after (drop 2 fs) (constants_of names count))) passed.many) refl));
+            flat = λ fs k h e. tt;
             keeps = u.keeps;
           }
 
       -- the constraint
-      pub constraint-read : t.full ≡ false → f.count ≤ 6 → 2 * s < length symbols
+      pub constraint-read : (t : TermsRead) → r ≡ Ok t → f.count ≤ 6 → 2 * s < length symbols
           → ConstraintIn f full base count symbols names places names' places'
-          (record {
-            refusal = 0;
+          (Ok (record {
             count = t.count;
             cells = s ∷ get_or t.cells 0 0 ∷ get_or t.cells 1 0 ∷ get_or t.cells 2 0 ∷ get_or t.cells 3 0 ∷ [];
-          })
-      unfolding constraint_answer row_constraint
-      constraint-read z six low =
+          }))
+      unfolding row_constraint
+      constraint-read t z six low =
+          let within : t.count ≤ 64 = rw z at u.few in
+          let size-four : length t.cells ≡ 4 = rw z at u.size in
+          let means : (fs : List (List ℕ)) (k : ℕ) → Holds fs f → length symbols ≡ 2 * k
+          → TermsMean (drop 2 fs) (constants_of names count) names' t =
+          λ fs k h e. rw z at (u.means fs h (terms fs k h e)) in
           record {
-            few = u.few;
-            room = λ _. least;
+            few = within;
+            room = least;
             size = refl;
-            low = five-low t.cells s (omega arith) u.low;
+            low = five-low t.cells s (omega arith) (rw z at u.low);
             sized = u.sized;
             outside = u.outside;
-            answers = λ fs n k h e. (let means = u.means fs h (terms fs k h e) in
+            answers = λ fs n k h e. (let means = means fs k h e in
                 let after : List (List ℕ) = constants_after (drop 2 fs) (constants_of names count) in
-                let size : length after ≡ t.count = ap length (sym (means.after z)) ∙ constants-length names' t.count in
+                let size : length after ≡ t.count = ap length (sym means.after) ∙ constants-length names' t.count in
                 let cells : cell_terms (get_or t.cells 0 0 ∷ get_or t.cells 1 0 ∷ get_or t.cells 2 0 ∷ get_or t.cells 3 0 ∷ [])
                 ≡ map (term_of letter_number after) (drop 2 fs) =
-                ap cell_terms (four-cells t.cells u.size ∙ means.cells z)
+                ap cell_terms (four-cells t.cells size-four ∙ means.cells)
                 ∙ padded-terms 4 after (drop 2 fs) (omega (arith, length-drop 2 fs, h.counted))
-                (λ g. omega (arith, name-most g after, size, u.few)) (terms fs k h e) in
+                (λ g. omega (arith, name-most g after, size, within)) (terms fs k h e) in
                 ap₂ (λ (ts : List Term) (cs : List (List ℕ)).
-                accepted (record { constraint = record { symbol = s; terms = ts }; constants = cs })) cells (means.after z)
-                ∙ sym (onward fs n k h e ∙ rw (least, le-ltb 64 (length after) (omega (arith, size, u.few))) refl));
-            flat = λ fs k h e y. (let means = u.means fs h (terms fs k h e) in
+                accepted (record { constraint = record { symbol = s; terms = ts }; constants = cs })) cells means.after
+                ∙ sym (onward fs n k h e ∙ rw (least, le-ltb 64 (length after) (omega (arith, size, within))) refl));
+            flat = λ fs k h e. (let means = means fs k h e in
                 record {
                   terms = terms fs k h e;
                   few = omega (arith, length-drop 2 fs, h.counted);
-                  after = means.after z;
-                  cells = four-cells t.cells u.size ∙ means.cells z;
+                  after = means.after;
+                  cells = four-cells t.cells size-four ∙ means.cells;
                 });
             keeps = u.keeps;
           }

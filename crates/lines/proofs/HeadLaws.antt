@@ -4,6 +4,7 @@
 -- Assumes nothing.
 use mathlib.Core.Path.{◌≡◌, sym, ap, ap₂, ◌∙◌}
 use mathlib.Core.Bool.{true, false, not, ◌||◌}
+use Rattle.std.specs.Prelude.{Ok, Err}
 use mathlib.Core.List.{List, map}
 use Prim.Native.Nat.{ℕ, ◌+◌, ◌*◌, ◌≤◌, ◌<◌, min}
 use native.Mathlib.Nat.{zero-add}
@@ -21,7 +22,7 @@ use Rattle.syntax.specs.Forms.{field_at, is_constraint_faulty, symbol_number, is
 use Rattle.syntax.proofs.Tabled.{tabled-same, map-tabled}
 use Rattle.tables.specs.Rows.{name_of, symbol_of, symbols_of}
 use Rattle.lines.specs.Read.{constraint_head, head_answer}
-use Rattle.lines.specs.declared.HeadRead.TheVariants.{Refused, Symbol as HeadSymbol}
+use Rattle.faults.specs.declared.Fault.TheVariants.{FieldsFaulty, SymbolUndeclared}
 use Rattle.lines.proofs.Named.{Wide, named-index, index-take}
 
 module _ (names symbols : List ℕ) (k : ℕ) where
@@ -51,8 +52,8 @@ module _ (names symbols : List ℕ) (k : ℕ) where
 
 -- number 4
 pub head-faulty : (symbols : List Symbol) (n : ℕ) (fs : List (List ℕ)) → is_constraint_faulty fs ≡ true
-    → head_answer n (Refused 4) ≡ constraint_head symbols n fs
-unfolding head_answer constraint_head
+    → head_answer n (Err FieldsFaulty) ≡ constraint_head symbols n fs
+unfolding constraint_head
 head-faulty symbols n fs e = rw e
 
 -- number 6, by the place of the symbol's key among all keys
@@ -74,8 +75,8 @@ module _ (fs : List (List ℕ)) (names symbols : List ℕ) (n k s key : ℕ) (fi
   unfolding is_undeclared
   tests = rw (number_is, symbols-length names symbols k)
 
-  pub head-unknown : length symbols ≤ 2 * s → head_answer n (Refused 6) ≡ constraint_head S n fs
-  unfolding head_answer constraint_head
+  pub head-unknown : length symbols ≤ 2 * s → head_answer n (Err SymbolUndeclared) ≡ constraint_head S n fs
+  unfolding constraint_head
   head-unknown h = rw (fine, tests, le-ltb (min s k) k (omega arith))
 
   module _ (h : 2 * s < length symbols) where
@@ -91,12 +92,12 @@ module _ (fs : List (List ℕ)) (names symbols : List ℕ) (n k s key : ℕ) (fi
     known = rw (tests, arity-is, lt-ltb (min s k) k (omega arith))
 
     pub head-other : 2 ≤ length fs → (get_or symbols (2 * s) 0 + 2 ≡ length fs → ⊥)
-        → head_answer n (Refused 6) ≡ constraint_head S n fs
-    unfolding head_answer constraint_head
+        → head_answer n (Err SymbolUndeclared) ≡ constraint_head S n fs
+    unfolding constraint_head
     head-other two q =
         rw (fine, known, ne_eqb (length (drop 2 fs)) (get_or symbols (2 * s) 0) (λ z. q (omega (arith, z, length-drop 2 fs))))
 
-    pub head-found : get_or symbols (2 * s) 0 + 2 ≡ length fs → head_answer n (HeadSymbol s) ≡ constraint_head S n fs
-    unfolding head_answer constraint_head
+    pub head-found : get_or symbols (2 * s) 0 + 2 ≡ length fs → head_answer n (Ok s) ≡ constraint_head S n fs
+    unfolding constraint_head
     head-found q =
         rw (fine, known, eq-eqb (length (drop 2 fs)) (get_or symbols (2 * s) 0) (omega (arith, length-drop 2 fs)), number_is, least)

@@ -1,22 +1,18 @@
 -- Laws of the forms of lines and of their places.
 --   form-none               a byte that is none of the letters
 --   form-letter, form-word  the form of a line by the key of its first field
---   section-..              where a line may not stand, and where it leads
 -- Assumes nothing.
 use mathlib.Core.Path.{◌≡◌, refl, sym, ap, ◌∙◌}
 use mathlib.Core.Bool.{Bool, true, false, ◌&&◌}
 use mathlib.Core.List.{List, [], ◌∷◌}
-use mathlib.Core.Option.{none, some}
-use Prim.Native.Nat.{ℕ, zero, suc, ◌+◌, ◌≤◌, ◌<◌}
+use Prim.Native.Nat.{ℕ, ◌+◌, ◌<◌}
 use native.Mathlib.Omega.{arith}
 use borrow.Author.Tests.{ne_eqb, le-ltb, lt-leb}
 use lib.Dec.{leb}
 use Rattle.text.specs.Bytes.{between, class_of, class_number, is_class}
 use Rattle.text.specs.Fields.{is_name, is_variable}
 use Rattle.text.specs.Keys.{key_of}
-use Rattle.syntax.specs.Forms.{symbol_form, kept_form, head_form, body_form, equation_form, no_form, form_of_byte, form_of}
-use Rattle.syntax.specs.Forms.{section_after}
-use Rattle.lines.specs.Read.{section_meant}
+use Rattle.syntax.specs.Forms.{no_form, form_of_byte, form_of}
 use Rattle.text.proofs.Keys.{name-key, variable-key, letter-key, key-of-more}
 
 pub form-none :
@@ -64,52 +60,3 @@ form-word (b ∷ []) h =
     never true = refl
     never false = refl
 form-word (b ∷ c ∷ s) h = refl
-
--- where a line may not stand, and where a B or E line leads
-pub section-symbol : (p : ℕ) → (p ≡ 0 → ⊥) → section_after symbol_form (section_meant p) ≡ none
-unfolding section_after section_meant
-section-symbol zero h = absurd (h refl)
-section-symbol (suc zero) h = refl
-section-symbol (suc (suc zero)) h = refl
-section-symbol (suc (suc (suc zero))) h = refl
-section-symbol (suc (suc (suc (suc p)))) h = refl
-
-pub section-kept : (p : ℕ) → (p ≡ 1 → ⊥) → section_after kept_form (section_meant p) ≡ none
-unfolding section_after section_meant
-section-kept zero h = refl
-section-kept (suc zero) h = absurd (h refl)
-section-kept (suc (suc zero)) h = refl
-section-kept (suc (suc (suc zero))) h = refl
-section-kept (suc (suc (suc (suc p)))) h = refl
-
-pub section-head : (p : ℕ) → (p ≡ 1 → ⊥) → (p ≡ 2 → ⊥) → section_after head_form (section_meant p) ≡ none
-unfolding section_after section_meant
-section-head zero h k = refl
-section-head (suc zero) h k = absurd (h refl)
-section-head (suc (suc zero)) h k = absurd (k refl)
-section-head (suc (suc (suc zero))) h k = refl
-section-head (suc (suc (suc (suc p)))) h k = refl
-
-pub section-body : (p : ℕ) → (p ≡ 0 → ⊥) → p < 4 → section_after body_form (section_meant p) ≡ some (section_meant 3)
-unfolding section_after section_meant
-section-body zero h k = absurd (h refl)
-section-body (suc zero) h k = refl
-section-body (suc (suc zero)) h k = refl
-section-body (suc (suc (suc zero))) h k = refl
-section-body (suc (suc (suc (suc p)))) h k = absurd (omega arith)
-
-pub section-late : (p : ℕ) → 4 ≤ p → section_after body_form (section_meant p) ≡ none
-unfolding section_after section_meant
-section-late zero h = absurd (omega arith)
-section-late (suc zero) h = absurd (omega arith)
-section-late (suc (suc zero)) h = absurd (omega arith)
-section-late (suc (suc (suc zero))) h = absurd (omega arith)
-section-late (suc (suc (suc (suc p)))) h = refl
-
-pub section-equation : (p : ℕ) → (p ≡ 0 → ⊥) → section_after equation_form (section_meant p) ≡ some (section_meant 4)
-unfolding section_after section_meant
-section-equation zero h = absurd (h refl)
-section-equation (suc zero) h = refl
-section-equation (suc (suc zero)) h = refl
-section-equation (suc (suc (suc zero))) h = refl
-section-equation (suc (suc (suc (suc p)))) h = refl

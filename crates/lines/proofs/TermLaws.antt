@@ -4,6 +4,7 @@
 -- Assumes nothing.
 use mathlib.Core.Path.{◌≡◌, refl, sym, ap, ap₂, ◌∙◌}
 use mathlib.Core.Bool.{true, false}
+use Rattle.std.specs.Prelude.{Result, Ok, Err}
 use mathlib.Core.List.{List, [], ◌∷◌, ◌++◌, map}
 use Prim.Native.Nat.{ℕ, zero, suc, ◌+◌, ◌-◌, ◌≤◌, ◌<◌}
 use native.Mathlib.Numerals.{add-one}
@@ -18,6 +19,8 @@ use Rattle.text.specs.Constants.{constant_name}
 use Rattle.text.specs.Keys.{key_of, spell}
 use Rattle.text.specs.Splits.{Holds}
 use Rattle.text.specs.declared.fields.Fields.{Fields}
+use Rattle.faults.specs.declared.Fault.{Fault}
+use Rattle.faults.specs.declared.Fault.TheVariants.{LimitPassed}
 use Rattle.numerals.specs.declared.Constant.{Constant}
 use Rattle.numerals.specs.Numerals.{ConstantIn}
 use Rattle.text.proofs.Laws.{tabled-length}
@@ -31,8 +34,7 @@ use Rattle.tables.specs.Layout.{max_names}
 use Rattle.tables.specs.Rows.{name_of, constants_of}
 use Rattle.tables.specs.Names.{placed_at}
 use Rattle.lines.specs.declared.TermRead.{TermRead}
-use Rattle.lines.specs.declared.TermsRead.{TermsRead}
-use Rattle.lines.specs.Read.{term_cell, padded, Outside, Spelled, KeepsPlaces, TermMeans, TermIn, TermsIn}
+use Rattle.lines.specs.Read.{term_cell, padded, Outside, Spelled, KeepsPlaces, Passed, TermMeans, term_means, TermIn, TermsIn}
 use Rattle.text.proofs.Keys.{name-key, spell-key}
 use Rattle.lines.proofs.Held.{key-at}
 use Rattle.lines.proofs.Named.{Wide, named-index, placed-set}
@@ -98,7 +100,7 @@ index-last g cs h = name-second g cs (g ∷ []) h ∙ omega (arith, index-one g)
 
 module _ (key place count : ℕ) (names places : List ℕ) (few : count ≤ 64) (a : length names ≡ max_names)
     (b : length places ≡ max_names) where
-  pub term-letter : key < 28 → TermIn key place count names places names places (record { cell = 254 + key; count = count })
+  pub term-letter : key < 28 → TermIn key place count names places names places (Ok (record { cell = 254 + key; count = count }))
   term-letter h =
       record {
         few = few;
@@ -107,11 +109,7 @@ module _ (key place count : ℕ) (names places : List ℕ) (few : count ≤ 64) 
         outside = outside-same names;
         means = λ g e t. (let letter : is_name g ≡ false = name-key g ∙ le-ltb 27 (key_of g) (omega arith) in
             let same = after-letter g (constants_of names count) letter in
-            record {
-              full = λ z. absurd (omega arith);
-              after = λ _. sym same;
-              cell = λ _. ap (λ (k : ℕ). 254 + k) e ∙ sym (letter-cell g _ letter);
-            });
+            record { after = sym same; cell = ap (λ (k : ℕ). 254 + k) e ∙ sym (letter-cell g _ letter) });
         keeps = λ program goal g _ _ d. d;
       }
 
@@ -145,7 +143,7 @@ module _ (key place count : ℕ) (names places : List ℕ) (few : count ≤ 64) 
           → placed_at program goal (place + r.zeros) ≡ spell r.key
       name-stands program goal p = p named r.zeros constant-in.few ∙ constant-in.named ∙ sym name-spelled
 
-    pub term-known : k < count → TermIn key place count names places names places (record { cell = 64 + k; count = count })
+    pub term-known : k < count → TermIn key place count names places names places (Ok (record { cell = 64 + k; count = count }))
     term-known l =
         record {
           few = few;
@@ -154,9 +152,8 @@ module _ (key place count : ℕ) (names places : List ℕ) (few : count ≤ 64) 
           outside = outside-same names;
           means = λ g e t. (let same = after-known g cs (named g e) (omega (arith, constants-length names count, placed g e)) in
               record {
-                full = λ z. absurd (omega arith);
-                after = λ _. sym same;
-                cell = λ _. ap (λ (i : ℕ). 64 + i) (placed g e) ∙ sym (rw same (name-cell g cs (named g e)));
+                after = sym same;
+                cell = ap (λ (i : ℕ). 64 + i) (placed g e) ∙ sym (rw same (name-cell g cs (named g e)));
               });
           keeps = λ program goal g _ _ d. d;
         }
@@ -165,22 +162,21 @@ module _ (key place count : ℕ) (names places : List ℕ) (few : count ≤ 64) 
       grown : (g : List ℕ) → key ≡ key_of g → constants_after (g ∷ []) cs ≡ cs ++ (constant_name g ∷ [])
       grown g e = after-new g cs (named g e) (omega (arith, constants-length names count, placed g e))
 
-      pub term-full : 64 ≤ count → TermIn key place count names places names places (record { cell = 0; count = count })
+      pub term-full : 64 ≤ count → TermIn key place count names places names places (Err LimitPassed)
       term-full m =
           record {
-            few = few;
-            low = omega arith;
+            few = tt;
+            low = tt;
             sized = refl;
             outside = outside-same names;
             means = λ g e t. record {
-              full = λ _. omega (
+              fault = refl;
+              many = omega (
                 arith,
                 ap length (grown g e),
                 length-append cs (constant_name g ∷ []),
                 constants-length names count,
               );
-              after = λ z. absurd (z refl);
-              cell = λ z. absurd (z refl);
             };
             keeps = λ program goal g _ _ d. d;
           }
@@ -188,7 +184,7 @@ module _ (key place count : ℕ) (names places : List ℕ) (few : count ≤ 64) 
       pub term-new :
           count < 64
           → TermIn key place count names places (set names (64 + count) r.key) (set places (64 + count) (place + r.zeros))
-          (record { cell = 64 + count; count = count + 1 })
+          (Ok (record { cell = 64 + count; count = count + 1 }))
       term-new m =
           record {
             few = omega arith;
@@ -196,11 +192,10 @@ module _ (key place count : ℕ) (names places : List ℕ) (few : count ≤ 64) 
             sized = length-set places (64 + count) (place + r.zeros);
             outside = outside_set names count r.key (omega arith) (omega arith);
             means = λ g e t. record {
-              full = λ z. absurd (omega arith);
-              after = λ _. rw (add-one count)
+              after = rw (add-one count)
                   (constants-set names count r.key (omega arith)
                   ∙ ap (λ (f : List ℕ). cs ++ (f ∷ [])) (name-spelled g e) ∙ sym (grown g e));
-              cell = λ _.
+              cell =
                   sym (rw (grown g e) (name-cell g (cs ++ (constant_name g ∷ [])) (named g e)
                   ∙ ap (λ (i : ℕ). 64 + i)
                   (index-last (constant_name g) cs (omega (arith, constants-length names count, placed g e))
@@ -247,13 +242,14 @@ outside_trans p q =
     }
 
 -- the constants after a field and those behind it
-after-cons : (g : List ℕ) (gs cs : List (List ℕ)) → constants_after (g ∷ gs) cs ≡ constants_after gs (constants_after (g ∷ []) cs)
+after-cons : (g : List ℕ) (gs before : List (List ℕ))
+    → constants_after (g ∷ gs) before ≡ constants_after gs (constants_after (g ∷ []) before)
 unfolding constants_after
-after-cons g gs cs = refl
+after-cons g gs before = refl
 
-after_none : (cs : List (List ℕ)) → constants_after [] cs ≡ cs
+after_none : (before : List (List ℕ)) → constants_after [] before ≡ before
 unfolding constants_after
-after_none cs = refl
+after_none before = refl
 
 module _ (f : Fields) (from base count : ℕ) (names₀ places₀ : List ℕ) where
   pub walk_start :
@@ -291,7 +287,7 @@ module _ (f : Fields) (from base count : ℕ) (names₀ places₀ : List ℕ) wh
   module _ (names places cells : List ℕ) (n i : ℕ) (w : Walk f from base count names₀ places₀ names places cells n i)
     where
       pub walk_end : f.count ≤ i
-          → TermsIn f from base count names₀ places₀ names places (record { full = false; count = n; cells = cells })
+          → TermsIn f from base count names₀ places₀ names places (Ok (record { count = n; cells = cells }))
       walk_end e =
           record {
             few = w.few;
@@ -303,12 +299,11 @@ module _ (f : Fields) (from base count : ℕ) (names₀ places₀ : List ℕ) wh
                 let out : length fs ≤ i = omega (arith, h.counted) in
                 let done : length (drop from fs) ≤ i - from = omega (arith, length-drop from fs, w.begun) in
                 record {
-                  full = λ z. absurd (let y : ◌≡◌ {A = ℕ} 0 1 = cc in omega arith);
-                  after = λ _.
+                  after =
                       sym (after_none (constants_of names n))
                       ∙ ap (λ (gs : List (List ℕ)). constants_after gs (constants_of names n)) (sym (drop_of_length-le fs out))
                       ∙ p.left;
-                  cells = λ _. p.filled
+                  cells = p.filled
                       ∙ ap (λ (gs : List (List ℕ)). padded 4 (map (term_cell (constants_after (drop from fs)
                       (constants_of names₀ count))) gs)) (take_all (i - from) (drop from fs) done);
                 });
@@ -316,7 +311,7 @@ module _ (f : Fields) (from base count : ℕ) (names₀ places₀ : List ℕ) wh
           }
 
       -- one field more
-      module _ (key place : ℕ) (names' places' : List ℕ) (r : TermRead) (lt : i < f.count) (room : f.count ≤ 8)
+      module _ (key place : ℕ) (names' places' : List ℕ) (r : Result TermRead Fault) (lt : i < f.count) (room : f.count ≤ 8)
           (keyed : key ≡ get_or f.keys i 0) (stood : place ≡ base + get_or f.starts i 0)
           (t : TermIn key place n names places names' places' r) where
         module _ (fs : List (List ℕ)) (h : Holds fs f) where
@@ -347,7 +342,7 @@ module _ (f : Fields) (from base count : ℕ) (names₀ places₀ : List ℕ) wh
             both : (is_term g ≡ true) × (every is_term (drop (suc i) fs) ≡ true)
             both = and-true (is_term g) (every is_term (drop (suc i) fs)) (rw split at p.terms)
 
-            means : TermMeans g (constants_of names n) names' r
+            means : term_means g (constants_of names n) names' r
             means = t.means g key-is both.0
 
             -- the constants after the field, and then after the others
@@ -356,25 +351,32 @@ module _ (f : Fields) (from base count : ℕ) (names₀ places₀ : List ℕ) wh
                 sym (after-cons g (drop (suc i) fs) (constants_of names n))
                 ∙ ap (λ (gs : List (List ℕ)). constants_after gs (constants_of names n)) (sym split) ∙ p.left
 
-            pub step-full : r.cell ≡ 0 → 64 < length all
-            step-full z =
-                omega (
-                  arith,
-                  means.full z,
-                  constants-least (drop (suc i) fs) (constants_after (g ∷ []) (constants_of names n)),
-                  ap length onward,
-                )
+            pub step-full : (x : Fault) → r ≡ Err x → Passed all x
+            step-full x z =
+                let passed : Passed (constants_after (g ∷ []) (constants_of names n)) x = rw z at means in
+                record {
+                  fault = passed.fault;
+                  many = omega (
+                    arith,
+                    passed.many,
+                    constants-least (drop (suc i) fs) (constants_after (g ∷ []) (constants_of names n)),
+                    ap length onward,
+                  );
+                }
 
-            cell-is : (r.cell ≡ 0 → ⊥) → r.cell ≡ term_cell all g
-            cell-is z =
+            read : (v : TermRead) → r ≡ Ok v → TermMeans g (constants_of names n) names' v
+            read v z = rw z at means
+
+            cell-is : (v : TermRead) → r ≡ Ok v → v.cell ≡ term_cell all g
+            cell-is v z =
                 let (more, e) = constants-more (drop (suc i) fs) (constants_after (g ∷ []) (constants_of names n)) in
-                means.cell z
+                (read v z).cell
                 ∙ sym (ap (λ (cs : List (List ℕ)). term_cell cs g) (sym onward ∙ e)
                 ∙ cell-later (constants_after (g ∷ []) (constants_of names n)) more g (one_known (constants_of names n) g))
 
-            pub step-passed : (r.cell ≡ 0 → ⊥) → i < from + 4
-                → SoFar fs (constants_of names₀ count) from names' (set cells (i - from) r.cell) r.count (suc i)
-            step-passed z near =
+            pub step-passed : (v : TermRead) → r ≡ Ok v → i < from + 4
+                → SoFar fs (constants_of names₀ count) from names' (set cells (i - from) v.cell) v.count (suc i)
+            step-passed v z near =
                 let ds : List (List ℕ) = drop from fs in
                 let passed : List ℕ = map (term_cell all) (take (i - from) ds) in
                 let within : i - from < length ds = omega (arith, length-drop from fs, inside, w.begun) in
@@ -387,10 +389,10 @@ module _ (f : Fields) (from base count : ℕ) (names₀ places₀ : List ℕ) wh
                 ) in y) in
                 let next : suc i - from ≡ suc (i - from) = omega (arith, w.begun) in
                 record {
-                  left = ap (constants_after (drop (suc i) fs)) (means.after z) ∙ onward;
+                  left = ap (constants_after (drop (suc i) fs)) ((read v z).after) ∙ onward;
                   terms = both.1;
                   filled =
-                      ap₂ (λ (l : List ℕ) (x : ℕ). set l (i - from) x) p.filled (cell-is z)
+                      ap₂ (λ (l : List ℕ) (x : ℕ). set l (i - from) x) p.filled (cell-is v z)
                       ∙ ap (λ (m : ℕ). set (padded 4 passed) m (term_cell all g)) (sym size)
                       ∙ padded-set 4 passed (term_cell all g) (omega (arith, size, w.begun))
                       ∙ ap (padded 4)
@@ -407,57 +409,30 @@ module _ (f : Fields) (from base count : ℕ) (names₀ places₀ : List ℕ) wh
               (w.keeps.keeps program goal fs h s d);
         }
 
-        pub walk-full : r.cell ≡ 0
-            → TermsIn f from base count names₀ places₀ names' places' (record { full = true; count = n; cells = cells })
-        walk-full z =
+        pub walk-full : (x : Fault) → r ≡ Err x → TermsIn f from base count names₀ places₀ names' places' (Err x)
+        walk-full x z =
             record {
-              few = w.few;
-              size = w.size;
-              low = w.low;
+              few = tt;
+              size = tt;
+              low = tt;
               sized = t.sized ∙ w.sized;
               outside = outside_trans w.outside t.outside;
-              means = λ fs h u. record {
-                full = λ _. step-full fs h u z;
-                after = λ e. absurd (let y : ◌≡◌ {A = ℕ} 0 1 = cc in omega arith);
-                cells = λ e. absurd (let y : ◌≡◌ {A = ℕ} 0 1 = cc in omega arith);
-              };
+              means = λ fs h u. step-full fs h u x z;
               keeps = kept;
             }
 
-        pub walk-next : (r.cell ≡ 0 → ⊥) → f.count ≤ from + 4
-            → Walk f from base count names₀ places₀ names' places' (set cells (i - from) r.cell) r.count (suc i)
-        walk-next z near =
+        pub walk-next : (v : TermRead) → r ≡ Ok v → f.count ≤ from + 4
+            → Walk f from base count names₀ places₀ names' places' (set cells (i - from) v.cell) v.count (suc i)
+        walk-next v z near =
             record {
               begun = omega (arith, w.begun);
-              few = t.few;
-              size = length-set cells (i - from) r.cell ∙ w.size;
-              low = low-set cells (i - from) r.cell w.low t.low;
+              few = rw z at t.few;
+              size = length-set cells (i - from) v.cell ∙ w.size;
+              low = low-set cells (i - from) v.cell w.low (rw z at t.low);
               names-size = t.outside.size ∙ w.names-size;
               places-size = t.sized ∙ w.places-size;
               sized = t.sized ∙ w.sized;
               outside = outside_trans w.outside t.outside;
-              passed = λ fs h u. step-passed fs h u z (omega arith);
+              passed = λ fs h u. step-passed fs h u v z (omega arith);
               keeps = kept;
             }
-
--- fields that hold the same keys and starts
-pub terms-held :
-    (f : Fields) {from base count : ℕ} {names places names' places' : List ℕ} {r : TermsRead}
-    → TermsIn (record { faulty = false; end = 0; count = f.count; keys = f.keys; starts = f.starts }) from base count
-    names places
-    names' places' r
-    → TermsIn f from base count names places names' places' r
-terms-held f t =
-    record {
-      few = t.few;
-      size = t.size;
-      low = t.low;
-      sized = t.sized;
-      outside = t.outside;
-      means = λ fs h. t.means fs (record { counted = h.counted; keyed = h.keyed });
-      keeps = record {
-        keeps = λ program goal fs h s.
-            t.keeps.keeps program goal fs (record { counted = h.counted; keyed = h.keyed })
-            (record { each = s.each; rests = s.rests });
-      };
-    }

@@ -6,8 +6,11 @@
 --   TermIn, TermsIn, ConstraintIn           what is promised of a term, of the terms of a line and of its constraint
 --   CellsMean                               the cells of a constraint, by its term fields
 -- Assumes nothing.
-use Rattle.std.specs.Prelude.{◌≡◌, ℕ, zero, suc, ◌+◌, ◌*◌, ◌≤◌, ◌<◌, Bool, true, false, cond, List, [], ◌∷◌, map, ltb, eqb, length, drop, get_or}
-use Rattle.std.proofs.Math.Option.{Option, none, some}
+use Rattle.std.specs.Prelude.{◌≡◌, ℕ, zero, suc, ◌+◌, ◌*◌, ◌≤◌, ◌<◌, Bool, true, false, cond, List, [], ◌∷◌, map, length, drop, get_or, Option, Some, None, Result, Ok, Err, IfOk}
+use Rattle.std.proofs.Math.Option as maybe
+use Rattle.faults.specs.Faults.{number_of}
+use Rattle.faults.specs.declared.Fault.{Fault}
+use Rattle.faults.specs.declared.Fault.TheVariants.{LimitPassed}
 use Rattle.text.specs.Lists.{every, index_of}
 use Rattle.text.specs.Fields.{is_name, is_term}
 use Rattle.text.specs.Constants.{constant_name}
@@ -26,8 +29,8 @@ use Rattle.tables.specs.Rows.{symbols_of, constants_of}
 use Rattle.tables.specs.Names.{placed_at, Placed}
 use Rattle.lines.specs.declared.LineForm.{LineForm}
 use Rattle.lines.specs.declared.LineForm.TheVariants.{Symbol, Rule, Kept, Head, Body, Equation, Goal, Nothing}
-use Rattle.lines.specs.declared.HeadRead.{HeadRead}
-use Rattle.lines.specs.declared.HeadRead.TheVariants.{Refused, Symbol as HeadSymbol}
+use Rattle.lines.specs.declared.Section.{Section as CodeSection}
+use Rattle.lines.specs.declared.Section.TheVariants.{Symbols, Kept as InKept, Heads, Body as InBody, Equations}
 use Rattle.lines.specs.declared.TermRead.{TermRead}
 use Rattle.lines.specs.declared.TermsRead.{TermsRead}
 use Rattle.lines.specs.declared.ConstraintRead.{ConstraintRead}
@@ -43,17 +46,18 @@ form_meant Equation = equation_form
 form_meant Goal = goal_form
 form_meant Nothing = no_form
 
--- the section that a number stands for
-unfoldable pub section_meant : ℕ → Section
-section_meant zero = in_symbols
-section_meant (suc zero) = in_kept
-section_meant (suc (suc zero)) = in_heads
-section_meant (suc (suc (suc zero))) = in_body
-section_meant (suc (suc (suc (suc n)))) = in_equations
+-- the section that the code's section stands for
+unfoldable pub section_meant : CodeSection → Section
+section_meant Symbols = in_symbols
+section_meant InKept = in_kept
+section_meant Heads = in_heads
+section_meant InBody = in_body
+section_meant Equations = in_equations
 
--- the section that a line leads to: none from 5 on
-unfoldable pub section_answer : ℕ → Option Section
-section_answer n = cond (ltb n 5) (some (section_meant n)) none
+-- the section that a line leads to, if it may stand there
+abbrev pub section_answer : Option CodeSection → maybe.Option Section
+section_answer None = maybe.none
+section_answer (Some s) = maybe.some (section_meant s)
 
 -- a J, H, B or G line at line n: number 4, then 6; else its symbol
 unfoldable pub constraint_head : List terms.Symbol → ℕ → List (List ℕ) → Answer ℕ
@@ -62,14 +66,13 @@ constraint_head symbols n fs =
     (refuse_if (is_undeclared symbols fs) 6 n (accepted (symbol_number symbols (field_at 1 fs))))
 
 -- the code's answer to it
-unfoldable pub head_answer : ℕ → HeadRead → Answer ℕ
-head_answer n (Refused x) = refused x n
-head_answer n (HeadSymbol s) = accepted s
+abbrev pub head_answer : ℕ → Result ℕ Fault → Answer ℕ
+head_answer n (Err x) = refused (number_of x) n
+head_answer n (Ok s) = accepted s
 
--- a line that is not refused has two to six fields, and its symbol is in the table, of `size` cells; a number met is not 0
-abbrev pub head_fits : Fields → ℕ → HeadRead → Type 0
-head_fits f size (Refused x) = 0 < x
-head_fits f size (HeadSymbol s) = (2 ≤ f.count) × (f.count ≤ 6) × (2 * s < size)
+-- a line that is not refused has two to six fields, and its symbol is in the table, of `size` cells
+abbrev pub head_fits : Fields → ℕ → Result ℕ Fault → Type 0
+head_fits f size r = IfOk r (λ s. (2 ≤ f.count) × (f.count ≤ 6) × (2 * s < size))
 
 -- the cell of a term field: a constant's number, by its name, or 256 more than its letter's
 unfoldable pub term_cell : List (List ℕ) → List ℕ → ℕ
@@ -110,52 +113,61 @@ pub record KeepsPlaces (base : ℕ) (f : Fields) (names places names' places' : 
       (program goal : List ℕ) (fs : List (List ℕ)) → Holds fs f → Spelled program goal base fs f
       → Placed program goal names places → Placed program goal names' places'
 
--- a term field, read behind some constants: cell 0 says that they pass the limit
-pub record TermMeans (g : List ℕ) (before : List (List ℕ)) (names' : List ℕ) (r : TermRead) : Type 0 where
-  pub full : r.cell ≡ 0 → 64 < length (constants_after (g ∷ []) before)
-  pub after : (r.cell ≡ 0 → ⊥) → constants_of names' r.count ≡ constants_after (g ∷ []) before
-  pub cell : (r.cell ≡ 0 → ⊥) → r.cell ≡ term_cell (constants_after (g ∷ []) before) g
+-- number 7 as a fault of constants that pass the limit
+pub record Passed (constants : List (List ℕ)) (x : Fault) : Type 0 where
+  pub fault : x ≡ LimitPassed
+  pub many : 64 < length constants
+
+-- a term field, read behind some constants
+pub record TermMeans (g : List ℕ) (before : List (List ℕ)) (names' : List ℕ) (t : TermRead) : Type 0 where
+  pub after : constants_of names' t.count ≡ constants_after (g ∷ []) before
+  pub cell : t.cell ≡ term_cell (constants_after (g ∷ []) before) g
+
+-- the same, unless the constants pass the limit
+abbrev pub term_means : List ℕ → List (List ℕ) → List ℕ → Result TermRead Fault → Type 0
+term_means g before names' (Err x) = Passed (constants_after (g ∷ []) before) x
+term_means g before names' (Ok t) = TermMeans g before names' t
 
 -- what is promised of one term, for every field that the key may be of
-pub record TermIn (key place count : ℕ) (names places names' places' : List ℕ) (r : TermRead) : Type 0 where
-  pub few : r.count ≤ 64
-  pub low : r.cell < 282
+pub record TermIn (key place count : ℕ) (names places names' places' : List ℕ) (r : Result TermRead Fault) : Type 0 where
+  pub few : IfOk r (λ t. t.count ≤ 64)
+  pub low : IfOk r (λ t. t.cell < 282)
   pub sized : length places' ≡ length places
   pub outside : Outside names names'
-  pub means : (g : List ℕ) → key ≡ key_of g → is_term g ≡ true → TermMeans g (constants_of names count) names' r
+  pub means : (g : List ℕ) → key ≡ key_of g → is_term g ≡ true → term_means g (constants_of names count) names' r
   pub keeps :
       (program goal g : List ℕ) → key ≡ key_of g
       → (is_name g ≡ true → (j : ℕ) → j < length g → placed_at program goal (place + j) ≡ drop j g)
       → Placed program goal names places → Placed program goal names' places'
 
 -- the term fields of a line, read behind some constants
-pub record TermsMean (gs before : List (List ℕ)) (names' : List ℕ) (r : TermsRead) : Type 0 where
-  pub full : r.full ≡ true → 64 < length (constants_after gs before)
-  pub after : r.full ≡ false → constants_of names' r.count ≡ constants_after gs before
-  pub cells : r.full ≡ false → r.cells ≡ padded 4 (map (term_cell (constants_after gs before)) gs)
+pub record TermsMean (gs before : List (List ℕ)) (names' : List ℕ) (t : TermsRead) : Type 0 where
+  pub after : constants_of names' t.count ≡ constants_after gs before
+  pub cells : t.cells ≡ padded 4 (map (term_cell (constants_after gs before)) gs)
+
+-- the same, unless the constants pass the limit
+abbrev pub terms_mean : List (List ℕ) → List (List ℕ) → List ℕ → Result TermsRead Fault → Type 0
+terms_mean gs before names' (Err x) = Passed (constants_after gs before) x
+terms_mean gs before names' (Ok t) = TermsMean gs before names' t
 
 -- what is promised of the terms of a line, for all fields that it may hold
-pub record TermsIn (f : Fields) (from base count : ℕ) (names places names' places' : List ℕ) (r : TermsRead) : Type 0 where
-  pub few : r.count ≤ 64
-  pub size : length r.cells ≡ 4
-  pub low : (i : ℕ) → get_or r.cells i 0 < 282
+pub record TermsIn (f : Fields) (from base count : ℕ) (names places names' places' : List ℕ) (r : Result TermsRead Fault)
+    : Type 0 where
+  pub few : IfOk r (λ t. t.count ≤ 64)
+  pub size : IfOk r (λ t. length t.cells ≡ 4)
+  pub low : IfOk r (λ t. (i : ℕ) → get_or t.cells i 0 < 282)
   pub sized : length places' ≡ length places
   pub outside : Outside names names'
   pub means :
       (fs : List (List ℕ)) → Holds fs f → every is_term (drop from fs) ≡ true
-      → TermsMean (drop from fs) (constants_of names count) names' r
+      → terms_mean (drop from fs) (constants_of names count) names' r
   pub keeps : KeepsPlaces base f names places names' places'
 
--- the answer to a line that meets a number
-abbrev pub refused_read : ℕ → ConstraintRead
-refused_read x = record { refusal = x; count = 0; cells = 0 ∷ 0 ∷ 0 ∷ 0 ∷ 0 ∷ [] }
-
 -- the code's answer to a J, H, B or G line at line n
-unfoldable pub constraint_answer : List ℕ → ℕ → ConstraintRead → Answer Found
-constraint_answer names n r =
-    cond (eqb r.refusal 0)
-    (accepted (record { constraint = row_constraint r.cells; constants = constants_of names r.count }))
-    (refused r.refusal n)
+abbrev pub constraint_answer : List ℕ → ℕ → Result ConstraintRead Fault → Answer Found
+constraint_answer names n (Err x) = refused (number_of x) n
+constraint_answer names n (Ok c) =
+    accepted (record { constraint = row_constraint c.cells; constants = constants_of names c.count })
 
 -- the cells of a constraint that is not refused, by its term fields
 pub record CellsMean (gs before : List (List ℕ)) (names' : List ℕ) (r : ConstraintRead) : Type 0 where
@@ -166,17 +178,17 @@ pub record CellsMean (gs before : List (List ℕ)) (names' : List ℕ) (r : Cons
 
 -- what is promised of a J, H, B or G line: the constraint whose variables are letters, and its cells
 pub record ConstraintIn (f : Fields) (full : Bool) (base count : ℕ) (symbols names places names' places' : List ℕ)
-    (r : ConstraintRead) : Type 0 where
-  pub few : r.count ≤ 64
-  pub room : r.refusal ≡ 0 → full ≡ false
-  pub size : length r.cells ≡ 5
-  pub low : (i : ℕ) → get_or r.cells i 0 < 282
+    (r : Result ConstraintRead Fault) : Type 0 where
+  pub few : IfOk r (λ c. c.count ≤ 64)
+  pub room : IfOk r (λ c. full ≡ false)
+  pub size : IfOk r (λ c. length c.cells ≡ 5)
+  pub low : IfOk r (λ c. (i : ℕ) → get_or c.cells i 0 < 282)
   pub sized : length places' ≡ length places
   pub outside : Outside names names'
   pub answers :
       (fs : List (List ℕ)) (n k : ℕ) → Holds fs f → length symbols ≡ 2 * k
       → constraint_answer names' n r ≡ constraint_line full (symbols_of names symbols k) letter_number (constants_of names count) n fs
   pub flat :
-      (fs : List (List ℕ)) (k : ℕ) → Holds fs f → length symbols ≡ 2 * k → r.refusal ≡ 0
-      → CellsMean (drop 2 fs) (constants_of names count) names' r
+      (fs : List (List ℕ)) (k : ℕ) → Holds fs f → length symbols ≡ 2 * k
+      → IfOk r (CellsMean (drop 2 fs) (constants_of names count) names')
   pub keeps : KeepsPlaces base f names places names' places'

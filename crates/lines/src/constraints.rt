@@ -1,23 +1,13 @@
 // The constraint of a J, H, B or G line: numbers 4, 6 and 7.
 ghost use Rattle.std.specs.Prelude.{◌≡◌, ◌≤◌, length};
-ghost use Rattle.lines.specs.Read.{Lent, ConstraintIn, refused_read};
+ghost use Rattle.lines.specs.Read.{Lent, ConstraintIn};
 
+use crate::ConstraintRead;
 use crate::heads::constraint_head;
 use crate::terms::read_terms;
-use crate::{ConstraintRead, HeadRead};
+use faults::Fault;
 use tables::layout::FIRST_CONSTANT;
 use text::fields::Fields;
-
-// A line that is not to be read any further.
-fn refused(number: u8) -> ConstraintRead
-    ensures { result ≡ refused_read number }
-{
-    ConstraintRead {
-        refusal: number,
-        count: 0,
-        cells: [0u16; 5],
-    }
-}
 
 // A J, H, B or G line, where `full` says that there are as many constraints as there may be. Its symbol is one of the table lent,
 // and its places are `base` more than where its fields start.
@@ -29,27 +19,19 @@ pub fn read_constraint(
     symbols: &[u16],
     names: &mut [u64],
     places: &mut [u16],
-) -> ConstraintRead
+) -> Result<ConstraintRead, Fault>
     requires { Lent f base names.old places.old × (count ≤ 64) × (length symbols.now ≤ 64) }
     ensures { ConstraintIn f full base count symbols.now names.old places.old
         names.new places.new result }
 {
-    match constraint_head(f, &names[..FIRST_CONSTANT], symbols) {
-        HeadRead::Refused(x) => refused(x),
-        HeadRead::Symbol(s) => {
-            if full {
-                return refused(7);
-            }
-            let t = read_terms(f, 2, base, count, names, places);
-            if t.full {
-                return refused(7);
-            }
-            let terms = t.cells;
-            ConstraintRead {
-                refusal: 0,
-                count: t.count,
-                cells: [s as u16, terms[0], terms[1], terms[2], terms[3]],
-            }
-        }
+    let s = constraint_head(f, &names[..FIRST_CONSTANT], symbols)?;
+    if full {
+        return Err(Fault::LimitPassed);
     }
+    let t = read_terms(f, 2, base, count, names, places)?;
+    let terms = t.cells;
+    Ok(ConstraintRead {
+        count: t.count,
+        cells: [s as u16, terms[0], terms[1], terms[2], terms[3]],
+    })
 }

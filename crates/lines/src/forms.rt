@@ -4,7 +4,7 @@ ghost use Rattle.text.specs.Keys.{key_of};
 ghost use Rattle.syntax.specs.Forms.{form_of_byte, form_of, section_after};
 ghost use Rattle.lines.specs.Read.{form_meant, section_meant, section_answer};
 
-use crate::LineForm;
+use crate::{LineForm, Section};
 
 // What a byte stands for as the first letter of a line, over all byte values.
 fn form_of_byte(b: u8) -> LineForm
@@ -34,27 +34,19 @@ pub fn form_of(key: u64) -> LineForm
     LineForm::Nothing
 }
 
-// The section behind a line of a form, or 5 where it may not stand: 0 among K lines, 1 behind R or J, 2 behind H, 3 behind B, 4
-// behind E.
-pub fn section_after(form: LineForm, section: u8) -> u8
+// The section behind a line of a form, if it may stand there.
+#[tactic(auto, unfolding(syntax::specs::Forms::section_after, crate::specs::Read::form_meant, crate::specs::Read::section_meant))]
+pub fn section_after(form: LineForm, section: Section) -> Option<Section>
     ensures { section_answer result ≡ section_after (form_meant form) (section_meant section) }
 {
-    match form {
-        LineForm::Symbol => if section == 0 { 0 } else { 5 },
-        LineForm::Rule => 1,
-        LineForm::Kept => if section == 1 { 1 } else { 5 },
-        LineForm::Head => if section == 1 {
-            2
-        } else {
-            if section == 2 { 2 } else { 5 }
-        },
-        LineForm::Body => if section == 0 {
-            5
-        } else {
-            if section < 4 { 3 } else { 5 }
-        },
-        LineForm::Equation => if section == 0 { 5 } else { 4 },
-        LineForm::Goal => 5,
-        LineForm::Nothing => 5,
+    match (form, section) {
+        (LineForm::Symbol, Section::Symbols) => Some(Section::Symbols),
+        (LineForm::Rule, _) => Some(Section::Kept),
+        (LineForm::Kept, Section::Kept) => Some(Section::Kept),
+        (LineForm::Head, Section::Kept | Section::Heads) => Some(Section::Heads),
+        (LineForm::Body, Section::Kept | Section::Heads | Section::Body) => Some(Section::Body),
+        (LineForm::Equation, Section::Symbols) => None,
+        (LineForm::Equation, _) => Some(Section::Equations),
+        _ => None,
     }
 }

@@ -7,7 +7,7 @@ ghost use Rattle.syntax.specs.Forms.{is_constraint_faulty};
 ghost use Rattle.tables.specs.Rows.{symbols_of};
 ghost use Rattle.lines.specs.Read.{constraint_head, head_answer, head_fits};
 
-use crate::HeadRead;
+use faults::Fault;
 use tables::layout::SYMBOL_SIZE;
 use tables::names::find_key;
 use tables::wide;
@@ -20,12 +20,10 @@ pub fn are_terms(f: Fields, from: usize) -> bool
 {
     let keys = f.keys;
     let count = f.count;
-    let mut i = from;
-    while i < count {
+    for i in from..count {
         if keys[i] < 2 {
             return false;
         }
-        i += 1;
     }
     true
 }
@@ -37,37 +35,31 @@ fn is_faulty(f: Fields) -> bool
 {
     let keys = f.keys;
     let count = f.count;
-    if count < 2 {
+    if count < 2 || 6 < count || keys[1] < 28 {
         return true;
     }
-    if 6 < count {
-        return true;
-    }
-    if keys[1] < 28 {
-        return true;
-    }
-    if are_terms(f, 2) { false } else { true }
+    !are_terms(f, 2)
 }
 
 // Numbers 4 and 6 of a J, H, B or G line: its symbol among those of which the names' keys and the table are lent.
-pub fn constraint_head(f: Fields, names: &[u64], symbols: &[u16]) -> HeadRead
+pub fn constraint_head(f: Fields, names: &[u64], symbols: &[u16]) -> Result<usize, Fault>
     requires { length symbols.now ≤ 2 * length names.now }
     ensures { ((fs : List (List ℕ)) (n k : ℕ) → Holds fs f → length symbols.now ≡ 2 * k
         → head_answer n result ≡ constraint_head (symbols_of names.now symbols.now k) n fs)
         × head_fits f (length symbols.now) result }
 {
     if is_faulty(f) {
-        return HeadRead::Refused(4);
+        return Err(Fault::FieldsFaulty);
     }
     let keys = f.keys;
     let s = find_key(names, keys[1]);
     let at = SYMBOL_SIZE * s;
     if symbols.len() <= at {
-        return HeadRead::Refused(6);
+        return Err(Fault::SymbolUndeclared);
     }
     let arity = wide(symbols[at]);
     if arity + 2 != f.count {
-        return HeadRead::Refused(6);
+        return Err(Fault::SymbolUndeclared);
     }
-    HeadRead::Symbol(s)
+    Ok(s)
 }

@@ -22,33 +22,34 @@ pub enum LineForm {
     Nothing,
 }
 
-// The symbol's number of a J, H, B or G line, or the number that it meets.
-#[derive(Drop)]
-pub enum HeadRead {
-    Refused(u8),
-    Symbol(usize),
+// Where a line stands in a program: among the K lines, or in a rule behind its R or J lines, its H lines, its B lines or its E
+// lines.
+#[derive(Clone, Copy)]
+pub enum Section {
+    Symbols,
+    Kept,
+    Heads,
+    Body,
+    Equations,
 }
 
-// A term's cell, and how many constants there are after it; cell 0 where they would pass the limit.
-#[derive(Drop)]
+// A term's cell, and how many constants there are after it.
+#[derive(Clone, Copy)]
 pub struct TermRead {
     pub cell: u16,
     pub count: usize,
 }
 
-// The cells of a line's terms, with 0 behind the last, and how many constants there are after it; or that they pass the limit.
-#[derive(Drop)]
+// The cells of a line's terms, with 0 behind the last, and how many constants there are after it.
+#[derive(Clone, Copy)]
 pub struct TermsRead {
-    pub full: bool,
     pub count: usize,
     pub cells: [u16; 4],
 }
 
-// The cells of a J, H, B or G line's constraint, and how many constants there are after it; or the number that it meets, which is
-// 0 for none.
-#[derive(Drop)]
+// The cells of a J, H, B or G line's constraint, and how many constants there are after it.
+#[derive(Clone, Copy)]
 pub struct ConstraintRead {
-    pub refusal: u8,
     pub count: usize,
     pub cells: [u16; 5],
 }

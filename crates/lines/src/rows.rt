@@ -7,11 +7,7 @@ pub fn write_cells(cells: &mut [u16], at: usize, values: &[u16])
     requires { at + length values.now ≤ length cells.old }
     ensures { cells.new ≡ paste cells.old at values.now (length values.now) }
 {
-    let mut i = 0;
-    while i < values.len() {
-        cells[at + i] = values[i];
-        i += 1;
-    }
+    cells[at..at + values.len()].copy_from_slice(values);
 }
 
 // Stores values from a cell on, and adds one to the count that stands in another cell.

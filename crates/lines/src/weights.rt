@@ -26,11 +26,9 @@ pub fn weight_of(symbols: &[u16], cells: &[u16]) -> usize
         → result ≡ weight (symbols_of names symbols.now k) (cell_constraints cells.now) }
 {
     let mut sum = 0;
-    let mut at = 0;
-    while at + 5 <= cells.len() {
-        let s = wide(cells[at]);
+    for cell in cells.chunks_exact(5) {
+        let s = wide(cell[0]);
         sum += weight_at(symbols, s);
-        at += 5;
     }
     sum
 }

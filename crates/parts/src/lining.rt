@@ -1,7 +1,7 @@
 // The constraints of two states put in an order in which the first ones of each are equal, part by part. This is a guess that
 // need not come off: what it finds is tested afterwards.
 // One lent table has two entries for each cell: the partner of one of the first state, and under which number one of the second
-// became a partner; 0 is none.
+// became a partner; 0 is none. It is no Option: the table is lent as zeros, and would be twice as large.
 ghost use Rattle.std.specs.Prelude.{◌≡◌, ◌+◌, ◌*◌, ◌≤◌, ◌<◌, false, length, IfSome, MatchResult};
 ghost use Rattle.tables.specs.Cells.{cell_constraints};
 ghost use Rattle.colours.specs.Order.{Reordered};

@@ -14,6 +14,10 @@ use borrow.Author.Tests.{leb-false, le-leb, lt-leb, lt-ltb, le-ltb, ne_eqb, eq-e
 use lib.Dec.{leb, eqb}
 use lib.ListN.{length, take, drop, get_or, set}
 use lib.Seq.{paste, paste-zero, get_or-take}
+use Rattle.std.specs.Prelude.{Result, Ok, Err}
+use Rattle.faults.specs.Faults.{number_of}
+use Rattle.faults.specs.declared.Fault.{Fault}
+use Rattle.faults.specs.declared.Fault.TheVariants.{FieldsFaulty, LimitPassed}
 use Rattle.text.specs.Lists.{every, index_of}
 use Rattle.text.specs.Fields.{is_term}
 use Rattle.text.specs.Constants.{constant_name}
@@ -32,13 +36,11 @@ use Rattle.tables.specs.Cells.{cell_term, row_constraint}
 use Rattle.tables.specs.Rows.{symbol_of, symbols_of, constants_of, row_of}
 use Rattle.lines.specs.declared.ConstraintRead.{ConstraintRead}
 use Rattle.lines.specs.declared.TermsRead.{TermsRead}
-use Rattle.lines.specs.Read.{Outside, KeepsPlaces, term_cell, padded, constraint_answer, TermsIn, ConstraintIn}
+use Rattle.lines.specs.Read.{Outside, KeepsPlaces, term_cell, padded, constraint_answer, Passed, TermsMean, TermsIn, ConstraintIn}
 use Rattle.lines.proofs.HeadLaws.{symbols-same}
 use Rattle.lines.proofs.TermCells.{cell-term}
 use Rattle.lines.proofs.TermLaws.{constants-length}
 use Rattle.programs.specs.declared.Stage.{Stage}
-use Rattle.programs.specs.declared.LineRead.{LineRead}
-use Rattle.programs.specs.declared.LineRead.TheVariants.{Refused, Next}
 use Rattle.programs.specs.Read.{part_form, rules_read, draft_of, line_answer, RowFits, Sound, Kept, AddsIn, head_gained}
 use Rattle.programs.proofs.Drafts.{row-cell, kept_same}
 use Rattle.programs.proofs.Grown.{grown, grown-length, cell-counted, other-count, rules-grown, sound-grown, sides-grown}
@@ -157,7 +159,7 @@ module _ (f : Fields) (s : Stage) (names places rules : List ℕ) (size : length
 
   -- an H or B line, by what is found of it
   module _ (w h : ℕ) (p : w ≤ 1) (e : h ≡ get_or rules (64 * i + (3 + w)) 0) (used names' places' : List ℕ)
-      (sized : length used ≡ 2 * s.symbols) (r : ConstraintRead)
+      (sized : length used ≡ 2 * s.symbols) (r : Result ConstraintRead Fault)
       (full : Bool) (found : ConstraintIn f full 0 s.constants used names places names' places' r)
       (Full-is : full ≡ leb (4 + 2 * w) h) where
     c : ConstraintIn f (leb (4 + 2 * w) h) 0 s.constants used names places names' places' r
@@ -185,92 +187,82 @@ module _ (f : Fields) (s : Stage) (names places rules : List ℕ) (size : length
         (constants_of names s.constants) n fs) (added d)) (sym count) same
         ∙ sym (read-part w p n fs d)
 
-    refused-is : (n : ℕ) → (r.refusal ≡ 0 → ⊥) → constraint_answer names' n r ≡ refused r.refusal n
-    unfolding constraint_answer
-    refused-is n z = rw (ne_eqb r.refusal 0 z)
-
-    found-is : (n : ℕ) → r.refusal ≡ 0
-        → constraint_answer names' n r ≡ accepted (record {
-          constraint = row_constraint r.cells;
-          constants = constants_of
-              names' r.count;
-        })
-    unfolding constraint_answer
-    found-is n z = rw (eq-eqb r.refusal 0 z)
-
-    pub adds-refused : (r.refusal ≡ 0 → ⊥)
-        → AddsIn (part_form w) f s used names places rules names' places' rules (Refused r.refusal)
+    pub adds-refused : (x : Fault) → r ≡ Err x
+        → AddsIn (part_form w) f s used names places rules names' places' rules (Err x)
     unfolding line_answer
-    adds-refused z =
+    adds-refused x z =
         record {
           answers = λ fs symbols n hold u.
-              ap (λ (a : Answer Found). and_then a (added (draft_of names symbols rules s))) (sym (refused-is n z))
+              ap (λ (a : Answer Found). and_then a (added (draft_of names symbols rules s)))
+              (sym (ap (constraint_answer names' n) z))
               ∙ via fs symbols n hold u;
           sound = tt;
           kept = kept-outside f names places names' places' c.outside c.sized c.keeps;
           size = refl;
         }
 
-    module _ (z : r.refusal ≡ 0) where
-      pub adds-room : h < 4 + 2 * w
-      adds-room = leb-false (4 + 2 * w) h (c.room z)
+    module _ (got : ConstraintRead) (z : r ≡ Ok got) where
+      cells-five : length got.cells ≡ 5
+      cells-five = rw z at c.size
 
-      pub adds_fit : (64 * i + (6 + 20 * w + 5 * h) + length r.cells ≤ length rules)
-          × (64 * i + (3 + w) < 64 * i + (6 + 20 * w + 5 * h)) × (get_or rules (64 * i + (3 + w)) 0 < 65535)
-      adds_fit = (omega (arith, room, c.size, adds-room), omega arith, omega (arith, e, adds-room))
+      few-after : got.count ≤ 64
+      few-after = rw z at c.few
+
+      pub adds-room : h < 4 + 2 * w
+      adds-room = leb-false (4 + 2 * w) h (rw z at c.room)
 
       pub adds-next : (rules' : List ℕ)
-          → rules' ≡ set (paste rules (64 * i + (6 + 20 * w + 5 * h)) r.cells (length r.cells)) (64 * i + (3 + w))
+          → rules' ≡ set (paste rules (64 * i + (6 + 20 * w + 5 * h)) got.cells (length got.cells)) (64 * i + (3 + w))
           (suc (get_or rules (64 * i + (3 + w)) 0))
-          → AddsIn (part_form w) f s used names places rules names' places' rules' (Next (next r.count))
+          → AddsIn (part_form w) f s used names places rules names' places' rules' (Ok (next got.count))
       unfolding line_answer
       adds-next rules' g =
           let at : ℕ = 6 + 20 * w + 5 * h in
           let less : h < 4 + 2 * w = adds-room in
-          let five : length r.cells ≡ 5 = c.size in
-          let grow : rules' ≡ grown rules i (3 + w) at h r.cells room (omega arith) (omega arith) (omega arith) =
-          g ∙ ap (λ (v : ℕ). set (paste rules (64 * i + at) r.cells (length r.cells)) (64 * i + (3 + w)) (suc v)) (sym e) in
+          let five : length got.cells ≡ 5 = cells-five in
+          let grow : rules' ≡ grown rules i (3 + w) at h got.cells room (omega arith) (omega arith) (omega arith) =
+          g ∙ ap (λ (v : ℕ). set (paste rules (64 * i + at) got.cells (length got.cells)) (64 * i + (3 + w)) (suc v)) (sym e) in
           record {
             answers = λ fs symbols n hold u.
-                ap accepted (draft-grown names symbols rules names' rules' s i r.count (with_constraint w (row_constraint
-                r.cells))
+                ap accepted (draft-grown names symbols rules names' rules' s i got.count (with_constraint w (row_constraint
+                got.cells))
                 sound.few-symbols q c.outside
                 (ap (λ (l : List ℕ). rules_read names' l (suc i)) grow
-                ∙ rules-grown rules i (3 + w) at h r.cells room (omega arith) (omega arith) (omega arith) names names'
-                (with_constraint w (row_constraint r.cells)) (λ j k. c.outside.rules (first_rule + j) (omega arith))
+                ∙ rules-grown rules i (3 + w) at h got.cells room (omega arith) (omega arith) (omega arith) names names'
+                (with_constraint w (row_constraint got.cells)) (λ j k. c.outside.rules (first_rule + j) (omega arith))
                 (λ y. omega (arith, y))
-                (constraint-grown names rules i room h r.cells five few-heads w p e less)))
-                ∙ ap (λ (a : Answer Found). and_then a (added (draft_of names symbols rules s))) (sym (found-is n z))
+                (constraint-grown names rules i room h got.cells five few-heads w p e less)))
+                ∙ ap (λ (a : Answer Found). and_then a (added (draft_of names symbols rules s))) (sym (ap (constraint_answer names' n) z))
                 ∙ via fs symbols n hold u;
             sound = (
-              rw grow (sound-grown rules i (3 + w) at h r.cells room (omega arith) (omega arith) (omega arith) s
-                  r.count
-                  q sound c.few e (λ y. omega (arith, y)) (λ y. omega (arith, y)) (λ y. omega (arith, y))
+              rw grow (sound-grown rules i (3 + w) at h got.cells room (omega arith) (omega arith) (omega arith) s
+                  got.count
+                  q sound few-after e (λ y. omega (arith, y)) (λ y. omega (arith, y)) (λ y. omega (arith, y))
                   (λ y. omega (arith, y))),
               λ _. begun,
             );
             kept = kept-outside f names places names' places' c.outside c.sized c.keeps;
-            size = ap length grow ∙ grown-length rules i (3 + w) at h r.cells room (omega arith) (omega arith) (omega arith);
+            size = ap length grow ∙ grown-length rules i (3 + w) at h got.cells room (omega arith) (omega arith) (omega arith);
           }
 
       -- a head that is added is not kept
       pub adds-gained : (rules' : List ℕ)
-          → rules' ≡ set (paste rules (64 * i + (6 + 20 * w + 5 * h)) r.cells (length r.cells)) (64 * i + (3 + w))
+          → rules' ≡ set (paste rules (64 * i + (6 + 20 * w + 5 * h)) got.cells (length got.cells)) (64 * i + (3 + w))
           (suc (get_or rules (64 * i + (3 + w)) 0))
-          → head_gained w s rules' (Next (next r.count))
+          → head_gained w s rules' (Ok (next got.count))
       adds-gained rules' g =
           let at : ℕ = 6 + 20 * w + 5 * h in
           let less : h < 4 + 2 * w = adds-room in
-          let five : length r.cells ≡ 5 = c.size in
-          let grow : rules' ≡ grown rules i (3 + w) at h r.cells room (omega arith) (omega arith) (omega arith) =
-          g ∙ ap (λ (v : ℕ). set (paste rules (64 * i + at) r.cells (length r.cells)) (64 * i + (3 + w)) (suc v)) (sym e) in
+          let five : length got.cells ≡ 5 = cells-five in
+          let grow : rules' ≡ grown rules i (3 + w) at h got.cells room (omega arith) (omega arith) (omega arith) =
+          g ∙ ap (λ (v : ℕ). set (paste rules (64 * i + at) got.cells (length got.cells)) (64 * i + (3 + w)) (suc v)) (sym e) in
           let kept : get_or rules' (64 * i + 1) 0 ≡ get_or rules (64 * i + 1) 0 =
           ap (λ (l : List ℕ). get_or l (64 * i + 1) 0) grow
-          ∙ other-count rules i (3 + w) at h r.cells room (omega arith) (omega arith) (omega arith) 1 (omega arith)
+          ∙ other-count rules i (3 + w) at h got.cells room (omega arith) (omega arith) (omega arith) 1 (omega arith)
           (λ z. omega (arith, z)) in
           let heads : get_or rules' (64 * i + (3 + w)) 0 ≡ suc h =
           ap (λ (l : List ℕ). get_or l (64 * i + (3 + w)) 0) grow
-          ∙ cell-counted rules i (3 + w) at h r.cells room (omega arith) (omega arith) (omega arith) in (
+          ∙ cell-counted rules i (3 + w) at h got.cells room (omega arith) (omega arith) (omega arith) in (
             refl,
             λ first. (let same : get_or rules (64 * i + (3 + w)) 0 ≡ get_or rules (64 * i + 3) 0 =
                 ap (λ (v : ℕ). get_or rules (64 * i + (3 + v)) 0) first in
@@ -292,13 +284,13 @@ module _ (f : Fields) (s : Stage) (names places rules : List ℕ) (size : length
           )
 
   -- a J line, by what is found of it as an H line
-  module _ (used names' places' rules' : List ℕ) (r : LineRead)
+  module _ (used names' places' rules' : List ℕ) (r : Result Stage Fault)
       (c : AddsIn head_form f s used names places rules names' places' rules' r) where
-    pub kept-refused : (x : ℕ) → r ≡ Refused x
-        → AddsIn kept_form f s used names places rules names' places' rules' (Refused x)
+    pub kept-refused : (x : Fault) → r ≡ Err x
+        → AddsIn kept_form f s used names places rules names' places' rules' (Err x)
     unfolding line_answer
     kept-refused x z =
-        let d : AddsIn head_form f s used names places rules names' places' rules' (Refused x) = rw z at c in
+        let d : AddsIn head_form f s used names places rules names' places' rules' (Err x) = rw z at c in
         record {
           answers = λ fs symbols n hold u.
               ap (λ (a : Answer Draft). and_then a one_kept) (d.answers fs symbols n hold u)
@@ -308,14 +300,14 @@ module _ (f : Fields) (s : Stage) (names places rules : List ℕ) (size : length
           size = d.size;
         }
 
-    module _ (t : Stage) (z : r ≡ Next t) (gained : head_gained 0 s rules' r) where
+    module _ (t : Stage) (z : r ≡ Ok t) (gained : head_gained 0 s rules' r) where
       abbrev k : ℕ
       k = get_or rules' (64 * i + 1) 0
 
-      as-head : AddsIn head_form f s used names places rules names' places' rules' (Next t)
+      as-head : AddsIn head_form f s used names places rules names' places' rules' (Ok t)
       as-head = rw z at c
 
-      gains : head_gained 0 s rules' (Next t)
+      gains : head_gained 0 s rules' (Ok t)
       gains = rw z at gained
 
       same-rules : t.rules ≡ suc i
@@ -328,13 +320,8 @@ module _ (f : Fields) (s : Stage) (names places rules : List ℕ) (size : length
       kept_small =
           omega (arith, gains.1 refl, row-cell rules' i 1 (omega arith), row-cell rules' i 3 (omega arith))
 
-      pub kept-cell : (64 * i + 1 < length rules') × (k < 4)
-      kept-cell =
-          let last : RowFits (row_of rules' i) = as-head.sound.0.rows i (omega (arith, same-rules)) in
-          (omega (arith, kept-room), omega (arith, kept_small, last.heads, row-cell rules' i 3 (omega arith)))
-
       pub kept_next : (rules'' : List ℕ) → rules'' ≡ set rules' (64 * i + 1) (k + 1)
-          → AddsIn kept_form f s used names places rules names' places' rules'' (Next t)
+          → AddsIn kept_form f s used names places rules names' places' rules'' (Ok t)
       unfolding line_answer draft_of
       kept_next rules'' g =
           let grow : rules'' ≡ grown rules' i 1 6 k [] kept-room (omega arith) (omega arith) (omega arith) =
@@ -362,11 +349,11 @@ module _ (f : Fields) (s : Stage) (names places rules : List ℕ) (size : length
 
   -- an E line, by the test that decides it
   module _ (used : List ℕ) where
-    sides-refused : (x : ℕ) (names' places' : List ℕ)
+    sides-refused : (x : Fault) (names' places' : List ℕ)
         → ((fs : List (List ℕ)) (symbols : List ℕ) (n : ℕ) → Holds fs f
-        → refused x n ≡ read_form equation_form n fs (draft_of names symbols rules s))
+        → refused (number_of x) n ≡ read_form equation_form n fs (draft_of names symbols rules s))
         → Kept f names places names' places'
-        → AddsIn equation_form f s used names places rules names' places' rules (Refused x)
+        → AddsIn equation_form f s used names places rules names' places' rules (Err x)
     unfolding line_answer
     sides-refused x names' places' g k = record {
       answers = λ fs symbols n h u. g fs symbols n h;
@@ -376,9 +363,9 @@ module _ (f : Fields) (s : Stage) (names places rules : List ℕ) (size : length
     }
 
     pub sides-faulty : ((fs : List (List ℕ)) → Holds fs f → true ≡ is_equation_faulty fs)
-        → AddsIn equation_form f s used names places rules names places rules (Refused 4)
+        → AddsIn equation_form f s used names places rules names places rules (Err FieldsFaulty)
     unfolding read_form read_equation
-    sides-faulty g = sides-refused 4 names places (λ fs symbols n h. rw (← g fs h)) (kept_same f names places)
+    sides-faulty g = sides-refused FieldsFaulty names places (λ fs symbols n h. rw (← g fs h)) (kept_same f names places)
 
     module _ (fine : (fs : List (List ℕ)) → Holds fs f → false ≡ is_equation_faulty fs) (three : f.count ≡ 3) (h : ℕ)
         (e : h ≡ get_or rules (64 * i + 5) 0) where
@@ -387,14 +374,14 @@ module _ (f : Fields) (s : Stage) (names places rules : List ℕ) (size : length
           ap (λ (m : ℕ). length (last_rule (rules_read names rules m)).equations) q
           ∙ last-sides names rules i room h e (omega (arith, e, few-sides))
 
-      pub sides-full : 4 ≤ h → AddsIn equation_form f s used names places rules names places rules (Refused 7)
+      pub sides-full : 4 ≤ h → AddsIn equation_form f s used names places rules names places rules (Err LimitPassed)
       unfolding read_form read_equation draft_of
       sides-full k =
-          sides-refused 7 names places (λ fs symbols n hold. rw (← fine fs hold, sides-count, le-leb 4 h k)) (kept_same f
+          sides-refused LimitPassed names places (λ fs symbols n hold. rw (← fine fs hold, sides-count, le-leb 4 h k)) (kept_same f
           names places)
 
-      module _ (k : h < 4) (names' places' : List ℕ) (t : TermsRead)
-          (c : TermsIn f 1 0 s.constants names places names' places' t) where
+      module _ (k : h < 4) (names' places' : List ℕ) (r : Result TermsRead Fault)
+          (c : TermsIn f 1 0 s.constants names places names' places' r) where
         terms : (fs : List (List ℕ)) → Holds fs f → every is_term (drop 1 fs) ≡ true
         unfolding is_equation_faulty
         terms fs hold =
@@ -403,46 +390,50 @@ module _ (f : Fields) (s : Stage) (names places rules : List ℕ) (size : length
         abbrev after : List (List ℕ) → List (List ℕ)
         after fs = constants_after (drop 1 fs) (constants_of names s.constants)
 
-        pub sides-many : t.full ≡ true → AddsIn equation_form f s used names places rules names' places' rules (Refused 7)
+        pub sides-many : (x : Fault) → r ≡ Err x
+            → AddsIn equation_form f s used names places rules names' places' rules (Err x)
         unfolding read_form read_equation draft_of
-        sides-many z =
-            sides-refused 7 names' places'
+        sides-many x z =
+            sides-refused x names' places'
             (λ fs symbols n hold.
-            rw (
+            (let passed : Passed (after fs) x = rw z at (c.means fs hold (terms fs hold)) in
+            ap (λ (y : Fault). refused (number_of y) n) passed.fault
+            ∙ rw (
               ← fine fs hold,
               sides-count,
               lt-leb 4 h k,
-              lt-ltb 64 (length (after fs)) ((c.means fs hold (terms fs
-                  hold)).full z),
-            ))
+              lt-ltb 64 (length (after fs)) passed.many,
+            ) refl))
             (kept-outside f names places names' places' c.outside c.sized c.keeps)
 
-        module _ (z : t.full ≡ false) where
+        module _ (t : TermsRead) (z : r ≡ Ok t) where
+          few-later : t.count ≤ 64
+          few-later = rw z at c.few
+
+          means : (fs : List (List ℕ)) → Holds fs f → TermsMean (drop 1 fs) (constants_of names s.constants) names' t
+          means fs hold = rw z at (c.means fs hold (terms fs hold))
+
           abbrev a : ℕ
           a = get_or t.cells 0 0
 
           abbrev b : ℕ
           b = get_or t.cells 1 0
 
-          pub sides-fit : (64 * i + (56 + 2 * h) + 2 ≤ length rules) × (64 * i + 5 < 64 * i + (56 + 2 * h))
-              × (get_or rules (64 * i + 5) 0 < 65535)
-          sides-fit = (omega (arith, room), omega arith, omega (arith, e))
-
           -- the cells of the two sides, and what they stand for
           module _ (fs : List (List ℕ)) (hold : Holds fs f) where
             size-after : length (after fs) ≤ 64
             size-after = omega (
               arith,
-              ap length (sym ((c.means fs hold (terms fs hold)).after z)),
+              ap length (sym ((means fs hold).after)),
               constants-length names' t.count,
-              c.few,
+              few-later,
             )
 
             sides-are : (cell_term a ≡ term_of letter_number (after fs) (field_at 1 fs)) × (cell_term b ≡ term_of letter_number
                 (after fs) (field_at 2 fs))
             sides-are =
                 two-sides (after fs) fs t.cells (omega (arith, hold.counted, three)) (terms fs hold)
-                ((c.means fs hold (terms fs hold)).cells z) (λ g. omega (arith, name-most g (after fs), size-after))
+                ((means fs hold).cells) (λ g. omega (arith, name-most g (after fs), size-after))
 
             sides-read : (symbols : List ℕ) (n : ℕ)
                 → accepted (with_rule (with_equation (record { left = cell_term a; right = cell_term b })) (constants_of names'
@@ -458,12 +449,12 @@ module _ (f : Fields) (s : Stage) (names places rules : List ℕ) (size : length
                   le-ltb 64 (length (after fs)) size-after,
                   sides-are.0,
                   sides-are.1,
-                  (c.means fs hold (terms fs hold)).after z,
+                  (means fs hold).after,
                 )
 
           pub sides-next : (rules' : List ℕ)
               → rules' ≡ set (paste rules (64 * i + (56 + 2 * h)) (a ∷ b ∷ []) 2) (64 * i + 5) (suc (get_or rules (64 * i + 5) 0))
-              → AddsIn equation_form f s used names places rules names' places' rules' (Next (next t.count))
+              → AddsIn equation_form f s used names places rules names' places' rules' (Ok (next t.count))
           unfolding line_answer
           sides-next rules' g =
               let at : ℕ = 56 + 2 * h in
@@ -482,7 +473,7 @@ module _ (f : Fields) (s : Stage) (names places rules : List ℕ) (size : length
                     ∙ sides-read fs hold symbols n;
                 sound = (
                   rw grow (sound-grown rules i 5 at h vs room (omega arith) (omega arith) (omega arith) s t.count
-                      q sound c.few e (λ y. omega (arith, y)) (λ y. omega (arith, y)) (λ y. omega (arith, y))
+                      q sound few-later e (λ y. omega (arith, y)) (λ y. omega (arith, y)) (λ y. omega (arith, y))
                       (λ y. omega (arith, y))),
                   λ _. begun,
                 );

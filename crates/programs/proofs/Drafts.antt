@@ -17,6 +17,10 @@ use borrow.Author.Tests.{eqb-true, lt-ltb, le-ltb, lt-leb, le-leb, eq-eqb, ne_eq
 use lib.Dec.{leb, ltb, eqb}
 use lib.ListN.{length, take, drop, get_or, set, length-set, length-map}
 use lib.Seq.{paste, get_or-take, get_or-drop, get_or-set_same, get_or-set_other}
+use Rattle.std.specs.Prelude.{Ok, Err}
+use Rattle.faults.specs.Faults.{number_of as fault_number}
+use Rattle.faults.specs.declared.Fault.{Fault}
+use Rattle.faults.specs.declared.Fault.TheVariants.{FieldsFaulty, NameRepeated, LimitPassed}
 use Rattle.text.specs.Bytes.{between}
 use Rattle.text.specs.Lists.{index_from, index_of, is_known, tabled}
 use Rattle.text.specs.Fields.{is_name, is_number_in, value_of}
@@ -41,7 +45,6 @@ use Rattle.lines.proofs.Held.{key-at}
 use Rattle.lines.proofs.HeadLaws.{symbols-length, symbol-names, symbols-same}
 use Rattle.lines.proofs.Named.{Wide, named-index, placed-set}
 use Rattle.programs.specs.declared.Stage.{Stage}
-use Rattle.programs.specs.declared.LineRead.TheVariants.{Refused, Next}
 use Rattle.programs.specs.Read.{rule_read, rules_read, draft_of, line_answer, RowFits, Sound, Kept, SymbolIn, RuleIn}
 use Rattle.programs.proofs.Pasted.{cut-before, at_before, at_in, new-length}
 
@@ -289,18 +292,18 @@ rule-fine fs fine =
 -- a K line, by the test that decides it
 module _ (f : Fields) (s : Stage) (names places symbols : List ℕ) (lent : Lent f 0 names places) where
   -- it is refused: what the tables hold stays
-  symbol-refused : (x : ℕ)
+  symbol-refused : (x : Fault)
       → ((fs : List (List ℕ)) (rules : List ℕ) (n : ℕ) → Holds fs f
-      → refused x n ≡ read_symbol n fs (draft_of names symbols rules s))
-      → SymbolIn f s names places symbols names places symbols (Refused x)
+      → refused (fault_number x) n ≡ read_symbol n fs (draft_of names symbols rules s))
+      → SymbolIn f s names places symbols names places symbols (Err x)
   unfolding line_answer
   symbol-refused x e =
       record { answers = e; sound = λ rules d b. tt; kept = kept_same f names places; size = refl }
 
   pub symbol-faulty : ((fs : List (List ℕ)) → Holds fs f → true ≡ is_symbol_faulty fs)
-      → SymbolIn f s names places symbols names places symbols (Refused 4)
+      → SymbolIn f s names places symbols names places symbols (Err FieldsFaulty)
   unfolding read_symbol
-  symbol-faulty e = symbol-refused 4 (λ fs rules n h. rw (← e fs h))
+  symbol-faulty e = symbol-refused FieldsFaulty (λ fs rules n h. rw (← e fs h))
 
   module _ (fine : (fs : List (List ℕ)) → Holds fs f → false ≡ is_symbol_faulty fs) (w : Wide names) (k : ℕ)
       (q : k ≡ index_from (eqb (get_or f.keys 1 0)) 0 (take s.symbols names)) (few : s.symbols ≤ 32) where
@@ -321,15 +324,15 @@ module _ (f : Fields) (s : Stage) (names places symbols : List ℕ) (lent : Lent
           (length-map (symbols_of names symbols s.symbols) (λ (t : Symbol). t.name) ∙ symbols-length names symbols
           s.symbols)
 
-    pub symbol-repeated : k < s.symbols → SymbolIn f s names places symbols names places symbols (Refused 5)
+    pub symbol-repeated : k < s.symbols → SymbolIn f s names places symbols names places symbols (Err NameRepeated)
     unfolding read_symbol draft_of
-    symbol-repeated l = symbol-refused 5 (λ fs rules n h. rw (← fine fs h, known fs h, lt-ltb k s.symbols l))
+    symbol-repeated l = symbol-refused NameRepeated (λ fs rules n h. rw (← fine fs h, known fs h, lt-ltb k s.symbols l))
 
     module _ (l : s.symbols ≤ k) where
-      pub symbol-full : 32 ≤ s.symbols → SymbolIn f s names places symbols names places symbols (Refused 7)
+      pub symbol-full : 32 ≤ s.symbols → SymbolIn f s names places symbols names places symbols (Err LimitPassed)
       unfolding read_symbol draft_of
       symbol-full g =
-          symbol-refused 7 (λ fs rules n h.
+          symbol-refused LimitPassed (λ fs rules n h.
           rw (
             ← fine fs h,
             known fs h,
@@ -380,7 +383,7 @@ module _ (f : Fields) (s : Stage) (names places symbols : List ℕ) (lent : Lent
             )
 
         pub symbol-new : SymbolIn f s names places symbols (set names s.symbols key₁) (set places s.symbols start) symbols'
-            (Next next)
+            (Ok next)
         unfolding line_answer
         symbol-new =
             record {
@@ -401,16 +404,16 @@ module _ (f : Fields) (s : Stage) (names places symbols : List ℕ) (lent : Lent
 
 -- an R line, by the test that decides it
 module _ (f : Fields) (n : ℕ) (s : Stage) (names places rules : List ℕ) (lent : Lent f 0 names places) (d : Sound rules s) where
-  rule-refused : (x : ℕ)
-      → ((fs : List (List ℕ)) (symbols : List ℕ) → Holds fs f → refused x n ≡ read_rule n fs (draft_of names symbols rules s))
-      → RuleIn f n s names places rules names places rules (Refused x)
+  rule-refused : (x : Fault)
+      → ((fs : List (List ℕ)) (symbols : List ℕ) → Holds fs f → refused (fault_number x) n ≡ read_rule n fs (draft_of names symbols rules s))
+      → RuleIn f n s names places rules names places rules (Err x)
   unfolding line_answer
   rule-refused x e = record { answers = e; sound = tt; kept = kept_same f names places; size = refl }
 
   pub rule-faulty : ((fs : List (List ℕ)) → Holds fs f → true ≡ is_rule_faulty fs)
-      → RuleIn f n s names places rules names places rules (Refused 4)
+      → RuleIn f n s names places rules names places rules (Err FieldsFaulty)
   unfolding read_rule
-  rule-faulty e = rule-refused 4 (λ fs symbols h. rw (← e fs h))
+  rule-faulty e = rule-refused FieldsFaulty (λ fs symbols h. rw (← e fs h))
 
   module _ (fine : (fs : List (List ℕ)) → Holds fs f → false ≡ is_rule_faulty fs) (w : Wide names) (k : ℕ)
       (q : k ≡ index_from (eqb (get_or f.keys 1 0)) 0 (take (192 + s.rules - 192) (drop 192 names))) where
@@ -432,15 +435,15 @@ module _ (f : Fields) (n : ℕ) (s : Stage) (names places rules : List ℕ) (len
           ∙ ap₂ (λ (x m : ℕ). index_from (eqb x) 0 (take m (drop 192 names))) (sym rule-key) (sym size) ∙ sym q)
           (length-map (rules_read names rules s.rules) (λ (r : RuleRead). r.rule.name) ∙ rules-length names rules s.rules)
 
-    pub rule-repeated : k < s.rules → RuleIn f n s names places rules names places rules (Refused 5)
+    pub rule-repeated : k < s.rules → RuleIn f n s names places rules names places rules (Err NameRepeated)
     unfolding read_rule draft_of
-    rule-repeated l = rule-refused 5 (λ fs symbols h. rw (← fine fs h, rule-known fs h, lt-ltb k s.rules l))
+    rule-repeated l = rule-refused NameRepeated (λ fs symbols h. rw (← fine fs h, rule-known fs h, lt-ltb k s.rules l))
 
     module _ (l : s.rules ≤ k) where
-      pub rule-full : 32 ≤ s.rules → RuleIn f n s names places rules names places rules (Refused 7)
+      pub rule-full : 32 ≤ s.rules → RuleIn f n s names places rules names places rules (Err LimitPassed)
       unfolding read_rule draft_of
       rule-full g =
-          rule-refused 7 (λ fs symbols h.
+          rule-refused LimitPassed (λ fs symbols h.
           rw (← fine fs h, rule-known fs h, le-ltb k s.rules l, rules-length names rules s.rules, le-leb 32 s.rules g))
 
       module _ (start : ℕ) (rules' : List ℕ) (g : s.rules < 32) (size : length rules ≡ 2048)
@@ -491,7 +494,7 @@ module _ (f : Fields) (n : ℕ) (s : Stage) (names places rules : List ℕ) (len
         ])
 
         pub rule-new : RuleIn f n s names places rules (set names (192 + s.rules) rule-key₁) (set places (192 + s.rules) start)
-            rules' (Next rule-next)
+            rules' (Ok rule-next)
         unfolding line_answer
         rule-new =
             record {

@@ -7,10 +7,17 @@ use mathlib.Core.Bool.{Bool, true, false, cond}
 use mathlib.Core.List.{List, [], ◌∷◌}
 use Prim.Native.Nat.{ℕ, suc, ◌+◌, ◌-◌, ◌*◌, ◌≤◌, ◌<◌}
 use native.Mathlib.Omega.{arith}
-use borrow.Author.Tests.{le-leb, lt-leb, ne_eqb, eq-eqb}
+use borrow.Author.Tests.{le-leb, lt-leb, ne_eqb}
 use lib.Dec.{leb, eqb}
 use lib.ListN.{length, take, drop, get_or, length-drop, length-take, drop_of_length-le}
 use lib.Seq.{drop-cons, drop-drop}
+use Rattle.std.specs.Prelude.{Result, Ok, Err}
+use Rattle.std.proofs.Common.{◌++◌, length-append}
+use Rattle.std.proofs.Math.Seq.{take-append_seam, drop-append_seam}
+use Rattle.faults.specs.Faults.{number_of, fault_at}
+use Rattle.faults.specs.declared.Fault.{Fault}
+use Rattle.faults.specs.declared.Fault.TheVariants.{NothingRemoved, WeightKept}
+use Rattle.faults.proofs.Numbers.{number-some}
 use Rattle.text.specs.Lists.{tabled}
 use Rattle.text.proofs.Laws.{drop-take, tabled-length, tabled-at}
 use Rattle.semantics.specs.Terms.{Symbol, removed_heads, weight}
@@ -20,13 +27,8 @@ use Rattle.tables.specs.Cells.{cell_constraints}
 use Rattle.tables.specs.Rows.{symbols_of, name_of, rule_of_row, row_of, rule_of}
 use Rattle.tables.specs.Layout.{first_rule}
 use Rattle.tables.proofs.CellLaws.{constraints-drop}
-use Rattle.programs.specs.declared.RulesRead.TheVariants.{Refused, Fine}
-use Rattle.programs.specs.Read.{RowFits, RowsFit, rule_read, rules_read, rule_fault, FaultIn, rules_answer, RulesIn}
-use Rattle.programs.proofs.Drafts.{row-cell, rules-length}
-
--- the cells of a row from one to another, as they are lent to be weighed
-pub part-short : (row : List ℕ) (n b : ℕ) → length row ≡ 64 → length (take n (drop b row)) ≤ 4096
-part-short row n b sized = omega (arith, length-take n (drop b row), length-drop b row)
+use Rattle.programs.specs.Read.{RowFits, rule_read, rules_read, rule_fault, number_met, FaultIn, rules_answer, RulesIn}
+use Rattle.programs.proofs.Drafts.{rules-length}
 
 some-constraints : (l : List ℕ) → 5 ≤ length l → 0 < length (cell_constraints l)
 unfolding cell_constraints
@@ -62,7 +64,7 @@ module _ (symbols row : List ℕ) (k h b : ℕ) (o : k ≡ get_or row 1 0) (p : 
       let wide : 5 * get_or row 4 0 ≡ 26 + 5 * b - 26 = omega (arith, q) in
       ap (λ (n : ℕ). cell_constraints (take n (drop 26 row))) wide
 
-  pub fault-eight : h ≤ k → FaultIn symbols row 8
+  pub fault-eight : h ≤ k → FaultIn symbols row (Err NothingRemoved)
   unfolding rule_fault cell_constraints
   fault-eight e =
       let none : 6 + 5 * h - (6 + 5 * k) ≡ 0 = omega arith in
@@ -95,10 +97,10 @@ module _ (symbols row : List ℕ) (k h b : ℕ) (o : k ≡ get_or row 1 0) (p : 
           ← y names m size,
         )
 
-    pub fault-nine : w ≤ v → FaultIn symbols row 9
+    pub fault-nine : w ≤ v → FaultIn symbols row (Err WeightKept)
     fault-nine z = record { fault = λ names name m size. rw (tests names name m size, le-leb w v z) }
 
-    pub fault-none : v < w → FaultIn symbols row 0
+    pub fault-none : v < w → FaultIn symbols row (Ok tt)
     fault-none z = record { fault = λ names name m size. rw (tests names name m size, lt-leb w v z) }
 
 -- the rules from one on
@@ -119,97 +121,93 @@ check-one symbols r rs otherwise =
     go false true more = refl
     go false false more = refl
 
--- the rules up to a place of the table meet neither number
-pub record Checked (symbols rules : List ℕ) (at : ℕ) : Type 0 where
+-- the rules before those left meet neither number
+pub record Checked (symbols rules rest : List ℕ) : Type 0 where
   pub row : ℕ
-  pub within : at ≤ length rules
-  pub placed : at ≡ 64 * row
+  pub within : 64 * row ≤ length rules
+  pub placed : rest ≡ drop (64 * row) rules
   pub left :
       (names : List ℕ) (k m : ℕ) (otherwise : Answer Reading) → length symbols ≡ 2 * k → length rules ≡ 64 * m
       → check_rules (symbols_of names symbols k) (drop row (rules_read names rules m)) otherwise
       ≡ check_rules (symbols_of names symbols k) (rules_read names rules m) otherwise
 
-pub check-start : (symbols rules : List ℕ) → Checked symbols rules 0
-check-start symbols rules = record { row = 0; within = omega arith; placed = omega arith; left = λ names k m otherwise a b. refl }
+module _ (symbols rules rest : List ℕ) (c : Checked symbols rules rest) where
+  size-left : length rest + 64 * c.row ≡ length rules
+  size-left = omega (arith, ap length c.placed, length-drop (64 * c.row) rules, c.within)
 
-module _ (symbols rules : List ℕ) (at : ℕ) (c : Checked symbols rules at) where
-  pub check-end : length rules < at + 64 → RulesIn symbols rules Fine
+  pub check-end : length rest < 64 → RulesIn symbols rules (Ok tt)
   unfolding rules_answer check_rules
   check-end h = record {
     answers = λ names k m otherwise a b.
-        (let out : length (rules_read names rules m) ≤ c.row = omega (arith, rules-length names rules m, c.placed) in
+        (let out : length (rules_read names rules m) ≤ c.row = omega (arith, rules-length names rules m, size-left) in
         let z : otherwise ≡ check_rules (symbols_of names symbols k) (drop c.row (rules_read names rules m)) otherwise =
         rw (drop_of_length-le (rules_read names rules m) out) in
         z ∙ c.left names k m otherwise a b);
   }
 
-  -- the row there is one of the table
-  pub check-row : at + 64 ≤ length rules → RowsFit rules → RowFits (take (at + 64 - at) (drop at rules))
-  check-row h fit =
-      let same : take (at + 64 - at) (drop at rules) ≡ row_of rules c.row =
-      ap₂ (λ (i j : ℕ). take i (drop j rules)) (let z : at + 64 - at ≡ 64 = omega arith in z) c.placed in
-      rw same (fit c.row (omega (arith, c.placed)))
+  -- the first row of those left is one of the table
+  module _ (cells behind : List ℕ) (parts : rest ≡ cells ++ behind) (sized : length cells ≡ 64) where
+    inside-rules : 64 * c.row + 64 ≤ length rules
+    inside-rules = omega (arith, size-left, ap length parts, length-append cells behind, sized)
 
-  module _ (x : ℕ) (h : at + 64 ≤ length rules) (e : FaultIn symbols (take (at + 64 - at) (drop at rules)) x) where
-    module _ (names : List ℕ) (k m : ℕ) (otherwise : Answer Reading) (a : length symbols ≡ 2 * k) (b : length rules ≡ 64 * m)
-      where
-        abbrev S : List Symbol
-        S = symbols_of names symbols k
+    row_is : cells ≡ row_of rules c.row
+    row_is =
+        sym (ap (λ (n : ℕ). take n (cells ++ behind)) (sym sized) ∙ take-append_seam cells behind)
+        ∙ ap (take 64) (sym parts ∙ c.placed)
 
-        inside : c.row < m
-        inside = omega (arith, c.placed)
+    onward-is : behind ≡ drop (64 * suc c.row) rules
+    onward-is =
+        sym (ap (λ (n : ℕ). drop n (cells ++ behind)) (sym sized) ∙ drop-append_seam cells behind)
+        ∙ ap (drop 64) (sym parts ∙ c.placed) ∙ drop-drop 64 (64 * c.row) rules
+        ∙ ap (λ (n : ℕ). drop n rules) (let z : 64 * c.row + 64 ≡ 64 * suc c.row = omega arith in z)
 
-        row_is : take (at + 64 - at) (drop at rules) ≡ row_of rules c.row
-        row_is =
-            ap₂ (λ (i j : ℕ). take i (drop j rules)) (let z : at + 64 - at ≡ 64 = omega arith in z) c.placed
+    module _ (r : Result (Unit {0}) Fault) (e : FaultIn symbols cells r) where
+      module _ (names : List ℕ) (k m : ℕ) (otherwise : Answer Reading) (a : length symbols ≡ 2 * k) (b : length rules ≡ 64 * m)
+        where
+          abbrev S : List Symbol
+          S = symbols_of names symbols k
 
-        fault : x ≡ rule_fault S (rule_read names rules c.row).rule
-        unfolding rule_read rule_of
-        fault =
-            e.fault names (name_of names (first_rule + c.row)) k a
-            ∙ ap (λ (r : List ℕ). rule_fault S (rule_of_row (name_of names (first_rule + c.row)) r)) row_is
+          inside : c.row < m
+          inside = omega (arith, inside-rules)
 
-        onward : check_rules S (drop c.row (rules_read names rules m)) otherwise
-            ≡ cond (eqb x 0) (check_rules S (drop (suc c.row) (rules_read names rules m)) otherwise)
-            (refused x (get_or (row_of rules c.row) 2 0))
-        unfolding rules_read rule_read
-        onward =
-            let none : RuleRead = rule_read names rules m in
-            let split : drop c.row (tabled (rule_read names rules) m)
-            ≡ rule_read names rules c.row ∷ drop (suc c.row) (tabled (rule_read names rules) m) =
-            drop-cons (tabled (rule_read names rules) m) c.row none
-            (omega (arith, tabled-length (rule_read names rules) m, inside))
-            ∙ ap (λ (r : RuleRead). r ∷ drop (suc c.row) (tabled (rule_read names rules) m))
-            (tabled-at (rule_read names rules) m c.row none inside) in
-            ap (λ (l : List RuleRead). check_rules S l otherwise) split
-            ∙ check-one S (rule_read names rules c.row) (drop (suc c.row) (tabled (rule_read names rules) m)) otherwise
-            ∙ ap (λ (y : ℕ). cond (eqb y 0) (check_rules S (drop (suc c.row) (tabled (rule_read names rules) m)) otherwise)
-            (refused y (get_or (row_of rules c.row) 2 0))) (sym fault)
+          fault : number_met r ≡ rule_fault S (rule_read names rules c.row).rule
+          unfolding rule_read rule_of
+          fault =
+              e.fault names (name_of names (first_rule + c.row)) k a
+              ∙ ap (λ (l : List ℕ). rule_fault S (rule_of_row (name_of names (first_rule + c.row)) l)) row_is
 
-    pub check-refused : (line : ℕ) → line ≡ get_or rules (at + 2) 0 → (x ≡ 0 → ⊥) → RulesIn symbols rules (Refused x line)
-    unfolding rules_answer
-    check-refused line l z = record {
-      answers = λ names k m otherwise a b.
-          (let here : line ≡ get_or (row_of rules c.row) 2 0 =
-          l ∙ ap (λ (i : ℕ). get_or rules (i + 2) 0) c.placed ∙ sym (row-cell rules c.row 2 (omega arith)) in
-          ap (refused x) here
-          ∙ sym (onward names k m otherwise a b
-          ∙ ap (λ (t : Bool). cond t (check_rules (S names k m otherwise a b)
-          (drop (suc c.row) (rules_read names rules m)) otherwise) (refused x (get_or (row_of rules c.row) 2 0)))
-          (ne_eqb x 0 z))
-          ∙ c.left names k m otherwise a b);
-    }
+          onward : check_rules S (drop c.row (rules_read names rules m)) otherwise
+              ≡ cond (eqb (number_met r) 0) (check_rules S (drop (suc c.row) (rules_read names rules m)) otherwise)
+              (refused (number_met r) (get_or (row_of rules c.row) 2 0))
+          unfolding rules_read rule_read
+          onward =
+              let none : RuleRead = rule_read names rules m in
+              let split : drop c.row (tabled (rule_read names rules) m)
+              ≡ rule_read names rules c.row ∷ drop (suc c.row) (tabled (rule_read names rules) m) =
+              drop-cons (tabled (rule_read names rules) m) c.row none
+              (omega (arith, tabled-length (rule_read names rules) m, inside))
+              ∙ ap (λ (l : RuleRead). l ∷ drop (suc c.row) (tabled (rule_read names rules) m))
+              (tabled-at (rule_read names rules) m c.row none inside) in
+              ap (λ (l : List RuleRead). check_rules S l otherwise) split
+              ∙ check-one S (rule_read names rules c.row) (drop (suc c.row) (tabled (rule_read names rules) m)) otherwise
+              ∙ ap (λ (y : ℕ). cond (eqb y 0) (check_rules S (drop (suc c.row) (tabled (rule_read names rules) m)) otherwise)
+              (refused y (get_or (row_of rules c.row) 2 0))) (sym fault)
 
-    pub check-next : x ≡ 0 → Checked symbols rules (at + 64)
-    check-next z =
-        record {
-          row = suc c.row;
-          within = h;
-          placed = omega (arith, c.placed);
-          left = λ names k m otherwise a b.
-              sym (onward names k m otherwise a b
-              ∙ ap (λ (t : Bool). cond t (check_rules (S names k m otherwise a b)
-              (drop (suc c.row) (rules_read names rules m)) otherwise) (refused x (get_or (row_of rules c.row) 2 0)))
-              (eq-eqb x 0 z))
-              ∙ c.left names k m otherwise a b;
-        }
+      pub check-refused : (x : Fault) → r ≡ Err x → RulesIn symbols rules (Err (fault_at x (get_or cells 2 0)))
+      unfolding rules_answer
+      check-refused x z = record {
+        answers = λ names k m otherwise a b.
+            ap (λ (l : List ℕ). refused (number_of x) (get_or l 2 0)) row_is
+            ∙ sym (rw (ne_eqb (number_of x) 0 (λ y. omega (arith, y, number-some x)))
+            at (rw z at (onward names k m otherwise a b)))
+            ∙ c.left names k m otherwise a b;
+      }
+
+      pub check-next : (u : Unit {0}) → r ≡ Ok u → Checked symbols rules behind
+      check-next u z =
+          record {
+            row = suc c.row;
+            within = omega (arith, inside-rules);
+            placed = onward-is;
+            left = λ names k m otherwise a b. sym (rw z at (onward names k m otherwise a b)) ∙ c.left names k m otherwise a b;
+          }

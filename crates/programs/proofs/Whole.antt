@@ -5,15 +5,20 @@
 --   program-..                            a program's text
 -- Assumes nothing.
 use mathlib.Core.Path.{◌≡◌, refl, sym, ap, ap₂, ◌∙◌}
-use mathlib.Core.Bool.{Bool, true, false, cond}
+use mathlib.Core.Bool.{true, false}
 use mathlib.Core.List.{List, [], map}
 use mathlib.Core.Option.{Option, none, some}
-use Prim.Native.Nat.{ℕ, zero, suc, ◌+◌, ◌-◌, ◌*◌, ◌≤◌, ◌<◌}
+use Prim.Native.Nat.{ℕ, suc, ◌+◌, ◌-◌, ◌*◌, ◌≤◌, ◌<◌}
 use native.Mathlib.Numerals.{add-one}
 use native.Mathlib.Omega.{arith}
 use borrow.Author.Tests.{lt-ltb, le-ltb}
 use lib.ListN.{length, take, drop, get_or, length-take}
 use lib.Seq.{take-take, length-take-le}
+use Rattle.std.specs.Prelude.{Option as Perhaps, Some, None, Result, Ok, Err}
+use Rattle.faults.specs.Faults.{fault_at}
+use Rattle.faults.specs.declared.Fault.{Fault}
+use Rattle.faults.specs.declared.Fault.TheVariants.{TextTooLong, LineFaulty, FormMisplaced}
+use Rattle.faults.specs.declared.FaultAt.{FaultAt}
 use Rattle.text.specs.Lists.{onward}
 use Rattle.text.specs.Lines.{Line, lines}
 use Rattle.text.specs.Fields.{fields}
@@ -32,93 +37,77 @@ use Rattle.syntax.specs.Programs.{check_rules, read_program}
 use Rattle.syntax.proofs.Tabled.{tabled-same, map-tabled}
 use Rattle.tables.specs.Rows.{symbols_of, constants_of, row_of, rule_of, rules_of}
 use Rattle.tables.specs.Names.{Placed}
+use Rattle.lines.specs.declared.Section.{Section as CodeSection}
+use Rattle.lines.specs.declared.Section.TheVariants.{Symbols, Kept, Heads, Body, Equations}
 use Rattle.lines.specs.Read.{section_meant, section_answer}
 use Rattle.lines.proofs.Held.{key-at}
 use Rattle.lines.proofs.Spelling.{spelled-program}
 use Rattle.programs.specs.declared.Stage.{Stage}
 use Rattle.programs.specs.declared.Counts.{Counts}
-use Rattle.programs.specs.declared.LineRead.{LineRead}
-use Rattle.programs.specs.declared.LineRead.TheVariants.{Refused, Next}
-use Rattle.programs.specs.declared.LinesRead.{LinesRead}
-use Rattle.programs.specs.declared.LinesRead.TheVariants.{Refused as linesRefused, Read as lines_read}
-use Rattle.programs.specs.declared.RulesRead.{RulesRead}
-use Rattle.programs.specs.declared.RulesRead.TheVariants.{Refused as rulesRefused, Fine}
-use Rattle.programs.specs.declared.ProgramRead.TheVariants.{Refused as programRefused, Accepted}
 use Rattle.programs.specs.Read.{rule_read, rules_read, draft_of, line_answer, RowsFit, Sound, Begun, Room, SymbolIn}
 use Rattle.programs.specs.Read.{RuleIn, AddsIn, LineIn, lines_answer, LinesIn, rules_answer, RulesIn, reading_of}
 use Rattle.programs.specs.Read.{program_answer, program_fits, ProgramIn}
 use Rattle.programs.proofs.Drafts.{kept_same}
 use Rattle.programs.proofs.AddLaws.{symbols-used}
 
--- a section that a line leads to
-section-some : (p : ℕ) (o : Option Section) → section_answer p ≡ o → p < 5 → o ≡ some (section_meant p)
-unfolding section_answer
-section-some p o q r = sym q ∙ ap (λ (b : Bool). cond b (some (section_meant p)) none) (lt-ltb p 5 r)
-
-section-none : (p : ℕ) (o : Option Section) → section_answer p ≡ o → 4 < p → o ≡ none
-unfolding section_answer
-section-none p o q r = sym q ∙ ap (λ (b : Bool). cond b (some (section_meant p)) none) (le-ltb p 5 (omega arith))
-
 -- a K line leads to the section of symbols
 symbols-only : (w v : Section) → section_after symbol_form w ≡ some v → v ≡ in_symbols
 unfolding section_after
 symbols-only in_symbols v z = cc
-symbols-only in_kept v z = absurd (let y : ◌≡◌ {A = ℕ} 0 1 = cc in omega arith)
-symbols-only in_heads v z = absurd (let y : ◌≡◌ {A = ℕ} 0 1 = cc in omega arith)
-symbols-only in_body v z = absurd (let y : ◌≡◌ {A = ℕ} 0 1 = cc in omega arith)
-symbols-only in_equations v z = absurd (let y : ◌≡◌ {A = ℕ} 0 1 = cc in omega arith)
+symbols-only in_kept v z = cc
+symbols-only in_heads v z = cc
+symbols-only in_body v z = cc
+symbols-only in_equations v z = cc
 
-section-zero : (p : ℕ) → section_meant p ≡ in_symbols → p ≡ 0
+section-first : (p : CodeSection) → section_meant p ≡ in_symbols → p ≡ Symbols
 unfolding section_meant
-section-zero zero e = refl
-section-zero (suc zero) e = absurd (let y : ◌≡◌ {A = ℕ} 0 1 = cc in omega arith)
-section-zero (suc (suc zero)) e = absurd (let y : ◌≡◌ {A = ℕ} 0 1 = cc in omega arith)
-section-zero (suc (suc (suc zero))) e = absurd (let y : ◌≡◌ {A = ℕ} 0 1 = cc in omega arith)
-section-zero (suc (suc (suc (suc p)))) e = absurd (let y : ◌≡◌ {A = ℕ} 0 1 = cc in omega arith)
+section-first Symbols e = refl
+section-first Kept e = cc
+section-first Heads e = cc
+section-first Body e = cc
+section-first Equations e = cc
 
-pub first-section : (p q : ℕ) → section_answer p ≡ section_after symbol_form (section_meant q) → p < 5 → p ≡ 0
-first-section p q e h =
-    section-zero p (symbols-only (section_meant q) (section_meant p)
-    (section-some p (section_after symbol_form (section_meant q)) e h))
+-- where a line of a form leads, if it may stand there
+module _ (form : Form) (o : Perhaps CodeSection) (q : CodeSection) (led : section_answer o ≡ section_after form (section_meant q))
+    (p : CodeSection) (l : o ≡ Some p) where
+  leads : some (section_meant p) ≡ section_after form (section_meant q)
+  leads = rw l at led
 
-begun : (form : Form) (p q : ℕ) → section_after form in_symbols ≡ none → section_answer p ≡ section_after form (section_meant q)
-    → p < 5 → 0 < q
-unfolding section_meant
-begun form p zero x e h =
-    let z : none ≡ some (section_meant p) = sym x ∙ section-some p (section_after form in_symbols) e h in
-    absurd (let y : ◌≡◌ {A = ℕ} 0 1 = cc in omega arith)
-begun form p (suc q) x e h = omega arith
+  pub first-section : form ≡ symbol_form → p ≡ Symbols
+  first-section e = section-first p (symbols-only (section_meant q) (section_meant p) (sym (rw e at leads)))
 
-module _ (form : Form) (p q : ℕ) (led : section_answer p ≡ section_after form (section_meant q)) (l : p < 5) where
-  pub begun_kept : form ≡ kept_form → 0 < q
+  begun : section_after form in_symbols ≡ none → q ≡ Symbols → ⊥
+  unfolding section_meant
+  begun x z =
+      let n : some (section_meant p) ≡ none = leads ∙ ap (λ (y : CodeSection). section_after form (section_meant y)) z ∙ x in
+      cc
+
+  pub begun_kept : form ≡ kept_form → q ≡ Symbols → ⊥
   unfolding section_after
-  begun_kept e = begun form p q (rw e) led l
+  begun_kept e = begun (rw e)
 
-  pub begun-head : form ≡ head_form → 0 < q
+  pub begun-head : form ≡ head_form → q ≡ Symbols → ⊥
   unfolding section_after
-  begun-head e = begun form p q (rw e) led l
+  begun-head e = begun (rw e)
 
-  pub begun-body : form ≡ body_form → 0 < q
+  pub begun-body : form ≡ body_form → q ≡ Symbols → ⊥
   unfolding section_after
-  begun-body e = begun form p q (rw e) led l
+  begun-body e = begun (rw e)
 
-  pub begun-equation : form ≡ equation_form → 0 < q
+  pub begun-equation : form ≡ equation_form → q ≡ Symbols → ⊥
   unfolding section_after
-  begun-equation e = begun form p q (rw e) led l
+  begun-equation e = begun (rw e)
 
 -- counts do not depend on the section
-pub sound-moved : (rules : List ℕ) (s : Stage) (p : ℕ) → Sound rules s
+pub sound-moved : (rules : List ℕ) (s : Stage) (p : CodeSection) → Sound rules s
     → Sound rules (record { section = p; symbols = s.symbols; rules = s.rules; constants = s.constants })
 sound-moved rules s p d =
     record { few-symbols = d.few-symbols; few-rules = d.few-rules; few-constants = d.few-constants; rows = d.rows }
 
 -- a line of a form that leads to a section
-module _ (f : Fields) (n : ℕ) (s : Stage) (names places symbols rules : List ℕ) (form : Form) (p : ℕ)
-    (formed : (g : List ℕ) → get_or f.keys 0 0 ≡ key_of g → form ≡ form_of g)
-    (led : section_answer p ≡ section_after form (section_meant s.section)) where
-  abbrev at : Stage
-  at = record { section = p; symbols = s.symbols; rules = s.rules; constants = s.constants }
-
+module _ (f : Fields) (n : ℕ) (s : Stage) (names places symbols rules : List ℕ) (form : Form)
+    (o : Perhaps CodeSection) (formed : (g : List ℕ) → get_or f.keys 0 0 ≡ key_of g → form ≡ form_of g)
+    (led : section_answer o ≡ section_after form (section_meant s.section)) where
   first-form : (fs : List (List ℕ)) → Holds fs f → 0 < length fs → form ≡ form_of (field_at 0 fs)
   unfolding field_at
   first-form fs h some-field = formed (get_or fs 0 []) (key-at fs f.keys h.keyed 0 some-field (omega arith))
@@ -130,32 +119,35 @@ module _ (f : Fields) (n : ℕ) (s : Stage) (names places symbols rules : List �
   onward-is fs d h some-field e = rw (← first-form fs h some-field, e)
 
   -- a line that may not stand there
-  pub line-placeless : 4 < p → LineIn f n s names places symbols rules names places symbols rules (Refused 3)
+  pub line-placeless : o ≡ None → LineIn f n s names places symbols rules names places symbols rules (Err FormMisplaced)
   unfolding line_answer draft_of
   line-placeless l =
       record {
         answers = λ fs h some-field.
             sym (onward-is fs (draft_of names symbols rules s) h some-field refl
             ∙ ap (λ (o : Option Section). onward o (refused 3 n) (λ section. read_form form n fs (in_section section
-            (draft_of names symbols rules s)))) (section-none p (section_after form (section_meant s.section)) led l));
+            (draft_of names symbols rules s)))) (sym (rw l at led)));
         sound = tt;
         kept = kept_same f names places;
         symbols-size = refl;
         rules-size = refl;
       }
 
-  module _ (l : p < 5) where
+  module _ (p : CodeSection) (l : o ≡ Some p) where
+    abbrev at : Stage
+    at = record { section = p; symbols = s.symbols; rules = s.rules; constants = s.constants }
+
     moved : (fs : List (List ℕ)) → Holds fs f → 0 < length fs
         → read_form form n fs (draft_of names symbols rules at) ≡ read_fields n fs (draft_of names symbols rules s)
     unfolding draft_of in_section
     moved fs h some-field =
         sym (onward-is fs (draft_of names symbols rules s) h some-field refl
         ∙ ap (λ (o : Option Section). onward o (refused 3 n) (λ section. read_form form n fs (in_section section
-        (draft_of names symbols rules s)))) (section-some p (section_after form (section_meant s.section)) led l))
+        (draft_of names symbols rules s)))) (sym (rw l at led)))
 
     -- a form that no line of a program has
     pub line-none : ((fs : List (List ℕ)) (d : Draft) → read_form form n fs d ≡ refused 3 n)
-        → LineIn f n s names places symbols rules names places symbols rules (Refused 3)
+        → LineIn f n s names places symbols rules names places symbols rules (Err FormMisplaced)
     unfolding line_answer
     line-none e =
         record {
@@ -166,7 +158,7 @@ module _ (f : Fields) (n : ℕ) (s : Stage) (names places symbols rules : List �
           rules-size = refl;
         }
 
-    pub line-symbol : {names' places' symbols' : List ℕ} {r : LineRead} → form ≡ symbol_form → Sound rules s → Begun s
+    pub line-symbol : {names' places' symbols' : List ℕ} {r : Result Stage Fault} → form ≡ symbol_form → Sound rules s → Begun s
         → SymbolIn f at names places symbols names' places' symbols' r
         → LineIn f n s names places symbols rules names' places' symbols' rules r
     unfolding read_form
@@ -175,18 +167,13 @@ module _ (f : Fields) (n : ℕ) (s : Stage) (names places symbols rules : List �
           answers = λ fs h some-field.
               c.answers fs rules n h
               ∙ ap (λ (x : Form). read_form x n fs (draft_of names symbols rules at)) (sym e) ∙ moved fs h some-field;
-          sound = c.sound rules (sound-moved rules s p d) (λ z. absurd (omega (
-            arith,
-            z,
-            first-section p s.section (rw e at
-                led) l,
-          )));
+          sound = c.sound rules (sound-moved rules s p d) (λ z. absurd (z (first-section form o s.section led p l e)));
           kept = c.kept;
           symbols-size = c.size;
           rules-size = refl;
         }
 
-    pub line-rule : {names' places' rules' : List ℕ} {r : LineRead} → form ≡ rule_form
+    pub line-rule : {names' places' rules' : List ℕ} {r : Result Stage Fault} → form ≡ rule_form
         → RuleIn f n at names places rules names' places' rules' r
         → LineIn f n s names places symbols rules names' places' symbols rules' r
     unfolding read_form
@@ -201,7 +188,7 @@ module _ (f : Fields) (n : ℕ) (s : Stage) (names places symbols rules : List �
           rules-size = c.size;
         }
 
-    pub line-adds : {form' : Form} {names' places' rules' : List ℕ} {r : LineRead} → form ≡ form'
+    pub line-adds : {form' : Form} {names' places' rules' : List ℕ} {r : Result Stage Fault} → form ≡ form'
         → AddsIn form' f at (take (2 * s.symbols) symbols) names places rules names' places' rules' r
         → LineIn f n s names places symbols rules names' places' symbols rules' r
     line-adds e c =
@@ -236,7 +223,7 @@ pub record LinesSoFar (text names₀ places₀ names places symbols rules : List
 
 pub lines_start : (text names places symbols rules : List ℕ) → Room names places symbols rules → length text ≤ 16384
     → LinesSoFar text names places names places symbols rules 0 1
-    (record { section = 0; symbols = 0; rules = 0; constants = 0 })
+    (record { section = Symbols; symbols = 0; rules = 0; constants = 0 })
 unfolding draft_of blank symbols_of rules_read constants_of section_meant
 lines_start text names places symbols rules room short =
     record {
@@ -249,7 +236,7 @@ lines_start text names places symbols rules room short =
         few-constants = omega arith;
         rows = λ i h. absurd (omega arith);
       };
-      started = λ h. absurd (omega arith);
+      started = λ h. absurd (h refl);
       room = room;
       left = refl;
       placed = λ goal d. d;
@@ -257,7 +244,7 @@ lines_start text names places symbols rules room short =
 
 module _ (text names₀ places₀ names places symbols rules : List ℕ) (at n : ℕ) (s : Stage)
     (w : LinesSoFar text names₀ places₀ names places symbols rules at n s) where
-  pub lines_end : length text ≤ at → LinesIn text names₀ places₀ names places symbols rules (lines_read s)
+  pub lines_end : length text ≤ at → LinesIn text names₀ places₀ names places symbols rules (Ok s)
   unfolding lines_answer read_lines
   lines_end h =
       record {
@@ -270,7 +257,7 @@ module _ (text names₀ places₀ names places symbols rules : List ℕ) (at n :
 
   module _ (h : at < length text) (f : Fields) (split : SplitAt text at f) where
     -- a line that is faulty
-    pub lines-faulty : f.faulty ≡ true → LinesIn text names₀ places₀ names places symbols rules (linesRefused 2 n)
+    pub lines-faulty : f.faulty ≡ true → LinesIn text names₀ places₀ names places symbols rules (Err (fault_at LineFaulty n))
     unfolding lines_answer read_lines read_line
     lines-faulty e =
         record {
@@ -291,7 +278,7 @@ module _ (text names₀ places₀ names places symbols rules : List ℕ) (at n :
       unfolding read_lines read_line
       line-is = rw (lines_split text at f split h fine, line-fine text at f split fine)
 
-      module _ (names' places' symbols' rules' : List ℕ) (r : LineRead)
+      module _ (names' places' symbols' rules' : List ℕ) (r : Result Stage Fault)
           (c : LineIn f n s names places symbols rules names' places' symbols' rules' r) where
         answered : and_then (line_answer names' symbols' rules' n r) (λ e. read_lines (suc n) e (lines (drop (f.end + 1) text)))
             ≡ read_lines 1 blank (lines text)
@@ -314,12 +301,12 @@ module _ (text names₀ places₀ names places symbols rules : List ℕ) (at n :
               rules-size = c.rules-size ∙ w.room.rules-size;
             }
 
-        pub lines-refused : (x : ℕ) → r ≡ Refused x
-            → LinesIn text names₀ places₀ names' places' symbols' rules' (linesRefused x n)
+        pub lines-refused : (x : Fault) → r ≡ Err x
+            → LinesIn text names₀ places₀ names' places' symbols' rules' (Err (fault_at x n))
         unfolding lines_answer line_answer
         lines-refused x e = record { answers = rw e at answered; sound = tt; placed = placed_on; room = room-on }
 
-        pub lines_next : (next : Stage) → r ≡ Next next
+        pub lines_next : (next : Stage) → r ≡ Ok next
             → LinesSoFar text names₀ places₀ names' places' symbols' rules' (f.end + 1) (n + 1) next
         unfolding line_answer
         lines_next next e =
@@ -337,7 +324,7 @@ module _ (text names₀ places₀ names places symbols rules : List ℕ) (at n :
 
 -- the counts behind all lines, where none is refused
 pub stage-sound :
-    {text names places names' places' symbols' rules' : List ℕ} {r : LinesRead} (s : Stage) → r ≡ lines_read s
+    {text names places names' places' symbols' rules' : List ℕ} {r : Result Stage FaultAt} (s : Stage) → r ≡ Ok s
     → LinesIn text names places names' places' symbols' rules' r → Sound rules' s
 stage-sound s e c = rw e at c.sound
 
@@ -358,13 +345,13 @@ used-short n l h = omega (arith, length-take n l)
 
 -- a program's text, by what decides it
 pub program-long : (text names places symbols rules : List ℕ) → 16384 < length text → Room names places symbols rules
-    → ProgramIn text names places names places symbols rules (programRefused 1 0)
+    → ProgramIn text names places names places symbols rules (Err (fault_at TextTooLong 0))
 unfolding program_answer read_program
 program-long text names places symbols rules h room =
     record { answers = rw (lt-ltb 16384 (length text) h); fits = tt; placed = λ goal d. d; room = room }
 
 module _ (text names places names' places' symbols' rules' : List ℕ) where
-  module _ (h : length text ≤ 16384) (r : LinesRead) (c : LinesIn text names places names' places' symbols' rules' r) where
+  module _ (h : length text ≤ 16384) (r : Result Stage FaultAt) (c : LinesIn text names places names' places' symbols' rules' r) where
     abbrev reading : Draft → Reading
     reading d = record {
       program = record { symbols = d.symbols; rules = map (λ q. q.rule) d.rules };
@@ -377,12 +364,11 @@ module _ (text names places names' places' symbols' rules' : List ℕ) where
     unfolding read_program
     short = rw (le-ltb 16384 (length text) h, c.answers)
 
-    pub program-lines : (x n : ℕ) → r ≡ linesRefused x n
-        → ProgramIn text names places names' places' symbols' rules' (programRefused x n)
+    pub program-lines : (at : FaultAt) → r ≡ Err at → ProgramIn text names places names' places' symbols' rules' (Err at)
     unfolding program_answer lines_answer
-    program-lines x n e = record { answers = sym (rw e at short); fits = tt; placed = c.placed; room = c.room }
+    program-lines at e = record { answers = sym (rw e at short); fits = tt; placed = c.placed; room = c.room }
 
-    module _ (s : Stage) (e : r ≡ lines_read s) (q : RulesRead)
+    module _ (s : Stage) (e : r ≡ Ok s) (q : Result (Unit {0}) FaultAt)
         (g : RulesIn (take (2 * s.symbols) symbols') (take (64 * s.rules) rules') q) where
       abbrev counts : Counts
       counts = record { symbols = s.symbols; rules = s.rules; constants = s.constants }
@@ -415,7 +401,7 @@ module _ (text names places names' places' symbols' rules' : List ℕ) where
           (sym rules-are)
           ∙ sym (rw e at short)
 
-      fits : program_fits rules' (Accepted counts)
+      fits : program_fits rules' (Ok counts)
       fits =
           record {
             few-symbols = sound.few-symbols;
@@ -424,11 +410,10 @@ module _ (text names places names' places' symbols' rules' : List ℕ) where
             rows = sound.rows;
           }
 
-      pub program-rules : (x n : ℕ) → q ≡ rulesRefused x n
-          → ProgramIn text names places names' places' symbols' rules' (programRefused x n)
+      pub program-rules : (at : FaultAt) → q ≡ Err at → ProgramIn text names places names' places' symbols' rules' (Err at)
       unfolding program_answer rules_answer
-      program-rules x n z = record { answers = rw z at checked; fits = tt; placed = c.placed; room = c.room }
+      program-rules at z = record { answers = rw z at checked; fits = tt; placed = c.placed; room = c.room }
 
-      pub program-read : q ≡ Fine → ProgramIn text names places names' places' symbols' rules' (Accepted counts)
+      pub program-read : (u : Unit {0}) → q ≡ Ok u → ProgramIn text names places names' places' symbols' rules' (Ok counts)
       unfolding program_answer rules_answer
-      program-read z = record { answers = rw z at checked; fits = fits; placed = c.placed; room = c.room }
+      program-read u z = record { answers = rw z at checked; fits = fits; placed = c.placed; room = c.room }

@@ -7,7 +7,10 @@
 --   LinesIn, FaultIn, RulesIn              of all lines, and of the rules
 --   program_answer, ProgramIn               of a program's text
 -- Assumes nothing.
-use Rattle.std.specs.Prelude.{◌≡◌, ℕ, zero, suc, ◌+◌, ◌-◌, ◌*◌, ◌≤◌, ◌<◌, cond, List, leb, eqb, length, get_or, take}
+use Rattle.std.specs.Prelude.{◌≡◌, ℕ, zero, suc, ◌+◌, ◌-◌, ◌*◌, ◌≤◌, ◌<◌, cond, List, leb, eqb, length, get_or, take, Result, Ok, Err, IfOk}
+use Rattle.faults.specs.Faults.{number_of}
+use Rattle.faults.specs.declared.Fault.{Fault}
+use Rattle.faults.specs.declared.FaultAt.{FaultAt}
 use Rattle.text.specs.Lists.{tabled}
 use Rattle.text.specs.Lines.{lines}
 use Rattle.text.specs.Splits.{Holds}
@@ -21,17 +24,10 @@ use Rattle.syntax.specs.Programs.{read_program}
 use Rattle.tables.specs.Layout.{max_names, symbol_size, row_size, kept_cell, line_cell, heads_cell, body_cell, equations_cell}
 use Rattle.tables.specs.Rows.{symbols_of, constants_of, rule_of_row, row_of, rule_of, rules_of}
 use Rattle.tables.specs.Names.{Placed}
+use Rattle.lines.specs.declared.Section.TheVariants.{Symbols}
 use Rattle.lines.specs.Read.{section_meant, KeepsPlaces}
 use Rattle.programs.specs.declared.Stage.{Stage}
-use Rattle.programs.specs.declared.LineRead.{LineRead}
-use Rattle.programs.specs.declared.LineRead.TheVariants.{Refused as lineRefused, Next}
-use Rattle.programs.specs.declared.LinesRead.{LinesRead}
-use Rattle.programs.specs.declared.LinesRead.TheVariants.{Refused as linesRefused, Read as lines_read}
-use Rattle.programs.specs.declared.RulesRead.{RulesRead}
-use Rattle.programs.specs.declared.RulesRead.TheVariants.{Refused as rulesRefused, Fine}
 use Rattle.programs.specs.declared.Counts.{Counts}
-use Rattle.programs.specs.declared.ProgramRead.{ProgramRead}
-use Rattle.programs.specs.declared.ProgramRead.TheVariants.{Refused as programRefused, Accepted}
 
 -- rule i of a table, with its R line
 unfoldable pub rule_read : List ℕ → List ℕ → ℕ → RuleRead
@@ -71,7 +67,7 @@ pub record Sound (rules : List ℕ) (s : Stage) : Type 0 where
 
 -- behind the K lines a rule has begun
 abbrev pub Begun : Stage → Type 0
-Begun s = 0 < s.section → 0 < s.rules
+Begun s = (s.section ≡ Symbols → ⊥) → 0 < s.rules
 
 -- the tables that a program fills, by their lengths
 pub record Room (names places symbols rules : List ℕ) : Type 0 where
@@ -81,14 +77,13 @@ pub record Room (names places symbols rules : List ℕ) : Type 0 where
   pub rules-size : length rules ≡ 2048
 
 -- the code's answer to line n
-unfoldable pub line_answer : List ℕ → List ℕ → List ℕ → ℕ → LineRead → Answer Draft
-line_answer names symbols rules n (lineRefused x) = refused x n
-line_answer names symbols rules n (Next s) = accepted (draft_of names symbols rules s)
+unfoldable pub line_answer : List ℕ → List ℕ → List ℕ → ℕ → Result Stage Fault → Answer Draft
+line_answer names symbols rules n (Err x) = refused (number_of x) n
+line_answer names symbols rules n (Ok s) = accepted (draft_of names symbols rules s)
 
 -- the counts behind a line that is not refused
-abbrev pub sound_after : List ℕ → LineRead → Type 0
-sound_after rules (lineRefused x) = Unit {0}
-sound_after rules (Next s) = Sound rules s × Begun s
+abbrev pub sound_after : List ℕ → Result Stage Fault → Type 0
+sound_after rules r = IfOk r (λ s. Sound rules s × Begun s)
 
 -- what every line keeps of the names and places: their lengths, and that names stand where their places say
 pub record Kept (f : Fields) (names places names' places' : List ℕ) : Type 0 where
@@ -97,7 +92,7 @@ pub record Kept (f : Fields) (names places names' places' : List ℕ) : Type 0 w
   pub keeps : KeepsPlaces 0 f names places names' places'
 
 -- what is promised of a K line
-pub record SymbolIn (f : Fields) (s : Stage) (names places symbols names' places' symbols' : List ℕ) (r : LineRead) : Type 0 where
+pub record SymbolIn (f : Fields) (s : Stage) (names places symbols names' places' symbols' : List ℕ) (r : Result Stage Fault) : Type 0 where
   pub answers :
       (fs : List (List ℕ)) (rules : List ℕ) (n : ℕ) → Holds fs f
       → line_answer names' symbols' rules n r ≡ read_symbol n fs (draft_of names symbols rules s)
@@ -106,7 +101,7 @@ pub record SymbolIn (f : Fields) (s : Stage) (names places symbols names' places
   pub size : length symbols' ≡ length symbols
 
 -- what is promised of an R line at line n
-pub record RuleIn (f : Fields) (n : ℕ) (s : Stage) (names places rules names' places' rules' : List ℕ) (r : LineRead)
+pub record RuleIn (f : Fields) (n : ℕ) (s : Stage) (names places rules names' places' rules' : List ℕ) (r : Result Stage Fault)
     : Type 0 where
   pub answers :
       (fs : List (List ℕ)) (symbols : List ℕ) → Holds fs f
@@ -121,7 +116,7 @@ part_form zero = head_form
 part_form (suc w) = body_form
 
 -- what is promised of a J, H, B or E line, over the used part of the table of symbols
-pub record AddsIn (form : Form) (f : Fields) (s : Stage) (used names places rules names' places' rules' : List ℕ) (r : LineRead)
+pub record AddsIn (form : Form) (f : Fields) (s : Stage) (used names places rules names' places' rules' : List ℕ) (r : Result Stage Fault)
     : Type 0 where
   pub answers :
       (fs : List (List ℕ)) (symbols : List ℕ) (n : ℕ) → Holds fs f → take (symbol_size * s.symbols) symbols ≡ used
@@ -131,15 +126,14 @@ pub record AddsIn (form : Form) (f : Fields) (s : Stage) (used names places rule
   pub size : length rules' ≡ length rules
 
 -- what is promised of an H line (part 0) besides: the rules are as many as before, and not all heads of the last one are kept
-abbrev pub head_gained : ℕ → Stage → List ℕ → LineRead → Type 0
-head_gained part s rules (lineRefused x) = Unit {0}
-head_gained part s rules (Next t) =
-    (t.rules ≡ s.rules)
-    × (part ≡ 0 → get_or (row_of rules (s.rules - 1)) kept_cell 0 < get_or (row_of rules (s.rules - 1)) heads_cell 0)
+abbrev pub head_gained : ℕ → Stage → List ℕ → Result Stage Fault → Type 0
+head_gained part s rules r =
+    IfOk r (λ t. (t.rules ≡ s.rules)
+    × (part ≡ 0 → get_or (row_of rules (s.rules - 1)) kept_cell 0 < get_or (row_of rules (s.rules - 1)) heads_cell 0))
 
 -- what is promised of line n
 pub record LineIn (f : Fields) (n : ℕ) (s : Stage) (names places symbols rules names' places' symbols' rules' : List ℕ)
-    (r : LineRead) : Type 0 where
+    (r : Result Stage Fault) : Type 0 where
   pub answers :
       (fs : List (List ℕ)) → Holds fs f → 0 < length fs
       → line_answer names' symbols' rules' n r ≡ read_fields n fs (draft_of names symbols rules s)
@@ -149,17 +143,16 @@ pub record LineIn (f : Fields) (n : ℕ) (s : Stage) (names places symbols rules
   pub rules-size : length rules' ≡ length rules
 
 -- the code's answer to all lines of a text
-unfoldable pub lines_answer : List ℕ → List ℕ → List ℕ → LinesRead → Answer Draft
-lines_answer names symbols rules (linesRefused x n) = refused x n
-lines_answer names symbols rules (lines_read s) = accepted (draft_of names symbols rules s)
+unfoldable pub lines_answer : List ℕ → List ℕ → List ℕ → Result Stage FaultAt → Answer Draft
+lines_answer names symbols rules (Err at) = refused (number_of at.fault) at.line
+lines_answer names symbols rules (Ok s) = accepted (draft_of names symbols rules s)
 
 -- the counts behind all lines, if none is refused
-abbrev pub lines_sound : List ℕ → LinesRead → Type 0
-lines_sound rules (linesRefused x n) = Unit {0}
-lines_sound rules (lines_read s) = Sound rules s
+abbrev pub lines_sound : List ℕ → Result Stage FaultAt → Type 0
+lines_sound rules r = IfOk r (Sound rules)
 
 -- what is promised of all lines of a text
-pub record LinesIn (text names places names' places' symbols' rules' : List ℕ) (r : LinesRead) : Type 0 where
+pub record LinesIn (text names places names' places' symbols' rules' : List ℕ) (r : Result Stage FaultAt) : Type 0 where
   pub answers : lines_answer names' symbols' rules' r ≡ read_lines 1 blank (lines text)
   pub sound : lines_sound rules' r
   pub placed : (goal : List ℕ) → Placed text goal names places → Placed text goal names' places'
@@ -171,18 +164,23 @@ rule_fault symbols r =
     cond (eqb (length (terms.removed_heads r)) 0) 8
     (cond (leb (terms.weight symbols (terms.removed_heads r)) (terms.weight symbols r.body)) 9 0)
 
--- what is promised of a rule's row, whatever its name: x is the number that it meets
-pub record FaultIn (symbols row : List ℕ) (x : ℕ) : Type 0 where
+-- the number of the code's answer to a rule
+abbrev pub number_met : Result (Unit {0}) Fault → ℕ
+number_met (Err x) = number_of x
+number_met (Ok u) = 0
+
+-- what is promised of a rule's row, whatever its name: the number that it meets
+pub record FaultIn (symbols row : List ℕ) (r : Result (Unit {0}) Fault) : Type 0 where
   pub fault : (names name : List ℕ) (k : ℕ) → length symbols ≡ symbol_size * k
-      → x ≡ rule_fault (symbols_of names symbols k) (rule_of_row name row)
+      → number_met r ≡ rule_fault (symbols_of names symbols k) (rule_of_row name row)
 
 -- the code's answer to the rules, with what follows where none is refused
-unfoldable pub rules_answer : RulesRead → Answer Reading → Answer Reading
-rules_answer (rulesRefused x n) otherwise = refused x n
-rules_answer Fine otherwise = otherwise
+unfoldable pub rules_answer : Result (Unit {0}) FaultAt → Answer Reading → Answer Reading
+rules_answer (Err at) otherwise = refused (number_of at.fault) at.line
+rules_answer (Ok u) otherwise = otherwise
 
 -- what is promised of the rules of a table
-pub record RulesIn (symbols rules : List ℕ) (r : RulesRead) : Type 0 where
+pub record RulesIn (symbols rules : List ℕ) (r : Result (Unit {0}) FaultAt) : Type 0 where
   pub answers :
       (names : List ℕ) (k m : ℕ) (otherwise : Answer Reading) → length symbols ≡ symbol_size * k → length rules ≡ row_size * m
       → rules_answer r otherwise ≡ check_rules (symbols_of names symbols k) (rules_read names rules m) otherwise
@@ -196,9 +194,9 @@ reading_of names symbols rules c =
     }
 
 -- the code's answer to a program's text
-unfoldable pub program_answer : List ℕ → List ℕ → List ℕ → ProgramRead → Answer Reading
-program_answer names symbols rules (programRefused x n) = refused x n
-program_answer names symbols rules (Accepted c) = accepted (reading_of names symbols rules c)
+unfoldable pub program_answer : List ℕ → List ℕ → List ℕ → Result Counts FaultAt → Answer Reading
+program_answer names symbols rules (Err at) = refused (number_of at.fault) at.line
+program_answer names symbols rules (Ok c) = accepted (reading_of names symbols rules c)
 
 -- what a program's tables keep to
 pub record ProgramFits (rules : List ℕ) (c : Counts) : Type 0 where
@@ -208,12 +206,11 @@ pub record ProgramFits (rules : List ℕ) (c : Counts) : Type 0 where
   pub rows : (i : ℕ) → i < c.rules → RowFits (row_of rules i)
 
 -- the same of a program that is not refused
-abbrev pub program_fits : List ℕ → ProgramRead → Type 0
-program_fits rules (programRefused x n) = Unit {0}
-program_fits rules (Accepted c) = ProgramFits rules c
+abbrev pub program_fits : List ℕ → Result Counts FaultAt → Type 0
+program_fits rules r = IfOk r (ProgramFits rules)
 
 -- what is promised of a program's text, whatever goal the names that were there before are of
-pub record ProgramIn (text names places names' places' symbols' rules' : List ℕ) (r : ProgramRead) : Type 0 where
+pub record ProgramIn (text names places names' places' symbols' rules' : List ℕ) (r : Result Counts FaultAt) : Type 0 where
   pub answers : program_answer names' symbols' rules' r ≡ read_program text
   pub fits : program_fits rules' r
   pub placed : (goal : List ℕ) → Placed text goal names places → Placed text goal names' places'

@@ -5,7 +5,8 @@ ghost use Rattle.syntax.specs.Forms.{kept_form, equation_form, is_equation_fault
 ghost use Rattle.lines.specs.Read.{Lent};
 ghost use Rattle.programs.specs.Read.{part_form, Sound, AddsIn, head_gained};
 
-use crate::{LineRead, Stage};
+use crate::Stage;
+use faults::Fault;
 use lines::constraints::read_constraint;
 use lines::heads::are_terms;
 use lines::rows::add_cells;
@@ -24,7 +25,7 @@ pub fn constraint_line(
     names: &mut [u64],
     places: &mut [u16],
     rules: &mut [u16],
-) -> LineRead
+) -> Result<Stage, Fault>
     requires { Lent f 0 names.old places.old × (length symbols.now ≡ 2 * stage.symbols) × (length rules.old ≡ 2048)
         × Sound rules.old stage × (0 < stage.rules) × (part ≤ 1) }
     ensures { AddsIn (part_form part) f stage symbols.now names.old places.old
@@ -35,18 +36,13 @@ pub fn constraint_line(
     let slot = HEADS_CELL + part;
     let h = wide(rules[row + slot]);
     let most = 4 + 2 * part;
-    let r = read_constraint(f, most <= h, 0, stage.constants, symbols, names, places);
-    if r.refusal != 0 {
-        return LineRead::Refused(r.refusal);
-    }
+    let r = read_constraint(f, most <= h, 0, stage.constants, symbols, names, places)?;
     let cells = r.cells;
     let start = FIRST_HEAD + 20 * part + 5 * h;
     add_cells(rules, row + slot, row + start, &cells);
-    LineRead::Next(Stage {
-        section: stage.section,
-        symbols: stage.symbols,
-        rules: stage.rules,
+    Ok(Stage {
         constants: r.count,
+        ..stage
     })
 }
 
@@ -58,30 +54,23 @@ pub fn kept_line(
     names: &mut [u64],
     places: &mut [u16],
     rules: &mut [u16],
-) -> LineRead
+) -> Result<Stage, Fault>
     requires { Lent f 0 names.old places.old × (length symbols.now ≡ 2 * stage.symbols) × (length rules.old ≡ 2048)
         × Sound rules.old stage × (0 < stage.rules) }
     ensures { AddsIn kept_form f stage symbols.now names.old places.old
         rules.old names.new places.new rules.new result }
 {
     let cell = ROW_SIZE * (stage.rules - 1) + KEPT_CELL;
-    match constraint_line(f, 0, stage, symbols, names, places, rules) {
-        LineRead::Refused(x) => LineRead::Refused(x),
-        LineRead::Next(next) => {
-            rules[cell] += 1;
-            LineRead::Next(next)
-        }
-    }
+    let next = constraint_line(f, 0, stage, symbols, names, places, rules)?;
+    rules[cell] += 1;
+    Ok(next)
 }
 
 // Number 4 of an E line: not three fields, two terms.
 fn is_equation_faulty(f: Fields) -> bool
     ensures { ((fs : List (List ℕ)) → Holds fs f → result ≡ is_equation_faulty fs) × (result ≡ false → f.count ≡ 3) }
 {
-    if f.count != 3 {
-        return true;
-    }
-    if are_terms(f, 1) { false } else { true }
+    f.count != 3 || !are_terms(f, 1)
 }
 
 // An E line: one equation more of the last rule.
@@ -91,33 +80,29 @@ pub fn equation_line(
     names: &mut [u64],
     places: &mut [u16],
     rules: &mut [u16],
-) -> LineRead
+) -> Result<Stage, Fault>
     requires { Lent f 0 names.old places.old × (length rules.old ≡ 2048) × Sound rules.old stage
         × (0 < stage.rules) }
     ensures { (used : List ℕ) → AddsIn equation_form f stage used names.old places.old
         rules.old names.new places.new rules.new result }
 {
     if is_equation_faulty(f) {
-        return LineRead::Refused(4);
+        return Err(Fault::FieldsFaulty);
     }
     let row = ROW_SIZE * (stage.rules - 1);
     let slot = row + EQUATIONS_CELL;
     let h = wide(rules[slot]);
-    if 4 <= h {
-        return LineRead::Refused(7);
+    let full = 4 <= h;
+    if full {
+        return Err(Fault::LimitPassed);
     }
-    let t = read_terms(f, 1, 0, stage.constants, names, places);
-    if t.full {
-        return LineRead::Refused(7);
-    }
+    let t = read_terms(f, 1, 0, stage.constants, names, places)?;
     let cells = t.cells;
     let sides = [cells[0], cells[1]];
     let start = FIRST_EQUATION + 2 * h;
     add_cells(rules, slot, row + start, &sides);
-    LineRead::Next(Stage {
-        section: stage.section,
-        symbols: stage.symbols,
-        rules: stage.rules,
+    Ok(Stage {
         constants: t.count,
+        ..stage
     })
 }

@@ -5,7 +5,8 @@ ghost use Rattle.syntax.specs.Forms.{is_symbol_faulty, is_rule_faulty};
 ghost use Rattle.lines.specs.Read.{Lent};
 ghost use Rattle.programs.specs.Read.{Sound, SymbolIn, RuleIn};
 
-use crate::{LineRead, Stage};
+use crate::Stage;
+use faults::Fault;
 use lines::rows::write_cells;
 use tables::layout::{FIRST_RULE, ROW_SIZE, SYMBOL_SIZE};
 use tables::names::find_key;
@@ -16,20 +17,11 @@ fn is_symbol_faulty(f: Fields) -> bool
     ensures { (fs : List (List ℕ)) → Holds fs f → result ≡ is_symbol_faulty fs }
 {
     let keys = f.keys;
-    if f.count != 4 {
-        return true;
-    }
-    if keys[1] < 28 {
-        return true;
-    }
-    if 4 < number_of(keys[2]) {
+    if f.count != 4 || keys[1] < 28 || 4 < number_of(keys[2]) {
         return true;
     }
     let weight = number_of(keys[3]);
-    if weight < 1 {
-        return true;
-    }
-    31 < weight
+    weight < 1 || 31 < weight
 }
 
 // A K line: the symbol behind the others.
@@ -39,32 +31,30 @@ pub fn symbol_line(
     names: &mut [u64],
     places: &mut [u16],
     symbols: &mut [u16],
-) -> LineRead
+) -> Result<Stage, Fault>
     requires { Lent f 0 names.old places.old × (length symbols.old ≡ 128) × (stage.symbols ≤ 32) }
     ensures { SymbolIn f stage names.old places.old symbols.old names.new
         places.new symbols.new result }
 {
     if is_symbol_faulty(f) {
-        return LineRead::Refused(4);
+        return Err(Fault::FieldsFaulty);
     }
     let keys = f.keys;
     let starts = f.starts;
     let n = stage.symbols;
     if find_key(&names[..n], keys[1]) < n {
-        return LineRead::Refused(5);
+        return Err(Fault::NameRepeated);
     }
     if 32 <= n {
-        return LineRead::Refused(7);
+        return Err(Fault::LimitPassed);
     }
     let values = [number_of(keys[2]), number_of(keys[3])];
     write_cells(symbols, SYMBOL_SIZE * n, &values);
     names[n] = keys[1];
     places[n] = starts[1] as u16;
-    LineRead::Next(Stage {
-        section: stage.section,
+    Ok(Stage {
         symbols: n + 1,
-        rules: stage.rules,
-        constants: stage.constants,
+        ..stage
     })
 }
 
@@ -73,10 +63,7 @@ fn is_rule_faulty(f: Fields) -> bool
     ensures { (fs : List (List ℕ)) → Holds fs f → result ≡ is_rule_faulty fs }
 {
     let keys = f.keys;
-    if f.count != 2 {
-        return true;
-    }
-    keys[1] < 28
+    f.count != 2 || keys[1] < 28
 }
 
 // An R line: the rule behind the others, with nothing in it yet.
@@ -87,32 +74,30 @@ pub fn rule_line(
     names: &mut [u64],
     places: &mut [u16],
     rules: &mut [u16],
-) -> LineRead
+) -> Result<Stage, Fault>
     requires { Lent f 0 names.old places.old × (length rules.old ≡ 2048) × Sound rules.old stage }
     ensures { RuleIn f number stage names.old places.old rules.old names.new
         places.new rules.new result }
 {
     if is_rule_faulty(f) {
-        return LineRead::Refused(4);
+        return Err(Fault::FieldsFaulty);
     }
     let keys = f.keys;
     let starts = f.starts;
     let n = stage.rules;
     let at = FIRST_RULE + n;
     if find_key(&names[FIRST_RULE..at], keys[1]) < n {
-        return LineRead::Refused(5);
+        return Err(Fault::NameRepeated);
     }
     if 32 <= n {
-        return LineRead::Refused(7);
+        return Err(Fault::LimitPassed);
     }
     let values = [0, 0, number, 0, 0, 0];
     write_cells(rules, ROW_SIZE * n, &values);
     names[at] = keys[1];
     places[at] = starts[1] as u16;
-    LineRead::Next(Stage {
-        section: stage.section,
-        symbols: stage.symbols,
+    Ok(Stage {
         rules: n + 1,
-        constants: stage.constants,
+        ..stage
     })
 }

@@ -6,9 +6,10 @@ ghost use Rattle.programs.specs.Read.{Room, Sound, Begun, LineIn, LinesIn, Progr
 use crate::adds::{constraint_line, equation_line, kept_line};
 use crate::declarations::{rule_line, symbol_line};
 use crate::rules::check_rules;
-use crate::{Counts, LineRead, LinesRead, ProgramRead, RulesRead, Stage};
-use lines::LineForm;
+use crate::{Counts, Stage};
+use faults::{Fault, FaultAt};
 use lines::forms::{form_of, section_after};
+use lines::{LineForm, Section};
 use reader::line_at;
 use tables::layout::{ROW_SIZE, SYMBOL_SIZE};
 use text::fields::Fields;
@@ -22,7 +23,7 @@ fn read_line(
     places: &mut [u16],
     symbols: &mut [u16],
     rules: &mut [u16],
-) -> LineRead
+) -> Result<Stage, Fault>
     requires { Lent f 0 names.old places.old × (length symbols.old ≡ 128) × (length rules.old ≡ 2048)
         × Sound rules.old stage × Begun stage }
     ensures { LineIn f number stage names.old places.old symbols.old rules.old
@@ -30,16 +31,8 @@ fn read_line(
 {
     let keys = f.keys;
     let form = form_of(keys[0]);
-    let section = section_after(form, stage.section);
-    if 4 < section {
-        return LineRead::Refused(3);
-    }
-    let at = Stage {
-        section: section,
-        symbols: stage.symbols,
-        rules: stage.rules,
-        constants: stage.constants,
-    };
+    let section = section_after(form, stage.section).ok_or(Fault::FormMisplaced)?;
+    let at = Stage { section, ..stage };
     let used = SYMBOL_SIZE * stage.symbols;
     match form {
         LineForm::Symbol => symbol_line(f, at, names, places, symbols),
@@ -48,8 +41,7 @@ fn read_line(
         LineForm::Head => constraint_line(f, 0, at, &symbols[..used], names, places, rules),
         LineForm::Body => constraint_line(f, 1, at, &symbols[..used], names, places, rules),
         LineForm::Equation => equation_line(f, at, names, places, rules),
-        LineForm::Goal => LineRead::Refused(3),
-        LineForm::Nothing => LineRead::Refused(3),
+        LineForm::Goal | LineForm::Nothing => Err(Fault::FormMisplaced),
     }
 }
 
@@ -60,7 +52,7 @@ fn read_lines(
     places: &mut [u16],
     symbols: &mut [u16],
     rules: &mut [u16],
-) -> LinesRead
+) -> Result<Stage, FaultAt>
     requires { Room names.old places.old symbols.old rules.old × (length text.now ≤ 16384) }
     ensures { LinesIn text.now names.old places.old names.new
         places.new symbols.new rules.new result }
@@ -69,7 +61,7 @@ fn read_lines(
     let mut at = 0;
     let mut number: u16 = 1;
     let mut stage = Stage {
-        section: 0,
+        section: Section::Symbols,
         symbols: 0,
         rules: 0,
         constants: 0,
@@ -77,20 +69,14 @@ fn read_lines(
     while at < text.len() {
         let f = line_at(&classes, text, at);
         if f.faulty {
-            return LinesRead::Refused(2, number);
+            return Err(Fault::LineFaulty.at(number));
         }
-        match read_line(f, number, stage, names, places, symbols, rules) {
-            LineRead::Refused(x) => {
-                return LinesRead::Refused(x, number);
-            }
-            LineRead::Next(next) => {
-                stage = next;
-            }
-        }
+        let read = read_line(f, number, stage, names, places, symbols, rules);
+        stage = read.map_err(|fault| fault.at(number))?;
         at = f.end + 1;
         number += 1;
     }
-    LinesRead::Read(stage)
+    Ok(stage)
 }
 
 // A program's text into the lent tables: number 1, its lines in order, then its rules in order.
@@ -100,27 +86,22 @@ pub fn read_program(
     places: &mut [u16],
     symbols: &mut [u16],
     rules: &mut [u16],
-) -> ProgramRead
+) -> Result<Counts, FaultAt>
     requires { Room names.old places.old symbols.old rules.old }
     ensures { ProgramIn text.now names.old places.old names.new
         places.new symbols.new rules.new result }
 {
-    if 16384 < text.len() {
-        return ProgramRead::Refused(1, 0);
+    let long = 16384 < text.len();
+    if long {
+        return Err(Fault::TextTooLong.at(0));
     }
-    match read_lines(text, names, places, symbols, rules) {
-        LinesRead::Refused(x, number) => ProgramRead::Refused(x, number),
-        LinesRead::Read(stage) => {
-            let k = SYMBOL_SIZE * stage.symbols;
-            let n = ROW_SIZE * stage.rules;
-            match check_rules(&symbols[..k], &rules[..n]) {
-                RulesRead::Refused(x, number) => ProgramRead::Refused(x, number),
-                RulesRead::Fine => ProgramRead::Accepted(Counts {
-                    symbols: stage.symbols,
-                    rules: stage.rules,
-                    constants: stage.constants,
-                }),
-            }
-        }
-    }
+    let stage = read_lines(text, names, places, symbols, rules)?;
+    let k = SYMBOL_SIZE * stage.symbols;
+    let n = ROW_SIZE * stage.rules;
+    check_rules(&symbols[..k], &rules[..n])?;
+    Ok(Counts {
+        symbols: stage.symbols,
+        rules: stage.rules,
+        constants: stage.constants,
+    })
 }

@@ -2,16 +2,15 @@
 ghost use Rattle.std.specs.Prelude.{◌≡◌, ◌≤◌, length};
 ghost use Rattle.programs.specs.Read.{RowFits, RowsFit, FaultIn, RulesIn};
 
-use crate::RulesRead;
+use faults::{Fault, FaultAt};
 use lines::weights::weight_of;
 use tables::layout::{
     BODY_CELL, FIRST_BODY, FIRST_HEAD, HEADS_CELL, KEPT_CELL, LINE_CELL, ROW_SIZE,
 };
 use tables::wide;
 
-// Numbers 8 and 9 of a rule's row: it removes a head, and the heads that it removes weigh more than its body; 0 where it meets
-// neither.
-fn rule_fault(symbols: &[u16], row: &[u16]) -> u8
+// Numbers 8 and 9 of a rule's row: it removes a head, and the heads that it removes weigh more than its body.
+fn check_rule(symbols: &[u16], row: &[u16]) -> Result<(), Fault>
     requires { (length row.now ≡ 64) × RowFits row.now }
     ensures { FaultIn symbols.now row.now result }
 {
@@ -19,7 +18,7 @@ fn rule_fault(symbols: &[u16], row: &[u16]) -> u8
     let h = wide(row[HEADS_CELL]);
     let b = wide(row[BODY_CELL]);
     if h <= k {
-        return 8;
+        return Err(Fault::NothingRemoved);
     }
     let first = FIRST_HEAD + 5 * k;
     let stop = FIRST_HEAD + 5 * h;
@@ -27,24 +26,18 @@ fn rule_fault(symbols: &[u16], row: &[u16]) -> u8
     let heads = weight_of(symbols, &row[first..stop]);
     let body = weight_of(symbols, &row[FIRST_BODY..end]);
     if heads <= body {
-        return 9;
+        return Err(Fault::WeightKept);
     }
-    0
+    Ok(())
 }
 
 // The rules in order: numbers 8 and 9. Both tables are lent as far as they are used.
-pub fn check_rules(symbols: &[u16], rules: &[u16]) -> RulesRead
+pub fn check_rules(symbols: &[u16], rules: &[u16]) -> Result<(), FaultAt>
     requires { (length rules.now ≤ 2048) × RowsFit rules.now }
     ensures { RulesIn symbols.now rules.now result }
 {
-    let mut at = 0;
-    while at + ROW_SIZE <= rules.len() {
-        let stop = at + ROW_SIZE;
-        let x = rule_fault(symbols, &rules[at..stop]);
-        if x != 0 {
-            return RulesRead::Refused(x, rules[at + LINE_CELL]);
-        }
-        at = stop;
+    for row in rules.chunks_exact(ROW_SIZE) {
+        check_rule(symbols, row).map_err(|fault| fault.at(row[LINE_CELL]))?;
     }
-    RulesRead::Fine
+    Ok(())
 }

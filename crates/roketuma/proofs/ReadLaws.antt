@@ -24,12 +24,11 @@ use Rattle.tables.specs.Layout.{symbol_size}
 use Rattle.tables.specs.Rows.{symbols_of, constants_of}
 use Rattle.programs.specs.Read.{program_answer, reading_of, ProgramIn}
 use Rattle.programs.specs.declared.Counts.{Counts}
-use Rattle.programs.specs.declared.ProgramRead.{ProgramRead}
-use Rattle.programs.specs.declared.ProgramRead.TheVariants as program-read
+use Rattle.std.specs.Prelude.{Result, Ok, Err}
+use Rattle.faults.specs.Faults.{number_of}
+use Rattle.faults.specs.declared.FaultAt.{FaultAt}
 use Rattle.goals.specs.ReadGoal.{goal_answer, GoalIn}
 use Rattle.goals.specs.declared.GoalCounts.{GoalCounts}
-use Rattle.goals.specs.declared.GoalRead.{GoalRead}
-use Rattle.goals.specs.declared.GoalRead.TheVariants as goal-read
 use Rattle.replies.specs.Replies.{Text, program_text, goal_text, refusal, listing, reply_of, fitted, run_listing, run_reply}
 use Rattle.replies.proofs.ShortNames.{Turned, Reads, ShortProgram, ShortGoal, program-short, goal-short}
 use Rattle.answers.specs.Answers.{text_meant, text_byte, name_byte, reply_number}
@@ -44,18 +43,19 @@ use Rattle.roketuma.specs.declared.reading.ReadReply.TheVariants.{Refused, Reada
 use Rattle.answers.proofs.NumberLaws.{refusal-read}
 use Rattle.inputs.proofs.TabledLaws.{goal-answers}
 
-module _ {program names places names' places' symbols' rules' : List ℕ} {reply : ProgramRead}
+module _ {program names places names' places' symbols' rules' : List ℕ} {reply : Result Counts FaultAt}
     (r : ProgramIn program names places names' places' symbols' rules' reply) where
   -- a program that is refused
   pub program-unreadable :
-      (goal : List ℕ) (number line : ℕ) → reply ≡ program-read.Refused number line
-      → unreadable number (text_meant S) line ≡ read_reply program goal
+      (goal : List ℕ) (at : FaultAt) (number : ℕ) → reply ≡ Err at → number ≡ number_of at.fault
+      → unreadable number (text_meant S) at.line ≡ read_reply program goal
   unfolding program_answer text_meant read_reply judged
-  program-unreadable goal number line h =
-      ap (λ (a : Answer Reading). judged program_text a (λ p. goal_reply p.program.symbols p.constants goal))
-      (sym (ap (program_answer names' symbols' rules') h) ∙ r.answers)
+  program-unreadable goal at number h e =
+      rw e
+      (ap (λ (a : Answer Reading). judged program_text a (λ p. goal_reply p.program.symbols p.constants goal))
+      (sym (ap (program_answer names' symbols' rules') h) ∙ r.answers))
 
-  module _ (counts : Counts) (h : reply ≡ program-read.Accepted counts) where
+  module _ (counts : Counts) (h : reply ≡ Ok counts) where
     -- the goal's judgement is that of both
     pub program-goes-on :
         (goal : List ℕ) (a : ReadReply)
@@ -67,22 +67,23 @@ module _ {program names places names' places' symbols' rules' : List ℕ} {reply
         (sym (ap (program_answer names' symbols' rules') h) ∙ r.answers)
 
 module _ {symbols names places : List ℕ} {c : Counts} (t : Tabled symbols names places c) where
-  module _ (goal : List ℕ) {names' places' cells letters : List ℕ} {reply : GoalRead}
+  module _ (goal : List ℕ) {names' places' cells letters : List ℕ} {reply : Result GoalCounts FaultAt}
       (g : GoalIn goal (take (symbol_size * c.symbols) symbols) names places c.constants names' places' cells letters
       reply) where
     -- a goal that is refused
     pub goal-unreadable :
-        (number line : ℕ) → reply ≡ goal-read.Refused number line
-        → unreadable number (text_meant G) line
+        (at : FaultAt) (number : ℕ) → reply ≡ Err at → number ≡ number_of at.fault
+        → unreadable number (text_meant G) at.line
         ≡ goal_reply (symbols_of names symbols c.symbols) (constants_of names c.constants) goal
     unfolding goal_answer text_meant goal_reply judged
-    goal-unreadable number line h =
-        ap (λ (a : Answer GoalReading). judged goal_text a (λ g. readable))
-        (sym (ap (goal_answer names' cells letters) h) ∙ goal-answers t goal g)
+    goal-unreadable at number h e =
+        rw e
+        (ap (λ (a : Answer GoalReading). judged goal_text a (λ g. readable))
+        (sym (ap (goal_answer names' cells letters) h) ∙ goal-answers t goal g))
 
     -- a goal that is read
     pub goal-readable :
-        (found : GoalCounts) → reply ≡ goal-read.Accepted found
+        (found : GoalCounts) → reply ≡ Ok found
         → read_meant Readable ≡ goal_reply (symbols_of names symbols c.symbols) (constants_of names c.constants) goal
     unfolding goal_answer read_meant goal_reply judged
     goal-readable found h =

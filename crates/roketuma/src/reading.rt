@@ -7,8 +7,8 @@ ghost use Rattle.roketuma.specs.Readings.{unreadable, read_meant, goal_reply, re
 ghost use Rattle.inputs.specs.Inputs.{Tabled};
 
 use answers::{Refusal, TextName, refusal_number};
-use goals::{GoalRead, read_goal};
-use programs::{Counts, ProgramRead, read_program};
+use goals::read_goal;
+use programs::{Counts, read_program};
 use tables::layout::SYMBOL_SIZE;
 
 // The answer of reading: a refusal, or that both texts can be read.
@@ -49,8 +49,8 @@ fn judge_goal(
         &mut cells,
         &mut letters,
     ) {
-        GoalRead::Refused(number, line) => refused(number, TextName::G, line),
-        GoalRead::Accepted(_) => ReadReply::Readable,
+        Err(at) => refused(at.fault.number(), TextName::G, at.line),
+        Ok(_) => ReadReply::Readable,
     }
 }
 
@@ -63,14 +63,8 @@ pub fn read(program: &[u8], goal: &[u8]) -> ReadReply
     let mut symbols = [0; 128];
     let mut rules = [0; 2048];
     match read_program(program, &mut names, &mut places, &mut symbols, &mut rules) {
-        ProgramRead::Refused(number, line) => refused(number, TextName::S, line),
-        ProgramRead::Accepted(counts) => judge_goal(
-            goal,
-            &symbols,
-            &mut names,
-            &mut places,
-            counts,
-        ),
+        Err(at) => refused(at.fault.number(), TextName::S, at.line),
+        Ok(counts) => judge_goal(goal, &symbols, &mut names, &mut places, counts),
     }
 }
 

@@ -17,12 +17,11 @@ use Rattle.tables.specs.Layout.{symbol_size}
 use Rattle.tables.specs.Rows.{symbols_of, constants_of}
 use Rattle.programs.specs.Read.{program_answer, ProgramIn}
 use Rattle.programs.specs.declared.Counts.{Counts}
-use Rattle.programs.specs.declared.ProgramRead.{ProgramRead}
-use Rattle.programs.specs.declared.ProgramRead.TheVariants as program-read
+use Rattle.std.specs.Prelude.{Result, Ok, Err}
+use Rattle.faults.specs.Faults.{number_of}
+use Rattle.faults.specs.declared.FaultAt.{FaultAt}
 use Rattle.goals.specs.ReadGoal.{GoalFits, goal_answer, goal_reading_of, GoalIn}
 use Rattle.goals.specs.declared.GoalCounts.{GoalCounts}
-use Rattle.goals.specs.declared.GoalRead.{GoalRead}
-use Rattle.goals.specs.declared.GoalRead.TheVariants as goal-read
 use Rattle.replies.specs.Replies.{run_reply}
 use Rattle.replies.proofs.ShortNames.{Termed, TermedProgram, TermedGoal, program-termed, goal-termed, reads-accepted}
 use Rattle.answers.specs.Answers.{Replied}
@@ -36,18 +35,19 @@ use Rattle.inputs.proofs.ProgramLaws.{few-symbols}
 use Rattle.answers.proofs.ReplyLaws.{refused-program, refused-goal}
 use Rattle.inputs.proofs.TabledLaws.{goal-tabled, outside-symbols, outside-rules, letters-front}
 
-module _ {program names places names' places' symbols' rules' : List ℕ} {reply : ProgramRead}
+module _ {program names places names' places' symbols' rules' : List ℕ} {reply : Result Counts FaultAt}
     (r : ProgramIn program names places names' places' symbols' rules' reply) where
   -- a program that is refused
   pub program-refused :
-      (goal : List ℕ) {output : List ℕ} (number line : ℕ) → reply ≡ program-read.Refused number line
+      (goal : List ℕ) {output : List ℕ} (at : FaultAt) (number : ℕ) → reply ≡ Err at → number ≡ number_of at.fault
       → Replied (run_reply program goal (length output)) output output
-      (Refused (record { number = number; text = S; line = line }))
+      (Refused (record { number = number; text = S; line = at.line }))
   unfolding program_answer
-  program-refused goal {output} number line h = refused-program program goal output number line (sym (rw h at r.answers))
+  program-refused goal {output} at number h e =
+      refused-program program goal output number at.line (rw e (sym (rw h at r.answers)))
 
 module _ {program names places symbols rules : List ℕ} {c : Counts} (r : GoalReady program names places symbols rules c) where
-  module _ (goal : List ℕ) {names' places' cells letters : List ℕ} {reply : GoalRead}
+  module _ (goal : List ℕ) {names' places' cells letters : List ℕ} {reply : Result GoalCounts FaultAt}
       (g : GoalIn goal (take (symbol_size * c.symbols) symbols) names places c.constants names' places' cells letters reply) where
     declared : symbols_of names symbols c.symbols ≡ r.p.program.symbols
     unfolding program_table
@@ -61,14 +61,14 @@ module _ {program names places symbols rules : List ℕ} {c : Counts} (r : GoalR
 
     -- a goal that is refused
     pub goal-refused :
-        {output : List ℕ} (number line : ℕ) → reply ≡ goal-read.Refused number line
+        {output : List ℕ} (at : FaultAt) (number : ℕ) → reply ≡ Err at → number ≡ number_of at.fault
         → Replied (run_reply program goal (length output)) output output
-        (Refused (record { number = number; text = G; line = line }))
+        (Refused (record { number = number; text = G; line = at.line }))
     unfolding goal_answer
-    goal-refused {output} number line h =
-        refused-goal program goal output r.p number line r.first.read (sym (rw h at answers))
+    goal-refused {output} at number h e =
+        refused-goal program goal output r.p number at.line r.first.read (rw e (sym (rw h at answers)))
 
-    module _ {found : GoalCounts} (h : reply ≡ goal-read.Accepted found) where
+    module _ {found : GoalCounts} (h : reply ≡ Ok found) where
       fits : GoalFits letters found
       fits = rw h at g.fits
 

@@ -13,9 +13,9 @@ ghost use Rattle.inputs.specs.Inputs.{GoalReady};
 use answers::{Refusal, RunReply, TextName};
 use engine::derivation::{Final, normalise};
 use engine::entering::start_bound;
-use goals::{GoalRead, read_goal};
+use goals::read_goal;
 use listing::{End, list_end};
-use programs::{Counts, ProgramRead, read_program};
+use programs::{Counts, read_program};
 use tables::layout::{CONSTRAINT_SIZE, MAX_SYMBOLS, SYMBOL_SIZE};
 use tables::wide;
 use tallies::counting::raise;
@@ -171,12 +171,12 @@ fn run_goal<'a>(
         &mut cells,
         &mut letters,
     ) {
-        GoalRead::Refused(number, line) => RunReply::Refused(Refusal {
-            number,
+        Err(at) => RunReply::Refused(Refusal {
+            number: at.fault.number(),
             text: TextName::G,
-            line,
+            line: at.line,
         }),
-        GoalRead::Accepted(found) => {
+        Ok(found) => {
             let v = found.letters;
             let sizes = Sizes {
                 rules: counts.rules,
@@ -206,12 +206,12 @@ pub fn run<'a>(program: &'a [u8], goal: &'a [u8], output: &mut [u8]) -> RunReply
     let mut symbols = [0; 128];
     let mut rules = [0; 2048];
     match read_program(program, &mut names, &mut places, &mut symbols, &mut rules) {
-        ProgramRead::Refused(number, line) => RunReply::Refused(Refusal {
-            number,
+        Err(at) => RunReply::Refused(Refusal {
+            number: at.fault.number(),
             text: TextName::S,
-            line,
+            line: at.line,
         }),
-        ProgramRead::Accepted(counts) => run_goal(
+        Ok(counts) => run_goal(
             program,
             goal,
             &mut names,

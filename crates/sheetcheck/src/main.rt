@@ -6,6 +6,7 @@ use std::io;
 use std::io::Write;
 
 // Writes what is printed on an input.
+// `sheetrun` has the same by `put_run`: one for both would take a closure and its promise, and be no shorter.
 fn answer(rt: &impl Print, input: &[u8]) -> io::Result<()> {
     let mut out = [0u8; 32768];
     let n = roketuma::put_check(input, &mut out);

@@ -7,11 +7,11 @@ use Rattle.checking.proofs.check.Goals as goal
 
 pub check_read-requires : goal.check_read-requires
 check_read-requires c =
-    check-ready (program-ready c.read_program.ensures _ c.in-Accepted.is refl)
+    check-ready (program-ready c.read_program.ensures _ c.in-Ok.is refl)
 
-pub returns-in-Refused : goal.returns-in-Refused
-returns-in-Refused c =
-    checked-demand (check-refused c.read_program.ensures _ _ c.in-Refused.is)
+pub returns-in-Err : goal.returns-in-Err
+returns-in-Err c =
+    checked-demand (check-refused c.read_program.ensures _ _ c.in-Err.is c.number.ensures)
 
-pub returns-in-Accepted : goal.returns-in-Accepted
-returns-in-Accepted c = checked-demand c.check_read.ensures
+pub returns-in-Ok : goal.returns-in-Ok
+returns-in-Ok c = checked-demand c.check_read.ensures

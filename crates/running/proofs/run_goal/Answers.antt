@@ -21,18 +21,18 @@ read_goal-requires c =
 
 pub slice_bounds-letters-end : goal.slice_bounds-letters-end
 slice_bounds-letters-end c =
-    few-letters c.requires c.args.goal.now c.read_goal.ensures c.in-Accepted.is
+    few-letters c.requires c.args.goal.now c.read_goal.ensures c.in-Ok.is
 
 pub slice_bounds-run_read-end : goal.slice_bounds-run_read-end
 slice_bounds-run_read-end c =
     sym (length-take-le _ _
-    (few-letters c.requires c.args.goal.now c.read_goal.ensures c.in-Accepted.is))
+    (few-letters c.requires c.args.goal.now c.read_goal.ensures c.in-Ok.is))
 
 pub run_read-requires : goal.run_read-requires
 run_read-requires c =
-    goal-ready c.requires c.args.goal.now c.read_goal.ensures c.in-Accepted.is
+    goal-ready c.requires c.args.goal.now c.read_goal.ensures c.in-Ok.is
     c.read_goal.auto.cells
 
-pub returns-in-Refused : goal.returns-in-Refused
-returns-in-Refused c =
-    goal-refused c.requires c.args.goal.now c.read_goal.ensures _ _ c.in-Refused.is
+pub returns-in-Err : goal.returns-in-Err
+returns-in-Err c =
+    goal-refused c.requires c.args.goal.now c.read_goal.ensures _ _ c.in-Err.is c.number.ensures

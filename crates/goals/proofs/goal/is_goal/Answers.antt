@@ -1,44 +1,29 @@
--- `goals::goal::is_goal` meets its contract, at each form.
+-- `goals::goal::is_goal` meets its contract: a G line, or any other form.
 -- Assumes nothing.
-use mathlib.Core.Path.{◌≡◌, sym, ap, ◌∙◌}
-use Rattle.syntax.specs.Forms.{Form}
+use Rattle.std.proofs.Common.{◌≡◌, refl, ap, ◌∙◌, false, sym}
 use Rattle.syntax.specs.Goals.{is_goal_form}
 use Rattle.lines.specs.declared.LineForm.{LineForm}
+use Rattle.lines.specs.declared.LineForm.TheVariants.{Symbol, Rule, Kept, Head, Body, Equation, Goal, Nothing}
 use Rattle.lines.specs.Read.{form_meant}
 use Rattle.goals.proofs.goal.is_goal.Goals as goal
 
--- the answer for a form that is told
-told : {f : Form} (x y : LineForm) → x ≡ y → form_meant x ≡ f → is_goal_form (form_meant y) ≡ is_goal_form f
-told x y e m = ap (λ (z : LineForm). is_goal_form (form_meant z)) (sym e) ∙ ap is_goal_form m
-
-pub returns-in-Symbol : goal.returns-in-Symbol
+-- a form that is no G line's
+other_form : (x : LineForm) → (x ≡ Goal → ⊥) → false ≡ is_goal_form (form_meant x)
 unfolding is_goal_form form_meant
-returns-in-Symbol c = λ f e. told _ _ c.in-Symbol.is (c.form_of.ensures f e)
-
-pub returns-in-Rule : goal.returns-in-Rule
-unfolding is_goal_form form_meant
-returns-in-Rule c = λ f e. told _ _ c.in-Rule.is (c.form_of.ensures f e)
-
-pub returns-in-Kept : goal.returns-in-Kept
-unfolding is_goal_form form_meant
-returns-in-Kept c = λ f e. told _ _ c.in-Kept.is (c.form_of.ensures f e)
-
-pub returns-in-Head : goal.returns-in-Head
-unfolding is_goal_form form_meant
-returns-in-Head c = λ f e. told _ _ c.in-Head.is (c.form_of.ensures f e)
-
-pub returns-in-Body : goal.returns-in-Body
-unfolding is_goal_form form_meant
-returns-in-Body c = λ f e. told _ _ c.in-Body.is (c.form_of.ensures f e)
-
-pub returns-in-Equation : goal.returns-in-Equation
-unfolding is_goal_form form_meant
-returns-in-Equation c = λ f e. told _ _ c.in-Equation.is (c.form_of.ensures f e)
+other_form Symbol h = refl
+other_form Rule h = refl
+other_form Kept h = refl
+other_form Head h = refl
+other_form Body h = refl
+other_form Equation h = refl
+other_form Goal h = absurd (h refl)
+other_form Nothing h = refl
 
 pub returns-in-Goal : goal.returns-in-Goal
 unfolding is_goal_form form_meant
-returns-in-Goal c = λ f e. told _ _ c.in-Goal.is (c.form_of.ensures f e)
+returns-in-Goal c =
+    λ f e.
+    sym (ap (λ (x : LineForm). is_goal_form (form_meant x)) c.in-Goal.is) ∙ ap is_goal_form (c.form_of.ensures f e)
 
-pub returns-in-Nothing : goal.returns-in-Nothing
-unfolding is_goal_form form_meant
-returns-in-Nothing c = λ f e. told _ _ c.in-Nothing.is (c.form_of.ensures f e)
+pub returns-in_default : goal.returns-in_default
+returns-in_default c = λ f e. other_form _ c.in_default.not-Goal ∙ ap is_goal_form (c.form_of.ensures f e)

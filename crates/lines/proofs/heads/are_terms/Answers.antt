@@ -1,8 +1,6 @@
 -- `lines::heads::are_terms` meets its contract: the fields left answer for all. Assumes nothing.
-use mathlib.Core.Path.{sym, ◌∙◌}
-use native.Mathlib.Numerals.{add-one}
-use native.Mathlib.Omega.{arith}
-use Rattle.lines.proofs.Held.{terms-fail, terms-step, terms-end}
+use Rattle.std.proofs.Common.{sym, ◌∙◌, add-one, arith}
+use Rattle.lines.proofs.Held.{terms-fail, terms-step}
 use Rattle.lines.proofs.heads.are_terms.Goals as goal
 
 pub returns-then-keys-i-lt2 : goal.returns-then-keys-i-lt2
@@ -18,9 +16,3 @@ loop-i-preserved c =
     let loop = c.loop-i in
     rw (add-one loop.i)
     (sym (terms-step fs _ k loop.i (omega (arith, e)) (omega arith) c.if-keys-i-lt2.false) ∙ loop.invariant fs e k)
-
-pub returns : goal.returns
-returns c =
-    λ fs h.
-    let loop = c.loop-i in
-    sym (terms-end fs loop.i (omega (arith, h.counted))) ∙ loop.invariant fs h.counted h.keyed

@@ -14,12 +14,12 @@ pub read_goal-requires : goal.read_goal-requires
 read_goal-requires c =
     (tabled-room c.requires (omega arith) (omega arith), c.requires.few-constants)
 
-pub returns-in-Refused : goal.returns-in-Refused
-returns-in-Refused c =
+pub returns-in-Err : goal.returns-in-Err
+returns-in-Err c =
     c.refused.ensures
     ∙ goal-unreadable c.requires c.args.goal.now c.read_goal.ensures _
-    _ c.in-Refused.is
+    _ c.in-Err.is c.number.ensures
 
-pub returns-in-Accepted : goal.returns-in-Accepted
-returns-in-Accepted c =
-    goal-readable c.requires c.args.goal.now c.read_goal.ensures _ c.in-Accepted.is
+pub returns-in-Ok : goal.returns-in-Ok
+returns-in-Ok c =
+    goal-readable c.requires c.args.goal.now c.read_goal.ensures _ c.in-Ok.is

@@ -7,14 +7,14 @@ use Rattle.roketuma.proofs.reading.read.Goals as goal
 
 pub judge_goal-requires : goal.judge_goal-requires
 judge_goal-requires c =
-    program-tabled c.read_program.ensures _ c.in-Accepted.is
+    program-tabled c.read_program.ensures _ c.in-Ok.is
 
-pub returns-in-Refused : goal.returns-in-Refused
-returns-in-Refused c =
+pub returns-in-Err : goal.returns-in-Err
+returns-in-Err c =
     c.refused.ensures
-    ∙ program-unreadable c.read_program.ensures _ _ _ c.in-Refused.is
+    ∙ program-unreadable c.read_program.ensures _ _ _ c.in-Err.is c.number.ensures
 
-pub returns-in-Accepted : goal.returns-in-Accepted
-returns-in-Accepted c =
-    program-goes-on c.read_program.ensures _ c.in-Accepted.is _ _
+pub returns-in-Ok : goal.returns-in-Ok
+returns-in-Ok c =
+    program-goes-on c.read_program.ensures _ c.in-Ok.is _ _
     c.judge_goal.ensures

@@ -1,7 +1,7 @@
--- `programs::rules::rule_fault` meets its contract: number 8, number 9, or none.
+-- `programs::rules::check_rule` meets its contract: number 8, number 9, or none.
 -- Assumes nothing.
 use Rattle.programs.proofs.RuleLaws.{fault-eight, fault-nine, fault-none}
-use Rattle.programs.proofs.rules.rule_fault.Goals as goal
+use Rattle.programs.proofs.rules.check_rule.Goals as goal
 
 pub returns-then-h-k : goal.returns-then-h-k
 returns-then-h-k c =
