@@ -2,6 +2,9 @@
 // paging and roketuma.
 #![tactic(auto)]
 
+ghost use Rattle.std.specs.Prelude.{Ok, ◌≡◌};
+ghost use Rattle.answers.specs.Promises.{listed_bytes};
+
 mod numbers;
 mod refusals;
 
@@ -28,6 +31,19 @@ pub struct Refusal {
 pub enum Verdict {
     Confluent(usize),
     Unjoined(usize),
+}
+
+impl Verdict {
+    // The length of the listing.
+    #[tactic(auto, unfolding(crate::specs::Promises::listed_bytes))]
+    pub fn length(self) -> usize
+        ensures { result ≡ listed_bytes (Ok self) }
+    {
+        match self {
+            Verdict::Confluent(n) => n,
+            Verdict::Unjoined(n) => n,
+        }
+    }
 }
 
 // The answer of a run: the length of the listing that was written, or a refusal.

@@ -69,8 +69,9 @@ use Rattle.checking.specs.Checking.{NoPass, NoFail, listed_cells, end_shown, Che
 use Rattle.checking.specs.Checking.{OverlapReplied, Checked}
 use Rattle.answers.specs.declared.TextName.TheVariants.{S}
 use Rattle.answers.specs.declared.Refusal.{Refusal}
-use Rattle.answers.specs.declared.CheckReply.{CheckReply}
-use Rattle.answers.specs.declared.CheckReply.TheVariants.{Refused, Confluent, Unjoined}
+use Rattle.answers.specs.Results.{CheckReply}
+use Rattle.answers.specs.declared.Verdict.TheVariants.{Confluent, Unjoined}
+use Rattle.std.specs.Prelude.{Ok, Err}
 use Rattle.inputs.proofs.KnownLaws.{rows-known, state-known, known_some, known-named, rule-named}
 use Rattle.inputs.proofs.ProgramLaws.{few-symbols, symbols-count}
 use Rattle.checking.proofs.CheckableLaws.{few-rules, checkable, held}
@@ -80,7 +81,7 @@ use Rattle.answers.proofs.CheckLaws.{demand-plain}
 -- a listing that does not fit
 pub check-short :
     {bytes before after : List ℕ} {reply : Option ℕ} → ListedAs bytes before after reply → reply ≡ None
-    → CheckReplied (fitted program_text (length before) bytes) before after (Refused (record { number = 11; text = S; line = 0 }))
+    → CheckReplied (fitted program_text (length before) bytes) before after (Err (record { number = 11; text = S; line = 0 }))
 unfolding fitted listed_in listed_over output_after check_meant listed_bytes text_meant
 check-short {bytes} {before} {after} {reply} l e = go (ltb (length before) (length bytes)) (sym e ∙ l.answer) l.output
   where
@@ -88,7 +89,7 @@ check-short {bytes} {before} {after} {reply} l e = go (ltb (length before) (leng
         (b : Bool) → None ≡ cond b None (Some (length bytes))
         → after ≡ cond b before (bytes ++ drop (length bytes) before)
         → CheckReplied (cond b (refusal 11 program_text 0) (listing bytes)) before after
-        (Refused (record { number = 11; text = S; line = 0 }))
+        (Err (record { number = 11; text = S; line = 0 }))
     go true a o = record { meant = refl; counted = omega arith; output = o }
     go false a o = absurd (let z : ◌≡◌ {A = ℕ} 0 1 = cc in omega arith)
 
@@ -117,36 +118,36 @@ written {bytes} {before} {after} {reply} n r meant counted l e =
 
 pub check-passed :
     {bytes before after : List ℕ} {reply : Option ℕ} (n : ℕ) → ListedAs bytes before after reply → reply ≡ Some n
-    → CheckReplied (fitted program_text (length before) bytes) before after (Confluent n)
+    → CheckReplied (fitted program_text (length before) bytes) before after (Ok (Confluent n))
 unfolding check_meant listed_bytes
-check-passed n l e = written n (Confluent n) refl refl l e
+check-passed n l e = written n (Ok (Confluent n)) refl refl l e
 
 pub check-failed :
     {bytes before after : List ℕ} {reply : Option ℕ} (n : ℕ) → ListedAs bytes before after reply → reply ≡ Some n
-    → CheckReplied (fitted program_text (length before) bytes) before after (Unjoined n)
+    → CheckReplied (fitted program_text (length before) bytes) before after (Ok (Unjoined n))
 unfolding check_meant listed_bytes
-check-failed n l e = written n (Unjoined n) refl refl l e
+check-failed n l e = written n (Ok (Unjoined n)) refl refl l e
 
 -- what an answer is not
-pub refused-no-fail : {f : Refusal} → NoFail (Refused f)
+pub refused-no-fail : {f : Refusal} → NoFail (Err f)
 refused-no-fail n e = absurd (let z : ◌≡◌ {A = ℕ} 0 1 = cc in omega arith)
 
-pub refused-no-pass : {f : Refusal} → NoPass (Refused f)
+pub refused-no-pass : {f : Refusal} → NoPass (Err f)
 refused-no-pass n e = absurd (let z : ◌≡◌ {A = ℕ} 0 1 = cc in omega arith)
 
-pub pass-no-fail : {m : ℕ} → NoFail (Confluent m)
+pub pass-no-fail : {m : ℕ} → NoFail (Ok (Confluent m))
 pass-no-fail n e = absurd (let z : ◌≡◌ {A = ℕ} 0 1 = cc in omega arith)
 
-pub fail-no-pass : {m : ℕ} → NoPass (Unjoined m)
+pub fail-no-pass : {m : ℕ} → NoPass (Ok (Unjoined m))
 fail-no-pass n e = absurd (let z : ◌≡◌ {A = ℕ} 0 1 = cc in omega arith)
 
 -- a pass that is listed, and number 11
 module _ {overlaps : ℕ} {before after : List ℕ} {reply : Option ℕ}
     (l : ListedAs (line_of (ascii "CONFLUENT") (decimal overlaps ∷ [])) before after reply) where
-  pub pass-short : reply ≡ None → PassReplied overlaps before after (Refused (record { number = 11; text = S; line = 0 }))
+  pub pass-short : reply ≡ None → PassReplied overlaps before after (Err (record { number = 11; text = S; line = 0 }))
   pass-short e = record { replied = check-short l e; no-fail = refused-no-fail }
 
-  pub pass-written : (n : ℕ) → reply ≡ Some n → PassReplied overlaps before after (Confluent n)
+  pub pass-written : (n : ℕ) → reply ≡ Some n → PassReplied overlaps before after (Ok (Confluent n))
   pass-written n e = record { replied = check-passed n l e; no-fail = pass-no-fail }
 
 -- an overlap that is listed, and number 11
@@ -154,11 +155,11 @@ module _ {program places goal bounds one two : List ℕ} {s : Listing} {before a
     (l : OverlapListed program places goal bounds one two s before after reply) where
   pub overlap-short :
       reply ≡ None
-      → OverlapReplied program places goal bounds one two s before after (Refused (record { number = 11; text = S; line = 0 }))
+      → OverlapReplied program places goal bounds one two s before after (Err (record { number = 11; text = S; line = 0 }))
   overlap-short e = record { replied = λ o h. check-short (l.listed o h) e; no-pass = refused-no-pass }
 
   pub overlap-written : (n : ℕ) → reply ≡ Some n
-      → OverlapReplied program places goal bounds one two s before after (Unjoined n)
+      → OverlapReplied program places goal bounds one two s before after (Ok (Unjoined n))
   overlap-written n e = record { replied = λ o h. check-failed n (l.listed o h) e; no-pass = fail-no-pass }
 
 -- a text that reads is read as one program
@@ -439,7 +440,7 @@ pub check-refused :
     {program names places names' places' symbols' rules' output : List ℕ} {reply : Result Counts FaultAt}
     → ProgramIn program names places names' places' symbols' rules' reply → (at : FaultAt) (number : ℕ)
     → reply ≡ Err at → number ≡ number_of at.fault
-    → Checked program output output (Refused (record { number = number; text = S; line = at.line }))
+    → Checked program output output (Err (record { number = number; text = S; line = at.line }))
 unfolding program_answer check_reply reply_of check_meant listed_bytes text_meant output_after
 check-refused {program} {output = output} r at number h q =
     let e : read_program program ≡ refused number at.line = rw q (sym (rw h at r.answers)) in

@@ -25,17 +25,18 @@ use Rattle.verdicts.specs.Checks.{final_of, ShownBy}
 use Rattle.listing.specs.declared.End.{End}
 use Rattle.verdicts.specs.declared.Shown.{Shown as Listed}
 use Rattle.replies.specs.Replies.{program_text, fitted, check_reply}
-use Rattle.answers.specs.declared.CheckReply.{CheckReply}
-use Rattle.answers.specs.declared.CheckReply.TheVariants.{Confluent, Unjoined}
+use Rattle.answers.specs.Results.{CheckReply}
+use Rattle.answers.specs.declared.Verdict.TheVariants.{Confluent, Unjoined}
+use Rattle.std.specs.Prelude.{Ok, Err}
 use Rattle.inputs.specs.Inputs.{ProgramReady}
 use Rattle.answers.specs.Promises.{CheckReplied, Told}
 
 -- an answer that is no pass, and one that shows no overlap
 abbrev pub NoPass : CheckReply → Type 0
-NoPass r = (n : ℕ) → r ≡ Confluent n → ⊥
+NoPass r = (n : ℕ) → r ≡ Ok (Confluent n) → ⊥
 
 abbrev pub NoFail : CheckReply → Type 0
-NoFail r = (n : ℕ) → r ≡ Unjoined n → ⊥
+NoFail r = (n : ℕ) → r ≡ Ok (Unjoined n) → ⊥
 
 -- how many cells of an end are listed: none of a failed one
 unfoldable pub listed_cells : Final → ℕ

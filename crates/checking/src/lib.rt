@@ -10,7 +10,7 @@ ghost use Rattle.answers.specs.Promises.{CheckReplied, Demand3Of};
 ghost use Rattle.checking.specs.Checking.{listed_cells, end_shown, CheckReady, ShowReady};
 ghost use Rattle.checking.specs.Checking.{PassReplied, OverlapReplied, Checked};
 
-use answers::{CheckReply, Refusal, TextName};
+use answers::{CheckReply, Refusal, TextName, Verdict};
 use critical::deciding::{Shown, decide};
 use engine::derivation::Final;
 use listing::End;
@@ -24,12 +24,12 @@ fn pass(overlaps: usize, output: &mut [u8]) -> CheckReply
     ensures { PassReplied overlaps output.old output.new result }
 {
     match list_pass(output, overlaps) {
-        None => CheckReply::Refused(Refusal {
+        None => Err(Refusal {
             number: 11,
             text: TextName::S,
             line: 0,
         }),
-        Some(n) => CheckReply::Confluent(n),
+        Some(n) => Ok(Verdict::Confluent(n)),
     }
 }
 
@@ -49,12 +49,12 @@ fn fail<'a>(
         one.old two.old shown output.old output.new result }
 {
     match list_overlap(output, program, places, goal, bounds, one, two, shown) {
-        None => CheckReply::Refused(Refusal {
+        None => Err(Refusal {
             number: 11,
             text: TextName::S,
             line: 0,
         }),
-        Some(n) => CheckReply::Unjoined(n),
+        Some(n) => Ok(Verdict::Unjoined(n)),
     }
 }
 
@@ -163,7 +163,7 @@ pub fn check<'a>(program: &'a [u8], output: &mut [u8]) -> CheckReply
     let mut symbols = [0; 128];
     let mut rules = [0; 2048];
     match read_program(program, &mut names, &mut places, &mut symbols, &mut rules) {
-        Err(at) => CheckReply::Refused(Refusal {
+        Err(at) => Err(Refusal {
             number: at.fault.number(),
             text: TextName::S,
             line: at.line,

@@ -24,8 +24,9 @@ use Rattle.replies.proofs.PagedChecks.{read_back_lem, pages-fit}
 use Rattle.replies.proofs.LineNumbers.{Within, laid-within}
 use Rattle.answers.specs.declared.TextName.TheVariants.{S}
 use Rattle.answers.specs.declared.Refusal.{Refusal}
-use Rattle.answers.specs.declared.CheckReply.{CheckReply}
-use Rattle.answers.specs.declared.CheckReply.TheVariants.{Refused, Confluent, Unjoined}
+use Rattle.answers.specs.Results.{CheckReply}
+use Rattle.answers.specs.declared.Verdict.TheVariants.{Confluent, Unjoined}
+use Rattle.std.specs.Prelude.{Ok, Err}
 use Rattle.answers.specs.Answers.{text_meant}
 use Rattle.answers.specs.Promises.{check_meant, listed_bytes, CheckReplied, Told, Demand3Of, check_number, CheckReturned}
 use Rattle.answers.proofs.CheckLaws.{ReadsBack, demand-of, told_of}
@@ -79,12 +80,12 @@ laid-listed layout s room bytes h =
 -- the pages of a listing as an answer
 module _ {bytes before after : List ℕ} {reply : Option ℕ} (l : ListedAs (pages_of bytes) before after reply) where
   pub lay-short : (passes : Bool) → reply ≡ None
-      → PagesReplied passes bytes before after (Refused (record { number = 11; text = S; line = 0 }))
+      → PagesReplied passes bytes before after (Err (record { number = 11; text = S; line = 0 }))
   lay-short passes e =
       record { replied = check-short l e; no-fail = λ _. refused-no-fail; no-pass = λ _. refused-no-pass }
 
   pub lay-passed : {passes : Bool} → passes ≡ true → (n : ℕ) → reply ≡ Some n
-      → PagesReplied passes bytes before after (Confluent n)
+      → PagesReplied passes bytes before after (Ok (Confluent n))
   lay-passed {passes} is n e =
       record {
         replied = check-passed n l e;
@@ -93,7 +94,7 @@ module _ {bytes before after : List ℕ} {reply : Option ℕ} (l : ListedAs (pag
       }
 
   pub lay-failed : {passes : Bool} → passes ≡ false → (n : ℕ) → reply ≡ Some n
-      → PagesReplied passes bytes before after (Unjoined n)
+      → PagesReplied passes bytes before after (Ok (Unjoined n))
   lay-failed {passes} is n e =
       record {
         replied = check-failed n l e;
@@ -134,44 +135,44 @@ module _ (s : List ℕ) {room full : List ℕ} {r : CheckReply} (lent : length r
       let (p, e, same) = listed-program s (take n full) h in
       subst (λ (l : List ℕ). length (pages_of l) ≤ max_pages * page_size) same (pages-fit s p e)
 
-  pub ask-passed : {n : ℕ} → r ≡ Confluent n → length (pages_of (take n full)) ≤ max_pages * page_size
+  pub ask-passed : {n : ℕ} → r ≡ Ok (Confluent n) → length (pages_of (take n full)) ≤ max_pages * page_size
   unfolding check_meant
-  ask-passed {n} e = ask n (means (Confluent n) e)
+  ask-passed {n} e = ask n (means (Ok (Confluent n)) e)
 
-  pub ask-failed : {n : ℕ} → r ≡ Unjoined n → length (pages_of (take n full)) ≤ max_pages * page_size
+  pub ask-failed : {n : ℕ} → r ≡ Ok (Unjoined n) → length (pages_of (take n full)) ≤ max_pages * page_size
   unfolding check_meant
-  ask-failed {n} e = ask n (means (Unjoined n) e)
+  ask-failed {n} e = ask n (means (Ok (Unjoined n)) e)
 
   -- a refusal, and the pages of a pass and of a fail
-  pub pages-refused : (before : List ℕ) {f : Refusal} → r ≡ Refused f
-      → CheckReplied (laid_reply paged s (length before)) before before (Refused f) × Demand3Of paged s before before (Refused f)
+  pub pages-refused : (before : List ℕ) {f : Refusal} → r ≡ Err f
+      → CheckReplied (laid_reply paged s (length before)) before before (Err f) × Demand3Of paged s before before (Err f)
   unfolding check_meant listed_bytes output_after
   pages-refused before {f} e =
-      let laid = refused-laid paged s (length before) f.number (text_meant f.text) f.line (means (Refused f) e) in
-      let replied : CheckReplied (laid_reply paged s (length before)) before before (Refused f) =
+      let laid = refused-laid paged s (length before) f.number (text_meant f.text) f.line (means (Err f) e) in
+      let replied : CheckReplied (laid_reply paged s (length before)) before before (Err f) =
       record {
         meant = sym laid;
         counted = omega arith;
         output = sym (ap (λ (x : Reply). output_after x before) laid);
       } in
-      (replied, demand-of paged s before before (Refused f) (pages-back s) replied (subst (Told s) e told))
+      (replied, demand-of paged s before before (Err f) (pages-back s) replied (subst (Told s) e told))
 
   pub pages-passed :
-      {before after : List ℕ} {q : CheckReply} {n : ℕ} → r ≡ Confluent n
+      {before after : List ℕ} {q : CheckReply} {n : ℕ} → r ≡ Ok (Confluent n)
       → PagesReplied true (take n full) before after q
       → CheckReplied (laid_reply paged s (length before)) before after q × Demand3Of paged s before after q
   unfolding check_meant
   pages-passed {before} {after} {q} {n} e l =
-      with-pages n (means (Confluent n) e)
+      with-pages n (means (Ok (Confluent n)) e)
       (record { pass = λ p k m h. told.pass p k n e; fail = λ p k m h. absurd (l.no-fail refl m h) }) l.replied
 
   pub pages-failed :
-      {before after : List ℕ} {q : CheckReply} {n : ℕ} → r ≡ Unjoined n
+      {before after : List ℕ} {q : CheckReply} {n : ℕ} → r ≡ Ok (Unjoined n)
       → PagesReplied false (take n full) before after q
       → CheckReplied (laid_reply paged s (length before)) before after q × Demand3Of paged s before after q
   unfolding check_meant
   pages-failed {before} {after} {q} {n} e l =
-      with-pages n (means (Unjoined n) e)
+      with-pages n (means (Ok (Unjoined n)) e)
       (record { pass = λ p k m h. absurd (l.no-pass refl m h); fail = λ p k m h. told.fail p k n e }) l.replied
 
 -- a reply with pages fits the number that the C export returns

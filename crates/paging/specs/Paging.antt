@@ -4,7 +4,7 @@
 use Rattle.std.specs.Prelude.{ℕ, Bool, true, false, List, ◌≡◌, length}
 use Rattle.pages.specs.Pages.{pages_of}
 use Rattle.replies.specs.Replies.{program_text, fitted}
-use Rattle.answers.specs.declared.CheckReply.{CheckReply}
+use Rattle.answers.specs.Results.{CheckReply}
 use Rattle.answers.specs.Promises.{CheckReplied}
 use Rattle.checking.specs.Checking.{NoPass, NoFail}
 

@@ -8,7 +8,7 @@ ghost use Rattle.replies.specs.Replies.{paged, laid_reply};
 ghost use Rattle.answers.specs.Promises.{CheckReplied, Demand3Of};
 ghost use Rattle.paging.specs.Paging.{PagesReplied};
 
-use answers::{CheckReply, Refusal, TextName};
+use answers::{CheckReply, Refusal, TextName, Verdict};
 use checking::check;
 use pages::list_pages;
 
@@ -18,16 +18,16 @@ fn lay(listing: &[u8], passes: bool, output: &mut [u8]) -> CheckReply
     ensures { PagesReplied «passes» listing.now output.old output.new result }
 {
     match list_pages(output, listing) {
-        None => CheckReply::Refused(Refusal {
+        None => Err(Refusal {
             number: 11,
             text: TextName::S,
             line: 0,
         }),
         Some(n) => {
             if passes {
-                return CheckReply::Confluent(n);
+                return Ok(Verdict::Confluent(n));
             }
-            CheckReply::Unjoined(n)
+            Ok(Verdict::Unjoined(n))
         }
     }
 }
@@ -39,9 +39,8 @@ pub fn pages<'a>(program: &'a [u8], output: &mut [u8]) -> CheckReply
         × Demand3Of paged program.now output.old output.new result }
 {
     let mut plain = [0; 32768];
-    match check(program, &mut plain) {
-        CheckReply::Refused(refusal) => CheckReply::Refused(refusal),
-        CheckReply::Confluent(n) => lay(&plain[..n], true, output),
-        CheckReply::Unjoined(n) => lay(&plain[..n], false, output),
+    match check(program, &mut plain)? {
+        Verdict::Confluent(n) => lay(&plain[..n], true, output),
+        Verdict::Unjoined(n) => lay(&plain[..n], false, output),
     }
 }

@@ -12,8 +12,8 @@ use borrow.Author.Tests.{lt-ltb, le-ltb}
 use Rattle.replies.specs.Replies.{Reply, refusal, listing, run_reply, ample}
 use Rattle.answers.specs.Answers.{answer_of, Replied}
 use Rattle.answers.specs.declared.Refusal.{Refusal}
-use Rattle.answers.specs.declared.RunReply.{RunReply}
-use Rattle.answers.specs.declared.RunReply.TheVariants.{Refused, Listed}
+use Rattle.answers.specs.Results.{RunReply}
+use Rattle.std.specs.Prelude.{Ok, Err}
 use Rattle.rehearsal.specs.Sweep.{number_digit, digit_of, swept_program, swept_goal, goal_program, swept_digit}
 
 -- the digit of a number
@@ -26,25 +26,25 @@ unfolding number_digit
 digit-high n h = rw (le-ltb n 10 h)
 
 -- the digit of a reply, by its answer
-answer-digit : (x : Refusal) (reply : Reply) → Refused x ≡ answer_of reply → number_digit x.number ≡ digit_of reply
+answer-digit : (x : Refusal) (reply : Reply) → Err x ≡ answer_of reply → number_digit x.number ≡ digit_of reply
 unfolding answer_of digit_of
 answer-digit x (refusal number text line) e =
     let same : x.number ≡ number = cc in
     ap number_digit same
 answer-digit x (listing bytes) e = absurd (let z : ◌≡◌ {A = ℕ} 0 1 = cc in omega arith)
 
-count-digit : (n : ℕ) (reply : Reply) → Listed n ≡ answer_of reply → 48 ≡ digit_of reply
+count-digit : (n : ℕ) (reply : Reply) → Ok n ≡ answer_of reply → 48 ≡ digit_of reply
 unfolding answer_of digit_of
 count-digit n (refusal number text line) e = absurd (let z : ◌≡◌ {A = ℕ} 0 1 = cc in omega arith)
 count-digit n (listing bytes) e = refl
 
 -- the digit of a run's reply
 module _ (program goal : List ℕ) {o a : List ℕ} {r : RunReply} (replied : Replied (run_reply program goal ample) o a r) where
-  pub refused-digit : (x : Refusal) (d : ℕ) → r ≡ Refused x → d ≡ number_digit x.number
+  pub refused-digit : (x : Refusal) (d : ℕ) → r ≡ Err x → d ≡ number_digit x.number
       → d ≡ digit_of (run_reply program goal ample)
   refused-digit x d e h = h ∙ answer-digit x (run_reply program goal ample) (sym e ∙ replied.answer)
 
-  pub listed-digit : (n : ℕ) → r ≡ Listed n → 48 ≡ digit_of (run_reply program goal ample)
+  pub listed-digit : (n : ℕ) → r ≡ Ok n → 48 ≡ digit_of (run_reply program goal ample)
   listed-digit n e = count-digit n (run_reply program goal ample) (sym e ∙ replied.answer)
 
 -- the digit of a place and a byte, by the place

@@ -9,7 +9,7 @@ mod sweep;
 ghost use Rattle.answers.specs.Answers.{Printed};
 ghost use Rattle.rehearsal.specs.Answered.{answer_bytes};
 
-use roketuma::{CheckReply, Refusal, pages, put_check, put_refusal, put_run};
+use roketuma::{Refusal, pages, put_check, put_refusal, put_run};
 use std::io::Write;
 use std::rt::{Env, Files};
 use std::{env, fs, io};
@@ -60,9 +60,8 @@ fn print_refusal(rt: &impl Print, refusal: Refusal) -> io::Result<()> {
 fn print_pages(rt: &impl Print, program: &[u8]) -> io::Result<()> {
     let mut out = [0u8; 41820];
     match pages(program, &mut out) {
-        CheckReply::Refused(refusal) => print_refusal(rt, refusal),
-        CheckReply::Confluent(n) => print_bytes(rt, &out[..n]),
-        CheckReply::Unjoined(n) => print_bytes(rt, &out[..n]),
+        Ok(verdict) => print_bytes(rt, &out[..verdict.length()]),
+        Err(refusal) => print_refusal(rt, refusal),
     }
 }
 

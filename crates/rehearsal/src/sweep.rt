@@ -3,7 +3,7 @@ ghost use Rattle.std.specs.Prelude.{[], ◌≡◌, ◌<◌, set};
 ghost use Rattle.replies.specs.Replies.{run_reply, ample};
 ghost use Rattle.rehearsal.specs.Sweep.{number_digit, digit_of, swept_program, swept_goal, goal_program, swept_digit};
 
-use roketuma::{RunReply, run};
+use roketuma::run;
 
 // The digit of a number below 10.
 fn digit(number: u8) -> u8
@@ -21,8 +21,8 @@ fn met<'a>(program: &'a [u8], goal: &'a [u8]) -> u8
 {
     let mut output = [0u8; 32768];
     match run(program, goal, &mut output) {
-        RunReply::Refused(refusal) => digit(refusal.number),
-        RunReply::Listed(_) => b'0',
+        Err(refusal) => digit(refusal.number),
+        Ok(_) => b'0',
     }
 }
 

@@ -38,8 +38,8 @@ use Rattle.inputs.specs.Inputs.{Tabled}
 use Rattle.answers.specs.declared.TextName.{TextName}
 use Rattle.answers.specs.declared.TextName.TheVariants.{S, G}
 use Rattle.answers.specs.declared.Refusal.{Refusal}
-use Rattle.roketuma.specs.declared.reading.ReadReply.{ReadReply}
-use Rattle.roketuma.specs.declared.reading.ReadReply.TheVariants.{Refused, Readable}
+use Rattle.std.specs.Prelude.{Ok, Err}
+use Rattle.roketuma.specs.Readings.{ReadReply}
 use Rattle.answers.proofs.NumberLaws.{refusal-read}
 use Rattle.inputs.proofs.TabledLaws.{goal-answers}
 
@@ -84,7 +84,7 @@ module _ {symbols names places : List ℕ} {c : Counts} (t : Tabled symbols name
     -- a goal that is read
     pub goal-readable :
         (found : GoalCounts) → reply ≡ Ok found
-        → read_meant Readable ≡ goal_reply (symbols_of names symbols c.symbols) (constants_of names c.constants) goal
+        → read_meant (Ok tt) ≡ goal_reply (symbols_of names symbols c.symbols) (constants_of names c.constants) goal
     unfolding goal_answer read_meant goal_reply judged
     goal-readable found h =
         ap (λ (a : Answer GoalReading). judged goal_text a (λ g. readable))
@@ -98,14 +98,14 @@ meant-byte G = refl
 
 -- the number that is returned: a refusal's as of a run, and 0 where the texts can be read
 module _ {j : Judgement} {a : ReadReply} (meant : read_meant a ≡ j) where
-  pub returned-unreadable : {f : Refusal} {n : ℕ} → a ≡ Refused f
+  pub returned-unreadable : {f : Refusal} {n : ℕ} → a ≡ Err f
       → n ≡ 4294967296 * f.number + 65536 * name_byte f.text + f.line → n ≡ judgement_number j
   unfolding judgement_number read_meant reply_number
   returned-unreadable {f} e h =
       h ∙ ap (λ (b : ℕ). 4294967296 * f.number + 65536 * b + f.line) (meant-byte f.text)
       ∙ ap judgement_number (ap read_meant (sym e) ∙ meant)
 
-  pub returned-readable : a ≡ Readable → 0 ≡ judgement_number j
+  pub returned-readable : a ≡ (Ok tt) → 0 ≡ judgement_number j
   unfolding judgement_number read_meant
   returned-readable e = ap judgement_number (ap read_meant (sym e) ∙ meant)
 
@@ -227,11 +227,11 @@ read-numbers program goal number text line e = go (read_program program) (progra
 -- the answer of a refusal's number
 number_read :
     (number line : ℕ) (t : TextName) → 1 ≤ number → line < 65536
-    → read_read (4294967296 * number + 65536 * name_byte t + line) ≡ Refused (record { number = number; text = t; line = line })
+    → read_read (4294967296 * number + 65536 * name_byte t + line) ≡ Err (record { number = number; text = t; line = line })
 unfolding read_read
 number_read number line t least few =
     rw (ne_eqb (4294967296 * number + 65536 * name_byte t + line) 0 (λ e. omega (arith, e)))
-    (ap Refused (refusal-read number line t few))
+    (ap Err (refusal-read number line t few))
 
 -- the answer that a judgement's number decodes to
 decoded :

@@ -7,14 +7,13 @@
 --   read_read             the answer of a number of `roketuma_read`
 -- `read-exact` of proofs/ReadLaws.antt says that the refusals are those of a run by numbers 1 to 10, for every room.
 -- Assumes nothing.
-use Rattle.std.specs.Prelude.{ℕ, cond, List, eqb}
+use Rattle.std.specs.Prelude.{ℕ, cond, List, Result, Ok, Err, eqb}
 use Rattle.semantics.specs.Terms.{Symbol}
 use Rattle.syntax.specs.Answers.{Answer, refused, accepted}
 use Rattle.syntax.specs.Programs.{read_program}
 use Rattle.syntax.specs.Goals.{read_goal}
 use Rattle.replies.specs.Replies.{Text, program_text, goal_text, refusal}
-use Rattle.roketuma.specs.declared.reading.ReadReply.{ReadReply}
-use Rattle.roketuma.specs.declared.reading.ReadReply.TheVariants.{Refused, Readable}
+use Rattle.answers.specs.declared.Refusal.{Refusal}
 use Rattle.answers.specs.Answers.{text_meant, reply_number}
 use Rattle.answers.specs.Numbers.{refusal_read}
 
@@ -37,10 +36,14 @@ unfoldable pub read_reply : List ℕ → List ℕ → Judgement
 read_reply program goal =
     judged program_text (read_program program) (λ p. goal_reply p.program.symbols p.constants goal)
 
+-- the answer of reading: that both texts can be read, or a refusal
+abbrev pub ReadReply : Type 0
+ReadReply = Result (Unit {0}) Refusal
+
 -- an answer as a judgement
 unfoldable pub read_meant : ReadReply → Judgement
-read_meant (Refused f) = unreadable f.number (text_meant f.text) f.line
-read_meant Readable = readable
+read_meant (Err f) = unreadable f.number (text_meant f.text) f.line
+read_meant (Ok done) = readable
 
 -- a judgement as one number: 0 where the texts can be read; a refusal as a run has it
 unfoldable pub judgement_number : Judgement → ℕ
@@ -49,4 +52,4 @@ judgement_number (unreadable number text line) = reply_number (refusal number te
 
 -- the answer of a number: 0 where the texts can be read, and a refusal from 2^32 on
 unfoldable pub read_read : ℕ → ReadReply
-read_read n = cond (eqb n 0) Readable (Refused (refusal_read n))
+read_read n = cond (eqb n 0) (Ok tt) (Err (refusal_read n))

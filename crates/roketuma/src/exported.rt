@@ -4,7 +4,7 @@ ghost use Rattle.replies.specs.Replies.{run_reply, plain, paged};
 ghost use Rattle.answers.specs.Answers.{Returned};
 ghost use Rattle.answers.specs.Promises.{CheckReturned};
 
-use answers::{RunReply, check_number, refusal_number};
+use answers::{check_number, refusal_number};
 use checking::check;
 use paging::pages;
 use running::run;
@@ -16,8 +16,8 @@ pub fn roketuma_run<'a>(program: &'a [u8], goal: &'a [u8], output: &mut [u8]) ->
         output.old output.new result }
 {
     match run(program, goal, output) {
-        RunReply::Refused(refusal) => refusal_number(refusal),
-        RunReply::Listed(n) => n as u64,
+        Err(refusal) => refusal_number(refusal),
+        Ok(n) => n as u64,
     }
 }
 

@@ -7,7 +7,7 @@ mod exported;
 mod printing;
 mod reading;
 
-pub use answers::{CheckReply, Refusal, RunReply, TextName, put_refusal};
+pub use answers::{CheckReply, Refusal, RunReply, TextName, Verdict, put_refusal};
 pub use checking::check;
 pub use exported::{roketuma_check, roketuma_pages, roketuma_run};
 pub use paging::pages;

@@ -3,7 +3,7 @@
 ghost use Rattle.replies.specs.Replies.{printed, run_reply, ample, sheetrun, sheetcheck};
 ghost use Rattle.answers.specs.Answers.{Printed};
 
-use answers::{CheckReply, RunReply, put_refusal};
+use answers::put_refusal;
 use checking::check;
 use running::run;
 use text::split_goal;
@@ -14,11 +14,8 @@ pub fn put_reply<'a>(program: &'a [u8], goal: &'a [u8], out: &mut [u8; 32768]) -
         out.old out.new result }
 {
     match run(program, goal, out) {
-        RunReply::Refused(refusal) => {
-            let text = refusal.text;
-            put_refusal(out, refusal.number, text, refusal.line)
-        }
-        RunReply::Listed(n) => n,
+        Ok(n) => n,
+        Err(refusal) => put_refusal(out, refusal.number, refusal.text, refusal.line),
     }
 }
 
@@ -37,11 +34,7 @@ pub fn put_check(input: &[u8], out: &mut [u8; 32768]) -> usize
     ensures { Printed (sheetcheck input.now) out.old out.new result }
 {
     match check(input, out) {
-        CheckReply::Refused(turned) => {
-            let text = turned.text;
-            put_refusal(out, turned.number, text, turned.line)
-        }
-        CheckReply::Confluent(n) => n,
-        CheckReply::Unjoined(n) => n,
+        Ok(verdict) => verdict.length(),
+        Err(turned) => put_refusal(out, turned.number, turned.text, turned.line),
     }
 }

@@ -11,18 +11,14 @@ use goals::read_goal;
 use programs::{Counts, read_program};
 use tables::layout::SYMBOL_SIZE;
 
-// The answer of reading: a refusal, or that both texts can be read.
-#[derive(Drop)]
-pub enum ReadReply {
-    Refused(Refusal),
-    Readable,
-}
+// The answer of reading: that both texts can be read, or a refusal.
+pub type ReadReply = Result<(), Refusal>;
 
 // A refusal as the answer.
 fn refused(number: u8, text: TextName, line: u16) -> ReadReply
     ensures { read_meant result ≡ unreadable number (text_meant text) line }
 {
-    ReadReply::Refused(Refusal { number, text, line })
+    Err(Refusal { number, text, line })
 }
 
 // The answer to a goal's text, over the tables of a program as read.
@@ -50,7 +46,7 @@ fn judge_goal(
         &mut letters,
     ) {
         Err(at) => refused(at.fault.number(), TextName::G, at.line),
-        Ok(_) => ReadReply::Readable,
+        Ok(_) => Ok(()),
     }
 }
 
@@ -73,7 +69,7 @@ pub fn roketuma_read(program: &[u8], goal: &[u8]) -> u64
     ensures { result ≡ judgement_number (read_reply program.now goal.now) }
 {
     match read(program, goal) {
-        ReadReply::Refused(refusal) => refusal_number(refusal),
-        ReadReply::Readable => 0,
+        Ok(()) => 0,
+        Err(refusal) => refusal_number(refusal),
     }
 }

@@ -29,7 +29,7 @@ use Rattle.inputs.proofs.TabledLaws.{goal-answers}
 use Rattle.inputs.specs.Inputs.{program_table, is_known, GoalReady}
 use Rattle.running.specs.Stages.{Ready}
 use Rattle.answers.specs.declared.TextName.TheVariants.{S, G}
-use Rattle.answers.specs.declared.RunReply.TheVariants.{Refused}
+use Rattle.std.specs.Prelude.{Ok, Err}
 use Rattle.inputs.proofs.KnownLaws.{known_some}
 use Rattle.inputs.proofs.ProgramLaws.{few-symbols}
 use Rattle.answers.proofs.ReplyLaws.{refused-program, refused-goal}
@@ -41,7 +41,7 @@ module _ {program names places names' places' symbols' rules' : List ℕ} {reply
   pub program-refused :
       (goal : List ℕ) {output : List ℕ} (at : FaultAt) (number : ℕ) → reply ≡ Err at → number ≡ number_of at.fault
       → Replied (run_reply program goal (length output)) output output
-      (Refused (record { number = number; text = S; line = at.line }))
+      (Err (record { number = number; text = S; line = at.line }))
   unfolding program_answer
   program-refused goal {output} at number h e =
       refused-program program goal output number at.line (rw e (sym (rw h at r.answers)))
@@ -63,7 +63,7 @@ module _ {program names places symbols rules : List ℕ} {c : Counts} (r : GoalR
     pub goal-refused :
         {output : List ℕ} (at : FaultAt) (number : ℕ) → reply ≡ Err at → number ≡ number_of at.fault
         → Replied (run_reply program goal (length output)) output output
-        (Refused (record { number = number; text = G; line = at.line }))
+        (Err (record { number = number; text = G; line = at.line }))
     unfolding goal_answer
     goal-refused {output} at number h e =
         refused-goal program goal output r.p number at.line r.first.read (rw e (sym (rw h at answers)))

@@ -38,7 +38,7 @@ use Rattle.replies.specs.Replies.{goal_text, reply_of, fitted, run_listing, run_
 use Rattle.answers.specs.Answers.{Replied}
 use Rattle.inputs.specs.Inputs.{program_table, is_known}
 use Rattle.running.specs.Stages.{Ready, Entered, final_bytes, FinalListable}
-use Rattle.answers.specs.declared.RunReply.{RunReply}
+use Rattle.answers.specs.Results.{RunReply}
 use Rattle.running.specs.declared.Sizes.{Sizes}
 use Rattle.inputs.proofs.KnownLaws.{state-known, known-named}
 use Rattle.inputs.proofs.ProgramLaws.{symbols-count, few-symbols, as_read, below-test, rows-within}

@@ -61,12 +61,12 @@ fn list<'a>(
         output.old output.new result }
 {
     match list_end(output, program, goal, places, letters, bound, cells, end) {
-        None => RunReply::Refused(Refusal {
+        None => Err(Refusal {
             number: 11,
             text: TextName::G,
             line: 0,
         }),
-        Some(n) => RunReply::Listed(n),
+        Some(n) => Ok(n),
     }
 }
 
@@ -171,7 +171,7 @@ fn run_goal<'a>(
         &mut cells,
         &mut letters,
     ) {
-        Err(at) => RunReply::Refused(Refusal {
+        Err(at) => Err(Refusal {
             number: at.fault.number(),
             text: TextName::G,
             line: at.line,
@@ -206,7 +206,7 @@ pub fn run<'a>(program: &'a [u8], goal: &'a [u8], output: &mut [u8]) -> RunReply
     let mut symbols = [0; 128];
     let mut rules = [0; 2048];
     match read_program(program, &mut names, &mut places, &mut symbols, &mut rules) {
-        Err(at) => RunReply::Refused(Refusal {
+        Err(at) => Err(Refusal {
             number: at.fault.number(),
             text: TextName::S,
             line: at.line,
