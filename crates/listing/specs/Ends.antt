@@ -1,4 +1,5 @@
 -- The listing of a final state in cells: what its functions show, ask and promise.
+--   named            the name of each symbol and constant
 --   placed           the name of a variable that is numbered by its place
 --   cell_shown        a cell as a field
 --   bound_line        a goal variable's line
@@ -18,6 +19,11 @@ use Rattle.listing.specs.Listing.{Naming, line_of, term_shown, constraint_lines,
 use Rattle.listing.specs.Listing.{end_listing}
 use Rattle.listing.specs.Writing.{Countable, ample}
 use Rattle.listing.specs.declared.End.{End}
+use Rattle.listing.specs.declared.Names.{Names}
+
+-- the name of each symbol and constant, by the texts and places that things are shown by
+abbrev pub named : Names → Naming
+named names = name_in names.program.now names.goal.now names.places.now
 
 -- the name of the variable of a number, where each is its place in the order and the first n are the goal's
 unfoldable pub placed : List ℕ → ℕ → ℕ → List ℕ

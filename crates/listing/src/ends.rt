@@ -1,11 +1,10 @@
 // The end of a run: its variables numbered, and its lines at the front of the part of the output that is lent.
 ghost use Rattle.std.specs.Prelude.{◌<◌, length};
-ghost use Rattle.tables.specs.Names.{name_in};
 ghost use Rattle.listing.specs.Writing.{Countable, Writes};
-ghost use Rattle.listing.specs.Ends.{live_bytes, numbered_end, Listable, EndNumbered, Writable};
+ghost use Rattle.listing.specs.Ends.{named, live_bytes, numbered_end, Listable, EndNumbered, Writable};
 
-use crate::End;
 use crate::putting::{Mark, put_bounds, put_head, put_rows};
+use crate::{End, Names};
 use tables::numbering::renumber;
 
 // The variables of an end that lives are numbered in place, behind those of the goal, which stay. Answers how many there are.
@@ -22,57 +21,42 @@ pub fn number_end(bound: &[u16], cells: &mut [u16], end: End) -> usize
 // The lines of a state whose variables are numbered.
 fn put_live<'a>(
     out: &mut [u8],
-    program: &'a [u8],
-    goal: &'a [u8],
-    places: &[u16],
-    letters: &[u8],
+    names: Names<'a>,
     bound: &[u16],
     cells: &[u16],
     firings: usize,
 ) -> usize
     requires { Countable 0
-        (live_bytes (name_in program.now goal.now places.now) letters.now bound.now cells.now firings)
+        (live_bytes (named names) names.letters.now bound.now cells.now firings)
         × (length bound.now < 65536) }
     ensures { Writes
-        (live_bytes (name_in program.now goal.now places.now) letters.now
+        (live_bytes (named names.entry) names.entry.letters.now
         bound.now cells.now firings) 0 out.old out.new result }
 {
     let head = put_head(out, b"END,", firings);
-    let at = put_bounds(out, head, program, goal, places, letters, bound);
+    let at = put_bounds(out, head, names, bound);
     let mark = Mark {
         line: b'S',
         variables: bound.len(),
     };
-    put_rows(out, at, program, goal, places, letters, mark, cells)
+    put_rows(out, at, names, mark, cells)
 }
 
 // The lines of an end whose variables, if it lives, are numbered.
 pub fn put_end<'a>(
     out: &mut [u8],
-    program: &'a [u8],
-    goal: &'a [u8],
-    places: &[u16],
-    letters: &[u8],
+    names: Names<'a>,
     bound: &[u16],
     cells: &[u16],
     end: End,
 ) -> usize
-    requires { Writable (name_in program.now goal.now places.now) letters.now bound.now cells.now end }
+    requires { Writable (named names) names.letters.now bound.now cells.now end }
     ensures { Writes
-        (numbered_end (name_in program.now goal.now places.now) letters.now
+        (numbered_end (named names.entry) names.entry.letters.now
         bound.now cells.now end) 0 out.old out.new result }
 {
     if !end.alive {
         return put_head(out, b"FAILED,", end.firings);
     }
-    put_live(
-        out,
-        program,
-        goal,
-        places,
-        letters,
-        bound,
-        cells,
-        end.firings,
-    )
+    put_live(out, names, bound, cells, end.firings)
 }

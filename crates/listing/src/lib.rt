@@ -7,11 +7,11 @@ pub mod putting;
 pub mod writing;
 
 ghost use Rattle.std.specs.Prelude.{ℕ, true, List, ◌≡◌, ◌≤◌, length};
-ghost use Rattle.tables.specs.Names.{name_in};
 ghost use Rattle.listing.specs.Writing.{Puts, ListedAs};
-ghost use Rattle.listing.specs.Ends.{numbered_end, end_bytes, Listable, Writable, Ample};
+ghost use Rattle.listing.specs.Ends.{named, numbered_end, end_bytes, Listable, Writable, Ample};
 
 use ends::{number_end, put_end};
+use tables::names::name;
 
 // The end of a run: whether its state lives, a number above every variable in use, and how often a rule fired.
 #[derive(Clone, Copy)]
@@ -19,6 +19,24 @@ pub struct End {
     pub alive: bool,
     pub next: usize,
     pub firings: usize,
+}
+
+// What things are shown by: the two texts, where each name stands in them, and the letters of the goal's variables.
+#[derive(Clone, Copy)]
+pub struct Names<'a> {
+    pub program: &'a [u8],
+    pub goal: &'a [u8],
+    pub places: &'a [u16],
+    pub letters: &'a [u8],
+}
+
+impl<'a> Names<'a> {
+    // The name of a number, as a part of the text where it stands.
+    pub fn name(self, n: usize) -> &'a [u8]
+        ensures { result.now ≡ named self.entry n }
+    {
+        name(self.program, self.goal, self.places, n)
+    }
 }
 
 // Room for every listing of a run and of a check, and the goal variables and cells up to which every listing of an end fits it.
@@ -62,40 +80,31 @@ pub fn list_by<F: Fn(&mut [u8]) -> usize>(out: &mut [u8], fits: bool, put: F) ->
 // The listing of an end whose variables are numbered.
 fn list_numbered<'a>(
     out: &mut [u8],
-    program: &'a [u8],
-    goal: &'a [u8],
-    places: &[u16],
-    letters: &[u8],
+    names: Names<'a>,
     bound: &[u16],
     cells: &[u16],
     end: End,
 ) -> Option<usize>
-    requires { Writable (name_in program.now goal.now places.now) letters.now bound.now cells.now end }
-    ensures { ListedAs
-        (numbered_end (name_in program.now goal.now places.now) letters.now
-        bound.now cells.now end) out.old out.new result }
+    requires { Writable (named names) names.letters.now bound.now cells.now end }
+    ensures { ListedAs (numbered_end (named names.entry) names.entry.letters.now bound.now cells.now end)
+        out.old out.new result }
 {
     let fits = is_ample(out.len(), bound.len(), cells.len());
-    list_by(out, fits, |rest| {
-        put_end(rest, program, goal, places, letters, bound, cells, end)
-    })
+    list_by(out, fits, |rest| put_end(rest, names, bound, cells, end))
 }
 
 // The listing of a final state; its variables are numbered in place.
 pub fn list_end<'a>(
     out: &mut [u8],
-    program: &'a [u8],
-    goal: &'a [u8],
-    places: &[u16],
-    letters: &[u8],
+    names: Names<'a>,
     bound: &[u16],
     cells: &mut [u16],
     end: End,
 ) -> Option<usize>
     requires { Listable end.alive end.next bound.now cells.old }
-    ensures { ListedAs (end_bytes program.now goal.now places.now letters.now
+    ensures { ListedAs (end_bytes names.entry.program.now names.entry.goal.now names.entry.places.now names.entry.letters.now
         bound.now cells.old end) out.old out.new result }
 {
     number_end(bound, cells, end);
-    list_numbered(out, program, goal, places, letters, bound, cells, end)
+    list_numbered(out, names, bound, cells, end)
 }

@@ -14,7 +14,7 @@ use answers::{Refusal, RunReply, TextName};
 use engine::derivation::{Final, normalise};
 use engine::entering::start_bound;
 use goals::read_goal;
-use listing::{End, list_end};
+use listing::{End, Names, list_end};
 use programs::{Counts, read_program};
 use tables::layout::{CONSTRAINT_SIZE, MAX_SYMBOLS, SYMBOL_SIZE};
 use tables::wide;
@@ -45,10 +45,7 @@ fn derive(rules: &[u16], bound: &mut [u16], cells: &mut [u16], sizes: Sizes) -> 
 
 // The listing of a final state, or number 11.
 fn list<'a>(
-    program: &'a [u8],
-    goal: &'a [u8],
-    places: &[u16],
-    letters: &[u8],
+    names: Names<'a>,
     bound: &[u16],
     cells: &mut [u16],
     end: End,
@@ -56,11 +53,11 @@ fn list<'a>(
 ) -> RunReply
     requires { Listable end.alive end.next bound.now cells.old }
     ensures { Replied (fitted goal_text (length output.old)
-        (end_bytes program.now goal.now places.now letters.now
+        (end_bytes names.entry.program.now names.entry.goal.now names.entry.places.now names.entry.letters.now
         bound.now cells.old end))
         output.old output.new result }
 {
-    match list_end(output, program, goal, places, letters, bound, cells, end) {
+    match list_end(output, names, bound, cells, end) {
         None => Err(Refusal {
             number: 11,
             text: TextName::G,
@@ -72,10 +69,7 @@ fn list<'a>(
 
 // The same for the end of a derivation: the used part of its cells is listed, and of a failed one nothing.
 fn list_final<'a>(
-    program: &'a [u8],
-    goal: &'a [u8],
-    places: &[u16],
-    letters: &[u8],
+    names: Names<'a>,
     bound: &[u16],
     cells: &mut [u16],
     end: Final,
@@ -83,7 +77,7 @@ fn list_final<'a>(
 ) -> RunReply
     requires { FinalListable bound.now cells.old end }
     ensures { Replied (fitted goal_text (length output.old)
-        (final_bytes program.now goal.now places.now letters.now
+        (final_bytes names.entry.program.now names.entry.goal.now names.entry.places.now names.entry.letters.now
         bound.now cells.old end))
         output.old output.new result }
 {
@@ -95,23 +89,14 @@ fn list_final<'a>(
             next: wide(end.next),
             firings,
         };
-        return list(
-            program,
-            goal,
-            places,
-            letters,
-            bound,
-            &mut cells[..e],
-            lives,
-            output,
-        );
+        return list(names, bound, &mut cells[..e], lives, output);
     }
     let failed = End {
         alive: false,
         next: 0,
         firings,
     };
-    list(program, goal, places, letters, bound, cells, failed, output)
+    list(names, bound, cells, failed, output)
 }
 
 // The run of a goal as read, from its tables.
@@ -132,16 +117,13 @@ fn run_read<'a>(
     let v = letters.len();
     let mut bound = [0; 26];
     let end = derive(rules, &mut bound[..v], cells, sizes);
-    list_final(
+    let names = Names {
         program,
         goal,
         places,
         letters,
-        &bound[..v],
-        cells,
-        end,
-        output,
-    )
+    };
+    list_final(names, &bound[..v], cells, end, output)
 }
 
 // The run of a goal's text over a program as read.

@@ -96,37 +96,37 @@ unfolding pair_lines
 pairs-done ds i h = rw (drop_of_length-le ds h)
 
 -- the lines in front of the ends, in pieces
-pub front-is : (naming : Naming) (goal : List ℕ) (s : Shown)
-    → front_bytes naming goal s
+pub front-is : (naming : Naming) (letters goal : List ℕ) (s : Shown)
+    → front_bytes naming letters goal s
     ≡ rules_line naming s.first s.second
     ++ (pair_lines 1 (take s.heads s.partners)
-    ++ constraint_lines (71 ∷ []) naming (placed [] s.variables) (cell_constraints goal))
+    ++ constraint_lines (71 ∷ []) naming (placed letters s.variables) (cell_constraints goal))
 unfolding front_bytes ascii
-front-is naming goal s = refl
+front-is naming letters goal s = refl
 
 -- the lines of the ends; the second's part of `bounds` as it is lent
-module _ (naming : Naming) (bounds one two : List ℕ) (s : Shown) where
+module _ (naming : Naming) (letters bounds one two : List ℕ) (s : Shown) where
   abbrev first_bytes : List ℕ
-  first_bytes = numbered_end naming [] (take s.variables bounds) one s.one
+  first_bytes = numbered_end naming letters (take s.variables bounds) one s.one
 
   abbrev second_bytes : List ℕ
-  second_bytes = numbered_end naming [] (drop s.variables bounds) two s.two
+  second_bytes = numbered_end naming letters (drop s.variables bounds) two s.two
 
   abbrev lent_bytes : List ℕ
-  lent_bytes = numbered_end naming [] (part_from s.variables bounds) two s.two
+  lent_bytes = numbered_end naming letters (part_from s.variables bounds) two s.two
 
   lent_is : lent_bytes ≡ second_bytes
-  lent_is = ap (λ (l : List ℕ). numbered_end naming [] l two s.two) (lent-rest bounds s.variables)
+  lent_is = ap (λ (l : List ℕ). numbered_end naming letters l two s.two) (lent-rest bounds s.variables)
 
-  ends_is : numbered_ends naming bounds one two s ≡ first_bytes ++ lent_bytes
+  ends_is : numbered_ends naming letters bounds one two s ≡ first_bytes ++ lent_bytes
   unfolding numbered_ends
   ends_is = ap (λ (l : List ℕ). first_bytes ++ l) (sym lent_is)
 
-  pub lent_writable : Writable naming [] (drop s.variables bounds) two s.two
-      → Writable naming [] (part_from s.variables bounds) two s.two
-  lent_writable w = subst (λ (l : List ℕ). Writable naming [] l two s.two) (sym (lent-rest bounds s.variables)) w
+  pub lent_writable : Writable naming letters (drop s.variables bounds) two s.two
+      → Writable naming letters (part_from s.variables bounds) two s.two
+  lent_writable w = subst (λ (l : List ℕ). Writable naming letters l two s.two) (sym (lent-rest bounds s.variables)) w
 
-  module _ {at : ℕ} (c : Countable at (numbered_ends naming bounds one two s)) {o p : List ℕ} {k : ℕ}
+  module _ {at : ℕ} (c : Countable at (numbered_ends naming letters bounds one two s)) {o p : List ℕ} {k : ℕ}
       (w : Writes first_bytes 0 o p k)
     where
       pub ends-room : at + k < 18446744073709551616
@@ -138,14 +138,14 @@ module _ (naming : Naming) (bounds one two : List ℕ) (s : Shown) where
   pub ends-wrote : {o part part' : List ℕ} {at k l : ℕ} (from start : ℕ) → from ≡ min at (length o)
       → Writes first_bytes 0 (part_from from o) part k → length part ≡ length (part_from from o)
       → start ≡ min (at + k) (length (part_back from o part)) → Writes lent_bytes 0 (part_from start (part_back from o part)) part' l
-      → Writes (numbered_ends naming bounds one two s) at o (part_back start (part_back from o part) part') (at + k + l)
+      → Writes (numbered_ends naming letters bounds one two s) at o (part_back start (part_back from o part) part') (at + k + l)
   ends-wrote from start e w h f v = wrote-is (sym ends_is) (wrote-both from start e w h f v)
 
 -- the whole listing
-pub shown-is : (naming : Naming) (goal bounds one two : List ℕ) (s : Shown)
-    → shown_bytes naming goal bounds one two s ≡ front_bytes naming goal s ++ numbered_ends naming bounds one two s
+pub shown-is : (naming : Naming) (letters goal bounds one two : List ℕ) (s : Shown)
+    → shown_bytes naming letters goal bounds one two s ≡ front_bytes naming letters goal s ++ numbered_ends naming letters bounds one two s
 unfolding shown_bytes
-shown-is naming goal bounds one two s = refl
+shown-is naming letters goal bounds one two s = refl
 
 -- numbers below m stay so in a part
 few-take : (m n : ℕ) (l : List ℕ) → ((i : ℕ) → get_or l i 0 < m) → (i : ℕ) → get_or (take n l) i 0 < m
@@ -180,33 +180,33 @@ module _ (naming : Naming) (short : (n : ℕ) → Short (naming n)) where
   unfolding rules_line ascii
   rules-few first second = line-few (ascii "UNJOINED") _ (also (short _) (also (short _) C.none))
 
-  front-few : (goal : List ℕ) (s : Shown) → Shaped s → Cells goal
-      → ((i : ℕ) → get_or s.partners i 0 < 18446744073709551616) → length (front_bytes naming goal s) ≤ 203 + 10 * length goal
-  front-few goal s h c d =
+  front-few : (letters goal : List ℕ) (s : Shown) → Shaped s → Cells goal
+      → ((i : ℕ) → get_or s.partners i 0 < 18446744073709551616) → length (front_bytes naming letters goal s) ≤ 203 + 10 * length goal
+  front-few letters goal s h c d =
       let ds = take s.heads s.partners in
       let size : length ds ≤ 4 = omega (arith, length-take s.heads s.partners, h.heads-few) in
       let pairs = pair_lines 1 ds in
-      let rows = constraint_lines (71 ∷ []) naming (placed [] s.variables) (cell_constraints goal) in
+      let rows = constraint_lines (71 ∷ []) naming (placed letters s.variables) (cell_constraints goal) in
       let rules = rules_line naming s.first s.second in
-      rw (front-is naming goal s)
+      rw (front-is naming letters goal s)
       (omega (
         arith,
         length-append rules (pairs ++ rows),
         length-append pairs rows,
         rules-few s.first s.second,
         pairs-few 1 ds (few-take 18446744073709551616 s.heads s.partners d) (omega arith),
-        cells-few naming short [] s.variables 71 goal c,
+        cells-few naming short letters s.variables 71 goal c,
         size,
       ))
 
   -- the listing of an overlap whose ends are numbered can be counted
-  pub overlap-writable : (goal bounds one one' two two' : List ℕ) (s : Shown) → OverlapListable goal bounds one two s
+  pub overlap-writable : (letters goal bounds one one' two two' : List ℕ) (s : Shown) → OverlapListable goal bounds one two s
       → length one' ≡ length one → length two' ≡ length two → ((i : ℕ) → get_or goal i 0 < 65536)
       → ((i : ℕ) → get_or bounds i 0 < 65536) → ((i : ℕ) → get_or one' i 0 < 65536) → ((i : ℕ) → get_or two' i 0 < 65536)
       → ((i : ℕ) → get_or s.partners i 0 < 18446744073709551616) → s.one.firings < 18446744073709551616
-      → s.two.firings < 18446744073709551616 → OverlapWritable naming goal bounds one' two' s
+      → s.two.firings < 18446744073709551616 → OverlapWritable naming letters goal bounds one' two' s
   unfolding shown_bytes numbered_ends
-  overlap-writable goal bounds one one' two two' s h e f cg cb co ct cp ko kt =
+  overlap-writable letters goal bounds one one' two two' s h e f cg cb co ct cp ko kt =
       let v = s.variables in
       let first = take v bounds in
       let second = drop v bounds in
@@ -216,8 +216,8 @@ module _ (naming : Naming) (short : (n : ℕ) → Short (naming n)) where
       λ l. omega (arith, (h.first-end.live l).rows.few, e) in
       let secondFew : s.two.alive ≡ true → length second + length two' ≤ 65000 =
       λ l. omega (arith, (h.second-end.live l).rows.few, f) in
-      let a = numbered_end naming [] first one' s.one in
-      let z = numbered_end naming [] second two' s.two in
+      let a = numbered_end naming letters first one' s.one in
+      let z = numbered_end naming letters second two' s.two in
       record {
         shaped = h.shaped;
         counted =
@@ -225,19 +225,19 @@ module _ (naming : Naming) (short : (n : ℕ) → Short (naming n)) where
               few =
                   omega (
                     arith,
-                    length-append (front_bytes naming goal s) (a ++ z),
+                    length-append (front_bytes naming letters goal s) (a ++ z),
                     length-append a z,
-                    front-few goal s h.shaped (λ i l. cg i) cp,
+                    front-few letters goal s h.shaped (λ i l. cg i) cp,
                     h.goal-few,
-                    end-few naming short [] first one' firstCells (λ i l. co i) s.one 65000 65000 (omega arith)
+                    end-few naming short letters first one' firstCells (λ i l. co i) s.one 65000 65000 (omega arith)
                         (λ l. (omega (arith, firstFew l), omega (arith, firstFew l))) ko,
-                    end-few naming short [] second two' secondCells (λ i l. ct i) s.two 65000 65000 (omega arith)
+                    end-few naming short letters second two' secondCells (λ i l. ct i) s.two 65000 65000 (omega arith)
                         (λ l. (omega (arith, secondFew l), omega (arith, secondFew l))) kt,
                   );
             };
         within = h.within;
-        first-end = end-writable naming short [] first one' firstCells (λ i l. co i) s.one firstFew ko;
-        second-end = end-writable naming short [] second two' secondCells (λ i l. ct i) s.two secondFew kt;
+        first-end = end-writable naming short letters first one' firstCells (λ i l. co i) s.one firstFew ko;
+        second-end = end-writable naming short letters second two' secondCells (λ i l. ct i) s.two secondFew kt;
       }
 
 -- what numbering the second end asks and promises, of its part of `bounds` as it is lent
@@ -276,7 +276,7 @@ module _ (naming : Naming) (letters : List ℕ) (n : ℕ) where
 
 -- the listing of an overlap is that of the verdict on the overlap that the tables hold
 verdict-is : (program places goal bounds one two : List ℕ) (s : Shown) (o : Overlap) → ShownBy (name_in program [] places) goal s o
-    → front_bytes (name_in program [] places) goal s
+    → front_bytes (name_in program [] places) [] goal s
     ++ (end_bytes program [] places [] (take s.variables bounds) one s.one
     ++ end_bytes program [] places [] (drop s.variables bounds) two s.two)
     ≡ verdict_listing (name_in program [] places)
@@ -300,13 +300,13 @@ pub overlap-listed : (program places goal bounds one one' two two' : List ℕ) (
     {before after : List ℕ} {reply : Option ℕ} → OverlapListable goal bounds one two s
     → EndNumbered s.one.alive (length (take s.variables bounds)) one one' m
     → EndNumbered s.two.alive (length (drop s.variables bounds)) two two' n
-    → ListedAs (shown_bytes (name_in program [] places) goal bounds one' two' s) before after reply
+    → ListedAs (shown_bytes (name_in program [] places) [] goal bounds one' two' s) before after reply
     → OverlapListed program places goal bounds one two s before after reply
 unfolding shown_bytes numbered_ends
 overlap-listed program places goal bounds one one' two two' s m n {before} {after} {reply} h a z l =
     let v = s.variables in
     let ends =
-    ap₂ (λ (x y : List ℕ). front_bytes (name_in program [] places) goal s ++ (x ++ y))
+    ap₂ (λ (x y : List ℕ). front_bytes (name_in program [] places) [] goal s ++ (x ++ y))
     (end-numbered program [] places [] (take v bounds) one one' s.one m h.first-end a)
     (end-numbered program [] places [] (drop v bounds) two two' s.two n h.second-end z) in
     record { listed = λ o k. listed-is (ends ∙ verdict-is program places goal bounds one two s o k) l }

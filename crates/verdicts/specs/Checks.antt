@@ -29,21 +29,22 @@ rules_line naming first second =
     line_of (ascii "UNJOINED") (naming (first_rule + first) ∷ naming (first_rule + second) ∷ [])
 
 -- all lines in front of the ends: the rules, the joined pairs of heads, and the goal, whose variables are named as in the ends
-unfoldable pub front_bytes : Naming → List ℕ → Shown → List ℕ
-front_bytes naming goal s =
+unfoldable pub front_bytes : Naming → List ℕ → List ℕ → Shown → List ℕ
+front_bytes naming letters goal s =
     rules_line naming s.first s.second
     ++ (pair_lines 1 (take s.heads s.partners)
-    ++ constraint_lines (ascii "G") naming (placed [] s.variables) (cell_constraints goal))
+    ++ constraint_lines (ascii "G") naming (placed letters s.variables) (cell_constraints goal))
 
 -- the lines of both ends, whose variables are numbered
-unfoldable pub numbered_ends : Naming → List ℕ → List ℕ → List ℕ → Shown → List ℕ
-numbered_ends naming bounds one two s =
-    numbered_end naming [] (take s.variables bounds) one s.one
-    ++ numbered_end naming [] (drop s.variables bounds) two s.two
+unfoldable pub numbered_ends : Naming → List ℕ → List ℕ → List ℕ → List ℕ → Shown → List ℕ
+numbered_ends naming letters bounds one two s =
+    numbered_end naming letters (take s.variables bounds) one s.one
+    ++ numbered_end naming letters (drop s.variables bounds) two s.two
 
 -- the whole listing, the ends' variables being numbered
-unfoldable pub shown_bytes : Naming → List ℕ → List ℕ → List ℕ → List ℕ → Shown → List ℕ
-shown_bytes naming goal bounds one two s = front_bytes naming goal s ++ numbered_ends naming bounds one two s
+unfoldable pub shown_bytes : Naming → List ℕ → List ℕ → List ℕ → List ℕ → List ℕ → Shown → List ℕ
+shown_bytes naming letters goal bounds one two s =
+    front_bytes naming letters goal s ++ numbered_ends naming letters bounds one two s
 
 -- a final state from its tables
 unfoldable pub final_of : List ℕ → List ℕ → End → Final
@@ -56,19 +57,19 @@ pub record Shaped (s : Shown) : Type 0 where
   pub heads-few : s.heads ≤ 4
 
 -- what writing both ends from a place on asks
-pub record EndsWritable (naming : Naming) (at : ℕ) (bounds one two : List ℕ) (s : Shown) : Type 0 where
-  pub counted : Countable at (numbered_ends naming bounds one two s)
+pub record EndsWritable (naming : Naming) (letters : List ℕ) (at : ℕ) (bounds one two : List ℕ) (s : Shown) : Type 0 where
+  pub counted : Countable at (numbered_ends naming letters bounds one two s)
   pub within : s.variables ≤ length bounds
-  pub first-end : Writable naming [] (take s.variables bounds) one s.one
-  pub second-end : Writable naming [] (drop s.variables bounds) two s.two
+  pub first-end : Writable naming letters (take s.variables bounds) one s.one
+  pub second-end : Writable naming letters (drop s.variables bounds) two s.two
 
 -- what writing an overlap asks
-pub record OverlapWritable (naming : Naming) (goal bounds one two : List ℕ) (s : Shown) : Type 0 where
+pub record OverlapWritable (naming : Naming) (letters goal bounds one two : List ℕ) (s : Shown) : Type 0 where
   pub shaped : Shaped s
-  pub counted : Countable 0 (shown_bytes naming goal bounds one two s)
+  pub counted : Countable 0 (shown_bytes naming letters goal bounds one two s)
   pub within : s.variables ≤ length bounds
-  pub first-end : Writable naming [] (take s.variables bounds) one s.one
-  pub second-end : Writable naming [] (drop s.variables bounds) two s.two
+  pub first-end : Writable naming letters (take s.variables bounds) one s.one
+  pub second-end : Writable naming letters (drop s.variables bounds) two s.two
 
 -- what listing an overlap asks
 pub record OverlapListable (goal bounds one two : List ℕ) (s : Shown) : Type 0 where

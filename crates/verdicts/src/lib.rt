@@ -5,9 +5,9 @@
 ghost use Rattle.std.specs.Prelude.{[], ◌∷◌, ◌<◌};
 ghost use Rattle.text.specs.Bytes.{ascii};
 ghost use Rattle.text.specs.Fields.{decimal};
-ghost use Rattle.tables.specs.Names.{name_in};
 ghost use Rattle.listing.specs.Listing.{line_of};
 ghost use Rattle.listing.specs.Writing.{Countable, Writes, ListedAs};
+ghost use Rattle.listing.specs.Ends.{named};
 ghost use Rattle.verdicts.specs.Verdicts.{pair_lines};
 ghost use Rattle.verdicts.specs.Checks.{rules_line, front_bytes, numbered_ends, shown_bytes};
 ghost use Rattle.verdicts.specs.Checks.{Shaped, EndsWritable, OverlapWritable, OverlapListable, OverlapListed};
@@ -15,9 +15,8 @@ ghost use Rattle.verdicts.specs.Checks.{Shaped, EndsWritable, OverlapWritable, O
 use listing::ends::{number_end, put_end};
 use listing::putting::{Mark, put_head, put_rows};
 use listing::writing::{behind, copy, put_byte, put_decimal};
-use listing::{End, list_by};
+use listing::{End, Names, list_by};
 use tables::layout::FIRST_RULE;
-use tables::names::name;
 
 // The overlap that is shown: the numbers of its rules, how many heads the first has, the partner of each of these (from 1, or 0),
 // how many variables its goal has, and both ends.
@@ -40,20 +39,12 @@ pub fn list_pass(out: &mut [u8], n: usize) -> Option<usize>
 }
 
 // The first line of an overlap: the names of its rules.
-pub fn put_rules<'a>(
-    out: &mut [u8],
-    program: &'a [u8],
-    places: &[u16],
-    first: usize,
-    second: usize,
-) -> usize
-    requires { Countable 0 (rules_line (name_in program.now [] places.now) first second)
-        × (first < 65536) × (second < 65536) }
-    ensures { Writes (rules_line (name_in program.now [] places.now) first second) 0
-        out.old out.new result }
+pub fn put_rules<'a>(out: &mut [u8], names: Names<'a>, first: usize, second: usize) -> usize
+    requires { Countable 0 (rules_line (named names) first second) × (first < 65536) × (second < 65536) }
+    ensures { Writes (rules_line (named names.entry) first second) 0 out.old out.new result }
 {
-    let one = name(program, &program[..0], places, FIRST_RULE + first);
-    let two = name(program, &program[..0], places, FIRST_RULE + second);
+    let one = names.name(FIRST_RULE + first);
+    let two = names.name(FIRST_RULE + second);
     let start = copy(out, 0, b"UNJOINED,");
     let comma = copy(out, start, one);
     let next = put_byte(out, comma, b',');
@@ -91,18 +82,11 @@ pub fn put_pairs(out: &mut [u8], at: usize, partners: &[usize]) -> usize
 }
 
 // All lines in front of the ends: the rules, the joined pairs of heads, and the goal.
-pub fn put_front<'a>(
-    out: &mut [u8],
-    program: &'a [u8],
-    places: &[u16],
-    goal: &[u16],
-    shown: Shown,
-) -> usize
-    requires { Countable 0 (front_bytes (name_in program.now [] places.now) goal.now shown) × Shaped shown }
-    ensures { Writes (front_bytes (name_in program.now [] places.now) goal.now shown) 0
-        out.old out.new result }
+pub fn put_front<'a>(out: &mut [u8], names: Names<'a>, goal: &[u16], shown: Shown) -> usize
+    requires { Countable 0 (front_bytes (named names) names.letters.now goal.now shown) × Shaped shown }
+    ensures { Writes (front_bytes (named names.entry) names.entry.letters.now goal.now shown) 0 out.old out.new result }
 {
-    let first = put_rules(out, program, places, shown.first, shown.second);
+    let first = put_rules(out, names, shown.first, shown.second);
     let partners = shown.partners;
     let heads = shown.heads;
     let pairs = put_pairs(out, first, &partners[..heads]);
@@ -110,16 +94,7 @@ pub fn put_front<'a>(
         line: b'G',
         variables: shown.variables,
     };
-    put_rows(
-        out,
-        pairs,
-        program,
-        &program[..0],
-        places,
-        &program[..0],
-        mark,
-        goal,
-    )
+    put_rows(out, pairs, names, mark, goal)
 }
 
 // The lines of both ends, whose variables are numbered, one behind the other. `bounds` holds what the goal's variables became in
@@ -127,83 +102,62 @@ pub fn put_front<'a>(
 pub fn put_ends<'a>(
     out: &mut [u8],
     at: usize,
-    program: &'a [u8],
-    places: &[u16],
+    names: Names<'a>,
     bounds: &[u16],
     one: &[u16],
     two: &[u16],
     shown: Shown,
 ) -> usize
-    requires { EndsWritable (name_in program.now [] places.now) at bounds.now one.now two.now shown }
+    requires { EndsWritable (named names) names.letters.now at bounds.now one.now two.now shown }
     ensures { Writes
-        (numbered_ends (name_in program.now [] places.now) bounds.now one.now
+        (numbered_ends (named names.entry) names.entry.letters.now bounds.now one.now
         two.now shown) at out.old out.new result }
 {
     let v = shown.variables;
     let from = behind(at, out.len());
-    let size = put_end(
-        &mut out[from..],
-        program,
-        &program[..0],
-        places,
-        &program[..0],
-        &bounds[..v],
-        one,
-        shown.one,
-    );
+    let size = put_end(&mut out[from..], names, &bounds[..v], one, shown.one);
     let next = at + size;
     let start = behind(next, out.len());
-    let last = put_end(
-        &mut out[start..],
-        program,
-        &program[..0],
-        places,
-        &program[..0],
-        &bounds[v..],
-        two,
-        shown.two,
-    );
+    let last = put_end(&mut out[start..], names, &bounds[v..], two, shown.two);
     next + last
 }
 
 // All lines of an overlap, the variables of whose ends are numbered.
 pub fn put_overlap<'a>(
     out: &mut [u8],
-    program: &'a [u8],
-    places: &[u16],
+    names: Names<'a>,
     goal: &[u16],
     bounds: &[u16],
     one: &[u16],
     two: &[u16],
     shown: Shown,
 ) -> usize
-    requires { OverlapWritable (name_in program.now [] places.now) goal.now bounds.now one.now two.now shown }
+    requires { OverlapWritable (named names) names.letters.now goal.now bounds.now one.now two.now shown }
     ensures { Writes
-        (shown_bytes (name_in program.now [] places.now) goal.now bounds.now
+        (shown_bytes (named names.entry) names.entry.letters.now goal.now bounds.now
         one.now two.now shown) 0 out.old out.new result }
 {
-    let at = put_front(out, program, places, goal, shown);
-    put_ends(out, at, program, places, bounds, one, two, shown)
+    let at = put_front(out, names, goal, shown);
+    put_ends(out, at, names, bounds, one, two, shown)
 }
 
 // The listing of an overlap, the variables of whose ends are numbered.
 fn list_shown<'a>(
     out: &mut [u8],
-    program: &'a [u8],
-    places: &[u16],
+    names: Names<'a>,
     goal: &[u16],
     bounds: &[u16],
     one: &[u16],
     two: &[u16],
     shown: Shown,
 ) -> Option<usize>
-    requires { OverlapWritable (name_in program.now [] places.now) goal.now bounds.now one.now two.now shown }
+    requires { OverlapWritable (named names) names.letters.now goal.now bounds.now one.now two.now shown }
     ensures { ListedAs
-        (shown_bytes (name_in program.now [] places.now) goal.now bounds.now
+        (shown_bytes (named names.entry) names.entry.letters.now goal.now bounds.now
         one.now two.now shown) out.old out.new result }
 {
     list_by(out, false, |rest| {
-        put_overlap(rest, program, places, goal, bounds, one, two, shown)
+        put_overlap(rest, names, goal, bounds, one, two, shown)
     })
 }
 
@@ -211,7 +165,7 @@ fn list_shown<'a>(
 pub fn list_overlap<'a>(
     out: &mut [u8],
     program: &'a [u8],
-    places: &[u16],
+    places: &'a [u16],
     goal: &[u16],
     bounds: &[u16],
     one: &mut [u16],
@@ -219,11 +173,16 @@ pub fn list_overlap<'a>(
     shown: Shown,
 ) -> Option<usize>
     requires { OverlapListable goal.now bounds.now one.old two.old shown }
-    ensures { OverlapListed program.now places.now goal.now bounds.now
-        one.old two.old shown out.old out.new result }
+    ensures { OverlapListed program.now places.now goal.now bounds.now one.old two.old shown out.old out.new result }
 {
+    let names = Names {
+        program,
+        goal: &[],
+        places,
+        letters: &[],
+    };
     let v = shown.variables;
     number_end(&bounds[..v], one, shown.one);
     number_end(&bounds[v..], two, shown.two);
-    list_shown(out, program, places, goal, bounds, one, two, shown)
+    list_shown(out, names, goal, bounds, one, two, shown)
 }

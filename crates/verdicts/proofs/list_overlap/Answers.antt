@@ -28,7 +28,7 @@ list_shown-requires c =
     let own = c.well_formed in
     -- a partner is one of the machine's numbers
     let fits : (i : ℕ) → Fits w64 (get_or c.args.shown.partners i 0) = λ i. search (rules, own) in
-    overlap-writable _ (name-short _ _ _) _ _ _ _ _ _ c.args.shown c.requires c.number_end.auto.cells
+    overlap-writable _ (name-short _ _ _) _ _ _ _ _ _ _ c.args.shown c.requires c.number_end.auto.cells
     c.number_end-2.auto.cells (λ i. omega (arith, c.shared_slice_known-3-1.given i))
     (λ i. omega (arith, c.shared_slice_known-4-1.given i)) (λ i. omega (arith, c.slice_known-4-1.given i))
     (λ i. omega (arith, c.slice_known-5-1.given i)) (λ i. omega (arith, fits i)) (omega (arith, own))

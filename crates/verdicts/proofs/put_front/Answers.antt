@@ -10,7 +10,7 @@ use Rattle.verdicts.proofs.put_front.Goals as goal
 
 pub put_rules-first-requires : goal.put_rules-first-requires
 put_rules-first-requires c =
-    let all = count-is (front-is _ _ _) c.requires.0 in
+    let all = count-is (front-is _ _ _ _) c.requires.0 in
     (count-first _ all, c.requires.1.first-few, c.requires.1.second-few)
 
 pub slice_bounds-partners-end : goal.slice_bounds-partners-end
@@ -29,17 +29,17 @@ slice_bounds-put_pairs-end c =
 
 pub put_pairs-pairs-requires : goal.put_pairs-pairs-requires
 put_pairs-pairs-requires c =
-    let all = count-is (front-is _ _ _) c.requires.0 in
+    let all = count-is (front-is _ _ _ _) c.requires.0 in
     count-first _ (count_next all c.put_rules-first.ensures)
 
 pub put_rows-requires : goal.put_rows-requires
 put_rows-requires c =
-    let all = count-is (front-is _ _ _) c.requires.0 in
+    let all = count-is (front-is _ _ _ _) c.requires.0 in
     count_next (count_next all c.put_rules-first.ensures) c.put_pairs-pairs.ensures
 
 pub returns : goal.returns
 returns c =
     let rules = c.put_rules-first in
     let pairs = c.put_pairs-pairs in
-    wrote-is (sym (front-is _ _ _))
+    wrote-is (sym (front-is _ _ _ _))
     (wrote_then rules.ensures (wrote_then pairs.ensures c.put_rows.ensures pairs.auto.out) rules.auto.out)

@@ -7,16 +7,16 @@ use Rattle.verdicts.proofs.put_overlap.Goals as goal
 pub returns : goal.returns
 returns c =
     let front = c.put_front-at in
-    wrote-is (sym (shown-is _ _ _ _ _ _)) (wrote_then front.ensures c.put_ends.ensures front.auto.out)
+    wrote-is (sym (shown-is _ _ _ _ _ _ _)) (wrote_then front.ensures c.put_ends.ensures front.auto.out)
 
 pub put_front-at-requires : goal.put_front-at-requires
 put_front-at-requires c =
-    let all = count-is (shown-is _ _ _ _ _ _) c.requires.counted in
+    let all = count-is (shown-is _ _ _ _ _ _ _) c.requires.counted in
     (count-first _ all, c.requires.shaped)
 
 pub put_ends-requires : goal.put_ends-requires
 put_ends-requires c =
-    let all = count-is (shown-is _ _ _ _ _ _) c.requires.counted in
+    let all = count-is (shown-is _ _ _ _ _ _ _) c.requires.counted in
     record {
       counted = count_next all c.put_front-at.ensures;
       within = c.requires.within;
