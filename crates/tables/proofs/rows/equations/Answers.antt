@@ -1,7 +1,8 @@
 -- `equations` meets its contract: the cells stand where the rule has its equations, of which eight cells hold no more than four.
 -- Assumes nothing.
-use Rattle.std.proofs.Common.{ℕ, List, ◌≡◌, ◌+◌, ◌-◌, ◌*◌, ◌≤◌, ◌<◌, ◌∙◌, min, sym, ⊎_elim, length, get_or, take, drop, arith, length-drop}
+use Rattle.std.proofs.Common.{ℕ, List, [], ◌≡◌, ◌+◌, ◌-◌, ◌*◌, ◌≤◌, ◌<◌, ◌∙◌, min, sym, ⊎_elim, length, get_or, take, drop, arith, length-drop}
 use lib.Seq.{take_all}
+use Rattle.tables.specs.Cells.{cell_equations}
 use Rattle.tables.specs.Rows.{rule_of_row}
 use Rattle.tables.proofs.CellLaws.{le-or-lt}
 use Rattle.tables.proofs.rows.equations.Goals as goal
@@ -16,8 +17,12 @@ take-four k l e = ⊎_elim many few (le-or-lt 4 k)
     few : k < 4 → take (2 * min k 4) l ≡ take (2 * k) l
     few h = let same : 2 * min k 4 ≡ 2 * k = omega arith in rw same
 
-pub returns-clause-same : goal.returns-clause-same
+these-are : (row : List ℕ) (n : ℕ) → length row ≡ 64 → n ≡ min (get_or row 5 0) 4
+    → cell_equations (take (56 + 2 * n - 56) (drop 56 row)) ≡ (rule_of_row [] row).equations
 unfolding rule_of_row
-returns-clause-same c =
-    let n : 56 + 2 * c.at_most_four.result - 56 ≡ 2 * min (get_or c.args.row.now 5 0) 4 = omega arith in
-    rw (n, take-four (get_or c.args.row.now 5 0) (drop 56 c.args.row.now) (omega (arith, length-drop 56 c.args.row.now)))
+these-are row n size e =
+    let k : 56 + 2 * n - 56 ≡ 2 * min (get_or row 5 0) 4 = omega arith in
+    rw (k, take-four (get_or row 5 0) (drop 56 row) (omega (arith, length-drop 56 row)))
+
+pub returns-clause-same : goal.returns-clause-same
+returns-clause-same c = these-are _ _ c.requires c.at_most_four.ensures
