@@ -2,13 +2,14 @@
 ghost use Rattle.std.specs.Prelude.{◌*◌};
 ghost use Rattle.critical.specs.Verdicts.{Deciding, Stopped, Remade, Runs, BothRun, UnjoinedIn, VerdictIn};
 
-use crate::walking::{Met, row_of, walk_all};
+use crate::walking::{Met, walk_all};
 use engine::derivation::Final;
 use judging::{Ends, Peak};
 use overlaps::finishing::second_positions;
 use overlaps::overlapping::overlap_by;
 use sides::side;
 use tables::layout::{CONSTRAINT_SIZE, HEADS_CELL};
+use tables::rows::row_of;
 use tables::wide;
 
 // An overlap that does not join: the numbers of its rules, how many heads the first has, the partner of each of these (from 1,

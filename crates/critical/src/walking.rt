@@ -1,8 +1,6 @@
 // The walk over the pairings of two rules, partner by partner, which leaves out what cannot unify and judges each overlap.
-ghost use Rattle.std.specs.Prelude.{◌≡◌, ◌+◌, ◌-◌, ◌*◌, ◌≤◌, ◌<◌, eqb, length, take};
+ghost use Rattle.std.specs.Prelude.{◌≡◌, ◌+◌, ◌-◌, ◌≤◌, ◌<◌, eqb, length, take};
 ghost use Rattle.text.specs.Lists.{every};
-ghost use Rattle.tables.specs.Layout.{row_size};
-ghost use Rattle.tables.specs.Rows.{row_of};
 ghost use Rattle.critical.specs.Walks.{Checkable, Room, Walkable, Walked};
 ghost use Rattle.critical.specs.Walks.{PairWalked, RowWalked, AllWalked};
 
@@ -11,17 +9,9 @@ use overlaps::finishing::{finish, second_positions};
 use overlaps::joining::join_partner;
 use overlaps::laying::lay_heads;
 use overlaps::sharing::share_symbol;
-use tables::layout::{CONSTRAINT_SIZE, HEADS_CELL, ROW_SIZE};
+use tables::layout::{CONSTRAINT_SIZE, HEADS_CELL};
+use tables::rows::row_of;
 use tables::wide;
-
-// The row of a rule in the table.
-pub fn row_of(rules: &[u16], i: usize) -> &[u16]
-    requires { row_size * i + row_size ≤ length rules.now }
-    ensures { result.now ≡ row_of rules.now i }
-{
-    let a = ROW_SIZE * i;
-    &rules[a..a + ROW_SIZE]
-}
 
 // Two rules of a table of `rules`, by their numbers, and how many heads they have.
 #[derive(Clone, Copy)]

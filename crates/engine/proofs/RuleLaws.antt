@@ -2,7 +2,7 @@
 --   removed_at              the positions whose constraints a firing removes
 --   left-equated, …        what is left there, and the rest of the firing
 -- Assumes nothing.
-use Prim.Native.Nat.{ℕ, suc, ◌+◌, ◌-◌, ◌*◌, ◌≤◌, ◌<◌, min}
+use Prim.Native.Nat.{ℕ, suc, ◌+◌, ◌-◌, ◌*◌, ◌≤◌, min}
 use native.Mathlib.Omega.{arith}
 use mathlib.Core.Bool.{Bool, true, false, cond, ◌&&◌}
 use mathlib.Core.List.{List, [], ◌∷◌, ◌++◌, map, append_assoc}
@@ -10,7 +10,7 @@ use mathlib.Core.Logic.{⊎_elim}
 use mathlib.Core.Path.{◌≡◌, refl, ap, sym, ◌∙◌}
 use lib.Dec.{leb}
 use lib.ListN.{length, get_or, take, drop, replicate, length-append, length-drop, length-map, drop_of_length-le}
-use lib.Seq.{take-append-le, take_all, length-take-le, take_at, take-nil}
+use lib.Seq.{take-append-le, length-take-le, take_at, take-nil}
 use borrow.Author.Tests.{le-leb}
 use Rattle.text.specs.Lists.{has, every}
 use Rattle.semantics.specs.Terms.{Term, con, var, Constraint, Equation, map_terms, map_sides, is_below, alphabet}
@@ -70,22 +70,16 @@ sides-below l h = every-weaker sided (λ (e : Equation). is_below alphabet e.lef
         let (left, right) = and-true (is_side e.left) (is_side e.right) two in
         rw (side-below e.left left, side-below e.right right)
 
--- a body stands behind the constraints
+-- a body stands behind the constraints; source are its cells
 pub body-appended :
-    (row bindings : List ℕ) (next : ℕ) (cells out rest : List ℕ) (k w : ℕ) → Row row → 5 * k + 30 ≤ length cells
-    → w ≡ get_or row 4 0
-    → out ≡ map (instance_cell next bindings) (take (26 + 5 * w - 26) (drop 26 row))
+    (row source bindings : List ℕ) (next : ℕ) (cells out rest : List ℕ) (k w : ℕ) → Row row → 5 * k + 30 ≤ length cells
+    → length source ≡ 5 * get_or row 4 0 → cell_constraints source ≡ (rule_of_row [] row).body → w ≡ get_or row 4 0
+    → out ≡ map (instance_cell next bindings) source
     → Appended row bindings next cells (take (5 * k) cells ++ (out ++ rest)) k (k + w)
-unfolding rule_of_row is_lettered
-body-appended row bindings next cells out rest k w r room e o =
-    let n : 26 + 5 * w - 26 ≡ 5 * get_or row 4 0 = omega arith in
-    let body : List ℕ = take (5 * get_or row 4 0) (drop 26 row) in
-    let few : get_or row 4 0 ≤ 6 = r.body-few in
-    let o' : out ≡ map (instance_cell next bindings) (take (5 * get_or row 4 0) (drop 26 row)) = rw n at o in
-    let body-size : length (take (5 * get_or row 4 0) (drop 26 row)) ≡ 5 * get_or row 4 0 =
-    length-take-le (5 * get_or row 4 0) (drop 26 row) (omega (arith, length-drop 26 row, r.size)) in
+unfolding is_lettered
+body-appended row source bindings next cells out rest k w r room source-size source-same e o =
     let size : length out ≡ 5 * w =
-    ap length o' ∙ length-map (take (5 * get_or row 4 0) (drop 26 row)) (instance_cell next bindings) ∙ body-size ∙ omega arith in
+    ap length o ∙ length-map source (instance_cell next bindings) ∙ source-size ∙ omega arith in
     let front : length (take (5 * k) cells) ≡ 5 * k = length-take-le (5 * k) cells (omega arith) in
     let part : take (5 * (k + w)) (take (5 * k) cells ++ (out ++ rest)) ≡ take (5 * k) cells ++ out =
     rw (← append_assoc (take (5 * k) cells) out rest)
@@ -96,66 +90,44 @@ body-appended row bindings next cells out rest k w r room e o =
           rw (
             part,
             constraints-append k (take (5 * k) cells) out front,
-            o',
+            o,
             acts-constraints (is_below alphabet) (instance_cell next bindings) (instance next (assigned bindings))
-                (instance-acts next bindings) (take (5 * get_or row 4 0) (drop 26 row)) r.body,
+                (instance-acts next bindings) source (rw source-same r.body),
+            source-same,
           );
     }
-
--- eight cells hold no more than four equations, whatever the count
-take-four : (k : ℕ) (l : List ℕ) → length l ≡ 8 → take (2 * min k 4) l ≡ take (2 * k) l
-take-four k l e = ⊎_elim many few (le-or-lt 4 k)
-  where
-    many : 4 ≤ k → take (2 * min k 4) l ≡ take (2 * k) l
-    many h = take_all (2 * min k 4) l (omega arith) ∙ sym (take_all (2 * k) l (omega arith))
-
-    few : k < 4 → take (2 * min k 4) l ≡ take (2 * k) l
-    few h = let same : 2 * min k 4 ≡ 2 * k = omega arith in rw same
 
 -- the room for a rule's equations
 abbrev eight : List ℕ
 eight = replicate 8 0
 
-module _ (row bindings : List ℕ) (next : ℕ) (cells : List ℕ) (w : ℕ) (q : Equated row bindings next cells)
-    (z : w ≡ min (get_or row 5 0) 4) where
-  few : w ≤ 4
-  few = omega arith
-
-  source-size : length (take (56 + 2 * w - 56) (drop 56 row)) ≡ 2 * w
-  source-size =
-      length-take-le (56 + 2 * w - 56) (drop 56 row) (omega (arith, few, length-drop 56 row, q.given.size)) ∙ omega arith
-
-  module _ (e rest : List ℕ) (o : e ≡ map (instance_cell next bindings) (take (56 + 2 * w - 56) (drop 56 row))) where
+-- source are the cells of the rule's equations
+module _ (row source bindings : List ℕ) (next : ℕ) (cells : List ℕ) (w : ℕ) (q : Equated row bindings next cells)
+    (z : w ≡ min (get_or row 5 0) 4) (source-size : length source ≡ 2 * min (get_or row 5 0) 4)
+    (source-same : cell_equations source ≡ (rule_of_row [] row).equations) where
+  module _ (e rest : List ℕ) (o : e ≡ map (instance_cell next bindings) source) where
     size : length e ≡ 2 * w
-    size = ap length o ∙ length-map (take (56 + 2 * w - 56) (drop 56 row)) (instance_cell next bindings) ∙ source-size
+    size = ap length o ∙ length-map source (instance_cell next bindings) ∙ source-size ∙ ap (2 *◌) (sym z)
 
     part : take (2 * w) (e ++ rest) ≡ e
     part = take_at e rest (2 * w) size
 
-    cells_are : take (56 + 2 * w - 56) (drop 56 row) ≡ take (2 * get_or row 5 0) (drop 56 row)
-    cells_are =
-        let count : 56 + 2 * w - 56 ≡ 2 * min (get_or row 5 0) 4 = omega arith in
-        rw count (take-four (get_or row 5 0) (drop 56 row) (omega (arith, length-drop 56 row, q.given.size)))
-
     pub equations-solvable : Solvable (take (2 * w) (e ++ rest)) w cells
-    unfolding rule_of_row
     equations-solvable =
         rw part (record {
           size = size;
           used = rw o (acts-used (is_below alphabet) (instance_cell next bindings) (instance next (assigned bindings))
-              (instance-acts next bindings) (take (56 + 2 * w - 56) (drop 56 row))
-              (sides-used w (take (56 + 2 * w - 56) (drop 56 row)) source-size (rw cells_are q.given.equations)));
+              (instance-acts next bindings) source
+              (sides-used w source (source-size ∙ ap (2 *◌) (sym z)) (rw source-same q.given.equations)));
           low = q.low;
         })
 
     decoded : cell_equations e ≡ map (map_sides (instance next (assigned bindings))) (rule_of_row [] row).equations
-    unfolding rule_of_row
     decoded =
-        rw (o, cells_are)
+        rw o
         (acts-equations (is_below alphabet) (instance_cell next bindings) (instance next (assigned bindings))
-        (instance-acts next bindings)
-        (take (2 * get_or row 5 0) (drop 56 row)) (sides-below (cell_equations (take (2 * get_or row 5 0) (drop 56 row)))
-        q.given.equations))
+        (instance-acts next bindings) source (sides-below (cell_equations source) (rw source-same q.given.equations))
+        ∙ ap (map (map_sides (instance next (assigned bindings)))) source-same)
 
     -- the rule's equations are solved
     pub rule-solved :

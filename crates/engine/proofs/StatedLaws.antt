@@ -2,14 +2,14 @@
 --   Matching, matching-start, …     the heads so far, at their positions
 --   stated-rests, stated-moves      a firing, where the rule fits and where it does not
 -- Assumes nothing.
-use Prim.Native.Nat.{ℕ, suc, ◌+◌, ◌-◌, ◌*◌, ◌≤◌, ◌<◌}
+use Prim.Native.Nat.{ℕ, suc, ◌+◌, ◌*◌, ◌≤◌, ◌<◌}
 use native.Mathlib.Omega.{arith}
 use native.Mathlib.Numerals.{add-one}
 use mathlib.Core.Bool.{Bool, true, false, cond}
 use mathlib.Core.List.{List, [], ◌∷◌, ◌++◌}
 use mathlib.Core.Option.{Option, none, some}
 use mathlib.Core.Path.{◌≡◌, refl, sym, ap, ◌∙◌}
-use lib.ListN.{length, get_or, get_elem?, take, drop, replicate, length-drop, drop_of_length-le}
+use lib.ListN.{length, get_or, get_elem?, take, drop, replicate, drop_of_length-le}
 use lib.Seq.{drop-cons, get_or-take, length-take-le, take-suc, take_all}
 use Rattle.text.specs.Lists.{bind, has, every}
 use Rattle.semantics.specs.Terms.{Constraint}
@@ -44,21 +44,20 @@ pub record Matching (heads : List ℕ) (n : ℕ) (cells : List ℕ) (m : ℕ) (p
       (assigned bindings) ≡ answer
 
 pub matching-start :
-    (row positions cells bindings : List ℕ) (m n : ℕ) → Row row → length positions ≡ 4 → length cells ≡ 5 * m
-    → length bindings ≡ 26 → n ≡ get_or row 3 0
-    → Matching (take (6 + 5 * n - 6) (drop 6 row)) n cells m positions bindings 0 (match_row row positions cells bindings)
-unfolding match_row rule_of_row
-matching-start row positions cells bindings m n r p k b e =
-    let here : 6 + 5 * n - 6 ≡ 5 * get_or row 3 0 = omega arith in
+    (row heads positions cells bindings : List ℕ) (m n : ℕ) → Row row → length positions ≡ 4 → length cells ≡ 5 * m
+    → length bindings ≡ 26 → n ≡ get_or row 3 0 → length heads ≡ 5 * get_or row 3 0
+    → cell_constraints heads ≡ (rule_of_row [] row).heads
+    → Matching heads n cells m positions bindings 0 (match_row row positions cells bindings)
+unfolding match_row
+matching-start row heads positions cells bindings m n r p k b e size same =
     record {
-      heads-size = length-take-le (6 + 5 * n - 6) (drop 6 row)
-          (omega (arith, length-drop 6 row, r.size, r.heads-few)) ∙ omega arith;
+      heads-size = size ∙ omega arith;
       few = omega (arith, r.heads-few);
       cells-size = k;
       positions-size = p;
       size = b;
-      letters = rw here r.heads;
-      same = rw (here, e);
+      letters = rw same r.heads;
+      same = rw (same, e);
     }
 
 module _ (heads : List ℕ) (n : ℕ) (cells : List ℕ) (m : ℕ) (positions bindings : List ℕ) (h : ℕ) (answer : Option Assignment)

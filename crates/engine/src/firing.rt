@@ -1,5 +1,5 @@
 // Firing a rule at positions that fit: its constraints are removed, its body is appended, and its equations are solved.
-ghost use Rattle.std.specs.Prelude.{true, [], map, ◌≡◌, ◌+◌, ◌-◌, ◌*◌, ◌≤◌, ◌<◌, min, length, take, drop, get_or};
+ghost use Rattle.std.specs.Prelude.{true, [], map, ◌≡◌, ◌+◌, ◌-◌, ◌*◌, ◌≤◌, ◌<◌, length, take, drop, get_or};
 ghost use Rattle.text.specs.Lists.{up_to};
 ghost use Rattle.tables.specs.Layout.{constraint_size, kept_cell, heads_cell};
 ghost use Rattle.engine.specs.Cells.{instance_cell, moved_row, closed_gap};
@@ -8,9 +8,9 @@ ghost use Rattle.engine.specs.States.{Highest, Removed, Appended, Equated, Solve
 
 use crate::solving::solve;
 use tables::layout::{
-    BODY_CELL, CONSTRAINT_SIZE, EQUATIONS_CELL, FIRST_BODY, FIRST_EQUATION, FIRST_VARIABLE,
-    HEADS_CELL, KEPT_CELL,
+    BODY_CELL, CONSTRAINT_SIZE, EQUATIONS_CELL, FIRST_VARIABLE, HEADS_CELL, KEPT_CELL,
 };
+use tables::rows::{at_most_four, body, equations};
 use tables::wide;
 
 // A cell of a rule's body: what the rule's variable is bound to, or a new variable.
@@ -97,18 +97,10 @@ pub fn append_body(row: &[u16], bindings: &[u16], next: u16, cells: &mut [u16], 
     ensures { Appended row.now bindings.now next cells.old cells.new k result }
 {
     let n = wide(row[BODY_CELL]);
-    let e = FIRST_BODY + CONSTRAINT_SIZE * n;
     let s = CONSTRAINT_SIZE * k;
     let t = s + CONSTRAINT_SIZE * n;
-    instantiate(&row[FIRST_BODY..e], bindings, next, &mut cells[s..t]);
+    instantiate(body(row), bindings, next, &mut cells[s..t]);
     k + n
-}
-
-// How many equations a row holds, by the number in its cell: it has room for four.
-pub fn at_most_four(cell: u16) -> usize
-    ensures { result ≡ min cell 4 }
-{
-    if cell < 4 { wide(cell) } else { 4 }
 }
 
 // Solves a rule's equations in the state; false where it fails.
@@ -124,11 +116,10 @@ pub fn solve_rule(
         bound.new cells.new }
 {
     let n = at_most_four(row[EQUATIONS_CELL]);
-    let e = FIRST_EQUATION + 2 * n;
     let t = 2 * n;
-    let mut equations = [0u16; 8];
-    instantiate(&row[FIRST_EQUATION..e], bindings, next, &mut equations[..t]);
-    solve(&mut equations[..t], n, bound, cells)
+    let mut sides = [0u16; 8];
+    instantiate(equations(row), bindings, next, &mut sides[..t]);
+    solve(&mut sides[..t], n, bound, cells)
 }
 
 // Whether a state lives on after a firing, and how many constraints it has then.

@@ -9,7 +9,8 @@ use crate::derivation::Step;
 use crate::entering::{copy_free, copy_goal};
 use crate::firing::complete;
 use fitting::matching::fit_free;
-use tables::layout::{CONSTRAINT_SIZE, FIRST_HEAD, HEADS_CELL, KEPT_CELL};
+use tables::layout::{CONSTRAINT_SIZE, HEADS_CELL, KEPT_CELL};
+use tables::rows::heads;
 use tables::wide;
 
 // The heads of a rule against the constraints at its positions, in written order; no position may serve two heads.
@@ -26,8 +27,7 @@ pub fn match_at(
         (match_row row.now positions cells.now bindings.old) }
 {
     let n = wide(row[HEADS_CELL]);
-    let e = FIRST_HEAD + CONSTRAINT_SIZE * n;
-    let heads = &row[FIRST_HEAD..e];
+    let heads = heads(row);
     for h in 0..n {
         let p = positions[h];
         if m <= p {

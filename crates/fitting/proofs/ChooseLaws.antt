@@ -13,9 +13,9 @@ use mathlib.Core.Option.{none, some}
 use Rattle.std.specs.Prelude.{Some, None}
 use mathlib.Core.Path.{◌≡◌, refl, sym, fun_ext, ◌∙◌}
 use lib.Dec.{eqb}
-use lib.ListN.{length, get_or, set, take, drop, replicate, length-set, length-append, length-drop, drop_of_length-le}
+use lib.ListN.{length, get_or, set, take, drop, replicate, length-set, length-append, drop_of_length-le}
 use lib.ListN.{get_or-append, get_or-eq_default}
-use lib.Seq.{drop-cons, length-take-le, get_or_at, get_or-set_same, get_or-set_other}
+use lib.Seq.{drop-cons, get_or_at, get_or-set_same, get_or-set_other}
 use borrow.Author.Tests.{eqb-true, eqb-false}
 use Rattle.text.specs.Lists.{or_else, tabled}
 use Rattle.semantics.specs.Terms.{Constraint}
@@ -44,47 +44,40 @@ pub zeros-unassigned : assigned (replicate 26 0) ≡ unassigned
 unfolding assigned unassigned
 zeros-unassigned = fun_ext (λ x. rw (zeros-zero 26 x))
 
-module _ (row cells : List ℕ) (m w : ℕ) (r : Row row) (k : length cells ≡ 5 * m) (e : w ≡ get_or row 3 0) where
+-- hs are the cells of a rule's heads, and w is how many it has
+module _ (row cells hs : List ℕ) (m w : ℕ) (r : Row row) (k : length cells ≡ 5 * m) (e : w ≡ get_or row 3 0)
+    (size : length hs ≡ 5 * get_or row 3 0) (same : cell_constraints hs ≡ (rule_of_row [] row).heads) where
   none-placed : w - w ≡ 0
   none-placed = omega arith
 
-  heads-cells : 6 + 5 * w - 6 ≡ 5 * get_or row 3 0
-  heads-cells = omega arith
-
   module _ (positions : List ℕ) (four : length positions ≡ 4) where
     -- what the search for a rule's heads asks
-    pub rule-seeking : Seeking (take (6 + 5 * w - 6) (drop 6 row)) w w cells m positions (replicate 26 0)
-    unfolding rule_of_row
+    pub rule-seeking : Seeking hs w w cells m positions (replicate 26 0)
     rule-seeking =
         record {
-          heads-size = length-take-le (6 + 5 * w - 6) (drop 6 row)
-              (omega (arith, length-drop 6 row, r.size, r.heads-few)) ∙ omega arith;
+          heads-size = size ∙ omega arith;
           few = omega (arith, r.heads-few);
           there = omega arith;
           cells-size = k;
           chosen-size = four;
           bindings-size = refl;
-          letters = rw (heads-cells, none-placed) r.heads;
+          letters = rw (none-placed, same) r.heads;
         }
 
     -- what is known of all heads
     pub rule-barren :
         (from : ℕ) → Barren (rule_of_row [] row).heads (cell_constraints cells) [] unassigned from
-        → Barren (cell_constraints (drop (5 * (w - w)) (take (6 + 5 * w - 6) (drop 6 row)))) (cell_constraints cells)
-        (take (w - w) positions) (assigned (replicate 26 0)) from
-    unfolding rule_of_row
-    rule-barren from b = rw (heads-cells, none-placed, zeros-unassigned) b
+        → Barren (cell_constraints (drop (5 * (w - w)) hs)) (cell_constraints cells) (take (w - w) positions)
+        (assigned (replicate 26 0)) from
+    rule-barren from b = rw (none-placed, zeros-unassigned, same) b
 
     -- what it answers
     pub rule-located :
         (f : Bool) (ps b : List ℕ)
-        → Located f w ps b (find (cell_constraints (drop (5 * (w - w)) (take (6 + 5 * w - 6) (drop 6 row))))
-        (cell_constraints cells)
-        (take (w - w) positions) (assigned (replicate 26 0)))
+        → Located f w ps b (find (cell_constraints (drop (5 * (w - w)) hs)) (cell_constraints cells) (take (w - w) positions)
+        (assigned (replicate 26 0)))
         → Located f (get_or row 3 0) ps b (find (rule_of_row [] row).heads (cell_constraints cells) [] unassigned)
-    unfolding rule_of_row
-    rule-located f ps b l =
-        let k : 6 + 5 * w - 6 ≡ 5 * w = omega arith in rw (← e) (rw (k, none-placed, zeros-unassigned) at l)
+    rule-located f ps b l = rw (← e) (rw (none-placed, zeros-unassigned, same) at l)
 
 -- the entries of a table
 pub length-tabled : {A : Type 0} (f : ℕ → A) (n : ℕ) → length (tabled f n) ≡ n
@@ -193,15 +186,14 @@ module _ (rules : List ℕ) (n : ℕ) (cells : List ℕ) (i : ℕ) (given : Tabl
           same = λ names. rw (drop-tabled (rule_of names rules) n i l, nothing) at (w.same names);
         })
 
-    module _ (f : Bool) (ps b : List ℕ)
-        (t : Located f (get_or (lent_row rules i) 3 0) ps b
-        (find (rule_of_row [] (lent_row rules i)).heads (cell_constraints cells) [] unassigned)) where
+    module _ (row : List ℕ) (is : row ≡ row_of rules i) (f : Bool) (ps b : List ℕ)
+        (t : Located f (get_or row 3 0) ps b (find (rule_of_row [] row).heads (cell_constraints cells) [] unassigned)) where
       answered :
           (names : List ℕ) → f ≡ true
           → found_of true (get_or (row_of rules i) 3 0) ps b ≡ find (rule_of names rules i).heads
           (cell_constraints cells) [] unassigned
       unfolding rule_of rule_of_row
-      answered names z = rw (row-cells i, z) at t.same
+      answered names z = rw (is, z) at t.same
 
       -- the choice, by whether the rule of number i fits
       tried :
@@ -214,19 +206,19 @@ module _ (rules : List ℕ) (n : ℕ) (cells : List ℕ) (i : ℕ) (given : Tabl
           rw (answered names z) (rw (drop-tabled (rule_of names rules) n i l) at (w.same names))
 
       -- what `leading` asks
-      pub choosing-leads : Row (lent_row rules i) × (length ps ≡ 4)
-      choosing-leads = (rw (row-cells i) (given.rows i l), t.positions-size)
+      pub choosing-leads : Row row × (length ps ≡ 4)
+      choosing-leads = (rw (is) (given.rows i l), t.positions-size)
 
       -- it fits nowhere before its first position
       choosing-first :
-          f ≡ true → (first : ℕ) → first ≡ cond (eqb (get_or (lent_row rules i) 3 0) 0) 0 (get_or ps 0 0)
+          f ≡ true → (first : ℕ) → first ≡ cond (eqb (get_or row 3 0) 0) 0 (get_or ps 0 0)
           → Barren (rule_of_row [] (row_of rules i)).heads (cell_constraints cells) [] unassigned first
           × (find (rule_of_row [] (row_of rules i)).heads (cell_constraints cells) [] unassigned ≡ none → ⊥)
       unfolding found_of
       choosing-first z first g =
-          let found = rw (row-cells i, z) at t.same in (
+          let found = rw (is, z) at t.same in (
             first-barren (rule_of_row [] (row_of rules i)).heads (cell_constraints cells) (get_or (row_of rules i) 3 0) ps b first
-                t.positions-size found (rw (row-cells i) at g),
+                t.positions-size found (rw (is) at g),
             λ e. none-some e (sym found),
           )
 
@@ -237,7 +229,7 @@ module _ (rules : List ℕ) (n : ℕ) (cells : List ℕ) (i : ℕ) (given : Tabl
           record {
             same = λ names. tried names z;
             within = l;
-            fits = rw (row-cells i, z) at t.same;
+            fits = rw (is, z) at t.same;
             positions-size = t.positions-size;
             bindings-size = t.bindings-size;
           }
@@ -278,18 +270,18 @@ module _ (rules : List ℕ) (n : ℕ) (start last : List ℕ) (gone : ℕ) (cell
     here = rw z (w.knows.noted i l)
 
     -- what a first look at the rule asks
-    pub noting-look : Row (lent_row rules i)
-    noting-look = rw (row-cells i) (given.rows i l)
+    pub noting-look : (row : List ℕ) → row ≡ row_of rules i → Row row
+    noting-look row is = rw is (given.rows i l)
 
     -- what the search for it asks
     pub noting-row :
-        (from : ℕ) → from ≡ prefix_of v - gone
-        → Row (lent_row rules i) × (length cells ≡ 5 * m)
-        × Barren (rule_of_row [] (lent_row rules i)).heads (cell_constraints cells) [] unassigned from × (from ≤ m)
-    noting-row from g = (
-      rw (row-cells i) (given.rows i l),
+        (row : List ℕ) → row ≡ row_of rules i → (from : ℕ) → from ≡ prefix_of v - gone
+        → Row row × (length cells ≡ 5 * m)
+        × Barren (rule_of_row [] row).heads (cell_constraints cells) [] unassigned from × (from ≤ m)
+    noting-row row is from g = (
+      rw (is) (given.rows i l),
       e,
-      rw (row-cells i, g) here.barren,
+      rw (is, g) here.barren,
       omega (arith, here.earlier, count),
     )
 
@@ -318,38 +310,37 @@ module _ (rules : List ℕ) (n : ℕ) (start last : List ℕ) (gone : ℕ) (cell
 
   -- a first look finds that
   pub noting-impossible :
-      (v : ℕ) → v ≡ get_or known i 8192 → (table : List ℕ) → Tallied table (cell_constraints cells) → (r : Bool)
-      → r ≡ may_fit last table v (gone + m) (rule_of_row [] (lent_row rules i)).heads → r ≡ false
+      (row : List ℕ) → row ≡ row_of rules i → (v : ℕ) → v ≡ get_or known i 8192 → (table : List ℕ) → Tallied table (cell_constraints cells) → (r : Bool)
+      → r ≡ may_fit last table v (gone + m) (rule_of_row [] row).heads → r ≡ false
       → (known' : List ℕ) → known' ≡ set known i (gone + m) → Noting rules n start last gone cells known' (i + 1)
-  noting-impossible v z table t r g y known' k =
+  noting-impossible row is v z table t r g y known' k =
       noting-nowhere (noted-impossible heads (cell_constraints cells) last table gone v (gone + m) (here v z) t
-      (omega (arith, count)) (sym (rw (row-cells i) at g) ∙ y)) known' k
+      (omega (arith, count)) (sym (rw (is) at g) ∙ y)) known' k
 
-  module _ (f : Bool) (ps b : List ℕ)
-      (t : Located f (get_or (lent_row rules i) 3 0) ps b
-      (find (rule_of_row [] (lent_row rules i)).heads (cell_constraints cells) [] unassigned)) where
+  module _ (row : List ℕ) (is : row ≡ row_of rules i) (f : Bool) (ps b : List ℕ)
+      (t : Located f (get_or row 3 0) ps b (find (rule_of_row [] row).heads (cell_constraints cells) [] unassigned)) where
     -- the search finds that
     pub noting-next :
         f ≡ false → (known' : List ℕ) → known' ≡ set known i (gone + m) → Noting rules n start last gone cells known' (i + 1)
     unfolding found_of
-    noting-next z known' g = noting-nowhere (sym (rw (row-cells i, z) at t.same)) known' g
+    noting-next z known' g = noting-nowhere (sym (rw (is, z) at t.same)) known' g
 
     -- it fits, and where it does first is noted
     pub noting-found :
-        f ≡ true → (first : ℕ) → first ≡ cond (eqb (get_or (lent_row rules i) 3 0) 0) 0 (get_or ps 0 0) → (known' : List ℕ)
+        f ≡ true → (first : ℕ) → first ≡ cond (eqb (get_or row 3 0) 0) 0 (get_or ps 0 0) → (known' : List ℕ)
         → known' ≡ set known i (8192 + gone + first)
         → Chosen rules n cells (Some i) ps b × Knows rules n known' last gone (cell_constraints cells)
     noting-found z first h known' g =
-        let k = choosing-first rules n cells i given w.choosing l f ps b t z first h in (
-          choosing-found rules n cells i given w.choosing l f ps b t z,
+        let k = choosing-first rules n cells i given w.choosing l row is f ps b t z first h in (
+          choosing-found rules n cells i given w.choosing l row is f ps b t z,
           noting-noted (8192 + gone + first) known' g (noted-first heads (cell_constraints cells) last gone first
               (8192 + gone + first) refl k.0 k.1),
         )
 
     -- the first position lies among the constraints
     pub noting-room :
-        f ≡ true → (first : ℕ) → first ≡ cond (eqb (get_or (lent_row rules i) 3 0) 0) 0 (get_or ps 0 0) → 8192 + gone + first ≤ 65000
+        f ≡ true → (first : ℕ) → first ≡ cond (eqb (get_or row 3 0) 0) 0 (get_or ps 0 0) → 8192 + gone + first ≤ 65000
     noting-room z first h =
-        let k = choosing-first rules n cells i given w.choosing l f ps b t z first h in
+        let k = choosing-first rules n cells i given w.choosing l row is f ps b t z first h in
         let known = noted-first heads (cell_constraints cells) last gone first (8192 + gone + first) refl k.0 k.1 in
         omega (arith, known.earlier, prefix-above (8192 + gone + first) (omega arith), count)

@@ -13,7 +13,8 @@ ghost use Rattle.fitting.specs.Known.{Barren, Knows, may_fit};
 
 use crate::known::{LOOSE, Stage, known_at, note, prefix};
 use crate::matching::{fit_free, is_among, is_wanted, wanted};
-use tables::layout::{CONSTRAINT_SIZE, FIRST_HEAD, HEADS_CELL, ROW_SIZE};
+use tables::layout::{CONSTRAINT_SIZE, HEADS_CELL};
+use tables::rows::{heads, row_of};
 use tables::wide;
 use tallies::coming::is_concerned;
 use tallies::counting::is_short;
@@ -126,18 +127,8 @@ pub fn find_rule(
         (find (rule_of_row [] row.now).heads (cell_constraints cells.now) [] unassigned) }
 {
     let n = wide(row[HEADS_CELL]);
-    let e = FIRST_HEAD + CONSTRAINT_SIZE * n;
     *bindings = [0; 26];
-    find(
-        &row[FIRST_HEAD..e],
-        n,
-        n,
-        cells,
-        m,
-        positions,
-        bindings,
-        from,
-    )
+    find(heads(row), n, n, cells, m, positions, bindings, from)
 }
 
 // In how many of the first constraints a rule fits nowhere, where it fits at these smallest positions.
@@ -159,8 +150,7 @@ pub fn may_fit(row: &[u16], last: &[u16], tally: &[u16], v: usize, whole: usize)
     ensures { result ≡ may_fit last.now tally.now v whole (rule_of_row [] row.now).heads }
 {
     let n = wide(row[HEADS_CELL]);
-    let e = FIRST_HEAD + CONSTRAINT_SIZE * n;
-    let heads = &row[FIRST_HEAD..e];
+    let heads = heads(row);
     !is_short(heads, n, tally) && (LOOSE <= v || is_concerned(heads, last, v, whole))
 }
 
@@ -192,9 +182,7 @@ pub fn choose(
     for i in 0..n {
         let v = known_at(known, i);
         if v != whole {
-            let a = ROW_SIZE * i;
-            let e = a + ROW_SIZE;
-            let row = &rules[a..e];
+            let row = row_of(rules, i);
             if may_fit(row, last, tally, v, whole)
                 && find_rule(row, cells, m, prefix(v, gone), positions, bindings)
             {

@@ -44,19 +44,15 @@ both-tests cs l h =
     every-together is_low is_lettered (λ c. is_low c && every (is_below alphabet) c.terms) cs
     (λ c low letters. rw (low, letters)) l h
 
--- a rule's heads, with a number added to its variables; w is how many there are, as read
+-- a rule's heads, with a number added to its variables; hs are their cells
 pub laid_one :
-    (row : List ℕ) (next w k : ℕ) (out : List ℕ) → RuleRow row → w ≡ get_or row 3 0 → k ≡ 6 + 5 * w
-    → out ≡ map (instance_cell next (replicate 26 0)) (take (k - 6) (drop 6 row))
+    (row hs : List ℕ) (next : ℕ) (out : List ℕ) → RuleRow row → cell_constraints hs ≡ (rule_of_row [] row).heads
+    → out ≡ map (instance_cell next (replicate 26 0)) hs
     → cell_constraints out ≡ map (map_terms (instance next unassigned)) (rule_of_row [] row).heads
-unfolding rule_of_row
-laid_one row next w k out r e f g =
-    let s : k - 6 ≡ 5 * get_or row 3 0 = omega arith in
-    let q : out ≡ map (instance_cell next (replicate 26 0)) (take (5 * get_or row 3 0) (drop 6 row)) = rw s at g in
-    rw (q, ← none-bound 26)
+laid_one row hs next out r same e =
+    rw (e, ← none-bound 26, ← same)
     (acts-constraints (is_below alphabet) (instance_cell next (replicate 26 0)) (instance next (assigned (replicate 26 0)))
-    (instance-acts next (replicate 26 0)) (take (5 * get_or row 3 0) (drop 6 row))
-    (both-tests (rule_of_row [] row).heads r.low r.given.heads))
+    (instance-acts next (replicate 26 0)) hs (rw same (both-tests (rule_of_row [] row).heads r.low r.given.heads)))
 
 -- nothing is added to the first rule's variables, and 26 to the second's
 first-kept : (t : Term) → instance 0 unassigned t ≡ t

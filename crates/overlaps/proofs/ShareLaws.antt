@@ -10,8 +10,8 @@ use mathlib.Core.List.{List, [], ◌∷◌, ◌++◌, map}
 use mathlib.Core.Option.{Option, none, some}
 use mathlib.Core.Path.{◌≡◌, refl, sym, ap, subst, ◌∙◌}
 use lib.Dec.{eqb}
-use lib.ListN.{length, take, drop, get_or, get_elem?, length-map, length-drop, drop_of_length-le}
-use lib.Seq.{length-take-le, get_or-take, get_or-drop}
+use lib.ListN.{length, take, drop, get_or, get_elem?, length-map, drop_of_length-le}
+use lib.Seq.{get_or-take, get_or-drop}
 use Rattle.text.specs.Lists.{bind, every, has}
 use Rattle.text.proofs.Bools.{and-true, or-false}
 use Rattle.semantics.specs.Terms.{Constraint, map_terms}
@@ -108,22 +108,21 @@ module _ (row : List ℕ) (r : RuleRow row) (h : ℕ) where
   pub symbols-end : get_or row 3 0 ≤ h → drop h (head_symbols row) ≡ []
   symbols-end l = drop_of_length-le (head_symbols row) {i = h} (omega (arith, symbols-count))
 
-  pub symbols-next : h < get_or row 3 0 → drop h (head_symbols row) ≡ get_or row (6 + 5 * h) 0 ∷ drop (suc h) (head_symbols row)
-  unfolding head_symbols symbols_of rule_of_row row_constraint
-  symbols-next l =
-      let n = get_or row 3 0 in
-      let cells = take (5 * n) (drop 6 row) in
-      let size : length cells ≡ 5 * n =
-      length-take-le (5 * n) (drop 6 row) (omega (arith, length-drop 6 row, r.given.size, r.given.heads-few)) in
-      let there = element-row cells h (omega (arith, size)) in
-      let is : get_or (take 5 (drop (5 * h) cells)) 0 0 ≡ get_or row (6 + 5 * h) 0 =
-      get_or-take 5 (drop (5 * h) cells) 0 0 (omega arith) ∙ get_or-drop (5 * h) cells 0 0
-      ∙ get_or-take (5 * n) (drop 6 row) (5 * h + 0) 0 (omega arith) ∙ get_or-drop 6 row (5 * h + 0) 0
-      ∙ ap (λ k. get_or row k 0) (let z : 6 + (5 * h + 0) ≡ 6 + 5 * h = omega arith in z) in
-      map-drop (λ (c : Constraint). c.symbol) h (cell_constraints cells)
-      ∙ ap (map (λ c. c.symbol)) (drop-at-element (cell_constraints cells) h there)
-      ∙ ap (◌∷ map (λ c. c.symbol) (drop (suc h) (cell_constraints cells))) is
-      ∙ ap (get_or row (6 + 5 * h) 0 ∷◌) (sym (map-drop (λ (c : Constraint). c.symbol) (suc h) (cell_constraints cells)))
+  -- hs are the cells of its heads
+  pub symbols-next :
+      (hs : List ℕ) → length hs ≡ 5 * get_or row 3 0 → cell_constraints hs ≡ (rule_of_row [] row).heads → h < get_or row 3 0
+      → drop h (head_symbols row) ≡ get_or hs (5 * h) 0 ∷ drop (suc h) (head_symbols row)
+  unfolding head_symbols symbols_of row_constraint
+  symbols-next hs size same l =
+      let there = element-row hs h (omega (arith, size)) in
+      let is : get_or (take 5 (drop (5 * h) hs)) 0 0 ≡ get_or hs (5 * h) 0 =
+      get_or-take 5 (drop (5 * h) hs) 0 0 (omega arith) ∙ get_or-drop (5 * h) hs 0 0
+      ∙ ap (λ k. get_or hs k 0) (let z : 5 * h + 0 ≡ 5 * h = omega arith in z) in
+      rw (← same)
+      (map-drop (λ (c : Constraint). c.symbol) h (cell_constraints hs)
+      ∙ ap (map (λ c. c.symbol)) (drop-at-element (cell_constraints hs) h there)
+      ∙ ap (◌∷ map (λ c. c.symbol) (drop (suc h) (cell_constraints hs))) is
+      ∙ ap (get_or hs (5 * h) 0 ∷◌) (sym (map-drop (λ (c : Constraint). c.symbol) (suc h) (cell_constraints hs))))
     where
       map-drop : {A B : Type 0} (f : A → B) (k : ℕ) (l : List A) → drop k (map f l) ≡ map f (drop k l)
       map-drop f zero l = refl

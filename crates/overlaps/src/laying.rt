@@ -9,7 +9,8 @@ ghost use Rattle.tables.specs.Rows.{rule_of_row};
 ghost use Rattle.overlaps.specs.Cells.{RuleRow, RulePair, heads_of};
 
 use engine::firing::instantiate;
-use tables::layout::{CONSTRAINT_SIZE, FIRST_HEAD, HEADS_CELL};
+use tables::layout::{CONSTRAINT_SIZE, HEADS_CELL};
+use tables::rows::heads;
 use tables::wide;
 
 // Writes a rule's heads, `next` added to the numbers of its variables.
@@ -19,9 +20,7 @@ pub fn lay(row: &[u16], next: u16, out: &mut [u16])
         ≡ map (map_terms (instance next unassigned)) (rule_of_row [] row.now).heads }
 {
     let bindings = [0u16; 26];
-    let n = wide(row[HEADS_CELL]);
-    let e = FIRST_HEAD + CONSTRAINT_SIZE * n;
-    instantiate(&row[FIRST_HEAD..e], &bindings, next, out);
+    instantiate(heads(row), &bindings, next, out);
 }
 
 // All heads of two rules, the variables of the second behind the first's 26 letters.

@@ -4,7 +4,8 @@ ghost use Rattle.text.specs.Lists.{has};
 ghost use Rattle.overlaps.specs.Cells.{RuleRow};
 ghost use Rattle.overlaps.specs.Shares.{head_symbols, is_shared};
 
-use tables::layout::{CONSTRAINT_SIZE, FIRST_HEAD, HEADS_CELL};
+use tables::layout::{CONSTRAINT_SIZE, HEADS_CELL};
+use tables::rows::heads;
 use tables::wide;
 
 // Whether a rule has a head with this symbol.
@@ -13,9 +14,10 @@ pub fn has_symbol(row: &[u16], symbol: u16) -> bool
     ensures { result ≡ has symbol (head_symbols row.now) }
 {
     let n = wide(row[HEADS_CELL]);
+    let heads = heads(row);
     // Not `contains`: the symbols stand five cells apart, and a step over cells divides.
     for h in 0..n {
-        if row[FIRST_HEAD + CONSTRAINT_SIZE * h] == symbol {
+        if heads[CONSTRAINT_SIZE * h] == symbol {
             return true;
         }
     }
@@ -28,8 +30,9 @@ pub fn share_symbol(first: &[u16], second: &[u16]) -> bool
     ensures { result ≡ is_shared (head_symbols first.now) (head_symbols second.now) }
 {
     let m = wide(first[HEADS_CELL]);
+    let heads = heads(first);
     for h in 0..m {
-        if has_symbol(second, first[FIRST_HEAD + CONSTRAINT_SIZE * h]) {
+        if has_symbol(second, heads[CONSTRAINT_SIZE * h]) {
             return true;
         }
     }

@@ -20,11 +20,10 @@ use Rattle.tables.specs.Cells.{cell_term, cell_constraints, state_of}
 use Rattle.tables.specs.Rows.{name_of, rule_of, row_of}
 use Rattle.engine.specs.Runs.{Lowers, store_of, Continued}
 use Rattle.engine.specs.Stated.{stated_at, fire_row, Stated, FiredFrom}
-use Rattle.fitting.proofs.ChooseLaws.{lent_row, row-cells}
 use Rattle.engine.proofs.RunLaws.{count-weight, normalise-rests, failed-rests}
 use Rattle.engine.proofs.StepLaws.{no_way}
 use Rattle.engine.proofs.GoalLaws.{well-formed-lowers}
-use Rattle.sides.specs.Sides.{cell_goal, Sidable, Begun, Followable, Followed, Sided}
+use Rattle.sides.specs.Sides.{cell_goal, Sidable, Begun, Followable, Followed}
 
 module _ (rules : List ℕ) (n i : ℕ) (positions goal : List ℕ) (m v : ℕ) (cells : List ℕ)
     (s : Sidable rules n i positions goal m v cells) where
@@ -38,10 +37,10 @@ module _ (rules : List ℕ) (n i : ℕ) (positions goal : List ℕ) (m v : ℕ) 
       omega (arith, s.runs.light)
 
   -- what firing asks
-  pub side-stated : Stated (lent_row rules i) positions v goal m cells
-  side-stated =
+  pub side-stated : (row : List ℕ) → row ≡ row_of rules i → Stated row positions v goal m cells
+  side-stated row is =
       record {
-        given = rw (row-cells i) (s.runs.table.rows i s.rule);
+        given = rw is (s.runs.table.rows i s.rule);
         positions-size = s.positions-size;
         room = omega (arith, s.variables);
         size = s.goal-size;
@@ -49,10 +48,11 @@ module _ (rules : List ℕ) (n i : ℕ) (positions goal : List ℕ) (m v : ℕ) 
         low = s.runs.low;
       }
 
-  module _ (bound₁ : List ℕ) (b : map cell_term bound₁ ≡ tabled var v) (bound₂ cells₂ : List ℕ) (fired alive : Bool) (count : ℕ)
-      (given : FiredFrom (lent_row rules i) positions v bound₁ goal m bound₂ cells₂ fired alive count) where
+  module _ (row : List ℕ) (is : row ≡ row_of rules i) (bound₁ : List ℕ) (b : map cell_term bound₁ ≡ tabled var v)
+      (bound₂ cells₂ : List ℕ) (fired alive : Bool) (count : ℕ)
+      (given : FiredFrom row positions v bound₁ goal m bound₂ cells₂ fired alive count) where
     f : FiredFrom (row_of rules i) positions v bound₁ goal m bound₂ cells₂ fired alive count
-    f = rw (row-cells i) at given
+    f = rw is at given
 
     -- the side's own firing
     own :

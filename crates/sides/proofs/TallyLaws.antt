@@ -4,7 +4,7 @@
 --   side-tallying                         what the tally asks of a side that has fired
 --   side-tallied                          it equals a fresh count of the state's constraints (the main law)
 -- Assumes nothing.
-use Prim.Native.Nat.{ℕ, ◌+◌, ◌*◌, ◌≤◌}
+use Prim.Native.Nat.{ℕ, ◌+◌, ◌*◌}
 use native.Mathlib.Omega.{arith}
 use mathlib.Core.Bool.{Bool, true}
 use mathlib.Core.List.{List, []}
@@ -21,7 +21,6 @@ use Rattle.tables.specs.Rows.{rule_of_row, rule_of, row_of}
 use Rattle.tables.proofs.CellLaws.{constraints-length}
 use Rattle.tallies.specs.Symbols.{Tallied, Raisable, Raised, Exchangeable, Exchanged}
 use Rattle.tallies.proofs.FreshLaws.{fresh-raisable, raised-fresh}
-use Rattle.fitting.proofs.ChooseLaws.{lent_row, row-cells}
 use Rattle.engine.specs.Runs.{store_of}
 use Rattle.engine.proofs.KeepsLaws.{row-exchangeable}
 use Rattle.engine.specs.Stated.{stated_at}
@@ -52,10 +51,11 @@ module _ (rules : List ℕ) (n i : ℕ) (goal : List ℕ) (m v : ℕ) (bound cel
     (s : Followable rules n i goal m v bound cells fired alive count) (z : fired ≡ true) (y : alive ≡ true) where
   -- what the tally asks
   pub side-tallying :
-      (table : List ℕ) → length table ≡ 64 → every (eqb 0) table ≡ true → SideTallying (lent_row rules i) goal m table
-  side-tallying table size zeros =
+      (row : List ℕ) → row ≡ row_of rules i → (table : List ℕ) → length table ≡ 64 → every (eqb 0) table ≡ true
+      → SideTallying row goal m table
+  side-tallying row is table size zeros =
       record {
-        given = rw (row-cells i) ((s.starts z y).runs.table.rows i s.rule);
+        given = rw is ((s.starts z y).runs.table.rows i s.rule);
         goal-size = s.goal-size;
         low = s.low;
         few = omega (arith, s.few);
@@ -73,7 +73,8 @@ module _ (rules : List ℕ) (n i : ℕ) (goal : List ℕ) (m v : ℕ) (bound cel
 
   -- the tally of the side equals a fresh count of that state
   pub side-tallied :
-      (table' : List ℕ) → length table' ≡ 64 → SideTallied (lent_row rules i) goal table' → Tallied table' (store_of cells count)
-  side-tallied table' size t =
-      let own : SideTallied (row_of rules i) goal table' = rw (row-cells i) at t in
+      (row : List ℕ) → row ≡ row_of rules i → (table' : List ℕ) → length table' ≡ 64 → SideTallied row goal table'
+      → Tallied table' (store_of cells count)
+  side-tallied row is table' size t =
+      let own : SideTallied (row_of rules i) goal table' = rw is at t in
       record { size = size; counts = λ k. own.same k ∙ moved k }

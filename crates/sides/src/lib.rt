@@ -8,7 +8,8 @@ ghost use Rattle.sides.specs.Sides.{SideTallying, SideTallied};
 use engine::derivation::{Final, Step, normalise_from};
 use engine::entering::start_bound;
 use engine::stated::fire_from;
-use tables::layout::{MAX_SYMBOLS, ROW_SIZE};
+use tables::layout::MAX_SYMBOLS;
+use tables::rows::row_of;
 use tallies::counting::{exchange, raise};
 
 // A side's own firing: the rule of a number fires at its positions of the goal, which has m constraints and as many variables as
@@ -28,9 +29,7 @@ pub fn begin(
 {
     let next = bound.len() as u16;
     start_bound(bound);
-    let a = ROW_SIZE * rule;
-    let b = a + ROW_SIZE;
-    fire_from(&rules[a..b], positions, next, goal, m, bound, cells)
+    fire_from(row_of(rules, rule), positions, next, goal, m, bound, cells)
 }
 
 // The tally of a side after its own firing: the goal's m constraints enter an empty store, and the rule fires.
@@ -78,10 +77,8 @@ pub fn follow(
             firings: 1,
         };
     }
-    let a = ROW_SIZE * rule;
-    let b = a + ROW_SIZE;
     let mut tally = [0u16; MAX_SYMBOLS];
-    tally_side(&rules[a..b], goal, m, &mut tally);
+    tally_side(row_of(rules, rule), goal, m, &mut tally);
     normalise_from(rules, n, bound, cells, step.count, number, 1, &mut tally)
 }
 

@@ -5,6 +5,7 @@
 pub mod layout;
 pub mod names;
 pub mod numbering;
+pub mod rows;
 
 ghost use Rattle.std.specs.Prelude.{◌≡◌, ◌<◌};
 

@@ -8,7 +8,8 @@ ghost use Rattle.tables.specs.Cells.{cell_constraints};
 ghost use Rattle.tables.specs.Rows.{rule_of_row};
 ghost use Rattle.tallies.specs.Symbols.{tallied, Raisable, Raised, Lowered, Exchangeable, Exchanged};
 
-use tables::layout::{BODY_CELL, CONSTRAINT_SIZE, FIRST_BODY, FIRST_HEAD, HEADS_CELL, KEPT_CELL};
+use tables::layout::{BODY_CELL, CONSTRAINT_SIZE, HEADS_CELL, KEPT_CELL};
+use tables::rows::{body, removed_heads};
 use tables::wide;
 
 // How many constraints of a symbol there are, by the tally; none behind the table's end.
@@ -94,9 +95,7 @@ pub fn lower_heads(row: &[u16], tally: &mut [u16])
 {
     let kept = wide(row[KEPT_CELL]);
     let heads = wide(row[HEADS_CELL]);
-    let a = FIRST_HEAD + CONSTRAINT_SIZE * kept;
-    let b = FIRST_HEAD + CONSTRAINT_SIZE * heads;
-    lower(&row[a..b], heads - kept, tally);
+    lower(removed_heads(row), heads - kept, tally);
 }
 
 // The tally after a rule has fired: less the heads that it removes, and more by its body. Equations change no symbol.
@@ -105,7 +104,5 @@ pub fn exchange(row: &[u16], tally: &mut [u16])
     ensures { Exchanged row.now tally.old tally.new }
 {
     lower_heads(row, tally);
-    let n = wide(row[BODY_CELL]);
-    let d = FIRST_BODY + CONSTRAINT_SIZE * n;
-    raise(&row[FIRST_BODY..d], n, tally);
+    raise(body(row), wide(row[BODY_CELL]), tally);
 }

@@ -17,8 +17,8 @@ returns-then-not-step-2 c =
 
 pub tally_side-requires : goal.tally_side-requires
 tally_side-requires c =
-    side-tallying _ _ _ _ _ _ _ _ _ _ _ c.requires (not-false _ c.if-not-step.false) (not-false _ c.if-not-step-2.false) _ refl
-    refl
+    side-tallying _ _ _ _ _ _ _ _ _ _ _ c.requires (not-false _ c.if-not-step.false) (not-false _ c.if-not-step-2.false)
+    _ c.row_of.ensures _ refl refl
 
 pub normalise_from-requires : goal.normalise_from-requires
 normalise_from-requires c =
@@ -26,7 +26,7 @@ normalise_from-requires c =
     let alive = not-false _ c.if-not-step-2.false in (
       c.requires.starts fired alive,
       omega arith,
-      side-tallied _ _ _ _ _ _ _ _ _ _ _ c.requires fired alive _ c.tally_side.auto.tally
+      side-tallied _ _ _ _ _ _ _ _ _ _ _ c.requires fired alive _ c.row_of.ensures _ c.tally_side.auto.tally
           c.tally_side.ensures,
     )
 

@@ -5,5 +5,5 @@ use Rattle.engine.proofs.firing.append_body.Goals as goal
 
 pub returns : goal.returns
 returns c =
-    body-appended _ _ _ _ _ _ _ _ c.requires.0 c.requires.3 c.wide-n.ensures.0
+    body-appended _ _ _ _ _ _ _ _ _ c.requires.0 c.requires.3 c.body.ensures.size c.body.ensures.same c.wide-n.ensures.0
     c.instantiate.ensures

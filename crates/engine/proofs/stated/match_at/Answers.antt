@@ -6,7 +6,8 @@ use Rattle.engine.proofs.stated.match_at.Goals as goal
 
 pub loop-h-init : goal.loop-h-init
 loop-h-init c =
-    matching-start _ _ _ _ _ _ c.requires.0 c.requires.1 c.requires.2 c.requires.3 c.wide-n.ensures.0
+    matching-start _ _ _ _ _ _ _ c.requires.0 c.requires.1 c.requires.2 c.requires.3 c.wide-n.ensures.0
+    c.heads-heads.ensures.size c.heads-heads.ensures.same
 
 pub returns-then-m-p : goal.returns-then-m-p
 returns-then-m-p c = search matching-away

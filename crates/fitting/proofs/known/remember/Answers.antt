@@ -6,18 +6,18 @@ use Rattle.fitting.proofs.known.remember.Goals as goal
 
 pub returns-then-row-gt0 : goal.returns-then-row-gt0
 returns-then-row-gt0 c =
-    remembered-equated _ _ _ _ _ _ _ _ _ c.requires.0 c.lower_heads.auto.tally
-    c.lower_heads.ensures c.mark.ensures c.wide-n.ensures.0 _ _ c.forget.ensures
+    remembered-equated _ _ _ _ _ _ _ _ _ _ c.requires.0 c.body.ensures.size c.body.ensures.same c.lower_heads.auto.tally
+    c.lower_heads.ensures c.mark.ensures c.wide.ensures.0 _ _ c.forget.ensures
     c.if-row-gt0.true
 
 pub returns-else-row-gt0 : goal.returns-else-row-gt0
 returns-else-row-gt0 c =
-    remembered-plain _ _ _ _ _ _ _ _ _ c.requires.0 c.lower_heads.auto.tally
-    c.lower_heads.ensures c.mark.ensures c.wide-n.ensures.0 c.if-row-gt0.false
+    remembered-plain _ _ _ _ _ _ _ _ _ _ c.requires.0 c.body.ensures.size c.body.ensures.same c.lower_heads.auto.tally
+    c.lower_heads.ensures c.mark.ensures c.wide.ensures.0 c.if-row-gt0.false
 
 pub mark-requires : goal.mark-requires
 mark-requires c = (
-  body-raisable _ _ c.requires.0 _ c.wide-n.ensures.0 _ c.lower_heads.auto.tally
+  body-raisable _ _ c.requires.0 _ c.body.ensures.size c.body.ensures.same _ c.wide.ensures.0 _ c.lower_heads.auto.tally
       c.lower_heads.ensures,
   c.requires.1,
 )

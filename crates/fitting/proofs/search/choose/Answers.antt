@@ -22,23 +22,23 @@ pub may_fit-requires : goal.may_fit-requires
 may_fit-requires c =
     noting-look _ _ _ _ _ _ _ _ _ c.requires.0 c.requires.1 c.requires.2 c.loop-i.invariant.0
     c.loop-i-test.true _
-    c.known_at-v.ensures
+    c.known_at-v.ensures _ c.row_of-row.ensures
 
 pub find_rule-requires : goal.find_rule-requires
 find_rule-requires c =
     let row = noting-row _ _ _ _ _ _ _ _ _ c.requires.0 c.requires.1 c.requires.2 c.loop-i.invariant.0
-    c.loop-i-test.true _ c.known_at-v.ensures _ c.prefix.ensures in
+    c.loop-i-test.true _ c.known_at-v.ensures _ c.row_of-row.ensures _ c.prefix.ensures in
     (row.0, row.1, row.2, row.3, c.loop-i.invariant.1)
 
 pub leading-requires : goal.leading-requires
 leading-requires c =
     choosing-leads _ _ _ _ c.requires.0 c.loop-i.invariant.0.choosing c.loop-i-test.true
-    _ _ _ c.find_rule.ensures
+    _ c.row_of-row.ensures _ _ _ c.find_rule.ensures
 
 pub note-requires : goal.note-requires
 note-requires c =
     noting-room _ _ _ _ _ _ _ _ _ c.requires.0 c.requires.1 c.requires.2 c.loop-i.invariant.0
-    c.loop-i-test.true _ _ _
+    c.loop-i-test.true _ c.row_of-row.ensures _ _ _
     c.find_rule.ensures c.if-find_rule.true _ c.leading.ensures
 
 pub overflow_add-gone-then-find_rule : goal.overflow_add-gone-then-find_rule
@@ -46,14 +46,14 @@ overflow_add-gone-then-find_rule c =
     omega (
       arith,
       noting-room _ _ _ _ _ _ _ _ _ c.requires.0 c.requires.1 c.requires.2 c.loop-i.invariant.0
-          c.loop-i-test.true _ _ _
+          c.loop-i-test.true _ c.row_of-row.ensures _ _ _
           c.find_rule.ensures c.if-find_rule.true _ c.leading.ensures,
     )
 
 pub returns-then-find_rule : goal.returns-then-find_rule
 returns-then-find_rule c =
     noting-found _ _ _ _ _ _ _ _ _ c.requires.0 c.requires.1 c.requires.2 c.loop-i.invariant.0
-    c.loop-i-test.true _ _ _
+    c.loop-i-test.true _ c.row_of-row.ensures _ _ _
     c.find_rule.ensures c.if-find_rule.true _ c.leading.ensures _ c.note.ensures
 
 pub loop-i-preserved : goal.loop-i-preserved
@@ -65,13 +65,13 @@ loop-i-preserved c =
           elim w.else-may_fit.branch [
             | else-may_fit-via-then-may_fit+else-find_rule v ↦ (
               noting-next _ _ _ _ _ _ _ _ _ c.requires.0 c.requires.1 c.requires.2 c.loop-i.invariant.0
-                  c.loop-i-test.true _ _ _ v.find_rule.ensures v.if-find_rule.false _ noted,
+                  c.loop-i-test.true _ w.row_of-row.ensures _ _ _ v.find_rule.ensures v.if-find_rule.false _ noted,
               ap length (w.positions-is ∙ v.positions-is) ∙ v.find_rule.ensures.positions-size,
               ap length (w.bindings-is ∙ v.bindings-is) ∙ v.find_rule.ensures.bindings-size,
             )
             | else-may_fit-via-else-may_fit v ↦ (
               noting-impossible _ _ _ _ _ _ _ _ _ c.requires.0 c.requires.1 c.requires.2 c.loop-i.invariant.0
-                  c.loop-i-test.true _ c.known_at-v.ensures _ c.requires.6 _
+                  c.loop-i-test.true _ w.row_of-row.ensures _ c.known_at-v.ensures _ c.requires.6 _
                   w.may_fit.ensures v.if-may_fit.false _ noted,
               ap length (w.positions-is ∙ v.positions-is) ∙ c.loop-i.invariant.1,
               ap length (w.bindings-is ∙ v.bindings-is) ∙ c.loop-i.invariant.2,

@@ -5,13 +5,15 @@ use Rattle.fitting.proofs.search.find_rule.Goals as goal
 
 pub find-requires : goal.find-requires
 find-requires c =
-    let heads = c.wide-n.ensures.0 in (
-      rule-seeking _ _ _ _ c.requires.0 c.requires.1 heads _ c.requires.4,
-      rule-barren _ _ _ _ c.requires.0 c.requires.1 heads _ c.requires.4 _ c.requires.2,
+    let n = c.wide-n.ensures.0 in
+    let size = c.heads.ensures.size in
+    let same = c.heads.ensures.same in (
+      rule-seeking _ _ _ _ _ c.requires.0 c.requires.1 n size same _ c.requires.4,
+      rule-barren _ _ _ _ _ c.requires.0 c.requires.1 n size same _ c.requires.4 _ c.requires.2,
       c.requires.3,
     )
 
 pub returns : goal.returns
 returns c =
-    rule-located _ _ _ _ c.requires.0 c.requires.1 c.wide-n.ensures.0 _ c.requires.4 _ _ _
-    c.find.ensures.0
+    rule-located _ _ _ _ _ c.requires.0 c.requires.1 c.wide-n.ensures.0 c.heads.ensures.size c.heads.ensures.same _ c.requires.4
+    _ _ _ c.find.ensures.0

@@ -1,8 +1,7 @@
 -- `lay` meets its contract: the heads under an instance that binds nothing.
 -- Assumes nothing.
 use Rattle.overlaps.proofs.LayLaws.{laid_one}
-use borrow.Author.Rules.{rules}
 use Rattle.overlaps.proofs.laying.lay.Goals as goal
 
 pub returns : goal.returns
-returns c = search (laid_one, rules)
+returns c = laid_one _ _ _ _ c.requires.0 c.heads.ensures.same c.instantiate.ensures

@@ -5,10 +5,10 @@ use Rattle.tallies.proofs.counting.exchange.Goals as goal
 
 pub returns : goal.returns
 returns c =
-    body-raised _ _ c.requires _ c.wide-n.ensures.0 _ c.lower_heads.auto.tally
+    body-raised _ _ c.requires _ c.body.ensures.size c.body.ensures.same _ c.wide.ensures.0 _ c.lower_heads.auto.tally
     c.lower_heads.ensures _ c.raise.ensures
 
 pub raise-requires : goal.raise-requires
 raise-requires c =
-    body-raisable _ _ c.requires _ c.wide-n.ensures.0 _ c.lower_heads.auto.tally
+    body-raisable _ _ c.requires _ c.body.ensures.size c.body.ensures.same _ c.wide.ensures.0 _ c.lower_heads.auto.tally
     c.lower_heads.ensures
