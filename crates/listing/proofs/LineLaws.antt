@@ -14,7 +14,7 @@ use Prim.Native.Nat.{ℕ, suc, ◌+◌, ◌-◌, ◌/◌, ◌%◌, ◌≤◌, �
 use native.Mathlib.Omega.{arith}
 use native.Mathlib.Numerals.{add-one}
 use borrow.Author.Tests.{lt-ltb, le-ltb}
-use lib.ListN.{length, take, drop, get_or, length-drop, length-take, drop_of_length-le}
+use lib.ListN.{length, take, drop, get_or, length-drop, drop_of_length-le}
 use lib.Seq.{drop-cons, take_all}
 use Rattle.text.specs.Bytes.{ascii}
 use Rattle.text.specs.Fields.{decimal}
@@ -169,10 +169,6 @@ module _ (field : ℕ → List ℕ) (cells : List ℕ) {o p : List ℕ} {at end 
   pub fields-wrote : {q : List ℕ} {n : ℕ} → length cells ≤ i → Writes (10 ∷ []) end p q n
       → Writes (fields_behind (map field cells)) at o q n
   fields-wrote h v = writing-last w (wrote-is (sym (last h)) v)
-
--- the used terms of a row lie within it
-pub used-within : (n : ℕ) (row : List ℕ) → length row ≡ 5 → n ≤ length (take (length row - 1) (drop 1 row)) → 1 + n ≤ length row
-used-within n row e h = omega (arith, length-take (length row - 1) (drop 1 row))
 
 -- a constraint's line: its letter, a comma, its symbol's name and its terms
 module _ (naming : Naming) (letters : List ℕ) (line variables : ℕ) (row : List ℕ) where
