@@ -9,7 +9,7 @@
 --   check-refused, check-ready                  a program that is refused, and one that is read
 --   checked-demand                              demand 3 of an answer to a check
 -- Assumes nothing.
-use Rattle.std.specs.Prelude.{Option, None, Some}
+use Rattle.std.specs.Prelude.{Option, None, Some, is_some, unwrap_or}
 use Prim.Native.Nat.{ℕ, ◌+◌, ◌-◌, ◌*◌, ◌≤◌, ◌<◌}
 use native.Mathlib.Omega.{arith}
 use mathlib.Core.Bool.{Bool, true, false, cond, ◌&&◌}
@@ -275,58 +275,54 @@ module _ {program places rules : List ℕ} {n : ℕ} (r : CheckReady program pla
       (state-known r.k r.c ss _ _ two.state size shows.second)
       ∙ ap (verdict_listing naming) (sym v)
 
--- how many cells of an end are listed, and the end as the listing has it: a live one, and a failed one
-pub cells-live : (e : Final) → e.alive ≡ true → 5 * e.count ≡ listed_cells e
-unfolding listed_cells
-cells-live e y = rw y
-
-pub cells-failed : (e : Final) → e.alive ≡ false → 0 ≡ listed_cells e
-unfolding listed_cells
-cells-failed e y = rw y
-
-pub end_live : (e : Final) (w : ℕ) → e.alive ≡ true → w ≡ e.next
+-- an end as the listing has it: a live one, and a failed one
+pub end_live : (e : Final) (n w : ℕ) → e.count ≡ Some n → w ≡ e.next
     → record { alive = true; next = w; firings = e.firings } ≡ end_shown e
 unfolding end_shown
-end_live e w y h = rw (y, h)
+end_live e n w y h = rw (y, h)
 
-pub end-failed : (e : Final) → e.alive ≡ false → record { alive = false; next = 0; firings = e.firings } ≡ end_shown e
+pub end-failed : (e : Final) → e.count ≡ None → record { alive = false; next = 0; firings = e.firings } ≡ end_shown e
 unfolding end_shown
 end-failed e y = rw y
 
 -- the cells of an end that are listed
-pub cells-few : {e : Final} {bound cells : List ℕ} → EndIn e bound cells → e.alive ≡ true → 5 * e.count ≤ 2590
-cells-few h y = omega (arith, (h.live y).few)
+pub cells-few : {e : Final} {bound cells : List ℕ} → EndIn e bound cells → 5 * unwrap_or e.count 0 ≤ 2590
+cells-few {e} h = go e.count refl
+  where
+    go : (o : Option ℕ) → e.count ≡ o → 5 * unwrap_or o 0 ≤ 2590
+    go (Some n) y = omega (arith, ((rw y at h.live) refl).few)
+    go None y = omega arith
 
 pub listed-within : {e : Final} {bound cells : List ℕ} {a : ℕ} → EndIn e bound cells → a ≡ listed_cells e → a ≤ length cells
 unfolding listed_cells
-listed-within {e} {bound} {cells} {a} h k = go e.alive refl k
+listed-within {e} {bound} {cells} {a} h k = go e.count refl k
   where
-    go : (b : Bool) → e.alive ≡ b → a ≡ cond b (5 * e.count) 0 → a ≤ length cells
-    go true y q = omega (arith, h.within y)
-    go false y q = omega arith
+    go : (o : Option ℕ) → e.count ≡ o → a ≡ 5 * unwrap_or o 0 → a ≤ length cells
+    go (Some n) y q = omega (arith, q, (rw y at h.within) refl)
+    go None y q = omega (arith, q)
 
 -- an end as the listing has it
 module _ (e : Final) (bound cells : List ℕ) (a : ℕ) (x : End) (cut : a ≡ listed_cells e) (shown : x ≡ end_shown e) where
   end_same : final_of bound (take a cells) x ≡ final_in e bound cells
   unfolding final_of end_in state_of listed_cells end_shown
-  end_same = rw shown (go e.alive refl cut)
+  end_same = rw shown (go e.count refl cut)
     where
-      go : (b : Bool) → e.alive ≡ b → a ≡ cond b (5 * e.count) 0
+      go : (o : Option ℕ) → e.count ≡ o → a ≡ 5 * unwrap_or o 0
           → ◌≡◌ {A = End'}
-          (record { state = state_of e.alive (cond e.alive e.next 0) bound (take a cells); firings = e.firings })
-          (record { state = state_of e.alive e.next bound (take (5 * e.count) cells); firings = e.firings })
-      go true y q = rw (y, q)
-      go false y q = rw y
+          (record { state = state_of (is_some e.count) (cond (is_some e.count) e.next 0) bound (take a cells); firings = e.firings })
+          (record { state = state_of (is_some e.count) e.next bound (take (5 * unwrap_or e.count 0) cells); firings = e.firings })
+      go (Some n) y q = rw (y, q)
+      go None y q = rw y
 
   end-listable : EndIn e bound cells → Listable x.alive x.next bound (take a cells)
   unfolding listed_cells end_shown
-  end-listable h = rw shown (go e.alive refl cut)
+  end-listable h = rw shown (go e.count refl cut)
     where
-      go : (b : Bool) → e.alive ≡ b → a ≡ cond b (5 * e.count) 0
-          → Listable e.alive (cond e.alive e.next 0) bound (take a cells)
-      go true y q =
-          rw (y, q) (record { few = omega (arith, h.next-few y); live = λ _. h.numbered y })
-      go false y q =
+      go : (o : Option ℕ) → e.count ≡ o → a ≡ 5 * unwrap_or o 0
+          → Listable (is_some e.count) (cond (is_some e.count) e.next 0) bound (take a cells)
+      go (Some n) y q =
+          rw (y, q) (record { few = omega (arith, h.next-few (ap is_some y)); live = λ _. (rw y at h.numbered) refl })
+      go None y q =
           rw y (record { few = omega arith; live = λ z. absurd (let w : ◌≡◌ {A = ℕ} 0 1 = cc in omega arith) })
 
 -- a front has at most as many cells as there are

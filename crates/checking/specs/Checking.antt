@@ -7,7 +7,7 @@
 --   OverlapReplied        an overlap is listed, or number 11
 --   Checked               the reply to a text, and an answer of the verdict's kind
 -- Assumes nothing.
-use Rattle.std.specs.Prelude.{ℕ, ◌*◌, cond, List, [], ◌∷◌, ◌≡◌, length, take, drop}
+use Rattle.std.specs.Prelude.{ℕ, ◌*◌, cond, is_some, unwrap_or, List, [], ◌∷◌, ◌≡◌, length, take, drop}
 use Rattle.text.specs.Bytes.{ascii}
 use Rattle.text.specs.Fields.{decimal}
 use Rattle.semantics.specs.Overlaps.{Overlap}
@@ -40,11 +40,11 @@ NoFail r = (n : ℕ) → r ≡ Ok (Unjoined n) → ⊥
 
 -- how many cells of an end are listed: none of a failed one
 unfoldable pub listed_cells : Final → ℕ
-listed_cells e = cond e.alive (constraint_size * e.count) 0
+listed_cells e = constraint_size * unwrap_or e.count 0
 
 -- an end as the listing has it: a failed one has no variables
 unfoldable pub end_shown : Final → End
-end_shown e = record { alive = e.alive; next = cond e.alive e.next 0; firings = e.firings }
+end_shown e = record { alive = is_some e.count; next = cond (is_some e.count) e.next 0; firings = e.firings }
 
 -- a program as read, in its tables; each name stands where its place says
 pub record CheckReady (program places rules : List ℕ) (n : ℕ) : Type 0 where

@@ -2,7 +2,7 @@
 // Its promises are CheckReplied and Demand3Of of crates/answers/specs/Promises.antt.
 #![tactic(auto)]
 
-ghost use Rattle.std.specs.Prelude.{true, ◌≡◌, ◌*◌, ◌≤◌, length};
+ghost use Rattle.std.specs.Prelude.{unwrap_or, ◌≡◌, ◌*◌, ◌≤◌, length};
 ghost use Rattle.tables.specs.Layout.{constraint_size};
 ghost use Rattle.verdicts.specs.Checks.{OverlapListable};
 ghost use Rattle.replies.specs.Replies.{check_reply, plain};
@@ -60,13 +60,10 @@ fn fail<'a>(
 
 // How many cells of an end are listed: none of a failed one.
 fn listed_cells(end: Final) -> usize
-    requires { end.alive ≡ true → constraint_size * end.count ≤ 2590 }
+    requires { constraint_size * unwrap_or end.count 0 ≤ 2590 }
     ensures { result ≡ listed_cells end }
 {
-    if end.alive {
-        return CONSTRAINT_SIZE * end.count;
-    }
-    0
+    CONSTRAINT_SIZE * end.count.unwrap_or(0)
 }
 
 // An end as the listing has it: a failed one has no variables.
@@ -74,17 +71,17 @@ fn end_shown(end: Final) -> End
     ensures { result ≡ end_shown end }
 {
     let firings = end.firings;
-    if end.alive {
-        return End {
+    match end.count {
+        Some(_) => End {
             alive: true,
             next: wide(end.next),
             firings,
-        };
-    }
-    End {
-        alive: false,
-        next: 0,
-        firings,
+        },
+        None => End {
+            alive: false,
+            next: 0,
+            firings,
+        },
     }
 }
 

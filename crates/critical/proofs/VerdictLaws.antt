@@ -14,7 +14,7 @@ use mathlib.Core.Path.{◌≡◌, refl, sym, ap, subst, subst₂, ◌∙◌}
 use lib.Dec.{eqb}
 use lib.ListN.{length, take, drop, get_or, length-append, length-drop}
 use lib.Seq.{length-take-le, take-append-le, take_at, drop_at}
-use Rattle.std.specs.Prelude.{Option, Some, None, IsSome, Ok, Err}
+use Rattle.std.specs.Prelude.{Option, Some, None, IsSome, is_some, unwrap_or, Ok, Err}
 use Rattle.text.specs.Lists.{every}
 use Rattle.text.proofs.Bools.{and-true}
 use Rattle.semantics.specs.Terms.{Program}
@@ -290,10 +290,10 @@ module _ (rules : List ℕ) (peak : Peak) (goal bounds one two : List ℕ) (r : 
     -- both ends
     pub run_ends :
         (one' : List ℕ) (e : Final) → length one' ≡ length one
-        → Sided rules peak.rules peak.first (0 ∷ 1 ∷ 2 ∷ 3 ∷ []) goal (length (take v bounds)) f one' e.alive e.count
+        → Sided rules peak.rules peak.first (0 ∷ 1 ∷ 2 ∷ 3 ∷ []) goal (length (take v bounds)) f one' (is_some e.count) (unwrap_or e.count 0)
         e.next e.firings
         → (g two' : List ℕ) (d : Final) → length g ≡ length part → length two' ≡ length two
-        → Sided rules peak.rules peak.second peak.positions goal (length part) g two' d.alive d.count d.next
+        → Sided rules peak.rules peak.second peak.positions goal (length part) g two' (is_some d.count) (unwrap_or d.count 0) d.next
         d.firings
         → (rest' : List ℕ) → BothRun rules peak goal (take v between ++ (g ++ rest')) one' two' (record { first = e; second = d })
     run_ends one' e eo s g two' d eg et t rest' =
@@ -302,9 +302,9 @@ module _ (rules : List ℕ) (peak : Peak) (goal bounds one two : List ℕ) (r : 
         take_at (take v between) (g ++ rest') v size ∙ between-front in
         let behind : take v (drop v (take v between ++ (g ++ rest'))) ≡ g =
         ap (take v) (drop_at (take v between) (g ++ rest') v size) ∙ take_at g rest' v (eg ∙ part-size) in
-        let s' : Sided rules peak.rules peak.first (0 ∷ 1 ∷ 2 ∷ 3 ∷ []) goal v f one' e.alive e.count e.next
+        let s' : Sided rules peak.rules peak.first (0 ∷ 1 ∷ 2 ∷ 3 ∷ []) goal v f one' (is_some e.count) (unwrap_or e.count 0) e.next
         e.firings = rw (← run-bound) at s in
-        let t' : Sided rules peak.rules peak.second peak.positions goal v g two' d.alive d.count d.next
+        let t' : Sided rules peak.rules peak.second peak.positions goal v g two' (is_some d.count) (unwrap_or d.count 0) d.next
         d.firings = rw part-size at t in
         record {
           first =
@@ -318,11 +318,11 @@ module _ (rules : List ℕ) (peak : Peak) (goal bounds one two : List ℕ) (r : 
 -- what is known of an end of an overlap
 end_known :
     {end : Program → Overlap → End} {rules : List ℕ} {n i j : ℕ} {positions : List ℕ} {v : ℕ} {goal : List ℕ} (e : Final)
-    (bound cells : List ℕ) → EndOf end rules n i j positions v goal e.alive e.count e.next e.firings bound cells
+    (bound cells : List ℕ) → EndOf end rules n i j positions v goal (is_some e.count) (unwrap_or e.count 0) e.next e.firings bound cells
     → EndIn e bound cells
 end_known e bound cells t =
     record {
-      within = λ y. live-room e.count bound cells (t.live y);
+      within = λ y. live-room (unwrap_or e.count 0) bound cells (t.live y);
       live = t.live;
       next-few = t.next-few;
       numbered = t.numbered;

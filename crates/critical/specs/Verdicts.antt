@@ -7,7 +7,7 @@
 --   VerdictIn                what deciding promises
 -- What the goal's variables became is in `bounds`: for the first end, then for the second. Assumes nothing.
 use Rattle.std.specs.Prelude.{ℕ, ◌*◌, ◌≤◌, ◌<◌, true, List, ◌≡◌, length, take, drop, get_or}
-use Rattle.std.specs.Prelude.{Result, Ok, Err}
+use Rattle.std.specs.Prelude.{is_some, unwrap_or, Result, Ok, Err}
 use Rattle.std.proofs.Math.Option.{some}
 use Rattle.semantics.specs.Terms.{Program}
 use Rattle.semantics.specs.Strategy.{Final as End}
@@ -82,22 +82,22 @@ pub record Runs (rules : List ℕ) (peak : Peak) (goal bounds one two : List ℕ
 -- what it promises
 pub record BothRun (rules : List ℕ) (peak : Peak) (goal bounds one two : List ℕ) (r : Ends) : Type 0 where
   pub first :
-      EndOf first_end rules peak.rules peak.first peak.second peak.positions peak.variables goal r.first.alive
-      r.first.count r.first.next r.first.firings (take peak.variables bounds) one
+      EndOf first_end rules peak.rules peak.first peak.second peak.positions peak.variables goal (is_some r.first.count)
+      (unwrap_or r.first.count 0) r.first.next r.first.firings (take peak.variables bounds) one
   pub second :
-      EndOf second_end rules peak.rules peak.first peak.second peak.positions peak.variables goal r.second.alive
-      r.second.count r.second.next r.second.firings (take peak.variables (drop peak.variables bounds)) two
+      EndOf second_end rules peak.rules peak.first peak.second peak.positions peak.variables goal (is_some r.second.count)
+      (unwrap_or r.second.count 0) r.second.next r.second.firings (take peak.variables (drop peak.variables bounds)) two
 
 -- an end and its firings, in cells
 abbrev pub final_in : Final → List ℕ → List ℕ → End
-final_in e bound cells = end_in e.alive e.count e.next e.firings bound cells
+final_in e bound cells = end_in (is_some e.count) (unwrap_or e.count 0) e.next e.firings bound cells
 
 -- what is known of an end where it lives: its constraints are within the cells, and its variables can be numbered anew
 pub record EndIn (e : Final) (bound cells : List ℕ) : Type 0 where
-  pub within : e.alive ≡ true → constraint_size * e.count ≤ length cells
-  pub live : e.alive ≡ true → LiveEnd (take (constraint_size * e.count) cells) e.count bound
-  pub next-few : e.alive ≡ true → e.next ≤ most_variables
-  pub numbered : e.alive ≡ true → Renumberable e.next bound (take (constraint_size * e.count) cells)
+  pub within : is_some e.count ≡ true → constraint_size * unwrap_or e.count 0 ≤ length cells
+  pub live : is_some e.count ≡ true → LiveEnd (take (constraint_size * unwrap_or e.count 0) cells) (unwrap_or e.count 0) bound
+  pub next-few : is_some e.count ≡ true → e.next ≤ most_variables
+  pub numbered : is_some e.count ≡ true → Renumberable e.next bound (take (constraint_size * unwrap_or e.count 0) cells)
   pub counted : e.firings ≤ 512
 
 -- an overlap that decides the verdict: its rules, its partners, its goal and both ends are those that are shown

@@ -16,7 +16,7 @@ use Rattle.text.specs.Lists.{has, every}
 use Rattle.semantics.specs.Terms.{Term, con, var, Constraint, Equation, map_terms, map_sides, is_below, alphabet}
 use Rattle.semantics.specs.Firing.{without, instance, fired}
 use Rattle.semantics.proofs.Removal.{without-none}
-use Rattle.tables.specs.Cells.{cell_term, cell_constraints, cell_equations, is_low}
+use Rattle.tables.specs.Cells.{cell_term, cell_constraints, cell_equations, is_low, state_of}
 use Rattle.tables.specs.Rows.{rule_of_row}
 use Rattle.fitting.specs.Cells.{assigned}
 use Rattle.engine.specs.Cells.{instance_cell}
@@ -214,6 +214,15 @@ module _ (row bindings : List ℕ) (next : ℕ) (cells : List ℕ) (k : ℕ) (q 
               ) (solved.same (next + 26) ∙ rw appended.same);
           few = few-after;
         }
+
+    -- the state that has failed
+    pub complete-failed :
+        (bound b s : List ℕ) → length s ≡ length (take (5 * n) c)
+        → SolvedRule false row bindings next bound (take (5 * n) c) b s
+        → Fired row [] bindings next bound cells k b (s ++ drop (5 * n) c) false 0
+    unfolding state_of
+    complete-failed bound b s l solved =
+        record { same = (complete-done false bound b s l solved).same; few = omega arith }
 
 module _ (row positions bindings : List ℕ) (next : ℕ) (cells : List ℕ) (m : ℕ) where
   -- what solving the equations asks, of all constraints

@@ -176,7 +176,7 @@ module _ (row positions : List ℕ) (next : ℕ) (goal : List ℕ) (m : ℕ) (ce
     -- the rule does not fit there, and the goal has entered
     pub stated-rests :
         (bound c : List ℕ) → f ≡ false → take (length goal) c ≡ goal
-        → FiredFrom row positions next bound goal m bound c false true m
+        → FiredFrom row positions next bound goal m bound c false true 0
     unfolding fire_row fire_at fit_of store_of
     stated-rests bound c z e =
         record {

@@ -63,15 +63,11 @@ module _ (rules : List ℕ) (n : ℕ) (cells : List ℕ) (m next : ℕ) (s : Liv
       (drop (5 * skip) g)
   step-there g skip count e k = omega (arith, k.within, s.space, length-drop (5 * skip) g)
 
-  -- where no rule fires, nothing is skipped
-  pub step-skips : Skips m 0 m
-  step-skips = record { few = omega arith; within = omega arith }
-
-  -- and nothing is kept
-  pub step-keeps-none :
-      (known last table : List ℕ) (gone : ℕ) (cells' : List ℕ) (alive : Bool) (count : ℕ)
-      → Keeps rules n known last table gone cells' false alive count
-  step-keeps-none known last table gone cells' alive count = record { knows = λ y. no_way y; tallies = λ y. no_way y }
+  -- of a state that has failed nothing is kept
+  pub step-keeps-failed :
+      (known last table : List ℕ) (gone : ℕ) (cells' : List ℕ) (count : ℕ)
+      → Keeps rules n known last table gone cells' true false count
+  step-keeps-failed known last table gone cells' count = record { knows = λ _ y. no_way y; tallies = λ _ y. no_way y }
 
   module _ (ps b : List ℕ) where
     -- no rule fits

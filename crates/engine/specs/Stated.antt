@@ -1,6 +1,7 @@
 -- Matching and firing at stated positions.
 --   match_row, fire_row      the definitions, for a rule's row and the cells of a goal
 --   Stated                 what firing asks
+--   has_fired, lives, count_in    what firing came to
 --   FiredFrom              what it promises
 -- Assumes nothing.
 use Rattle.std.specs.Prelude.{ℕ, ◌+◌, ◌*◌, ◌≤◌, ◌<◌, Bool, true, false, cond, List, [], map, ◌≡◌, length, take, get_or}
@@ -14,6 +15,8 @@ use Rattle.tables.specs.Cells.{cell_term, cell_constraints, is_low, state_of}
 use Rattle.tables.specs.Rows.{rule_of_row}
 use Rattle.fitting.specs.Cells.{assigned}
 use Rattle.fitting.specs.Positions.{Row}
+use Rattle.engine.specs.declared.stated.Step.{Step}
+use Rattle.engine.specs.declared.stated.Step.TheVariants.{Rests, Failed, Lives}
 use Rattle.engine.specs.Runs.{store_of}
 
 -- as many of the positions as a rule has heads
@@ -38,6 +41,22 @@ pub record Stated (row positions : List ℕ) (next : ℕ) (goal : List ℕ) (m :
   pub size : length goal ≡ constraint_size * m
   pub space : constraint_size * m + 30 ≤ length cells
   pub low : every is_low (cell_constraints goal) ≡ true
+
+-- what firing came to: whether the rule fired, whether the state lives then, and with how many constraints
+abbrev pub has_fired : Step → Bool
+has_fired Rests = false
+has_fired Failed = true
+has_fired (Lives count) = true
+
+abbrev pub lives : Step → Bool
+lives Rests = true
+lives Failed = false
+lives (Lives count) = true
+
+abbrev pub count_in : Step → ℕ
+count_in Rests = 0
+count_in Failed = 0
+count_in (Lives count) = count
 
 -- the state after firing, whatever the rule's name is, or the goal's where the rule does not fit there
 pub record FiredFrom (row positions : List ℕ) (next : ℕ) (bound goal : List ℕ) (m : ℕ) (bound' cells' : List ℕ)

@@ -1,5 +1,5 @@
 // Firing a rule at positions that fit: its constraints are removed, its body is appended, and its equations are solved.
-ghost use Rattle.std.specs.Prelude.{true, [], map, ◌≡◌, ◌+◌, ◌-◌, ◌*◌, ◌≤◌, ◌<◌, length, take, drop, get_or};
+ghost use Rattle.std.specs.Prelude.{true, is_some, unwrap_or, [], map, ◌≡◌, ◌+◌, ◌-◌, ◌*◌, ◌≤◌, ◌<◌, length, take, drop, get_or};
 ghost use Rattle.text.specs.Lists.{up_to};
 ghost use Rattle.tables.specs.Layout.{constraint_size, kept_cell, heads_cell};
 ghost use Rattle.engine.specs.Cells.{instance_cell, moved_row, closed_gap};
@@ -122,14 +122,8 @@ pub fn solve_rule(
     solve(&mut sides[..t], n, bound, cells)
 }
 
-// Whether a state lives on after a firing, and how many constraints it has then.
-#[derive(Drop)]
-pub struct After {
-    pub alive: bool,
-    pub count: usize,
-}
-
-// The rest of a firing, behind the constraints that are left: the body is appended and the equations are solved.
+// The rest of a firing, behind the constraints that are left: the body is appended and the equations are solved. Answers how many
+// constraints the state has then; None where it fails.
 pub fn complete(
     row: &[u16],
     bindings: &[u16],
@@ -137,19 +131,22 @@ pub fn complete(
     bound: &mut [u16],
     cells: &mut [u16],
     left: usize,
-) -> After
+) -> Option<usize>
     requires { Equated row.now bindings.now next (take (constraint_size * left) cells.old)
         × (constraint_size * left + 30 ≤ length cells.old) }
     ensures { Fired row.now [] bindings.now next bound.old cells.old left
-        bound.new cells.new result.alive result.count }
+        bound.new cells.new (is_some result) (unwrap_or result 0) }
 {
     let count = append_body(row, bindings, next, cells, left);
     let end = CONSTRAINT_SIZE * count;
-    let alive = solve_rule(row, bindings, next, bound, &mut cells[..end]);
-    After { alive, count }
+    if solve_rule(row, bindings, next, bound, &mut cells[..end]) {
+        return Some(count);
+    }
+    None
 }
 
-// The state after firing a rule at positions that fit: the constraints of its kept heads stay where they are.
+// The state after firing a rule at positions that fit: the constraints of its kept heads stay where they are. Answers how many
+// constraints there are then; None where the state fails.
 pub fn fire(
     row: &[u16],
     positions: &[usize],
@@ -158,10 +155,10 @@ pub fn fire(
     bound: &mut [u16],
     cells: &mut [u16],
     m: usize,
-) -> After
+) -> Option<usize>
     requires { Fires row.now positions.now bindings.now next cells.old m }
     ensures { Fired row.now positions.now bindings.now next bound.old
-        cells.old m bound.new cells.new result.alive result.count }
+        cells.old m bound.new cells.new (is_some result) (unwrap_or result 0) }
 {
     let heads = wide(row[HEADS_CELL]);
     let first = wide(row[KEPT_CELL]);
@@ -183,12 +180,11 @@ pub fn is_front(positions: &[usize]) -> bool
     true
 }
 
-// Whether a state lives on, how many constraints it has then, how many rows before it are no longer its own, and how many
+// How many constraints a state has then (None where it fails), how many rows before it are no longer its own, and how many
 // constraints were removed.
 #[derive(Drop)]
 pub struct Front {
-    pub alive: bool,
-    pub count: usize,
+    pub count: Option<usize>,
     pub skip: usize,
     pub removed: usize,
 }
@@ -205,8 +201,9 @@ pub fn fire_front(
 ) -> Front
     requires { Fires row.now positions.now bindings.now next cells.old m × (get_or row.now heads_cell 0 ≤ m) }
     ensures { Fired row.now positions.now bindings.now next bound.old
-        cells.old m bound.new (drop (constraint_size * result.skip) cells.new) result.alive result.count
-        × Skips m result.skip result.count
+        cells.old m bound.new (drop (constraint_size * result.skip) cells.new)
+        (is_some result.count) (unwrap_or result.count 0)
+        × Skips m result.skip (unwrap_or result.count 0)
         × (result.removed ≡ get_or row.now heads_cell 0 - get_or row.now kept_cell 0) }
 {
     let heads = wide(row[HEADS_CELL]);
@@ -215,18 +212,16 @@ pub fn fire_front(
     let placed = &positions[..heads];
     if is_front(&placed[kept..]) {
         let s = CONSTRAINT_SIZE * removed;
-        let after = complete(row, bindings, next, bound, &mut cells[s..], m - removed);
+        let count = complete(row, bindings, next, bound, &mut cells[s..], m - removed);
         return Front {
-            alive: after.alive,
-            count: after.count,
+            count,
             skip: removed,
             removed,
         };
     }
-    let after = fire(row, positions, bindings, next, bound, cells, m);
+    let count = fire(row, positions, bindings, next, bound, cells, m);
     Front {
-        alive: after.alive,
-        count: after.count,
+        count,
         skip: 0,
         removed,
     }

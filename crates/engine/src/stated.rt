@@ -3,9 +3,8 @@ ghost use Rattle.std.specs.Prelude.{◌≡◌, ◌*◌, length};
 ghost use Rattle.tables.specs.Layout.{constraint_size};
 ghost use Rattle.fitting.specs.Cells.{Matched};
 ghost use Rattle.fitting.specs.Positions.{Row};
-ghost use Rattle.engine.specs.Stated.{match_row, Stated, FiredFrom};
+ghost use Rattle.engine.specs.Stated.{match_row, Stated, FiredFrom, has_fired, lives, count_in};
 
-use crate::derivation::Step;
 use crate::entering::{copy_free, copy_goal};
 use crate::firing::complete;
 use fitting::matching::fit_free;
@@ -44,6 +43,14 @@ pub fn match_at(
     true
 }
 
+// What firing a rule at stated positions comes to: it does not fit there, or the state fails, or lives with so many constraints.
+#[derive(Clone, Copy, PartialEq, Eq)]
+pub enum Step {
+    Rests,
+    Failed,
+    Lives(usize),
+}
+
 // The state after firing a rule at stated positions of a goal of m constraints, if it fits there; otherwise the goal enters.
 // Only what the rule leaves is copied.
 pub fn fire_from(
@@ -57,25 +64,19 @@ pub fn fire_from(
 ) -> Step
     requires { Stated row.now positions next goal.now m cells.old }
     ensures { FiredFrom row.now positions next bound.old goal.now m
-        bound.new cells.new result.fired result.alive result.count }
+        bound.new cells.new (has_fired result) (lives result) (count_in result) }
 {
     let mut bindings = [0u16; 26];
     if !match_at(row, positions, goal, m, &mut bindings) {
         copy_goal(goal, cells);
-        return Step {
-            fired: false,
-            alive: true,
-            count: m,
-        };
+        return Step::Rests;
     }
     let heads = wide(row[HEADS_CELL]);
     let kept = wide(row[KEPT_CELL]);
     let placed = &positions[..heads];
     let left = copy_free(goal, m, &placed[kept..], cells);
-    let after = complete(row, &bindings, next, bound, cells, left);
-    Step {
-        fired: true,
-        alive: after.alive,
-        count: after.count,
+    match complete(row, &bindings, next, bound, cells, left) {
+        None => Step::Failed,
+        Some(count) => Step::Lives(count),
     }
 }

@@ -27,6 +27,7 @@ use Rattle.semantics.proofs.Options.{below-is_below}
 use Rattle.semantics.proofs.Vocabulary.{TermOver, ConstraintOver, RuleOver, Spoken}
 use Rattle.tables.specs.Cells.{cell_term, cell_constraints, is_low}
 use Rattle.tables.specs.Numbers.{is_within, Renumberable}
+use Rattle.engine.specs.Stated.{has_fired, lives, count_in}
 use Rattle.sides.specs.Sides.{Sidable, Beginnable, Begun, Followable, Followed, Sided}
 use Rattle.sides.proofs.SideLaws.{side-few, side-follows}
 use Rattle.sides.proofs.EndLaws.{first-side, second-side, side-lives}
@@ -100,10 +101,10 @@ lent-kept l p q r s =
 pub both-begun :
     {rules : List ℕ} {peak : Peak} {goal : List ℕ} {steps : Steps} {w u : ℕ} {bound₁ cells₁ bound₂ cells₂ : List ℕ}
     → w ≡ peak.variables → u ≡ peak.variables
-    → Begun rules peak.first (0 ∷ 1 ∷ 2 ∷ 3 ∷ []) goal peak.count w bound₁ cells₁ steps.first.fired
-    steps.first.alive steps.first.count
-    → Begun rules peak.second peak.positions goal peak.count u bound₂ cells₂ steps.second.fired
-    steps.second.alive steps.second.count
+    → Begun rules peak.first (0 ∷ 1 ∷ 2 ∷ 3 ∷ []) goal peak.count w bound₁ cells₁ (has_fired steps.first)
+    (lives steps.first) (count_in steps.first)
+    → Begun rules peak.second peak.positions goal peak.count u bound₂ cells₂ (has_fired steps.second)
+    (lives steps.second) (count_in steps.second)
     → BothBegun rules peak goal steps bound₁ cells₁ bound₂ cells₂
 both-begun d e s t = record { first = rw d at s; second = rw e at t }
 

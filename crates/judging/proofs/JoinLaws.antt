@@ -90,12 +90,12 @@ module _ {rules : List ℕ} {n i j : ℕ} {positions : List ℕ} {v : ℕ} {goal
       }
 
   -- the first end has failed
-  pub joins-failed : alive₁ ≡ false → Joins rules n i j positions v goal (not alive₂)
+  pub joins-failed : alive₁ ≡ false → (r : Bool) → alive₂ ≡ not r → Joins rules n i j positions v goal r
   unfolding same_state state_of
-  joins-failed e = from-states (not alive₂) (rw e (go alive₂))
+  joins-failed e r d = from-states r (rw (e, d) (go r))
     where
-      go : (b : Bool) → not b ≡ same_state (state_of false next₁ bound₁ (take (5 * count₁) cells₁))
-          (state_of b next₂ bound₂ (take (5 * count₂) cells₂))
+      go : (b : Bool) → b ≡ same_state (state_of false next₁ bound₁ (take (5 * count₁) cells₁))
+          (state_of (not b) next₂ bound₂ (take (5 * count₂) cells₂))
       go true = refl
       go false = refl
 

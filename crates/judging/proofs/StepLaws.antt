@@ -3,14 +3,15 @@
 --   step-failed, step_same    what it promises
 --   step-joins               then the overlap joins
 -- Assumes nothing.
-use Rattle.std.proofs.Common.{◌≡◌, ℕ, ◌+◌, ◌*◌, ◌≤◌, Bool, true, false, not, List, [], ◌∷◌, refl, sym, ap, subst, ◌∙◌, take, arith}
+use Rattle.std.proofs.Common.{◌≡◌, ℕ, ◌+◌, ◌*◌, ◌≤◌, Bool, true, List, [], ◌∷◌, refl, sym, ap, subst, ◌∙◌, take, arith}
 use Rattle.std.specs.Str.{bytes_eq}
-use borrow.Author.Tests.{not-true}
 use Rattle.semantics.specs.Strategy.{Final}
 use Rattle.semantics.specs.Overlaps.{first_end, second_end}
 use Rattle.semantics.specs.Verdict.{is_joinable}
 use Rattle.tables.specs.Cells.{state_of}
 use Rattle.comparison.proofs.DecideLaws.{cells-same}
+use Rattle.engine.specs.declared.stated.Step.TheVariants.{Failed, Lives}
+use Rattle.engine.specs.Stated.{has_fired, lives, count_in}
 use Rattle.sides.specs.Sides.{Begun}
 use Rattle.sides.proofs.EndLaws.{sides-meet}
 use Rattle.judging.specs.declared.Peak.{Peak}
@@ -41,42 +42,40 @@ module _ {rules : List ℕ} {peak : Peak} {goal : List ℕ} {steps : Steps} {bou
   step-joins l b s y =
       let o = l.overlapping in
       let first : Begun rules peak.first (0 ∷ 1 ∷ 2 ∷ 3 ∷ []) goal peak.count peak.variables bound₁ cells₁ true
-      steps.first.alive steps.first.count =
+      (lives steps.first) (count_in steps.first) =
       subst (λ (f : Bool). Begun rules peak.first (0 ∷ 1 ∷ 2 ∷ 3 ∷ []) goal peak.count peak.variables bound₁
-      cells₁ f steps.first.alive steps.first.count) (s.first y) b.first in
+      cells₁ f (lives steps.first) (count_in steps.first)) (s.first y) b.first in
       let second : Begun rules peak.second peak.positions goal peak.count peak.variables bound₂ cells₂ true
-      steps.second.alive steps.second.count =
+      (lives steps.second) (count_in steps.second) =
       subst (λ (f : Bool). Begun rules peak.second peak.positions goal peak.count peak.variables bound₂
-      cells₂ f steps.second.alive steps.second.count) (s.second y) b.second in
+      cells₂ f (lives steps.second) (count_in steps.second)) (s.second y) b.second in
       record {
         same = λ p names x h.
             states-same (first_end p x).state (second_end p x).state
             (ap (λ (e : Final). e.state) (sides-meet p names rules peak.first peak.second peak.positions goal
-            peak.count peak.variables bound₁ cells₁ steps.first.alive steps.first.count bound₂ cells₂
-            steps.second.alive steps.second.count x h.same-goal h.first h.second
+            peak.count peak.variables bound₁ cells₁ (lives steps.first) (count_in steps.first) bound₂ cells₂
+            (lives steps.second) (count_in steps.second) x h.same-goal h.first h.second
             (o.runs.table.rows peak.first o.first) h.places first second (s.same y (peak.variables + 26))));
       }
 
 module _ {steps : Steps} {bound₁ cells₁ bound₂ cells₂ : List ℕ} where
-  -- the first has failed: so must the second
+  -- both have failed
   pub step-failed :
-      steps.first.fired ≡ true → steps.second.fired ≡ true → steps.first.alive ≡ false
-      → SameStep (not steps.second.alive) steps bound₁ cells₁ bound₂ cells₂
+      steps.first ≡ Failed → steps.second ≡ Failed → SameStep true steps bound₁ cells₁ bound₂ cells₂
   unfolding state_of
-  step-failed a b c =
-      record { first = λ y. a; second = λ y. b; same = λ y next. rw (c, not-true steps.second.alive y) refl }
+  step-failed d e =
+      record { first = λ y. ap has_fired d; second = λ y. ap has_fired e; same = λ y next. rw (d, e) refl }
 
   -- the cells are the same
   pub step_same :
-      steps.first.fired ≡ true → steps.second.fired ≡ true → steps.first.alive ≡ true
-      → steps.second.alive ≡ true → steps.second.count ≡ steps.first.count → bound₁ ≡ bound₂ → (r : Bool)
-      → r ≡ bytes_eq (take (5 * steps.first.count) cells₁) (take (5 * steps.first.count) cells₂)
+      {m k : ℕ} → steps.first ≡ Lives m → steps.second ≡ Lives k → k ≡ m → bound₁ ≡ bound₂ → (r : Bool)
+      → r ≡ bytes_eq (take (5 * m) cells₁) (take (5 * m) cells₂)
       → SameStep r steps bound₁ cells₁ bound₂ cells₂
-  step_same a b c d e s r t =
+  step_same d e q s r t =
       record {
-        first = λ y. a;
-        second = λ y. b;
-        same = λ y next k.
+        first = λ y. ap has_fired d;
+        second = λ y. ap has_fired e;
+        same = λ y next.
             let w = cells-same _ _ (sym y ∙ t) in
-            state_of ((c ∙ sym d) k) next (s k) ((w ∙ ap (λ (n : ℕ). take (5 * n) cells₂) (sym e)) k);
+            rw (d, e) (λ j. state_of true next (s j) ((w ∙ ap (λ (n : ℕ). take (5 * n) cells₂) (sym q)) j));
       }

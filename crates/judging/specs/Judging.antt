@@ -7,7 +7,7 @@
 --   end_in, LiveEnd, EndOf     an end in cells
 --   Joins, PeakJoins          what judging promises
 -- Assumes nothing.
-use Rattle.std.specs.Prelude.{ℕ, ◌*◌, ◌≤◌, ◌<◌, Bool, true, List, [], ◌∷◌, map, ◌≡◌, length, take}
+use Rattle.std.specs.Prelude.{ℕ, ◌*◌, ◌≤◌, ◌<◌, Bool, true, is_some, unwrap_or, List, [], ◌∷◌, map, ◌≡◌, length, take}
 use Rattle.text.specs.Lists.{every}
 use Rattle.semantics.specs.Terms.{Program, is_below, is_goal_of, is_well_formed}
 use Rattle.semantics.specs.Strategy.{Final}
@@ -18,7 +18,7 @@ use Rattle.tables.specs.Cells.{cell_term, cell_constraints, state_of}
 use Rattle.tables.specs.Numbers.{is_within, Renumberable}
 use Rattle.tables.specs.Rows.{rule_of, rules_of, row_of}
 use Rattle.engine.specs.Runs.{Runnable}
-use Rattle.engine.specs.Stated.{stated_at}
+use Rattle.engine.specs.Stated.{stated_at, has_fired, lives, count_in}
 use Rattle.sides.specs.Sides.{cell_goal, Begun}
 use Rattle.judging.specs.declared.Peak.{Peak}
 use Rattle.judging.specs.declared.Steps.{Steps}
@@ -66,28 +66,28 @@ pub record Lent (rules : List ℕ) (peak : Peak) (goal bound₁ cells₁ bound�
 pub record BothBegun (rules : List ℕ) (peak : Peak) (goal : List ℕ) (steps : Steps) (bound₁ cells₁ bound₂ cells₂ : List ℕ)
     : Type 0 where
   pub first :
-      Begun rules peak.first (0 ∷ 1 ∷ 2 ∷ 3 ∷ []) goal peak.count peak.variables bound₁ cells₁ steps.first.fired
-      steps.first.alive steps.first.count
+      Begun rules peak.first (0 ∷ 1 ∷ 2 ∷ 3 ∷ []) goal peak.count peak.variables bound₁ cells₁ (has_fired steps.first)
+      (lives steps.first) (count_in steps.first)
   pub second :
-      Begun rules peak.second peak.positions goal peak.count peak.variables bound₂ cells₂ steps.second.fired
-      steps.second.alive steps.second.count
+      Begun rules peak.second peak.positions goal peak.count peak.variables bound₂ cells₂ (has_fired steps.second)
+      (lives steps.second) (count_in steps.second)
 
 -- two states of cells, with as many goal variables
 pub record Stepped (steps : Steps) (bound₁ cells₁ bound₂ cells₂ : List ℕ) : Type 0 where
   pub bounds : length bound₁ ≡ length bound₂
-  pub first : constraint_size * steps.first.count ≤ length cells₁
-  pub second : constraint_size * steps.second.count ≤ length cells₂
-  pub few : steps.first.count ≤ 518
+  pub first : constraint_size * count_in steps.first ≤ length cells₁
+  pub second : constraint_size * count_in steps.second ≤ length cells₂
+  pub few : count_in steps.first ≤ 518
 
 -- both sides fired, and what is found to be the same state is
 pub record SameStep (r : Bool) (steps : Steps) (bound₁ cells₁ bound₂ cells₂ : List ℕ) : Type 0 where
-  pub first : r ≡ true → steps.first.fired ≡ true
-  pub second : r ≡ true → steps.second.fired ≡ true
+  pub first : r ≡ true → has_fired steps.first ≡ true
+  pub second : r ≡ true → has_fired steps.second ≡ true
   pub same :
       r ≡ true
       → (next : ℕ)
-      → state_of steps.first.alive next bound₁ (take (constraint_size * steps.first.count) cells₁)
-      ≡ state_of steps.second.alive next bound₂ (take (constraint_size * steps.second.count) cells₂)
+      → state_of (lives steps.first) next bound₁ (take (constraint_size * count_in steps.first) cells₁)
+      ≡ state_of (lives steps.second) next bound₂ (take (constraint_size * count_in steps.second) cells₂)
 
 -- an end and its firings, in cells
 unfoldable pub end_in : Bool → ℕ → ℕ → ℕ → List ℕ → List ℕ → Final
@@ -122,10 +122,10 @@ pub record BothEnded (rules : List ℕ) (peak : Peak) (goal : List ℕ) (ends : 
     : Type 0 where
   pub first :
       EndOf first_end rules peak.rules peak.first peak.second peak.positions peak.variables goal
-      ends.first.alive ends.first.count ends.first.next ends.first.firings bound₁ cells₁
+      (is_some ends.first.count) (unwrap_or ends.first.count 0) ends.first.next ends.first.firings bound₁ cells₁
   pub second :
       EndOf second_end rules peak.rules peak.first peak.second peak.positions peak.variables goal
-      ends.second.alive ends.second.count ends.second.next ends.second.firings bound₂ cells₂
+      (is_some ends.second.count) (unwrap_or ends.second.count 0) ends.second.next ends.second.firings bound₂ cells₂
 
 -- whether the overlap joins
 pub record Joins (rules : List ℕ) (n i j : ℕ) (positions : List ℕ) (v : ℕ) (goal : List ℕ) (joins : Bool) : Type 0 where

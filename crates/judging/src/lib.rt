@@ -10,7 +10,8 @@ ghost use Rattle.judging.specs.Judging.{LiveEnd, Overlapping, Lent, BothBegun, B
 
 use crate::tidying::tidy;
 use comparison::same_state;
-use engine::derivation::{Final, Step};
+use engine::derivation::Final;
+use engine::stated::Step;
 use sides::{begin, follow};
 use tables::layout::CONSTRAINT_SIZE;
 
@@ -96,19 +97,17 @@ pub fn same_step(
     ensures { SameStep result steps bound_one.now one.now bound_two.now
         two.now }
 {
-    let own = steps.first;
-    let other = steps.second;
-    if !own.fired || !other.fired {
-        return false;
+    match (steps.first, steps.second) {
+        (Step::Failed, Step::Failed) => true,
+        (Step::Lives(own), Step::Lives(other)) => {
+            if other != own {
+                return false;
+            }
+            let e = CONSTRAINT_SIZE * own;
+            bound_one == bound_two && one[..e] == two[..e]
+        }
+        _ => false,
     }
-    if !own.alive {
-        return !other.alive;
-    }
-    if !other.alive || other.count != own.count {
-        return false;
-    }
-    let e = CONSTRAINT_SIZE * own.count;
-    bound_one == bound_two && one[..e] == two[..e]
 }
 
 // Whether two ends that live are equal, both of n constraints. Cells that hold no term become 0.
@@ -150,12 +149,13 @@ pub fn judge_from(
     let ends = follow_both(rules, peak, goal, steps, bound_one, one, bound_two, two);
     let first = ends.first;
     let second = ends.second;
-    if !first.alive {
-        return !second.alive;
-    }
-    let lives = second.alive;
-    let n = first.count;
-    if !lives || second.count != n {
+    let Some(n) = first.count else {
+        return second.count.is_none();
+    };
+    let Some(k) = second.count else {
+        return false;
+    };
+    if k != n {
         return false;
     }
     let e = CONSTRAINT_SIZE * n;

@@ -8,7 +8,8 @@ use native.Mathlib.Omega.{arith}
 use mathlib.Core.Bool.{Bool, true, false}
 use mathlib.Core.List.{List, [], ◌∷◌, ◌++◌, map}
 use mathlib.Core.Option.{Option, none, some}
-use mathlib.Core.Path.{◌≡◌, sym, ap, subst, ◌∙◌}
+use Rattle.std.specs.Prelude.{Some, None, is_some, unwrap_or}
+use mathlib.Core.Path.{◌≡◌, refl, sym, ap, subst, ◌∙◌}
 use lib.ListN.{length, get_or, take, drop, length-append}
 use lib.Seq.{take_at, length-take-le}
 use Rattle.text.specs.Lists.{onward, tabled}
@@ -181,15 +182,15 @@ module _ {program goal places rules letters cells : List ℕ} {z : Sizes} (r : R
   run-replies room = rw (r.first.read, r.read)
 
   module _ {bound' cells' : List ℕ} (f : FinalCells)
-      (e : Entered rules z (length letters) cells bound' cells' f.alive f.count f.next f.firings) where
+      (e : Entered rules z (length letters) cells bound' cells' (is_some f.count) (unwrap_or f.count 0) f.next f.firings) where
     -- the end of the derivation is that of the definition
     ready-runs :
-        record { state = state_of f.alive f.next bound' (take (5 * f.count) cells'); firings = f.firings } ≡ final
+        record { state = state_of (is_some f.count) f.next bound' (take (5 * unwrap_or f.count 0) cells'); firings = f.firings } ≡ final
     ready-runs =
         goal-runs r.names r.symbols r.k rules z.rules (as_read r.first) r.g.goal is-goal cells z.constraints
-        holds e.bound bound' cells' f.alive f.count f.next f.firings
+        holds e.bound bound' cells' (is_some f.count) (unwrap_or f.count 0) f.next f.firings
         (e.itself ∙ ap (tabled var) (sym variables))
-        (subst (λ (v : ℕ). Ended rules z.rules e.bound cells z.constraints v bound' cells' f.alive f.count f.next
+        (subst (λ (v : ℕ). Ended rules z.rules e.bound cells z.constraints v bound' cells' (is_some f.count) (unwrap_or f.count 0) f.next
         f.firings) (sym variables) e.ended)
         ∙ ap (λ (q : Program). run q r.g.goal) (sym same-program)
 
@@ -218,25 +219,25 @@ module _ {program goal places rules letters cells : List ℕ} {z : Sizes} (r : R
                 own = rw all (all-every (is_below r.g.goal.variables) (all-mono (below-test r.g.goal.variables) s.own));
                 rows = record {
                   known = omega (arith, all, s.numbered);
-                  within = rows-within f.next r.p.program.symbols (cell_constraints (take (5 * f.count) cells'))
+                  within = rows-within f.next r.p.program.symbols (cell_constraints (take (5 * unwrap_or f.count 0) cells'))
                       (omega (arith, few-symbols r.first, symbols-count r.first)) s.declared s.scoped.constraints;
                   few = omega (
                     arith,
                     size,
                     few-variables,
                     e.ended.few y,
-                    length-take-le (5 * f.count) cells' (omega (arith, e.ended.few y, room)),
+                    length-take-le (5 * unwrap_or f.count 0) cells' (omega (arith, e.ended.few y, room)),
                   );
                 };
               };
         }
       where
-        lives : f.alive ≡ true
+        lives : is_some f.count ≡ true
             → Spoken r.p.program.symbols vocabulary r.g.goal.variables
             (r.g.goal.variables + alphabet * final.firings) f.next (map cell_term bound')
-            (cell_constraints (take (5 * f.count) cells'))
+            (cell_constraints (take (5 * unwrap_or f.count 0) cells'))
         lives y =
-            let same : live f.next (map cell_term bound') (cell_constraints (take (5 * f.count) cells')) ≡ final.state =
+            let same : live f.next (map cell_term bound') (cell_constraints (take (5 * unwrap_or f.count 0) cells')) ≡ final.state =
             rw y at (ap (λ (q : Final). q.state) ready-runs) in
             subst (SpokenState r.p.program.symbols vocabulary r.g.goal.variables
             (r.g.goal.variables + alphabet * final.firings)) (sym same) spoken
@@ -256,15 +257,15 @@ entered-ended start {rules} {cells} {b} {bound'} {cells'} {z} {v} {alive} {count
 
 -- the listing of an end that lives, and of one that has failed
 pub lives-listed :
-    (program goal places letters bound cells : List ℕ) (e : FinalCells) (w : ℕ) → e.alive ≡ true → w ≡ e.next
-    → end_bytes program goal places letters bound (take (5 * e.count) cells)
+    (program goal places letters bound cells : List ℕ) (e : FinalCells) (n w : ℕ) → e.count ≡ Some n → w ≡ e.next
+    → end_bytes program goal places letters bound (take (5 * n) cells)
     (record { alive = true; next = w; firings = e.firings })
     ≡ final_bytes program goal places letters bound cells e
 unfolding end_bytes final_bytes
-lives-listed program goal places letters bound cells e w h k = rw (h, k)
+lives-listed program goal places letters bound cells e n w h k = rw (h, k)
 
 pub failed-listed :
-    (program goal places letters bound cells : List ℕ) (e : FinalCells) → e.alive ≡ false
+    (program goal places letters bound cells : List ℕ) (e : FinalCells) → e.count ≡ None
     → end_bytes program goal places letters bound cells (record { alive = false; next = 0; firings = e.firings })
     ≡ final_bytes program goal places letters bound cells e
 unfolding end_bytes final_bytes state_of
@@ -279,12 +280,12 @@ replied-is {a} {b} {before} {after} {reply} e l =
 
 -- what the listing of such an end asks
 pub lives-listable :
-    {bound cells : List ℕ} {e : FinalCells} {w : ℕ} → FinalListable bound cells e → e.alive ≡ true → w ≡ e.next
-    → Listable true w bound (take (5 * e.count) cells)
-lives-listable {bound} {cells} {e} {w} l h k =
+    {bound cells : List ℕ} {e : FinalCells} {n w : ℕ} → FinalListable bound cells e → e.count ≡ Some n → w ≡ e.next
+    → Listable true w bound (take (5 * n) cells)
+lives-listable {bound} {cells} {e} {n} {w} l h k =
     record {
-      few = omega (arith, l.next-few h);
-      live = λ _. subst (λ (n : ℕ). Renumberable n bound (take (5 * e.count) cells)) (sym k) (l.within h);
+      few = omega (arith, l.next-few (ap is_some h));
+      live = λ _. subst (λ (v : ℕ). Renumberable v bound (take (5 * n) cells)) (sym k) ((rw h at l.within) refl);
     }
 
 pub failed-listable : {bound cells : List ℕ} → Listable false 0 bound cells
@@ -311,7 +312,7 @@ module _ {program goal places rules letters cells : List ℕ} {z : Sizes} (r : R
     )
 
     module _ {b cells' : List ℕ} (kept : length b ≡ length (take v array)) (f : FinalCells)
-        (e : Entered rules z (length (take v array)) cells b cells' f.alive f.count f.next f.firings) where
+        (e : Entered rules z (length (take v array)) cells b cells' (is_some f.count) (unwrap_or f.count 0) f.next f.firings) where
       pub back-few : v ≤ length (b ++ drop v array)
       back-few = omega (arith, kept, front-size, length-append b (drop v array))
 
@@ -321,9 +322,9 @@ module _ {program goal places rules letters cells : List ℕ} {z : Sizes} (r : R
       again : take v (b ++ drop v array) ≡ b
       again = take_at b (drop v array) v (kept ∙ sym front-size)
 
-      entered : Entered rules z v cells b cells' f.alive f.count f.next f.firings
+      entered : Entered rules z v cells b cells' (is_some f.count) (unwrap_or f.count 0) f.next f.firings
       entered =
-          subst (λ (n : ℕ). Entered rules z n cells b cells' f.alive f.count f.next f.firings) (sym front-size) e
+          subst (λ (n : ℕ). Entered rules z n cells b cells' (is_some f.count) (unwrap_or f.count 0) f.next f.firings) (sym front-size) e
 
       pub back-listable : length cells' ≡ length cells → FinalListable (take v (b ++ drop v array)) cells' f
       back-listable same =

@@ -3,7 +3,7 @@
 --   Entered            a goal has entered, and its derivation has ended
 --   final_bytes, FinalListable   the listing of a final state in cells, and what it asks
 -- Assumes nothing.
-use Rattle.std.specs.Prelude.{ℕ, ◌*◌, ◌≤◌, ◌<◌, Bool, true, List, map, ◌≡◌, length, get_or, take}
+use Rattle.std.specs.Prelude.{ℕ, ◌*◌, ◌≤◌, ◌<◌, Bool, true, is_some, unwrap_or, List, map, ◌≡◌, length, get_or, take}
 use Rattle.text.specs.Lists.{tabled}
 use Rattle.semantics.specs.Terms.{var}
 use Rattle.syntax.specs.Answers.{accepted}
@@ -50,12 +50,12 @@ unfoldable pub final_bytes : List ℕ → List ℕ → List ℕ → List ℕ →
 final_bytes program goal places letters bound cells e =
     end_listing (name_in program goal places) (variable_name letters)
     (record {
-      state = state_of e.alive e.next bound (take (constraint_size * e.count) cells);
+      state = state_of (is_some e.count) e.next bound (take (constraint_size * unwrap_or e.count 0) cells);
       firings = e.firings;
     })
 
 -- what it asks of a state that lives: each variable has an entry in a table of `next`
 pub record FinalListable (bound cells : List ℕ) (e : Final) : Type 0 where
-  pub count-few : e.alive ≡ true → constraint_size * e.count ≤ length cells
-  pub next-few : e.alive ≡ true → e.next ≤ 13340
-  pub within : e.alive ≡ true → Renumberable e.next bound (take (constraint_size * e.count) cells)
+  pub count-few : is_some e.count ≡ true → constraint_size * unwrap_or e.count 0 ≤ length cells
+  pub next-few : is_some e.count ≡ true → e.next ≤ 13340
+  pub within : is_some e.count ≡ true → Renumberable e.next bound (take (constraint_size * unwrap_or e.count 0) cells)

@@ -2,7 +2,7 @@
 // Its promise is the definition of crates/replies/specs/Replies.antt, through crates/answers/specs/Answers.antt.
 #![tactic(auto)]
 
-ghost use Rattle.std.specs.Prelude.{◌≤◌, length};
+ghost use Rattle.std.specs.Prelude.{is_some, unwrap_or, ◌≤◌, length};
 ghost use Rattle.engine.specs.Runs.{Startable};
 ghost use Rattle.listing.specs.Ends.{end_bytes, Listable};
 ghost use Rattle.replies.specs.Replies.{goal_text, fitted, run_reply};
@@ -32,7 +32,7 @@ fn derive(rules: &[u16], bound: &mut [u16], cells: &mut [u16], sizes: Sizes) -> 
     requires { Startable rules.now sizes.rules cells.old sizes.constraints (length bound.old)
         × (length bound.old ≤ 26) }
     ensures { Entered rules.now sizes (length bound.old) cells.old
-        bound.new cells.new result.alive result.count result.next result.firings }
+        bound.new cells.new (is_some result.count) (unwrap_or result.count 0) result.next result.firings }
 {
     start_bound(bound);
     let v = bound.len() as u16;
@@ -82,21 +82,25 @@ fn list_final<'a>(
         output.old output.new result }
 {
     let firings = end.firings;
-    if end.alive {
-        let e = CONSTRAINT_SIZE * end.count;
-        let lives = End {
-            alive: true,
-            next: wide(end.next),
-            firings,
-        };
-        return list(names, bound, &mut cells[..e], lives, output);
+    match end.count {
+        Some(count) => {
+            let e = CONSTRAINT_SIZE * count;
+            let lives = End {
+                alive: true,
+                next: wide(end.next),
+                firings,
+            };
+            list(names, bound, &mut cells[..e], lives, output)
+        }
+        None => {
+            let failed = End {
+                alive: false,
+                next: 0,
+                firings,
+            };
+            list(names, bound, cells, failed, output)
+        }
     }
-    let failed = End {
-        alive: false,
-        next: 0,
-        firings,
-    };
-    list(names, bound, cells, failed, output)
 }
 
 // The run of a goal as read, from its tables.

@@ -139,7 +139,7 @@ module _ (rules : List ℕ) (n j : ℕ) (entered : List ℕ) (m v : ℕ) (bound 
       lighter w lw = f.lighter z w (lw.falls i l)
 
     -- the state has failed
-    pub side-fails : alive ≡ false → Followed rules n m v bound cells fired alive count bound cells false count (v + 26) 1
+    pub side-fails : alive ≡ false → Followed rules n m v bound cells fired alive count bound cells false 0 (v + 26) 1
     unfolding state_of
     side-fails y =
         record {

@@ -1,13 +1,14 @@
 // The sides of an overlap: from its goal and one of its rules, at that rule's positions, to the end.
 #![tactic(auto)]
 
-ghost use Rattle.std.specs.Prelude.{length};
+ghost use Rattle.std.specs.Prelude.{length, is_some, unwrap_or};
+ghost use Rattle.engine.specs.Stated.{has_fired, lives, count_in};
 ghost use Rattle.sides.specs.Sides.{Sidable, Beginnable, Begun, Followable, Followed, Sided};
 ghost use Rattle.sides.specs.Sides.{SideTallying, SideTallied};
 
-use engine::derivation::{Final, Step, normalise_from};
+use engine::derivation::{Final, normalise_from};
 use engine::entering::start_bound;
-use engine::stated::fire_from;
+use engine::stated::{Step, fire_from};
 use tables::layout::MAX_SYMBOLS;
 use tables::rows::row_of;
 use tallies::counting::{exchange, raise};
@@ -25,7 +26,7 @@ pub fn begin(
 ) -> Step
     requires { Beginnable rules.now rule positions goal.now m (length bound.old) cells.old }
     ensures { Begun rules.now rule positions goal.now m (length bound.old)
-        bound.new cells.new result.fired result.alive result.count }
+        bound.new cells.new (has_fired result) (lives result) (count_in result) }
 {
     let next = bound.len() as u16;
     start_bound(bound);
@@ -54,32 +55,30 @@ pub fn follow(
     step: Step,
 ) -> Final
     requires { Followable rules.now n rule goal.now m (length bound.old) bound.old cells.old
-        step.fired step.alive step.count }
+        (has_fired step) (lives step) (count_in step) }
     ensures { Followed rules.now n m (length bound.old) bound.old cells.old
-        step.fired step.alive step.count bound.new cells.new
-        result.alive result.count result.next result.firings }
+        (has_fired step) (lives step) (count_in step) bound.new cells.new
+        (is_some result.count) (unwrap_or result.count 0) result.next result.firings }
 {
     let next = bound.len() as u16;
-    if !step.fired {
-        return Final {
-            alive: true,
-            count: m,
+    let number = next + 26;
+    match step {
+        Step::Rests => Final {
+            count: Some(m),
             next,
             firings: 0,
-        };
-    }
-    let number = next + 26;
-    if !step.alive {
-        return Final {
-            alive: false,
-            count: step.count,
+        },
+        Step::Failed => Final {
+            count: None,
             next: number,
             firings: 1,
-        };
+        },
+        Step::Lives(count) => {
+            let mut tally = [0u16; MAX_SYMBOLS];
+            tally_side(row_of(rules, rule), goal, m, &mut tally);
+            normalise_from(rules, n, bound, cells, count, number, 1, &mut tally)
+        }
     }
-    let mut tally = [0u16; MAX_SYMBOLS];
-    tally_side(row_of(rules, rule), goal, m, &mut tally);
-    normalise_from(rules, n, bound, cells, step.count, number, 1, &mut tally)
 }
 
 // The end of a side: its own firing, then the strategy.
@@ -95,7 +94,7 @@ pub fn side(
 ) -> Final
     requires { Sidable rules.now n rule positions goal.now m (length bound.old) cells.old }
     ensures { Sided rules.now n rule positions goal.now (length bound.old)
-        bound.new cells.new result.alive result.count result.next result.firings }
+        bound.new cells.new (is_some result.count) (unwrap_or result.count 0) result.next result.firings }
 {
     let step = begin(rules, rule, positions, goal, m, bound, cells);
     follow(rules, n, rule, goal, m, bound, cells, step)

@@ -2,8 +2,8 @@
 use Rattle.checking.proofs.CheckingLaws.{end_live, end-failed}
 use Rattle.checking.proofs.end_shown.Goals as goal
 
-pub returns-then-end : goal.returns-then-end
-returns-then-end c = end_live c.args.end c.wide.result c.if-end.true c.wide.ensures.0
+pub returns-in-Some : goal.returns-in-Some
+returns-in-Some c = end_live c.args.end _ c.wide.result c.in-Some.is c.wide.ensures.0
 
-pub returns : goal.returns
-returns c = end-failed c.args.end c.if-end.false
+pub returns-in-None : goal.returns-in-None
+returns-in-None c = end-failed c.args.end c.in-None.is

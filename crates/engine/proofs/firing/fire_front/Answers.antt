@@ -4,8 +4,8 @@ use native.Mathlib.Omega.{arith}
 use Rattle.engine.proofs.FrontLaws.{front-completes, front-done, front-skips}
 use Rattle.engine.proofs.firing.fire_front.Goals as goal
 
-pub complete-after-requires : goal.complete-after-requires
-complete-after-requires c =
+pub complete-count-requires : goal.complete-count-requires
+complete-count-requires c =
     front-completes _ _ _ _ _ _ c.requires.0 c.requires.1 _ _ c.wide-heads.ensures.0 c.wide-kept.ensures.0
     (c.is_front.ensures c.if-is_front.true)
 
@@ -15,7 +15,7 @@ returns-then-is_front c =
     let heads' = c.wide-heads.ensures.0 in
     let kept' = c.wide-kept.ensures.0 in
     let first' = c.is_front.ensures c.if-is_front.true in (
-      front-done _ _ _ _ _ _ pre'.0 pre'.1 _ _ heads' kept' first' _ _ _ _ _ c.complete-after.ensures,
-      front-skips _ _ _ _ _ _ pre'.0 pre'.1 _ _ heads' kept' first' _ _ _ _ _ c.complete-after.ensures,
+      front-done _ _ _ _ _ _ pre'.0 pre'.1 _ _ heads' kept' first' _ _ _ _ _ c.complete-count.ensures,
+      front-skips _ _ _ _ _ _ pre'.0 pre'.1 _ _ heads' kept' first' _ _ _ _ _ c.complete-count.ensures,
       omega (arith, heads', kept'),
     )
