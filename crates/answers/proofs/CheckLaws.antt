@@ -38,6 +38,7 @@ use Rattle.answers.specs.declared.TextName.{TextName}
 use Rattle.answers.specs.declared.TextName.TheVariants.{S, G}
 use Rattle.answers.specs.declared.Refusal.{Refusal}
 use Rattle.answers.specs.Results.{CheckReply}
+use Rattle.answers.specs.declared.Verdict.{Verdict as ToldVerdict}
 use Rattle.answers.specs.declared.Verdict.TheVariants.{Confluent, Unjoined}
 use Rattle.std.specs.Prelude.{Ok, Err}
 use Rattle.answers.proofs.OutcomeLaws.{outcome-claim, appearance-claim, counterexample-claim}
@@ -74,6 +75,9 @@ module _ {reply : Reply} {before after : List ℕ} {r : CheckReply} (c : CheckRe
   pub pass-within : r ≡ Ok (Confluent n) → n ≤ length after
   unfolding listed_bytes
   pass-within e = omega (arith, c.counted, ap listed_bytes e)
+
+  pub told-within : {v : ToldVerdict} → r ≡ Ok v → n ≡ listed_bytes (Ok v) → n ≤ length after
+  told-within e l = omega (arith, l, ap listed_bytes e, c.counted)
 
   pub fail-within : r ≡ Ok (Unjoined n) → n ≤ length after
   unfolding listed_bytes

@@ -36,6 +36,7 @@ use Rattle.answers.specs.declared.Refusal.{Refusal}
 use Rattle.answers.specs.Results.{RunReply}
 use Rattle.std.specs.Prelude.{Ok, Err}
 use Rattle.answers.specs.Results.{CheckReply}
+use Rattle.answers.specs.declared.Verdict.{Verdict}
 use Rattle.answers.specs.declared.Verdict.TheVariants.{Confluent, Unjoined}
 use Rattle.answers.specs.Promises.{check_meant, listed_bytes, CheckReplied}
 
@@ -224,6 +225,11 @@ module _ (input : List ℕ) {o a : List ℕ} {r : CheckReply} (replied : CheckRe
         (omega (arith, replied.counted, ap listed_bytes e))
     check-listed n (inr e) = listed-check n (ap (λ (q : CheckReply). check_meant q a) e)
         (omega (arith, replied.counted, ap listed_bytes e))
+
+    pub check-told : (v : Verdict) (n : ℕ) → r ≡ Ok v → n ≡ listed_bytes (Ok v) → Printed (sheetcheck input) o a n
+    unfolding listed_bytes
+    check-told (Confluent m) n e l = rw l (check-listed m (inl e))
+    check-told (Unjoined m) n e l = rw l (check-listed m (inr e))
 
 -- the parts of an input, as they are lent
 pub parts-printed : (input : List ℕ) (end start : ℕ) {o a : List ℕ} {n : ℕ}

@@ -39,8 +39,12 @@ pub fn pages<'a>(program: &'a [u8], output: &mut [u8]) -> CheckReply
         × Demand3Of paged program.now output.old output.new result }
 {
     let mut plain = [0; 32768];
-    match check(program, &mut plain)? {
-        Verdict::Confluent(n) => lay(&plain[..n], true, output),
-        Verdict::Unjoined(n) => lay(&plain[..n], false, output),
+    match check(program, &mut plain) {
+        Ok(verdict) => match verdict {
+            Verdict::Confluent(n) => lay(&plain[..n], true, output),
+            Verdict::Unjoined(n) => lay(&plain[..n], false, output),
+        },
+        // No `?`: behind its conversion the promise is not found to be that of the refusal.
+        Err(refusal) => Err(refusal),
     }
 }

@@ -3,16 +3,16 @@ use Rattle.replies.specs.Replies.{ample}
 use Rattle.rehearsal.proofs.SweepLaws.{refused-digit, listed-digit}
 use Rattle.rehearsal.proofs.sweep.met.Goals as goal
 
-pub returns-in-Refused : goal.returns-in-Refused
+pub returns-in-Err : goal.returns-in-Err
 unfolding ample
-returns-in-Refused c =
+returns-in-Err c =
     let args' = c.args in
     refused-digit args'.program.now args'.goal.now c.run.ensures _ c.digit.result
-    c.in-Refused.is c.digit.ensures
+    c.in-Err.is c.digit.ensures
 
-pub returns-in-Listed : goal.returns-in-Listed
+pub returns-in-Ok : goal.returns-in-Ok
 unfolding ample
-returns-in-Listed c =
+returns-in-Ok c =
     let args' = c.args in
     listed-digit args'.program.now args'.goal.now c.run.ensures _
-    c.in-Listed.is
+    c.in-Ok.is

@@ -2,10 +2,10 @@
 use Rattle.answers.proofs.NumberLaws.{returned-refused, returned-listed}
 use Rattle.roketuma.proofs.exported.roketuma_run.Goals as goal
 
-pub returns-in-Refused : goal.returns-in-Refused
-returns-in-Refused c =
-    returned-refused c.run.ensures c.in-Refused.is c.refusal_number.ensures
+pub returns-in-Err : goal.returns-in-Err
+returns-in-Err c =
+    returned-refused c.run.ensures c.in-Err.is c.refusal_number.ensures
 
-pub returns-in-Listed : goal.returns-in-Listed
-returns-in-Listed c =
-    returned-listed c.run.ensures c.in-Listed.is
+pub returns-in-Ok : goal.returns-in-Ok
+returns-in-Ok c =
+    returned-listed c.run.ensures c.in-Ok.is

@@ -2,9 +2,9 @@
 use Rattle.roketuma.proofs.ReadLaws.{returned-unreadable, returned-readable}
 use Rattle.roketuma.proofs.reading.roketuma_read.Goals as goal
 
-pub returns-in-Refused : goal.returns-in-Refused
-returns-in-Refused c =
-    returned-unreadable c.read.ensures c.in-Refused.is c.refusal_number.ensures
+pub returns-in-Err : goal.returns-in-Err
+returns-in-Err c =
+    returned-unreadable c.read.ensures c.in-Err.is c.refusal_number.ensures
 
-pub returns-in-Readable : goal.returns-in-Readable
-returns-in-Readable c = returned-readable c.read.ensures c.in-Readable.is
+pub returns-in-Ok : goal.returns-in-Ok
+returns-in-Ok c = returned-readable c.read.ensures c.in-Ok.is

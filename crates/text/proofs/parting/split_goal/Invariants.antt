@@ -10,4 +10,3 @@ use Rattle.text.proofs.parting.split_goal.Given as goal
 abbrev pub invariant-loop-i : goal.invariant-loop-i
 invariant-loop-i l =
     parted l.s ≡ behind (take l.i l.s) (parted_from l.fresh (drop l.i l.s))
-
