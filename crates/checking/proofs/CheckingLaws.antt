@@ -277,11 +277,11 @@ module _ {program places rules : List ℕ} {n : ℕ} (r : CheckReady program pla
 
 -- an end as the listing has it: a live one, and a failed one
 pub end_live : (e : Final) (n w : ℕ) → e.count ≡ Some n → w ≡ e.next
-    → record { alive = true; next = w; firings = e.firings } ≡ end_shown e
+    → record { next = Some w; firings = e.firings } ≡ end_shown e
 unfolding end_shown
 end_live e n w y h = rw (y, h)
 
-pub end-failed : (e : Final) → e.count ≡ None → record { alive = false; next = 0; firings = e.firings } ≡ end_shown e
+pub end-failed : (e : Final) → e.count ≡ None → record { next = None; firings = e.firings } ≡ end_shown e
 unfolding end_shown
 end-failed e y = rw y
 
@@ -309,17 +309,17 @@ module _ (e : Final) (bound cells : List ℕ) (a : ℕ) (x : End) (cut : a ≡ l
     where
       go : (o : Option ℕ) → e.count ≡ o → a ≡ 5 * unwrap_or o 0
           → ◌≡◌ {A = End'}
-          (record { state = state_of (is_some e.count) (cond (is_some e.count) e.next 0) bound (take a cells); firings = e.firings })
+          (record { state = state_of (is_some (end_shown e).next) (unwrap_or (end_shown e).next 0) bound (take a cells); firings = e.firings })
           (record { state = state_of (is_some e.count) e.next bound (take (5 * unwrap_or e.count 0) cells); firings = e.firings })
       go (Some n) y q = rw (y, q)
       go None y q = rw y
 
-  end-listable : EndIn e bound cells → Listable x.alive x.next bound (take a cells)
+  end-listable : EndIn e bound cells → Listable (is_some x.next) (unwrap_or x.next 0) bound (take a cells)
   unfolding listed_cells end_shown
   end-listable h = rw shown (go e.count refl cut)
     where
       go : (o : Option ℕ) → e.count ≡ o → a ≡ 5 * unwrap_or o 0
-          → Listable (is_some e.count) (cond (is_some e.count) e.next 0) bound (take a cells)
+          → Listable (is_some (end_shown e).next) (unwrap_or (end_shown e).next 0) bound (take a cells)
       go (Some n) y q =
           rw (y, q) (record { few = omega (arith, h.next-few (ap is_some y)); live = λ _. (rw y at h.numbered) refl })
       go None y q =

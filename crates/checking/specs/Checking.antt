@@ -27,7 +27,7 @@ use Rattle.verdicts.specs.declared.Shown.{Shown as Listed}
 use Rattle.replies.specs.Replies.{program_text, fitted, check_reply}
 use Rattle.answers.specs.Results.{CheckReply}
 use Rattle.answers.specs.declared.Verdict.TheVariants.{Confluent, Unjoined}
-use Rattle.std.specs.Prelude.{Ok, Err}
+use Rattle.std.specs.Prelude.{Ok, Err, Some, None}
 use Rattle.inputs.specs.Inputs.{ProgramReady}
 use Rattle.answers.specs.Promises.{CheckReplied, Told}
 
@@ -44,7 +44,7 @@ listed_cells e = constraint_size * unwrap_or e.count 0
 
 -- an end as the listing has it: a failed one has no variables
 unfoldable pub end_shown : Final → End
-end_shown e = record { alive = is_some e.count; next = cond (is_some e.count) e.next 0; firings = e.firings }
+end_shown e = record { next = cond (is_some e.count) (Some e.next) None; firings = e.firings }
 
 -- a program as read, in its tables; each name stands where its place says
 pub record CheckReady (program places rules : List ℕ) (n : ℕ) : Type 0 where

@@ -73,13 +73,11 @@ fn end_shown(end: Final) -> End
     let firings = end.firings;
     match end.count {
         Some(_) => End {
-            alive: true,
-            next: wide(end.next),
+            next: Some(wide(end.next)),
             firings,
         },
         None => End {
-            alive: false,
-            next: 0,
+            next: None,
             firings,
         },
     }

@@ -5,6 +5,7 @@
 --   renumbered-is, end-numbered     numbering the variables leaves the listing as it was
 --   listed-short, listed-written     the reply, and the output afterwards
 -- Assumes nothing.
+use Rattle.std.specs.Prelude.{is_some, unwrap_or}
 use Rattle.std.specs.Prelude.{Option, None, Some}
 use mathlib.Core.Path.{◌≡◌, refl, sym, ap, ap₂, ◌∙◌, subst}
 use mathlib.Core.Bool.{Bool, true, false}
@@ -66,7 +67,7 @@ pub failed-is : (f : ℕ) → failed_bytes f ≡ line_of (ascii "FAILED") (decim
 unfolding line_of fields_behind ascii
 failed-is f = refl
 
-pub failed-end : (program goal places letters bound cells : List ℕ) (e : End) → e.alive ≡ false
+pub failed-end : (program goal places letters bound cells : List ℕ) (e : End) → is_some e.next ≡ false
     → line_of (ascii "FAILED") (decimal e.firings ∷ []) ≡ end_bytes program goal places letters bound cells e
 unfolding end_bytes end_listing state_listing state_of
 failed-end program goal places letters bound cells e h = rw h
@@ -107,7 +108,7 @@ module _ (naming : Naming) (variable : ℕ → List ℕ) (n : ℕ) (order : List
 
 -- numbering the variables behind the goal's leaves the listing as it was, where each goal variable became a constant or a goal
 -- variable
-pub renumbered-is : (program goal places letters bound cells cells' : List ℕ) (e : End) (count : ℕ) → e.alive ≡ true
+pub renumbered-is : (program goal places letters bound cells cells' : List ℕ) (e : End) (count : ℕ) → is_some e.next ≡ true
     → every (is_below (length bound)) (map cell_term bound) ≡ true → Renumbered (length bound) cells cells' count
     → live_bytes (name_in program goal places) letters bound cells' e.firings
     ≡ end_bytes program goal places letters bound cells e
@@ -127,12 +128,12 @@ renumbered-is program goal places letters bound cells cells' e count h own r =
 
 -- an end whose variables are numbered: a live one, and a failed one
 module _ (naming : Naming) (letters bound cells : List ℕ) (e : End) where
-  pub numbered-live : e.alive ≡ true
+  pub numbered-live : is_some e.next ≡ true
       → live_bytes naming letters bound cells e.firings ≡ numbered_end naming letters bound cells e
   unfolding numbered_end
   numbered-live h = rw h
 
-  pub numbered-failed : e.alive ≡ false → failed_bytes e.firings ≡ numbered_end naming letters bound cells e
+  pub numbered-failed : is_some e.next ≡ false → failed_bytes e.firings ≡ numbered_end naming letters bound cells e
   unfolding numbered_end
   numbered-failed h = rw h (failed-is e.firings)
 
@@ -143,11 +144,11 @@ end-failed {alive} {cells} {n} {count} e =
 
 -- an end whose variables were numbered is listed as it was before
 pub end-numbered : (program goal places letters bound cells cells' : List ℕ) (e : End) (count : ℕ)
-    → Listable e.alive e.next bound cells → EndNumbered e.alive (length bound) cells cells' count
+    → Listable (is_some e.next) (unwrap_or e.next 0) bound cells → EndNumbered (is_some e.next) (length bound) cells cells' count
     → numbered_end (name_in program goal places) letters bound cells' e ≡ end_bytes program goal places letters bound cells e
-end-numbered program goal places letters bound cells cells' e count l n = go e.alive refl
+end-numbered program goal places letters bound cells cells' e count l n = go (is_some e.next) refl
   where
-    go : (t : Bool) → e.alive ≡ t
+    go : (t : Bool) → is_some e.next ≡ t
         → numbered_end (name_in program goal places) letters bound cells' e
         ≡ end_bytes program goal places letters bound cells e
     go true h =

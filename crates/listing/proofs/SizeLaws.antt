@@ -6,6 +6,7 @@
 --   end-few, end-writable     the listing of an end, which can be counted where it fails or has at most 65,000 cells
 --   end-ample          and which fits an ample output
 -- Assumes nothing.
+use Rattle.std.specs.Prelude.{is_some, unwrap_or}
 use mathlib.Core.Path.{◌≡◌, refl, sym}
 use mathlib.Core.Bool.{Bool, true, false, cond}
 use mathlib.Core.List.{List, [], ◌∷◌, ◌++◌, map}
@@ -221,11 +222,11 @@ module _ (naming : Naming) (names : (n : ℕ) → Short (naming n)) (letters bou
         cells-few naming names letters (length bound) 83 cells c,
       )
 
-  pub end-few : (e : End) (m n : ℕ) → m < 65536 → (e.alive ≡ true → (length bound ≤ m) × (length cells ≤ n))
+  pub end-few : (e : End) (m n : ℕ) → m < 65536 → (is_some e.next ≡ true → (length bound ≤ m) × (length cells ≤ n))
       → e.firings < 18446744073709551616 → length (numbered_end naming letters bound cells e) ≤ 28 + (20 * m + 10 * n)
-  end-few e m n low h k = go e.alive refl
+  end-few e m n low h k = go (is_some e.next) refl
     where
-      go : (t : Bool) → e.alive ≡ t → length (numbered_end naming letters bound cells e) ≤ 28 + (20 * m + 10 * n)
+      go : (t : Bool) → is_some e.next ≡ t → length (numbered_end naming letters bound cells e) ≤ 28 + (20 * m + 10 * n)
       go true l =
           rw (sym (numbered-live naming letters bound cells e l))
           (omega (arith, (h l).0, (h l).1, live-few e.firings (omega (arith, (h l).0)) k))
@@ -234,7 +235,7 @@ module _ (naming : Naming) (names : (n : ℕ) → Short (naming n)) (letters bou
           (omega (arith, machine-digits e.firings k, length-append (decimal e.firings) (10 ∷ [])))
 
   -- so that it can be counted
-  pub end-writable : (e : End) → (e.alive ≡ true → length bound + length cells ≤ 65000) → e.firings < 18446744073709551616
+  pub end-writable : (e : End) → (is_some e.next ≡ true → length bound + length cells ≤ 65000) → e.firings < 18446744073709551616
       → Writable naming letters bound cells e
   end-writable e h k =
       let few = end-few e 65000 65000 (omega arith) (λ l. (omega (arith, h l), omega (arith, h l))) k in

@@ -9,7 +9,7 @@
 --   Listable, EndNumbered, Writable     what listing a final state, numbering its variables and writing it ask and promise
 --   Ample            an output that every listing of so many goal variables and cells fits
 -- Assumes nothing.
-use Rattle.std.specs.Prelude.{ℕ, ◌≤◌, ◌<◌, Bool, true, cond, List, [], ◌∷◌, ◌++◌, map, ◌≡◌, length}
+use Rattle.std.specs.Prelude.{is_some, unwrap_or, ℕ, ◌≤◌, ◌<◌, Bool, true, cond, List, [], ◌∷◌, ◌++◌, map, ◌≡◌, length}
 use Rattle.text.specs.Bytes.{ascii}
 use Rattle.text.specs.Fields.{decimal}
 use Rattle.tables.specs.Cells.{cell_term, cell_constraints, state_of}
@@ -47,13 +47,13 @@ live_bytes naming letters bound cells firings =
 -- the listing of an end whose variables, if it lives, are numbered
 unfoldable pub numbered_end : Naming → List ℕ → List ℕ → List ℕ → End → List ℕ
 numbered_end naming letters bound cells e =
-    cond e.alive (live_bytes naming letters bound cells e.firings) (line_of (ascii "FAILED") (decimal e.firings ∷ []))
+    cond (is_some e.next) (live_bytes naming letters bound cells e.firings) (line_of (ascii "FAILED") (decimal e.firings ∷ []))
 
 -- the listing of a final state: its names are parts of the two texts
 unfoldable pub end_bytes : List ℕ → List ℕ → List ℕ → List ℕ → List ℕ → List ℕ → End → List ℕ
 end_bytes program goal places letters bound cells e =
     end_listing (name_in program goal places) (variable_name letters)
-    (record { state = state_of e.alive e.next bound cells; firings = e.firings })
+    (record { state = state_of (is_some e.next) (unwrap_or e.next 0) bound cells; firings = e.firings })
 
 -- what listing a final state asks: where it lives, an entry for each variable's number, and that each goal variable became a
 -- constant or a goal variable
@@ -68,7 +68,7 @@ pub record EndNumbered (alive : Bool) (n : ℕ) (cells cells' : List ℕ) (count
 -- what writing an end asks: that it can be counted
 pub record Writable (naming : Naming) (letters bound cells : List ℕ) (e : End) : Type 0 where
   pub counted : Countable 0 (numbered_end naming letters bound cells e)
-  pub few : e.alive ≡ true → length bound < 65536
+  pub few : is_some e.next ≡ true → length bound < 65536
 
 -- the goal variables and the cells up to which every listing fits an ample output
 unfoldable pub max_bound : ℕ

@@ -1,5 +1,5 @@
 // The end of a run: its variables numbered, and its lines at the front of the part of the output that is lent.
-ghost use Rattle.std.specs.Prelude.{◌<◌, length};
+ghost use Rattle.std.specs.Prelude.{is_some, unwrap_or, ◌<◌, length};
 ghost use Rattle.listing.specs.Writing.{Countable, Writes};
 ghost use Rattle.listing.specs.Ends.{named, live_bytes, numbered_end, Listable, EndNumbered, Writable};
 
@@ -9,13 +9,13 @@ use tables::numbering::renumber;
 
 // The variables of an end that lives are numbered in place, behind those of the goal, which stay. Answers how many there are.
 pub fn number_end(bound: &[u16], cells: &mut [u16], end: End) -> usize
-    requires { Listable end.alive end.next bound.now cells.old }
-    ensures { EndNumbered end.alive (length bound.now) cells.old cells.new result }
+    requires { Listable (is_some end.next) (unwrap_or end.next 0) bound.now cells.old }
+    ensures { EndNumbered (is_some end.next) (length bound.now) cells.old cells.new result }
 {
-    if !end.alive {
-        return 0;
+    match end.next {
+        Some(next) => renumber(bound.len(), cells, next),
+        None => 0,
     }
-    renumber(bound.len(), cells, end.next)
 }
 
 // The lines of a state whose variables are numbered.
@@ -55,8 +55,8 @@ pub fn put_end<'a>(
         (numbered_end (named names.entry) names.entry.letters.now
         bound.now cells.now end) 0 out.old out.new result }
 {
-    if !end.alive {
-        return put_head(out, b"FAILED,", end.firings);
+    match end.next {
+        Some(_) => put_live(out, names, bound, cells, end.firings),
+        None => put_head(out, b"FAILED,", end.firings),
     }
-    put_live(out, names, bound, cells, end.firings)
 }

@@ -6,18 +6,17 @@ pub mod ends;
 pub mod putting;
 pub mod writing;
 
-ghost use Rattle.std.specs.Prelude.{ℕ, true, List, ◌≡◌, ◌≤◌, length};
+ghost use Rattle.std.specs.Prelude.{is_some, unwrap_or, ℕ, true, List, ◌≡◌, ◌≤◌, length};
 ghost use Rattle.listing.specs.Writing.{Puts, ListedAs};
 ghost use Rattle.listing.specs.Ends.{named, numbered_end, end_bytes, Listable, Writable, Ample};
 
 use ends::{number_end, put_end};
 use tables::names::name;
 
-// The end of a run: whether its state lives, a number above every variable in use, and how often a rule fired.
+// The end of a run: a number above every variable in use, or None where its state has failed, and how often a rule fired.
 #[derive(Clone, Copy)]
 pub struct End {
-    pub alive: bool,
-    pub next: usize,
+    pub next: Option<usize>,
     pub firings: usize,
 }
 
@@ -101,7 +100,7 @@ pub fn list_end<'a>(
     cells: &mut [u16],
     end: End,
 ) -> Option<usize>
-    requires { Listable end.alive end.next bound.now cells.old }
+    requires { Listable (is_some end.next) (unwrap_or end.next 0) bound.now cells.old }
     ensures { ListedAs (end_bytes names.entry.program.now names.entry.goal.now names.entry.places.now names.entry.letters.now
         bound.now cells.old end) out.old out.new result }
 {

@@ -259,14 +259,14 @@ entered-ended start {rules} {cells} {b} {bound'} {cells'} {z} {v} {alive} {count
 pub lives-listed :
     (program goal places letters bound cells : List ℕ) (e : FinalCells) (n w : ℕ) → e.count ≡ Some n → w ≡ e.next
     → end_bytes program goal places letters bound (take (5 * n) cells)
-    (record { alive = true; next = w; firings = e.firings })
+    (record { next = Some w; firings = e.firings })
     ≡ final_bytes program goal places letters bound cells e
 unfolding end_bytes final_bytes
 lives-listed program goal places letters bound cells e n w h k = rw (h, k)
 
 pub failed-listed :
     (program goal places letters bound cells : List ℕ) (e : FinalCells) → e.count ≡ None
-    → end_bytes program goal places letters bound cells (record { alive = false; next = 0; firings = e.firings })
+    → end_bytes program goal places letters bound cells (record { next = None; firings = e.firings })
     ≡ final_bytes program goal places letters bound cells e
 unfolding end_bytes final_bytes state_of
 failed-listed program goal places letters bound cells e h = rw h

@@ -51,7 +51,7 @@ fn list<'a>(
     end: End,
     output: &mut [u8],
 ) -> RunReply
-    requires { Listable end.alive end.next bound.now cells.old }
+    requires { Listable (is_some end.next) (unwrap_or end.next 0) bound.now cells.old }
     ensures { Replied (fitted goal_text (length output.old)
         (end_bytes names.entry.program.now names.entry.goal.now names.entry.places.now names.entry.letters.now
         bound.now cells.old end))
@@ -86,16 +86,14 @@ fn list_final<'a>(
         Some(count) => {
             let e = CONSTRAINT_SIZE * count;
             let lives = End {
-                alive: true,
-                next: wide(end.next),
+                next: Some(wide(end.next)),
                 firings,
             };
             list(names, bound, &mut cells[..e], lives, output)
         }
         None => {
             let failed = End {
-                alive: false,
-                next: 0,
+                next: None,
                 firings,
             };
             list(names, bound, cells, failed, output)

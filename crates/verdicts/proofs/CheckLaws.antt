@@ -8,6 +8,7 @@
 --   overlap-listed           it is that of the verdict on the overlap that the tables hold
 --   overlap-named            and the same under namings that agree on what it holds
 -- Assumes nothing.
+use Rattle.std.specs.Prelude.{is_some, unwrap_or}
 use Rattle.std.specs.Prelude.{Option}
 use mathlib.Core.Path.{◌≡◌, refl, sym, ap, ap₂, ◌∙◌, subst}
 use mathlib.Core.Bool.{Bool, true}
@@ -212,9 +213,9 @@ module _ (naming : Naming) (short : (n : ℕ) → Short (naming n)) where
       let second = drop v bounds in
       let firstCells : Cells first = λ i l. few-take 65536 v bounds cb i in
       let secondCells : Cells second = λ i l. few-drop 65536 v bounds cb i in
-      let firstFew : s.one.alive ≡ true → length first + length one' ≤ 65000 =
+      let firstFew : is_some s.one.next ≡ true → length first + length one' ≤ 65000 =
       λ l. omega (arith, (h.first-end.live l).rows.few, e) in
-      let secondFew : s.two.alive ≡ true → length second + length two' ≤ 65000 =
+      let secondFew : is_some s.two.next ≡ true → length second + length two' ≤ 65000 =
       λ l. omega (arith, (h.second-end.live l).rows.few, f) in
       let a = numbered_end naming letters first one' s.one in
       let z = numbered_end naming letters second two' s.two in
@@ -298,8 +299,8 @@ verdict-is program places goal bounds one two s o h =
 
 pub overlap-listed : (program places goal bounds one one' two two' : List ℕ) (s : Shown) (m n : ℕ)
     {before after : List ℕ} {reply : Option ℕ} → OverlapListable goal bounds one two s
-    → EndNumbered s.one.alive (length (take s.variables bounds)) one one' m
-    → EndNumbered s.two.alive (length (drop s.variables bounds)) two two' n
+    → EndNumbered (is_some s.one.next) (length (take s.variables bounds)) one one' m
+    → EndNumbered (is_some s.two.next) (length (drop s.variables bounds)) two two' n
     → ListedAs (shown_bytes (name_in program [] places) [] goal bounds one' two' s) before after reply
     → OverlapListed program places goal bounds one two s before after reply
 unfolding shown_bytes numbered_ends

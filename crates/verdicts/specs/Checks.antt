@@ -6,7 +6,7 @@
 --   OverlapListable, OverlapListed     what listing an overlap asks and promises
 -- The names are in the program's text alone. What the goal's variables became is in `bounds`: for the first end, then for the
 -- second. Assumes nothing.
-use Rattle.std.specs.Prelude.{ℕ, ◌+◌, ◌≤◌, ◌<◌, true, List, [], ◌∷◌, ◌++◌, ◌≡◌, Option, length, take, drop}
+use Rattle.std.specs.Prelude.{is_some, unwrap_or, ℕ, ◌+◌, ◌≤◌, ◌<◌, true, List, [], ◌∷◌, ◌++◌, ◌≡◌, Option, length, take, drop}
 use Rattle.text.specs.Bytes.{ascii}
 use Rattle.text.specs.Lists.{every}
 use Rattle.semantics.specs.Terms.{is_below}
@@ -48,7 +48,7 @@ shown_bytes naming letters goal bounds one two s =
 
 -- a final state from its tables
 unfoldable pub final_of : List ℕ → List ℕ → End → Final
-final_of bound cells e = record { state = state_of e.alive e.next bound cells; firings = e.firings }
+final_of bound cells e = record { state = state_of (is_some e.next) (unwrap_or e.next 0) bound cells; firings = e.firings }
 
 -- numbers that the names and the partners can be found by
 pub record Shaped (s : Shown) : Type 0 where
@@ -76,8 +76,8 @@ pub record OverlapListable (goal bounds one two : List ℕ) (s : Shown) : Type 0
   pub shaped : Shaped s
   pub goal-few : length goal ≤ 65000
   pub within : s.variables ≤ length bounds
-  pub first-end : Listable s.one.alive s.one.next (take s.variables bounds) one
-  pub second-end : Listable s.two.alive s.two.next (drop s.variables bounds) two
+  pub first-end : Listable (is_some s.one.next) (unwrap_or s.one.next 0) (take s.variables bounds) one
+  pub second-end : Listable (is_some s.two.next) (unwrap_or s.two.next 0) (drop s.variables bounds) two
 
 -- the overlap that the tables hold: its rules' names, its partners and its goal, all of whose variables are the goal's
 pub record ShownBy (naming : Naming) (goal : List ℕ) (s : Shown) (o : Overlap) : Type 0 where

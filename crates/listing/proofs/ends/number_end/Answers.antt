@@ -1,11 +1,16 @@
 -- `listing::ends::number_end` meets its contract. Assumes nothing.
-use borrow.Author.Tests.{not-true, not-false}
+use Rattle.std.proofs.Common.{ap, refl}
+use Rattle.std.specs.Prelude.{is_some}
 use Rattle.listing.proofs.EndLaws.{end-failed}
 use Rattle.listing.proofs.ends.number_end.Goals as goal
 
-pub returns-then-not-end : goal.returns-then-not-end
-returns-then-not-end c = end-failed (not-true _ c.if-not-end.true)
-
 pub renumber-requires : goal.renumber-requires
 renumber-requires c =
-    ((c.requires.live (not-false _ c.if-not-end.false)).rows, c.requires.few)
+    let asked = rw c.in-Some.is at c.requires in
+    ((asked.live refl).rows, asked.few)
+
+pub returns-in-Some : goal.returns-in-Some
+returns-in-Some c = rw c.in-Some.is (record { live = λ h. c.renumber.ensures })
+
+pub returns-in-None : goal.returns-in-None
+returns-in-None c = end-failed (ap is_some c.in-None.is)
