@@ -18,7 +18,8 @@ pub enum TextName {
     G,
 }
 
-// A refusal: document 01's number, the text, and the line counted from 1, or 0 where no line is meant.
+// A refusal: its number, the text, and the line counted from 1, or 0 where no line is meant. The number is no enum: C and print take
+// it for every number, and so do the promises of `refusal_number` and `put_refusal`.
 #[derive(Clone, Copy)]
 pub struct Refusal {
     pub number: u8,

@@ -4,7 +4,7 @@ ghost use Rattle.judging.specs.Tidying.{RowEnded, Tidied};
 
 use tables::layout::CONSTRAINT_SIZE;
 
-// A cell that stands behind another: 0 where that one is 0.
+// A cell that stands behind another: 0 where that one is 0. It is no `max` or `min`, and a test is as plain.
 pub fn behind(before: u16, x: u16) -> u16
     ensures { result ≡ cond (eqb before 0) 0 x }
 {
