@@ -2,13 +2,15 @@
 --   constraints-append                        whole constraints in front of more cells
 --   five-is                                   five cells are one constraint
 --   weight-known, weight-none                 the weight of a symbol by the table
---   weight-step, weight-end                   the weight of five cells and those behind them, and of fewer than five
+--   weight-step, weight-end                   the weight of the constraints from a place on, and from the next on
 -- Assumes nothing.
-use mathlib.Core.Path.{◌≡◌, refl, sym, ap}
+use mathlib.Core.Path.{◌≡◌, refl, sym, ap, ap₂, ◌∙◌}
 use mathlib.Core.List.{List, [], ◌∷◌, ◌++◌}
 use Prim.Native.Nat.{ℕ, zero, suc, ◌+◌, ◌*◌, ◌≤◌, ◌<◌}
+use native.Mathlib.Nat.{add-zero}
 use native.Mathlib.Omega.{arith}
-use lib.ListN.{length, get_or, get_or-eq_default}
+use lib.ListN.{length, drop, get_or, length-drop, get_or-eq_default}
+use lib.Seq.{get_or-drop, drop-drop}
 use Rattle.semantics.specs.Terms.{Symbol, Constraint, no_symbol, symbol_at, weight}
 use Rattle.tables.specs.Cells.{cell_terms, row_constraint, cell_constraints}
 use Rattle.tables.specs.Rows.{symbol_of, symbols_of}
@@ -50,24 +52,32 @@ module _ (names symbols : List ℕ) (k : ℕ) (size : length symbols ≡ 2 * k) 
       sym (ap (λ (t : Symbol). t.weight) (get_or-eq_default (symbols_of names symbols k) no_symbol {n = s}
       (omega (arith, symbols-length names symbols k))))
 
--- five cells and what stands behind them
-pub weight-step : (symbols : List Symbol) (row behind : List ℕ) → length row ≡ 5
-    → weight symbols (cell_constraints (row ++ behind))
-    ≡ (symbol_at symbols (get_or row 0 0)).weight + weight symbols (cell_constraints behind)
+weight-first : (symbols : List Symbol) (l : List ℕ) → 5 ≤ length l
+    → weight symbols (cell_constraints l) ≡ (symbol_at symbols (get_or l 0 0)).weight + weight symbols (cell_constraints (drop 5 l))
 unfolding weight cell_constraints
-weight-step symbols [] behind h = absurd (omega arith)
-weight-step symbols (a ∷ []) behind h = absurd (omega arith)
-weight-step symbols (a ∷ b ∷ []) behind h = absurd (omega arith)
-weight-step symbols (a ∷ b ∷ c ∷ []) behind h = absurd (omega arith)
-weight-step symbols (a ∷ b ∷ c ∷ d ∷ []) behind h = absurd (omega arith)
-weight-step symbols (a ∷ b ∷ c ∷ d ∷ e ∷ []) behind h = refl
-weight-step symbols (a ∷ b ∷ c ∷ d ∷ e ∷ f ∷ row) behind h = absurd (omega arith)
+weight-first symbols [] h = absurd (omega arith)
+weight-first symbols (a ∷ []) h = absurd (omega arith)
+weight-first symbols (a ∷ b ∷ []) h = absurd (omega arith)
+weight-first symbols (a ∷ b ∷ c ∷ []) h = absurd (omega arith)
+weight-first symbols (a ∷ b ∷ c ∷ d ∷ []) h = absurd (omega arith)
+weight-first symbols (a ∷ b ∷ c ∷ d ∷ e ∷ l) h = refl
 
-pub weight-end : (symbols : List Symbol) (l : List ℕ) → length l < 5 → weight symbols (cell_constraints l) ≡ 0
+pub weight-step : (symbols : List Symbol) (l : List ℕ) (i : ℕ) → i + 5 ≤ length l
+    → weight symbols (cell_constraints (drop i l))
+    ≡ (symbol_at symbols (get_or l i 0)).weight + weight symbols (cell_constraints (drop (i + 5) l))
+weight-step symbols l i h =
+    weight-first symbols (drop i l) (omega (arith, length-drop i l))
+    ∙ ap₂ (λ (k : ℕ) (t : List ℕ). (symbol_at symbols k).weight + weight symbols (cell_constraints t))
+    (get_or-drop i l 0 0 ∙ ap (λ (j : ℕ). get_or l j 0) (add-zero i)) (drop-drop 5 i l)
+
+weight-short : (symbols : List Symbol) (l : List ℕ) → length l < 5 → weight symbols (cell_constraints l) ≡ 0
 unfolding weight cell_constraints
-weight-end symbols [] h = refl
-weight-end symbols (a ∷ []) h = refl
-weight-end symbols (a ∷ b ∷ []) h = refl
-weight-end symbols (a ∷ b ∷ c ∷ []) h = refl
-weight-end symbols (a ∷ b ∷ c ∷ d ∷ []) h = refl
-weight-end symbols (a ∷ b ∷ c ∷ d ∷ e ∷ l) h = absurd (omega arith)
+weight-short symbols [] h = refl
+weight-short symbols (a ∷ []) h = refl
+weight-short symbols (a ∷ b ∷ []) h = refl
+weight-short symbols (a ∷ b ∷ c ∷ []) h = refl
+weight-short symbols (a ∷ b ∷ c ∷ d ∷ []) h = refl
+weight-short symbols (a ∷ b ∷ c ∷ d ∷ e ∷ l) h = absurd (omega arith)
+
+pub weight-end : (symbols : List Symbol) (l : List ℕ) (i : ℕ) → length l < i + 5 → weight symbols (cell_constraints (drop i l)) ≡ 0
+weight-end symbols l i h = weight-short symbols (drop i l) (omega (arith, length-drop i l))
