@@ -1,5 +1,5 @@
 -- What the readers of both texts find in a line: one decoding for each of their answers.
---   form_meant, section_meant, section_answer      the code's forms and sections
+--   form_meant, section_meant, section_answer      the code's forms and sections; section_numbered: those of numbers
 --   constraint_head, head_answer              numbers 4 and 6 of a J, H, B or G line
 --   term_cell, padded                        the cell of a term, and cells with zeros behind them
 --   Lent, Outside, Spelled, KeepsPlaces     the tables lent, and what a line does to names and places
@@ -53,6 +53,14 @@ section_meant InKept = in_kept
 section_meant Heads = in_heads
 section_meant InBody = in_body
 section_meant Equations = in_equations
+
+-- the section that a number stands for
+unfoldable pub section_numbered : ℕ → Section
+section_numbered zero = in_symbols
+section_numbered (suc zero) = in_kept
+section_numbered (suc (suc zero)) = in_heads
+section_numbered (suc (suc (suc zero))) = in_body
+section_numbered (suc (suc (suc (suc n)))) = in_equations
 
 -- the section that a line leads to, if it may stand there
 abbrev pub section_answer : Option CodeSection → maybe.Option Section

@@ -2,7 +2,7 @@
 ghost use Rattle.std.specs.Prelude.{◌≡◌, List, ℕ};
 ghost use Rattle.text.specs.Keys.{key_of};
 ghost use Rattle.syntax.specs.Forms.{form_of_byte, form_of, section_after};
-ghost use Rattle.lines.specs.Read.{form_meant, section_meant, section_answer};
+ghost use Rattle.lines.specs.Read.{form_meant, section_meant, section_numbered, section_answer};
 
 use crate::{LineForm, Section};
 
@@ -34,19 +34,42 @@ pub fn form_of(key: u64) -> LineForm
     LineForm::Nothing
 }
 
-// The section behind a line of a form, if it may stand there.
-#[tactic(auto, unfolding(syntax::specs::Forms::section_after, crate::specs::Read::form_meant, crate::specs::Read::section_meant))]
-pub fn section_after(form: LineForm, section: Section) -> Option<Section>
-    ensures { section_answer result ≡ section_after (form_meant form) (section_meant section) }
-{
-    match (form, section) {
-        (LineForm::Symbol, Section::Symbols) => Some(Section::Symbols),
-        (LineForm::Rule, _) => Some(Section::Kept),
-        (LineForm::Kept, Section::Kept) => Some(Section::Kept),
-        (LineForm::Head, Section::Kept | Section::Heads) => Some(Section::Heads),
-        (LineForm::Body, Section::Kept | Section::Heads | Section::Body) => Some(Section::Body),
-        (LineForm::Equation, Section::Symbols) => None,
-        (LineForm::Equation, _) => Some(Section::Equations),
-        _ => None,
+impl Section {
+    // The section of a number: 0 among K lines, 1 behind R or J, 2 behind H, 3 behind B, and from 4 on behind E.
+    #[tactic(auto, unfolding(crate::specs::Read::section_meant, crate::specs::Read::section_numbered))]
+    pub fn numbered(number: u8) -> Section
+        ensures { section_meant result ≡ section_numbered number }
+    {
+        match number {
+            0 => Section::Symbols,
+            1 => Section::Kept,
+            2 => Section::Heads,
+            3 => Section::Body,
+            _ => Section::Equations,
+        }
     }
+
+    // The section behind a line of a form, if it may stand there.
+    #[tactic(auto, unfolding(syntax::specs::Forms::section_after, crate::specs::Read::form_meant, crate::specs::Read::section_meant))]
+    pub fn after(self, form: LineForm) -> Option<Section>
+        ensures { section_answer result ≡ section_after (form_meant form) (section_meant self) }
+    {
+        match (form, self) {
+            (LineForm::Symbol, Section::Symbols) => Some(Section::Symbols),
+            (LineForm::Rule, _) => Some(Section::Kept),
+            (LineForm::Kept, Section::Kept) => Some(Section::Kept),
+            (LineForm::Head, Section::Kept | Section::Heads) => Some(Section::Heads),
+            (LineForm::Body, Section::Kept | Section::Heads | Section::Body) => Some(Section::Body),
+            (LineForm::Equation, Section::Symbols) => None,
+            (LineForm::Equation, _) => Some(Section::Equations),
+            _ => None,
+        }
+    }
+}
+
+// The same for a caller that has the number of the section before the line.
+pub fn section_after(form: LineForm, section: u8) -> Option<Section>
+    ensures { section_answer result ≡ section_after (form_meant form) (section_numbered section) }
+{
+    Section::numbered(section).after(form)
 }

@@ -8,7 +8,7 @@ use crate::declarations::{rule_line, symbol_line};
 use crate::rules::check_rules;
 use crate::{Counts, Stage};
 use faults::{Fault, FaultAt};
-use lines::forms::{form_of, section_after};
+use lines::forms::form_of;
 use lines::{LineForm, Section};
 use reader::line_at;
 use tables::layout::{ROW_SIZE, SYMBOL_SIZE};
@@ -31,7 +31,7 @@ fn read_line(
 {
     let keys = f.keys;
     let form = form_of(keys[0]);
-    let section = section_after(form, stage.section).ok_or(Fault::FormMisplaced)?;
+    let section = stage.section.after(form).ok_or(Fault::FormMisplaced)?;
     let at = Stage { section, ..stage };
     let used = SYMBOL_SIZE * stage.symbols;
     match form {

@@ -15,12 +15,12 @@ use Rattle.programs.proofs.program.read_line.Goals as goal
 
 pub returns-in_err-section : goal.returns-in_err-section
 returns-in_err-section c =
-    let none : c.section_after.result ≡ None = rw c.in_err-section.was at c.ok_or.ensures.ok_part in
+    let none : c.after.result ≡ None = rw c.in_err-section.was at c.ok_or.ensures.ok_part in
     let given : c.ok_or.result ≡ Err FormMisplaced = rw none at c.ok_or.ensures.value in
     let met : c.in_err-section.field-0.0 ≡ FormMisplaced = let y = c.in_err-section.was in cc in
     let p = err_from_is_err_and c.from_residual.result c.from_residual.ensures.1 in
     rw (p.1, p.2, met)
-    (line-placeless _ _ _ _ _ _ _ _ _ c.form_of-form.ensures c.section_after.ensures none)
+    (line-placeless _ _ _ _ _ _ _ _ _ c.form_of-form.ensures c.after.ensures none)
 
 pub kept_line-requires : goal.kept_line-requires
 unfolding form_meant
@@ -29,7 +29,7 @@ kept_line-requires c = (
   length-take-le _ c.args.symbols.now (omega (arith, c.requires.1, c.requires.3.few-symbols)),
   c.requires.2,
   sound-moved _ _ _ c.requires.3,
-  c.requires.4 (begun_kept _ _ _ c.section_after.ensures _ (rw c.in_ok-section.was at c.ok_or.ensures.ok_part) (ap form_meant
+  c.requires.4 (begun_kept _ _ _ c.after.ensures _ (rw c.in_ok-section.was at c.ok_or.ensures.ok_part) (ap form_meant
       c.in-Kept.is)),
 )
 
@@ -40,7 +40,7 @@ constraint_line-requires c = (
   length-take-le _ c.args.symbols.now (omega (arith, c.requires.1, c.requires.3.few-symbols)),
   c.requires.2,
   sound-moved _ _ _ c.requires.3,
-  c.requires.4 (begun-head _ _ _ c.section_after.ensures _ (rw c.in_ok-section.was at c.ok_or.ensures.ok_part) (ap form_meant
+  c.requires.4 (begun-head _ _ _ c.after.ensures _ (rw c.in_ok-section.was at c.ok_or.ensures.ok_part) (ap form_meant
       c.in-Head.is)),
   omega arith,
 )
@@ -52,7 +52,7 @@ constraint_line-requires-in-Body c = (
   length-take-le _ c.args.symbols.now (omega (arith, c.requires.1, c.requires.3.few-symbols)),
   c.requires.2,
   sound-moved _ _ _ c.requires.3,
-  c.requires.4 (begun-body _ _ _ c.section_after.ensures _ (rw c.in_ok-section.was at c.ok_or.ensures.ok_part) (ap form_meant
+  c.requires.4 (begun-body _ _ _ c.after.ensures _ (rw c.in_ok-section.was at c.ok_or.ensures.ok_part) (ap form_meant
       c.in-Body.is)),
   omega arith,
 )
@@ -63,53 +63,53 @@ equation_line-requires c = (
   c.requires.0,
   c.requires.2,
   sound-moved _ _ _ c.requires.3,
-  c.requires.4 (begun-equation _ _ _ c.section_after.ensures _ (rw c.in_ok-section.was at c.ok_or.ensures.ok_part) (ap
+  c.requires.4 (begun-equation _ _ _ c.after.ensures _ (rw c.in_ok-section.was at c.ok_or.ensures.ok_part) (ap
       form_meant c.in-Equation.is)),
 )
 
 pub returns-in-Symbol : goal.returns-in-Symbol
 unfolding form_meant
 returns-in-Symbol c =
-    line-symbol _ _ _ _ _ _ _ _ _ c.form_of-form.ensures c.section_after.ensures
+    line-symbol _ _ _ _ _ _ _ _ _ c.form_of-form.ensures c.after.ensures
     _ (rw c.in_ok-section.was at c.ok_or.ensures.ok_part) (ap form_meant c.in-Symbol.is) c.requires.3 c.requires.4
     c.symbol_line.ensures
 
 pub returns-in-Rule : goal.returns-in-Rule
 unfolding form_meant
 returns-in-Rule c =
-    line-rule _ _ _ _ _ _ _ _ _ c.form_of-form.ensures c.section_after.ensures
+    line-rule _ _ _ _ _ _ _ _ _ c.form_of-form.ensures c.after.ensures
     _ (rw c.in_ok-section.was at c.ok_or.ensures.ok_part) (ap form_meant c.in-Rule.is) c.rule_line.ensures
 
 pub returns-in-Kept : goal.returns-in-Kept
 unfolding form_meant
 returns-in-Kept c =
-    line-adds _ _ _ _ _ _ _ _ _ c.form_of-form.ensures c.section_after.ensures
+    line-adds _ _ _ _ _ _ _ _ _ c.form_of-form.ensures c.after.ensures
     _ (rw c.in_ok-section.was at c.ok_or.ensures.ok_part) (ap form_meant c.in-Kept.is) c.kept_line.ensures
 
 pub returns-in-Head : goal.returns-in-Head
 unfolding form_meant part_form
 returns-in-Head c =
-    line-adds _ _ _ _ _ _ _ _ _ c.form_of-form.ensures c.section_after.ensures
+    line-adds _ _ _ _ _ _ _ _ _ c.form_of-form.ensures c.after.ensures
     _ (rw c.in_ok-section.was at c.ok_or.ensures.ok_part) (ap form_meant c.in-Head.is)
     c.constraint_line.ensures.0
 
 pub returns-in-Body : goal.returns-in-Body
 unfolding form_meant part_form
 returns-in-Body c =
-    line-adds _ _ _ _ _ _ _ _ _ c.form_of-form.ensures c.section_after.ensures
+    line-adds _ _ _ _ _ _ _ _ _ c.form_of-form.ensures c.after.ensures
     _ (rw c.in_ok-section.was at c.ok_or.ensures.ok_part) (ap form_meant c.in-Body.is)
     c.constraint_line-in-Body.ensures.0
 
 pub returns-in-Equation : goal.returns-in-Equation
 unfolding form_meant
 returns-in-Equation c =
-    line-adds _ _ _ _ _ _ _ _ _ c.form_of-form.ensures c.section_after.ensures
+    line-adds _ _ _ _ _ _ _ _ _ c.form_of-form.ensures c.after.ensures
     _ (rw c.in_ok-section.was at c.ok_or.ensures.ok_part) (ap form_meant c.in-Equation.is)
     (c.equation_line.ensures _)
 
 pub returns-in-Goal : goal.returns-in-Goal
 unfolding form_meant
 returns-in-Goal c =
-    line-none _ _ _ _ _ _ _ _ _ c.form_of-form.ensures c.section_after.ensures
+    line-none _ _ _ _ _ _ _ _ _ c.form_of-form.ensures c.after.ensures
     _ (rw c.in_ok-section.was at c.ok_or.ensures.ok_part)
     (elim c.in-Goal.is [ inl e ↦ rw e (goal-form _) | inr e ↦ rw e (no-form _) ])
