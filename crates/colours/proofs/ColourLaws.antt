@@ -1,9 +1,10 @@
 -- Colours in tables: one law for each way that the code goes.
+--   square-small      a product that fits
 --   sign-…, spread-…  the terms of a constraint
 --   give-…            constraints
 --   Absorbing         one round ends
 -- Assumes nothing.
-use Rattle.std.proofs.Common.{◌≡◌, ℕ, suc, ◌+◌, ◌-◌, ◌*◌, ◌<◌, ◌≤◌, true, false, eqb, ◌⊎◌, List, [], ◌∷◌, length, get_or, take, drop, set, ap, ◌∙◌, inl, inr, add-one, arith, length-drop, length-set, drop_of_length-le, take_all, get_or-set_other, get_or-set_same, eqb-true}
+use Rattle.std.proofs.Common.{◌≡◌, ℕ, suc, ◌+◌, ◌-◌, ◌*◌, ◌%◌, ◌<◌, ◌≤◌, true, false, eqb, ◌⊎◌, List, [], ◌∷◌, length, get_or, take, drop, set, ap, ◌∙◌, inl, inr, mul-le-mul, add-one, arith, length-drop, length-set, drop_of_length-le, length-take-le, take_all, get_or-set_other, get_or-set_same, eqb-true}
 use borrow.Author.Tests.{eqb-false}
 use Rattle.semantics.specs.Terms.{Term, same_term}
 use Rattle.tables.specs.Cells.{cell_term, cell_terms, cell_constraints}
@@ -13,6 +14,12 @@ use Rattle.colours.specs.Bounds.{Below, TermsBelow}
 use Rattle.colours.specs.Colours.{mixed, plus, added, signed, signature, gains, gathered, with_terms, Colours, Tells, SignedBy, Signed}
 use Rattle.colours.specs.Colours.{Spread, Given}
 use Rattle.colours.proofs.RowLaws.{terms-all}
+
+-- the square of 32 bits fits 64
+pub square-small : (t : ℕ) → (t % 4294967296) * (t % 4294967296) ≤ 18446744065119617025
+square-small t =
+    let h : t % 4294967296 ≤ 4294967295 = omega arith in
+    mul-le-mul h h
 
 -- at a 0, and behind the last cell, the terms end
 pub terms-end : (l : List ℕ) (i : ℕ) → length l ≤ i → cell_terms (drop i l) ≡ []
@@ -153,6 +160,11 @@ lent-all P l i f j = rw (lent-terms l i) (terms-all P l i f j)
 -- they have their places
 pub lent_below : (m : ℕ) (l : List ℕ) (i : ℕ) → TermsBelow m l → Below m (lent_terms l i)
 lent_below m l i b = record { below = lent-all (λ x. x < m) l i b.below }
+
+-- the row's length
+pub lent_length : (l : List ℕ) (i n : ℕ) → length l ≡ 5 * n → i < n → length (lent l i) ≡ 5
+lent_length l i n s h =
+    rw (lent_row l i) (length-take-le 5 (drop (5 * i) l) (omega (arith, length-drop (5 * i) l)))
 
 -- the row as a constraint
 pub lent-constraint :

@@ -1,14 +1,16 @@
 -- Variables numbered anew: one law for each way that the code goes.
 --   number-…        one cell
 --   cells-…         all cells
+--   below_apart     cells of which it is not said that they lie below a size
 --   state-…         a state
 -- Assumes nothing.
 use Rattle.std.proofs.Common.{◌≡◌, ℕ, zero, suc, ◌+◌, ◌-◌, ◌<◌, ◌≤◌, true, false, eqb, ◌⊎◌, List, ◌++◌, length, get_or, take, set, replicate, sym, refl, ◌∙◌, inl, inr, add-one, arith, length-set, get_or-set_other, get_or-set_same, take-suc-set, eqb-true}
 use borrow.Author.Tests.{eqb-false}
 use Rattle.semantics.specs.Variants.{TermVariant, same_con, partners}
+use Rattle.semantics.proofs.Options.{true-false}
 use Rattle.tables.specs.Cells.{cell_term}
 use Rattle.tables.proofs.CellLaws.{either, cell-low, cell-high}
-use Rattle.colours.specs.Numbering.{Renames, Numbering, Ascending, none, known, new}
+use Rattle.colours.specs.Numbering.{Renames, Numbering, Ascending, none, known, new, WithinSize}
 use Rattle.colours.specs.Numbering.{Numbered, CellsNumbered, Renumbered}
 
 -- a variable with its number, as terms
@@ -234,3 +236,7 @@ state-numbered cells bound out bound' numbers₀ numbers₁ numbers₂ limit nex
       bound-below = λ i. omega (arith, f.below i, g.least);
       most = omega (arith, f.most, g.most);
     }
+
+-- nothing is said of the cells
+pub below_apart : (size : ℕ) (cells : List ℕ) → WithinSize false size cells
+below_apart size cells = record { below = λ z. true-false z refl }

@@ -24,6 +24,10 @@ pub record Swapping (i j : ℕ) (cells₀ cells : List ℕ) (c : ℕ) : Type 0 w
   pub made : (k d : ℕ) → d < c → get_or cells (5 * k + d) 0 ≡ get_or cells₀ (5 * swapped i j k + d) 0
   pub left : (k d : ℕ) → c ≤ d → d < 5 → get_or cells (5 * k + d) 0 ≡ get_or cells₀ (5 * k + d) 0
 
+pub swapping_start : (i j : ℕ) (cells : List ℕ) → Swapping i j cells cells 0
+swapping_start i j cells =
+    record { size = refl; made = λ k d h. absurd (omega arith); left = λ k d h l. refl }
+
 -- a cell's constraint and its column
 apart-column : (k i c d : ℕ) → c < 5 → d < 5 → (c ≡ d → ⊥) → 5 * k + c ≡ 5 * i + d → ⊥
 apart-column k i c d h l n e = n (omega arith)

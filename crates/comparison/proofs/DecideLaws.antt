@@ -1,9 +1,10 @@
 -- The comparison step by step: what each step says of the answer.
 --   cells-…               two lists of cells
 --   renumbered-same       variables numbered anew
---   straight-same, numbered-…, compare-answer   one step after the other
+--   straight-same, side-ready, numbered-…, compare-…   one step after the other
 -- Assumes nothing.
-use Rattle.std.proofs.Common.{◌≡◌, ℕ, ◌+◌, ◌*◌, ◌<◌, Bool, true, false, not, List, [], length, get_or, sym, ap, ◌∙◌, arith}
+use Prim.Native.Nat.{max}
+use Rattle.std.proofs.Common.{◌≡◌, ℕ, ◌+◌, ◌*◌, ◌≤◌, ◌<◌, Bool, true, false, not, List, [], length, get_or, sym, ap, ◌∙◌, arith}
 use Rattle.std.specs.Str.{bytes_eq}
 use Rattle.std.proofs.lemmas.Slice.Eq.{bytes_eq-Decides}
 use borrow.Author.Tests.{not-true, not-false}
@@ -21,8 +22,10 @@ use Rattle.tables.specs.Cells.{is_low}
 use Rattle.tables.proofs.CellLaws.{constraints-length}
 use Rattle.tables.proofs.CellLaws.{low-symbol}
 use Rattle.colours.specs.Rows.{row_of}
+use Rattle.colours.specs.Bounds.{Below}
 use Rattle.colours.specs.Ends.{end_of}
 use Rattle.comparison.specs.Comparing.{Side, BothNumbered}
+use Rattle.colours.specs.Classes.{Colourable}
 use Rattle.colours.specs.Numbering.{Renames, Numbering, Renumbered}
 use Rattle.colours.specs.Colours.{digest, clipped}
 use Rattle.colours.proofs.RowLaws.{pointwise-at, rows-pointwise, row_at}
@@ -89,6 +92,16 @@ module _ (n : ℕ) (cells bound out bound' : List ℕ) (limit next : ℕ) (s : l
     multiset-of-pointwise (rows-pointwise n cells out s (l ∙ s) row-renumbered),
   )
 
+  -- its cells lie below the next number
+  pub renumbered-colourable : (size : ℕ) → next ≤ size → size ≤ 2844 → Colourable out bound' size n
+  renumbered-colourable size h k =
+      record {
+        count = l ∙ s;
+        room = k;
+        terms = record { below = λ i j m. omega (arith, r.below (5 * i + (1 + j))) };
+        bound-below = record { below = λ i. omega (arith, r.bound-below i) };
+      }
+
 -- states in the same order
 pub straight-same :
     (f a g b : List ℕ) → f ≡ g → a ≡ b → true ≡ same_state (end_of f a) (end_of g b)
@@ -100,11 +113,22 @@ module _ (a f b g : List ℕ) (n limit size : ℕ) (p : BothNumbered a f b g n l
   pub numbered-bound : (f ≡ g → ⊥) → false ≡ same_state (end_of f a) (end_of g b)
   numbered-bound d = sym (bound-differs f a g b limit p.limit-second p.ascending p.ascending-second d)
 
+  -- what deciding asks
+  pub numbered-ready : Colourable a f size n × Colourable b g size n × (length f ≡ length g) × (n ≤ 512)
+  numbered-ready = (p.first, p.second, p.bounds, p.few)
+
   -- the first digests differ
   pub numbered-digest :
       f ≡ g → (x y : ℕ) → x ≡ digest (clipped limit) (cell_constraints a) → y ≡ digest (clipped limit) (cell_constraints b)
       → (x ≡ y → ⊥) → false ≡ same_state (end_of f a) (end_of g b)
   numbered-digest e x y ex ey d = rw (← e) (sym (first-differs f a b limit x y p.ascending ex ey d))
+
+-- what numbering a state's variables asks, in room of these sizes
+pub side-ready :
+    (a : List ℕ) (n : ℕ) (f : List ℕ) (u v : ℕ) → Side a n f → u ≡ 5 * n → v ≡ length f
+    → Below 13596 a × Below 13596 f × (u ≡ length a) × (v ≡ length f) × (length a ≤ 2560) × (length f ≤ 28)
+side-ready a n f u v s e k =
+    (s.below, s.bound-below, e ∙ sym s.size, k, omega (arith, s.size, s.few), s.bound-few)
 
 -- two states with as many constraints and goal variables, and the two with their variables numbered
 module _ (a : List ℕ) (n : ℕ) (f b : List ℕ) (m : ℕ) (g : List ℕ) (s : Side a n f) (t : Side b m g) (e : n ≡ m)
@@ -123,3 +147,20 @@ module _ (a : List ℕ) (n : ℕ) (f b : List ℕ) (m : ℕ) (g : List ℕ) (s :
       h ∙ variants-same (end_of f a) (end_of g b) (end_of l ca) (end_of r cb)
       (renumbered-variant n a f ca l i x s.size size-a ll s.low ra)
       (renumbered-variant m b g cb r j y t.size size-b (lr ∙ o) t.low rb)
+
+  -- what the later steps ask
+  pub compare-ready : (size : ℕ) → size ≡ max x y → BothNumbered ca l cb r n i size
+  compare-ready size h =
+      let left-room : x ≤ 2844 = omega (arith, ra.most, s.size, s.few, s.bound-few) in
+      let right-room : y ≤ 2844 = omega (arith, rb.most, t.size, t.few, t.bound-few) in
+      let second' : Colourable cb r size m =
+      renumbered-colourable m b g cb r j y t.size size-b (lr ∙ o) t.low rb size (omega arith) (omega arith) in
+      record {
+        first = renumbered-colourable n a f ca l i x s.size size-a ll s.low ra size (omega arith) (omega arith);
+        second = rw (← e) at second';
+        bounds = ll ∙ sym lr;
+        few = s.few;
+        ascending = ra.ascending;
+        limit-second = j;
+        ascending-second = rb.ascending;
+      }

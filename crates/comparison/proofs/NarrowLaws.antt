@@ -1,9 +1,10 @@
 -- Classes made finer step by step: one law for each way that the code goes.
---   colourable-after      what colouring asks, after a step
+--   colourable-…          what colouring asks, with more room and after a step
 --   order_same, order-right      another order of the constraints of one state
+--   classes-apart         states whose classes differ
 --   narrowing-…           one step after the other
 -- Assumes nothing.
-use Rattle.std.proofs.Common.{◌≡◌, ℕ, Bool, true, List, length, refl, sym, ◌∙◌}
+use Rattle.std.proofs.Common.{◌≡◌, ℕ, ◌≤◌, ◌*◌, Bool, true, false, List, length, refl, sym, ◌∙◌, arith}
 use Rattle.semantics.specs.Variants.{same_state}
 use Rattle.semantics.proofs.Multisets.{multiset-left, multiset-right, multiset-back}
 use Rattle.colours.specs.Bounds.{TermsBelow}
@@ -12,6 +13,19 @@ use Rattle.colours.specs.Classes.{Colourable, Classified}
 use Rattle.colours.specs.Order.{Reordered}
 use Rattle.colours.proofs.ClassLaws.{same-iff}
 use Rattle.comparison.specs.Settlements.{Found}
+
+-- terms that have places in a table have them in a larger one
+terms-more : (m k : ℕ) (cells : List ℕ) → m ≤ k → TermsBelow m cells → TermsBelow k cells
+terms-more m k cells h b = record { below = λ i j l. omega (arith, b.below i j l) }
+
+pub colourable-more : (cells bound : List ℕ) (size n : ℕ) → Colourable cells bound size n → Colourable cells bound 2844 n
+colourable-more cells bound size n c =
+    record {
+      count = c.count;
+      room = omega arith;
+      terms = terms-more size 2844 cells c.room c.terms;
+      bound-below = record { below = λ i. omega (arith, c.bound-below.below i, c.room) };
+    }
 
 pub colourable-after :
     (cells bound cells' : List ℕ) (size n : ℕ) → Colourable cells bound size n → length cells' ≡ length cells
@@ -36,6 +50,12 @@ order-right f a g b b' r =
     same-iff (end_of f a) (end_of g b) (end_of f a) (end_of g b')
     (λ v. (v.0, v.1, v.2, multiset-right v.3 (multiset-back r.same)))
     (λ v. (v.0, v.1, v.2, multiset-right v.3 r.same))
+
+-- the classes differ
+pub classes-apart :
+    (f a g b : List ℕ) (r : Bool) (a' b' : List ℕ) → Classified r f a g b a' b' → r ≡ false
+    → false ≡ same_state (end_of f a) (end_of g b)
+classes-apart f a g b r a' b' k e = sym (k.apart e)
 
 -- two states that answer for two others
 pub record Narrowing (f a₀ g b₀ a b : List ℕ) (size n : ℕ) : Type 0 where
@@ -63,6 +83,17 @@ narrowing-classes f a g b size n ca cb r a' b' k t la lb =
     }
 
 module _ (f a₀ g b₀ a b : List ℕ) (size n : ℕ) (w : Narrowing f a₀ g b₀ a b size n) where
+  -- what the search asks
+  pub narrowing-left : Colourable a f 2844 n
+  narrowing-left = colourable-more a f size n w.left
+
+  pub narrowing-right : Colourable b g 2844 n
+  narrowing-right = colourable-more b g size n w.right
+
+  -- what the order asks
+  pub narrowing-arrange : (length a ≡ 5 * n) × TermsBelow 2844 a
+  narrowing-arrange = (w.left.count, narrowing-left.terms)
+
   -- the first state in another order
   pub narrowing-order : (a' : List ℕ) → length a' ≡ length a → Reordered a a' → Narrowing f a₀ g b₀ a' b size n
   narrowing-order a' l o =

@@ -1,17 +1,20 @@
 -- Equal parts of two states, left out of both: one law for each way that the code goes.
---   first-room, rest-colourable    the first constraints, and what the others ask
+--   first-colourable, rest-colourable    what the first constraints and the others ask
 --   cancelled-…                          the first constraints can be left out, or nothing is said
 --   lined-up                             both states in another order
 --   parting-rest                         what is left decides
 -- Assumes nothing.
-use Prim.Native.Nat.{ℕ, ◌-◌, ◌*◌, ◌≤◌}
+use Prim.Native.Nat.{ℕ, ◌+◌, ◌-◌, ◌*◌, ◌≤◌, ◌<◌}
 use native.Mathlib.Omega.{arith}
 use mathlib.Core.Bool.{Bool, true}
 use mathlib.Core.List.{List}
+use mathlib.Core.Logic.{◌⊎◌, inl, inr}
 use mathlib.Core.Path.{◌≡◌, refl, ◌∙◌}
-use lib.ListN.{length, take, drop, length-drop}
-use lib.Seq.{take_all}
+use lib.ListN.{length, get_or, take, drop, length-take, length-drop, get_or-eq_default}
+use lib.Seq.{take_all, get_or-take, length-take-le}
 use Rattle.semantics.specs.Variants.{same_state}
+use Rattle.tables.proofs.CellLaws.{le-or-lt}
+use Rattle.colours.specs.Bounds.{TermsBelow}
 use Rattle.colours.specs.Ends.{end_of}
 use Rattle.colours.specs.Classes.{Colourable}
 use Rattle.colours.specs.Order.{Reordered}
@@ -22,10 +25,30 @@ use Rattle.comparison.specs.Partings.{Cancelled}
 use Rattle.comparison.proofs.SettleLaws.{terms-later}
 use Rattle.comparison.proofs.NarrowLaws.{Narrowing, narrowing-start, narrowing-order, narrowing-order-right}
 
+-- the terms of the first constraints have their places
+terms-first : (m : ℕ) (cells : List ℕ) (e : ℕ) → TermsBelow m cells → TermsBelow m (take e cells)
+terms-first m cells e b = record { below = λ i j h. go i j h (le-or-lt e (5 * i + (1 + j))) }
+  where
+    go : (i j : ℕ) → j < 4 → (e ≤ 5 * i + (1 + j)) ⊎ (5 * i + (1 + j) < e) → get_or (take e cells) (5 * i + (1 + j)) 0 < m
+    go i j h (inl p) =
+        let short : length (take e cells) ≤ 5 * i + (1 + j) = omega (arith, length-take e cells) in
+        rw (get_or-eq_default (take e cells) 0 short) (omega (arith, b.below i j h))
+    go i j h (inr p) = rw (get_or-take e cells (5 * i + (1 + j)) 0 p) (b.below i j h)
+
 module _ (cells bound : List ℕ) (size n k : ℕ) (c : Colourable cells bound size n) (h : k ≤ n) where
   -- there are as many
   pub first-room : 5 * k ≤ length cells
   first-room = omega (arith, c.count)
+
+  -- what the first constraints ask
+  pub first-colourable : Colourable (take (5 * k) cells) bound size k
+  first-colourable =
+      record {
+        count = length-take-le (5 * k) cells first-room;
+        room = c.room;
+        terms = terms-first size cells (5 * k) c.terms;
+        bound-below = c.bound-below;
+      }
 
   -- what is lent of the others
   pub rest-drop : take (length cells - 5 * k) (drop (5 * k) cells) ≡ drop (5 * k) cells

@@ -2,13 +2,15 @@
 --   count-apart, bound-apart     states of other sizes are not equal
 --   search-…              what the search finds
 -- Assumes nothing.
-use Prim.Native.Nat.{ℕ, ◌*◌}
+use Prim.Native.Nat.{ℕ, ◌*◌, ◌≤◌}
+use native.Mathlib.Omega.{arith}
 use mathlib.Core.Bool.{Bool, true, false, ◌&&◌}
 use mathlib.Core.List.{List, [], map}
 use mathlib.Core.Option.{none}
 use mathlib.Core.Path.{◌≡◌, refl, sym, ◌∙◌}
 use lib.Dec.{eqb}
-use lib.ListN.{length, take, replicate, length-map}
+use lib.ListN.{length, take, replicate, length-map, length-replicate}
+use lib.Seq.{length-take-le}
 use borrow.Author.Tests.{eq-eqb, ne_eqb}
 use Rattle.text.specs.Lists.{onward}
 use Rattle.semantics.specs.Variants.{pair_terms, place, same_state}
@@ -18,7 +20,8 @@ use Rattle.semantics.proofs.Pairs.{pair_terms-sound}
 use Rattle.tables.specs.Cells.{cell_term, cell_constraints}
 use Rattle.tables.proofs.CellLaws.{constraints-length}
 use Rattle.pairing.specs.Renamings.{Joined}
-use Rattle.comparison.specs.Placements.{placed, Tried}
+use Rattle.colours.specs.Bounds.{TermsBelow}
+use Rattle.comparison.specs.Placements.{placed, Placing, Tried}
 use Rattle.colours.specs.Ends.{end_of}
 use Rattle.pairing.proofs.PairLaws.{graph-empty}
 use Rattle.comparison.proofs.PlaceLaws.{marks-none}
@@ -27,6 +30,10 @@ use Rattle.comparison.proofs.PlaceLaws.{marks-none}
 and-fails : (t u : Bool) → u ≡ false → false ≡ (t && u)
 and-fails true u e = sym e
 and-fails false u e = refl
+
+-- m positions of which none is used
+pub unused-length : (m : ℕ) → m ≤ 512 → length (take m (replicate 512 false)) ≡ m
+unused-length m h = length-take-le m (replicate 512 false) (omega (arith, length-replicate 512 false))
 
 module _ (a : List ℕ) (n : ℕ) (f : List ℕ) (b : List ℕ) (m : ℕ) (g : List ℕ) (s : length a ≡ 5 * n) (t : length b ≡ 5 * m) where
   -- states with other numbers of constraints are not equal
@@ -57,6 +64,17 @@ module _ (a : List ℕ) (n : ℕ) (f : List ℕ) (b : List ℕ) (m : ℕ) (g : L
     search-apart e = no_bound (j.apart [] (graph-empty h h) e)
 
     module _ (y : r ≡ true) (e : n ≡ m) where
+      -- what placing asks
+      pub search-places :
+          length f' ≡ length {A = ℕ} (replicate h 0) → length g' ≡ length {A = ℕ} (replicate h 0) → m ≤ 512
+          → TermsBelow h a → TermsBelow h b → Placing a b (take m (replicate 512 false)) f' g'
+      search-places lf lg l ba bb =
+          record {
+            partners = rw (unused-length m l) t;
+            left = rw (lf ∙ length-replicate h 0) ba;
+            right = rw (lg ∙ length-replicate h 0) bb;
+          }
+
       -- the constraints are placed or not
       pub search-answer :
           (q : Bool) (used' : List Bool) (f'' g'' : List ℕ)

@@ -178,6 +178,9 @@ module _ (a : List ℕ) (n : ℕ) (b : List ℕ) (used₀ : List Bool) (f₀ g�
 -- two states found to be equal
 module _ (f a g b : List ℕ) (n : ℕ) (s : length a ≡ 5 * n) (t : length b ≡ 5 * n) (h : ℕ) (r : Bool) (f' g' : List ℕ)
     (j : Joined r (pair_terms (map cell_term f) (map cell_term g)) (replicate h 0) (replicate h 0) f' g') where
+  pub found_none : Found false f a g b
+  found_none = record { same = λ z. true-false z refl }
+
   pub found_all :
       r ≡ true → (q : Bool) → SettledAll q a b (take n (replicate 512 false)) f' g' → Found q f a g b
   unfolding same_state placed

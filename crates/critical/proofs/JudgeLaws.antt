@@ -1,5 +1,6 @@
 -- Judging overlaps from the front of a list, whatever follows them.
 --   judged-none, judged-joins, judged-parts     no overlap, one that joins, one that does not
+--   judged-more, judged-stopped                 more overlaps behind those judged
 --   judged-confluent, judged-unjoined           all overlaps of a program
 --   second-next, first_next, …-end              the rule pairs that are left
 --   numbered-rule                               a rule of a table, with its number
@@ -7,7 +8,7 @@
 use Prim.Native.Nat.{ℕ, zero, suc, ◌+◌, ◌≤◌, ◌<◌}
 use native.Mathlib.Omega.{arith}
 use mathlib.Core.Bool.{true, false}
-use mathlib.Core.List.{List, [], ◌∷◌, ◌++◌, append-nil}
+use mathlib.Core.List.{List, [], ◌∷◌, ◌++◌, append_assoc, append-nil}
 use mathlib.Core.Option.{Option, some}
 use mathlib.Core.Path.{◌≡◌, refl, sym, ap, ◌∙◌}
 use lib.ListN.{length, drop, get_elem?, drop_of_length-le}
@@ -37,6 +38,30 @@ module _ (p : Program) where
       (n : ℕ) (o : Overlap) (shown : Option Overlap) → is_joinable p o ≡ false → shown ≡ some o → StopsAt p n (o ∷ []) shown
   unfolding judge
   judged-parts n o shown e s = record { stops = (o, s, λ more. rw e) }
+
+  -- more behind those that joined: these join too, or one of them does not
+  pub judged-more :
+      (n k : ℕ) (os us : List Overlap) → GoesOn p n os k
+      → ((a : ℕ) → GoesOn p k us a → GoesOn p n (os ++ us) a)
+      × ((shown : Option Overlap) → StopsAt p k us shown → StopsAt p n (os ++ us) shown)
+  judged-more n k os us j = (
+    λ a l. record { goes = λ more. ap (judge p n) (append_assoc os us more) ∙ j.goes (us ++ more) ∙ l.goes more },
+    λ shown l. record {
+      stops =
+          let (o, e, f) = l.stops in
+          (o, e, λ more. ap (judge p n) (append_assoc os us more) ∙ j.goes (us ++ more) ∙ f more);
+    },
+  )
+
+  -- more behind one that did not
+  pub judged-stopped :
+      (n : ℕ) (os us : List Overlap) (shown : Option Overlap) → StopsAt p n os shown → StopsAt p n (os ++ us) shown
+  judged-stopped n os us shown j =
+      record {
+        stops =
+            let (o, e, f) = j.stops in
+            (o, e, λ more. ap (judge p n) (append_assoc os us more) ∙ f (us ++ more));
+      }
 
   -- all overlaps of a program
   pub judged-confluent : (k : ℕ) → GoesOn p 0 (overlaps p) k → verdict p ≡ confluent k

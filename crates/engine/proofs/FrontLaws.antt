@@ -73,6 +73,10 @@ module _ (row positions bindings : List ℕ) (next : ℕ) (cells : List ℕ) (m 
   pub front-few : w ≤ m
   front-few = omega arith
 
+  -- no more heads are kept than there are
+  pub front_kept : k ≤ h
+  front_kept = omega (arith, f.given.kept-few)
+
   module _ (lent : behind k (take h positions) ≡ up_to (length (behind k (take h positions)))) where
     -- they are the first
     front : removed_at row positions ≡ up_to (h - k)

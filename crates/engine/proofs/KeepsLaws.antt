@@ -58,6 +58,10 @@ keeps-start rules n k l table cells m t =
 
 module _ (rules : List ℕ) (n : ℕ) (known last table : List ℕ) (gone : ℕ) (cells : List ℕ) (f alive : Bool) (count : ℕ)
     (k : Keeps rules n known last table gone cells f alive count) where
+  -- and after a firing
+  pub keeps_on : f ≡ true → Keeps rules n known last table gone cells true alive count
+  keeps_on e = rw e at k
+
   -- the same constraints in other cells
   pub keeps_placed :
       (cells' : List ℕ) → take (5 * count) cells' ≡ take (5 * count) cells

@@ -204,6 +204,10 @@ normalise-later (suc k) rs s f g = go (λ t. rw (← add-suc) (normalise-later k
 
 module _ (rules : List ℕ) (n : ℕ) (bound cells : List ℕ) (m next : ℕ) (bound' cells' : List ℕ) (alive : Bool)
     (count number firings : ℕ) (e : Ended rules n bound cells m next bound' cells' alive count number firings) where
+  -- a derivation has few firings
+  pub ended-few : Startable rules n cells m next → firings ≤ 512
+  ended-few s = omega (arith, e.bounded s.runs.weigh s.runs.lowers, s.runs.light)
+
   -- the same constraints in other cells
   pub ended-placed :
       (c : List ℕ) → take (5 * count) c ≡ take (5 * count) cells'

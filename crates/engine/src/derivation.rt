@@ -21,7 +21,7 @@ pub struct Forward {
     pub gone: usize,
 }
 
-// The strategy's firing; None where no rule fits, and nothing has changed then.
+// The strategy's firing; None where no rule fits, and the state has not changed then (what is known of the rules has).
 pub fn advance(
     rules: &[u16],
     known: &mut [u16],

@@ -1,6 +1,6 @@
 -- Whether the two ends of an overlap are equal: one law for each way that the code goes.
 --   states-same                      a state is equal to itself
---   ends-alike, ends-side            two ends that live, tidied and compared
+--   ends-alike, ends-side, ends-answer   two ends that live, tidied and compared
 --   live-room, lent_length           cells that are lent
 --   joins-…                          the answer
 -- Assumes nothing.
@@ -63,6 +63,12 @@ states-same s t e = rw e (sym (same_state-complete t t (variant-refl t)))
 pub ends-alike :
     (f a g b : List ℕ) → f ≡ g → a ≡ b → true ≡ same_state (end_of f a) (end_of g b)
 ends-alike f a g b s t = states-same (end_of f a) (end_of g b) (λ i. end_of (s i) (t i))
+
+-- the answer is that of the ends as they were
+pub ends-answer :
+    (n : ℕ) (f a a' g b b' : List ℕ) (r : Bool) → LiveEnd a n f → LiveEnd b n g → Tidied n a a' → Tidied n b b'
+    → r ≡ same_state (end_of f a') (end_of g b') → r ≡ same_state (end_of f a) (end_of g b)
+ends-answer n f a a' g b b' r c d s t e = rw (s.same, t.same) at e
 
 -- it is within its cells
 pub live-room : (k : ℕ) (bound cells : List ℕ) → LiveEnd (take (5 * k) cells) k bound → 5 * k ≤ length cells

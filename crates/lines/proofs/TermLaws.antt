@@ -34,6 +34,7 @@ use Rattle.tables.specs.Layout.{max_names}
 use Rattle.tables.specs.Rows.{name_of, constants_of}
 use Rattle.tables.specs.Names.{placed_at}
 use Rattle.lines.specs.declared.TermRead.{TermRead}
+use Rattle.lines.specs.declared.TermsRead.{TermsRead}
 use Rattle.lines.specs.Read.{term_cell, padded, Outside, Spelled, KeepsPlaces, Passed, TermMeans, term_means, TermIn, TermsIn}
 use Rattle.text.proofs.Keys.{name-key, spell-key}
 use Rattle.lines.proofs.Held.{key-at}
@@ -436,3 +437,25 @@ module _ (f : Fields) (from base count : ℕ) (names₀ places₀ : List ℕ) wh
               passed = λ fs h u. step-passed fs h u v z (omega arith);
               keeps = kept;
             }
+
+-- fields that hold the same keys and starts
+pub terms-held :
+    (f : Fields) {from base count : ℕ} {names places names' places' : List ℕ} {r : Result TermsRead Fault}
+    → TermsIn (record { faulty = false; end = 0; count = f.count; keys = f.keys; starts = f.starts }) from base count
+    names places
+    names' places' r
+    → TermsIn f from base count names places names' places' r
+terms-held f t =
+    record {
+      few = t.few;
+      size = t.size;
+      low = t.low;
+      sized = t.sized;
+      outside = t.outside;
+      means = λ fs h. t.means fs (record { counted = h.counted; keyed = h.keyed });
+      keeps = record {
+        keeps = λ program goal fs h s.
+            t.keeps.keeps program goal fs (record { counted = h.counted; keyed = h.keyed })
+            (record { each = s.each; rests = s.rests });
+      };
+    }

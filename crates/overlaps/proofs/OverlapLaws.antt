@@ -34,7 +34,23 @@ pub record AllJoining (start : List ℕ) (m n : ℕ) (partners cells : List ℕ)
   pub nodes :
       (hs gs : List Constraint) → length hs ≡ m → length gs ≡ n → Node hs gs [] start → Node hs gs (take h partners) cells
 
+pub all_start :
+    (start : List ℕ) (m n : ℕ) (partners : List ℕ) → Whole start m n partners → Partners partners m n
+    → AllJoining start m n partners start 0
+all_start start m n partners w b =
+    record { there = omega arith; size = refl; whole = w; below = b; nodes = λ hs gs e f v. v }
+
 module _ (start : List ℕ) (m n : ℕ) (partners cells : List ℕ) (h : ℕ) (w : AllJoining start m n partners cells h) where
+  -- all are joined
+  pub all_end : m ≤ h → AllJoined start m n partners true cells
+  all_end l =
+      let e : h ≡ m = omega (arith, w.there) in
+      record {
+        joins = λ t hs gs a b v. subst (λ k. Node hs gs (take k partners) cells) e (w.nodes hs gs a b v);
+        clashes = λ t. true-false refl t;
+        size = w.size;
+      }
+
   module _ (l : h < m) where
     -- what joining the next head asks
     pub all-partner : Partner cells m partners h (get_or partners h 0)

@@ -59,6 +59,12 @@ fill-part {o} {now} from to h k e =
 pub fill-past : (o : List ℕ) (from to : ℕ) → from < to → length o < to → Writes (spaces (to - from)) from o o to
 fill-past o from to h k = wrote-past (spaces (to - from)) o from to (omega (arith, spaces-size (to - from))) k
 
+-- spaces up to a place that is reached
+pub fill_end : {whole o p : List ℕ} {from end : ℕ} (to : ℕ) → Writing whole from o p end (spaces (to - end)) → to ≤ end
+    → Writes whole from o p end
+unfolding spaces
+fill_end {end = end} to w h = writing-end w (ap spaces (let z : to - end ≡ 0 = omega arith in z))
+
 -- what stands before a row's bytes
 pub indent-put : {inside : Bool} {end : ℕ} {o p : List ℕ} → inside ≡ true → Writes (32 ∷ 32 ∷ []) 0 o p end
     → Writes (indent inside) 0 o p end

@@ -2,8 +2,10 @@
 --   reordered-same, reordered-trans      no change, and one after another
 --   reordered-swap                       one more change of two positions
 --   rows-count                           whole constraints
+--   prefix-size                          what is lent of a list has the size that is asked for
 -- Assumes nothing.
-use Rattle.std.proofs.Common.{◌≡◌, ℕ, ◌*◌, ◌<◌, List, length, refl, sym, ap, ◌∙◌}
+use Rattle.std.proofs.Common.{◌≡◌, ℕ, ◌*◌, ◌≤◌, ◌<◌, List, length, take, refl, sym, ap, ◌∙◌}
+use lib.Seq.{length-take-le}
 use Rattle.semantics.proofs.Multisets.{multiset-refl, multiset-right}
 use Rattle.tables.specs.Cells.{cell_constraints}
 use Rattle.tables.proofs.CellLaws.{constraints-length}
@@ -25,6 +27,10 @@ pub reordered-swap :
     → length a' ≡ length a → Swapped i j a a' → Reordered a₀ a'
 reordered-swap n a₀ a a' i j s l w hi hj k t =
     reordered-trans w (swapped-reordered n a a' (l ∙ s) (k ∙ (l ∙ s)) i j hi hj t)
+
+-- what is lent of a list has the size that is asked for
+pub prefix-size : (e : ℕ) (cells : List ℕ) → e ≤ length cells → e ≡ length (take e cells)
+prefix-size e cells h = sym (length-take-le e cells h)
 
 -- whole constraints
 pub rows-count : (n : ℕ) (cells : List ℕ) → length cells ≡ 5 * n → length cells ≡ 5 * length (cell_constraints cells)

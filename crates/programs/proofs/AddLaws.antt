@@ -211,6 +211,10 @@ module _ (f : Fields) (s : Stage) (names places rules : List ℕ) (size : length
       pub adds-room : h < 4 + 2 * w
       adds-room = leb-false (4 + 2 * w) h (rw z at c.room)
 
+      pub adds_fit : (64 * i + (6 + 20 * w + 5 * h) + length got.cells ≤ length rules)
+          × (64 * i + (3 + w) < 64 * i + (6 + 20 * w + 5 * h)) × (get_or rules (64 * i + (3 + w)) 0 < 65535)
+      adds_fit = (omega (arith, room, cells-five, adds-room), omega arith, omega (arith, e, adds-room))
+
       pub adds-next : (rules' : List ℕ)
           → rules' ≡ set (paste rules (64 * i + (6 + 20 * w + 5 * h)) got.cells (length got.cells)) (64 * i + (3 + w))
           (suc (get_or rules (64 * i + (3 + w)) 0))

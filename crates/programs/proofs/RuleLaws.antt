@@ -27,8 +27,12 @@ use Rattle.tables.specs.Cells.{cell_constraints}
 use Rattle.tables.specs.Rows.{symbols_of, name_of, rule_of_row, row_of, rule_of}
 use Rattle.tables.specs.Layout.{first_rule}
 use Rattle.tables.proofs.CellLaws.{constraints-drop}
-use Rattle.programs.specs.Read.{RowFits, rule_read, rules_read, rule_fault, number_met, FaultIn, rules_answer, RulesIn}
+use Rattle.programs.specs.Read.{RowFits, RowsFit, rule_read, rules_read, rule_fault, number_met, FaultIn, rules_answer, RulesIn}
 use Rattle.programs.proofs.Drafts.{rules-length}
+
+-- the cells of a row from one to another, as they are weighed
+pub part-short : (row : List ℕ) (n b : ℕ) → length row ≡ 64 → length (take n (drop b row)) ≤ 4096
+part-short row n b sized = omega (arith, length-take n (drop b row), length-drop b row)
 
 some-constraints : (l : List ℕ) → 5 ≤ length l → 0 < length (cell_constraints l)
 unfolding cell_constraints
@@ -131,6 +135,9 @@ pub record Checked (symbols rules rest : List ℕ) : Type 0 where
       → check_rules (symbols_of names symbols k) (drop row (rules_read names rules m)) otherwise
       ≡ check_rules (symbols_of names symbols k) (rules_read names rules m) otherwise
 
+pub check-start : (symbols rules : List ℕ) → Checked symbols rules rules
+check-start symbols rules = record { row = 0; within = omega arith; placed = refl; left = λ names k m otherwise a b. refl }
+
 module _ (symbols rules rest : List ℕ) (c : Checked symbols rules rest) where
   size-left : length rest + 64 * c.row ≡ length rules
   size-left = omega (arith, ap length c.placed, length-drop (64 * c.row) rules, c.within)
@@ -154,6 +161,10 @@ module _ (symbols rules rest : List ℕ) (c : Checked symbols rules rest) where
     row_is =
         sym (ap (λ (n : ℕ). take n (cells ++ behind)) (sym sized) ∙ take-append_seam cells behind)
         ∙ ap (take 64) (sym parts ∙ c.placed)
+
+    -- so that its counts are within its room
+    pub check-row : RowsFit rules → RowFits cells
+    check-row fit = rw row_is (fit c.row inside-rules)
 
     onward-is : behind ≡ drop (64 * suc c.row) rules
     onward-is =

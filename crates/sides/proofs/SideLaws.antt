@@ -1,6 +1,6 @@
 -- A side on cells is a side on states: one law for each way that the code goes.
 --   side-begins                           the rule has fired, or does not fit and the goal has entered
---   side-follows                          what follows can be asked for
+--   side-follows, side-ended              what follows can be asked for, and its end is the side's
 --   side-rests, side-fails, side-ends     the rule does not fit, the state fails, the strategy follows
 -- Assumes nothing.
 use Prim.Native.Nat.{ℕ, ◌+◌, ◌*◌, ◌≤◌, ◌<◌}
@@ -23,7 +23,7 @@ use Rattle.engine.specs.Stated.{stated_at, fire_row, Stated, FiredFrom}
 use Rattle.engine.proofs.RunLaws.{count-weight, normalise-rests, failed-rests}
 use Rattle.engine.proofs.StepLaws.{no_way}
 use Rattle.engine.proofs.GoalLaws.{well-formed-lowers}
-use Rattle.sides.specs.Sides.{cell_goal, Sidable, Begun, Followable, Followed}
+use Rattle.sides.specs.Sides.{cell_goal, Sidable, Begun, Followable, Followed, Sided}
 
 module _ (rules : List ℕ) (n i : ℕ) (positions goal : List ℕ) (m v : ℕ) (cells : List ℕ)
     (s : Sidable rules n i positions goal m v cells) where
@@ -105,6 +105,16 @@ module _ (rules : List ℕ) (n i : ℕ) (positions goal : List ℕ) (m v : ℕ) 
         few = side-few;
         variables = s.variables;
       })
+
+  -- and its end is the side's
+  pub side-ended :
+      (u : ℕ) (bound₂ cells₂ : List ℕ) (fired alive : Bool) (count : ℕ) (bound' cells' : List ℕ) (lives : Bool)
+      (k number firings : ℕ) → u ≡ v
+      → Begun rules i positions goal m v bound₂ cells₂ fired alive count
+      → Followed rules n m u bound₂ cells₂ fired alive count bound' cells' lives k number firings
+      → Sided rules n i positions goal v bound' cells' lives k number firings
+  side-ended u bound₂ cells₂ fired alive count bound' cells' lives k number firings same begun t =
+      rw same at (t.ended i positions goal s.rule (rw same begun))
 
 module _ (rules : List ℕ) (n j : ℕ) (entered : List ℕ) (m v : ℕ) (bound cells : List ℕ) (fired alive : Bool) (count : ℕ)
     (s : Followable rules n j entered m v bound cells fired alive count) where
