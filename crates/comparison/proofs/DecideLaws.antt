@@ -1,13 +1,13 @@
 -- The comparison step by step: what each step says of the answer.
---   cells-…               two lists of cells
+--   cells-…, lengths-…    two lists of cells
 --   renumbered-same       variables numbered anew
 --   straight-same, side-ready, numbered-…, compare-…   one step after the other
 -- Assumes nothing.
 use Prim.Native.Nat.{max}
-use Rattle.std.proofs.Common.{◌≡◌, ℕ, ◌+◌, ◌*◌, ◌≤◌, ◌<◌, Bool, true, false, not, List, [], length, get_or, sym, ap, ◌∙◌, arith}
-use Rattle.std.specs.Str.{bytes_eq}
-use Rattle.std.proofs.lemmas.Slice.Eq.{bytes_eq-Decides}
-use borrow.Author.Tests.{not-true, not-false}
+use Rattle.std.proofs.Common.{◌≡◌, ℕ, suc, ◌+◌, ◌*◌, ◌≤◌, ◌<◌, ◌⊎◌, inl, inr, ⊎_elim, Bool, true, false}
+use Rattle.std.proofs.Common.{List, [], length, get_or, refl, sym, ap, ◌∙◌, arith}
+use native.Mathlib.Numerals.{add-one}
+use lib.Seq.{ext_get_or}
 use Rattle.text.specs.Lists.{every}
 use Rattle.text.proofs.ListLaws.{every-at}
 use Rattle.semantics.specs.Terms.{Constraint, State}
@@ -20,11 +20,11 @@ use Rattle.semantics.proofs.Comparison.{same_state-complete}
 use Rattle.tables.specs.Cells.{cell_term, cell_constraints}
 use Rattle.tables.specs.Cells.{is_low}
 use Rattle.tables.proofs.CellLaws.{constraints-length}
-use Rattle.tables.proofs.CellLaws.{low-symbol}
+use Rattle.tables.proofs.CellLaws.{le-or-lt, low-symbol}
 use Rattle.colours.specs.Rows.{row_of}
 use Rattle.colours.specs.Bounds.{Below}
 use Rattle.colours.specs.Ends.{end_of}
-use Rattle.comparison.specs.Comparing.{Side, BothNumbered}
+use Rattle.comparison.specs.Comparing.{Side, Alike, BothNumbered}
 use Rattle.colours.specs.Classes.{Colourable}
 use Rattle.colours.specs.Numbering.{Renames, Numbering, Renumbered}
 use Rattle.colours.specs.Colours.{digest, clipped}
@@ -33,15 +33,34 @@ use Rattle.colours.proofs.AgreeLaws.{prefix-agree}
 use Rattle.colours.proofs.ClassLaws.{same-iff}
 use Rattle.colours.proofs.FirstLaws.{bound-differs, first-differs}
 
--- two lists of cells, by what `==` and `!=` find
-pub cells-same : (a b : List ℕ) → true ≡ bytes_eq a b → a ≡ b
-cells-same a b e = (bytes_eq-Decides a b).0 (sym e)
+-- the cells before i are the same
+pub record Matching (a b : List ℕ) (i : ℕ) : Type 0 where
+  pub within : i ≤ length a
+  pub same : (k : ℕ) → k < i → get_or a k 0 ≡ get_or b k 0
 
-pub cells-kept : (a b : List ℕ) → false ≡ not (bytes_eq a b) → a ≡ b
-cells-kept a b e = (bytes_eq-Decides a b).0 (not-false (bytes_eq a b) (sym e))
+pub cells-start : (a b : List ℕ) → Matching a b 0
+cells-start a b = record { within = omega arith; same = λ k h. absurd (omega arith) }
 
-pub cells-apart : (a b : List ℕ) → true ≡ not (bytes_eq a b) → a ≡ b → ⊥
-cells-apart a b e d = true-false ((bytes_eq-Decides a b).1 d) (not-true (bytes_eq a b) (sym e))
+pub cells-apart : (a b : List ℕ) (i : ℕ) → (get_or a i 0 ≡ get_or b i 0 → ⊥) → Alike false a b
+cells-apart a b i d = record { same = λ z. true-false z refl; apart = λ z e. d (ap (λ l. get_or l i 0) e) }
+
+pub lengths-apart : (a b : List ℕ) → (length a ≡ length b → ⊥) → Alike false a b
+lengths-apart a b d = record { same = λ z. true-false z refl; apart = λ z e. d (ap length e) }
+
+module _ (a b : List ℕ) (i : ℕ) (s : length a ≡ length b) (w : Matching a b i) where
+  pub cells-done : length a ≤ i → Alike true a b
+  cells-done h =
+      record { same = λ z. ext_get_or 0 a b s (λ k l. w.same k (omega arith)); apart = λ z. true-false refl z }
+
+  pub cells-next : i < length a → get_or a i 0 ≡ get_or b i 0 → Matching a b (i + 1)
+  cells-next h e = rw (add-one i) (record { within = h; same = λ k l. go k l (le-cases k l) })
+    where
+      le-cases : (k : ℕ) → k < suc i → (k < i) ⊎ (k ≡ i)
+      le-cases k l = ⊎_elim (λ q. inr (omega arith)) (λ q. inl q) (le-or-lt i k)
+
+      go : (k : ℕ) → k < suc i → (k < i) ⊎ (k ≡ i) → get_or a k 0 ≡ get_or b k 0
+      go k l (inl q) = w.same k q
+      go k l (inr q) = rw q e
 
 -- variants of both states
 pub variants-same :

@@ -1,8 +1,9 @@
 -- Two final states in cells, and what their comparison asks.
 --   Side          one of the two states: its sizes, and room for its variables
+--   Alike         what comparing cells promises
 --   BothNumbered  two states with their variables numbered by first appearance
 -- Assumes nothing.
-use Rattle.std.specs.Prelude.{ℕ, ◌*◌, ◌≤◌, true, List, ◌≡◌, length}
+use Rattle.std.specs.Prelude.{ℕ, ◌*◌, ◌≤◌, Bool, true, false, List, ◌≡◌, length}
 use Rattle.text.specs.Lists.{every}
 use Rattle.tables.specs.Cells.{cell_constraints}
 use Rattle.tables.specs.Cells.{is_low}
@@ -20,6 +21,11 @@ pub record Side (cells : List ℕ) (n : ℕ) (bound : List ℕ) : Type 0 where
   pub below : Below 13596 cells
   pub bound-few : length bound ≤ 28
   pub bound-below : Below 13596 bound
+
+-- two lists that are found to be the same are, and others are not
+pub record Alike (r : Bool) (a b : List ℕ) : Type 0 where
+  pub same : r ≡ true → a ≡ b
+  pub apart : r ≡ false → a ≡ b → ⊥
 
 -- two states of n constraints whose cells lie below a size, what the goal variables became being numbered by first appearance,
 -- in the first state up to a limit

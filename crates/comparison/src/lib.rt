@@ -15,7 +15,7 @@ ghost use Rattle.semantics.specs.Variants.{same_state};
 ghost use Rattle.colours.specs.Ends.{end_of};
 ghost use Rattle.comparison.specs.Comparing.{Side, BothNumbered};
 
-use crate::search::decide;
+use crate::search::{decide, same_cells};
 use colours::first::first_digest;
 use colours::numbering::number_state;
 use tables::wide;
@@ -37,10 +37,10 @@ pub fn compare_numbered(
     requires { BothNumbered a.old left.now b.old right.now n limit size }
     ensures { result ≡ same_state (end_of left.now a.old) (end_of right.now b.old) }
 {
-    if left != right {
+    if !same_cells(left, right) {
         return false;
     }
-    if *a == *b {
+    if same_cells(a, b) {
         return true;
     }
     if first_digest(a, n, limit) != first_digest(b, n, limit) {

@@ -3,6 +3,7 @@ ghost use Rattle.std.specs.Prelude.{◌≡◌, ◌*◌, ◌≤◌, length};
 ghost use Rattle.semantics.specs.Variants.{same_state};
 ghost use Rattle.colours.specs.Bounds.{TermsBelow};
 ghost use Rattle.colours.specs.Ends.{end_of};
+ghost use Rattle.comparison.specs.Comparing.{Alike};
 ghost use Rattle.colours.specs.Classes.{Colourable};
 ghost use Rattle.colours.specs.Order.{Reordered};
 
@@ -13,6 +14,21 @@ use crate::settling::settles;
 use colours::classes::{Depth, classify};
 use colours::order::arrange_by;
 use pairing::pair_bound;
+
+// Whether two lists of cells are the same. It is not `==`, in which the kit divides; no division may stand here (W4).
+pub fn same_cells(a: &[u16], b: &[u16]) -> bool
+    ensures { Alike result a.now b.now }
+{
+    if a.len() != b.len() {
+        return false;
+    }
+    for i in 0..a.len() {
+        if a[i] != b[i] {
+            return false;
+        }
+    }
+    true
+}
 
 // The search for a renaming, from no partners and no position used.
 pub fn search(a: &[u16], bound_a: &[u16], b: &[u16], bound_b: &[u16], n: usize) -> bool

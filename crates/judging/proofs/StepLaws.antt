@@ -4,12 +4,11 @@
 --   step-joins               then the overlap joins
 -- Assumes nothing.
 use Rattle.std.proofs.Common.{◌≡◌, ℕ, ◌+◌, ◌*◌, ◌≤◌, Bool, true, List, [], ◌∷◌, refl, sym, ap, subst, ◌∙◌, take, arith}
-use Rattle.std.specs.Str.{bytes_eq}
 use Rattle.semantics.specs.Strategy.{Final}
 use Rattle.semantics.specs.Overlaps.{first_end, second_end}
 use Rattle.semantics.specs.Verdict.{is_joinable}
 use Rattle.tables.specs.Cells.{state_of}
-use Rattle.comparison.proofs.DecideLaws.{cells-same}
+use Rattle.comparison.specs.Comparing.{Alike}
 use Rattle.engine.specs.declared.stated.Step.TheVariants.{Failed, Lives}
 use Rattle.engine.specs.Stated.{has_fired, lives, count_in}
 use Rattle.sides.specs.Sides.{Begun}
@@ -69,13 +68,12 @@ module _ {steps : Steps} {bound₁ cells₁ bound₂ cells₂ : List ℕ} where
   -- the cells are the same
   pub step_same :
       {m k : ℕ} → steps.first ≡ Lives m → steps.second ≡ Lives k → k ≡ m → bound₁ ≡ bound₂ → (r : Bool)
-      → r ≡ bytes_eq (take (5 * m) cells₁) (take (5 * m) cells₂)
+      → Alike r (take (5 * m) cells₁) (take (5 * m) cells₂)
       → SameStep r steps bound₁ cells₁ bound₂ cells₂
   step_same d e q s r t =
       record {
         first = λ y. ap has_fired d;
         second = λ y. ap has_fired e;
         same = λ y next.
-            let w = cells-same _ _ (sym y ∙ t) in
-            rw (d, e) (λ j. state_of true next (s j) ((w ∙ ap (λ (n : ℕ). take (5 * n) cells₂) (sym q)) j));
+            rw (d, e) (λ j. state_of true next (s j) ((t.same y ∙ ap (λ (n : ℕ). take (5 * n) cells₂) (sym q)) j));
       }

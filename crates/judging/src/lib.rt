@@ -10,6 +10,7 @@ ghost use Rattle.judging.specs.Judging.{LiveEnd, Overlapping, Lent, BothBegun, B
 
 use crate::tidying::tidy;
 use comparison::same_state;
+use comparison::search::same_cells;
 use engine::derivation::Final;
 use engine::stated::Step;
 use sides::{begin, follow};
@@ -104,7 +105,7 @@ pub fn same_step(
                 return false;
             }
             let e = CONSTRAINT_SIZE * own;
-            bound_one == bound_two && one[..e] == two[..e]
+            same_cells(bound_one, bound_two) && same_cells(&one[..e], &two[..e])
         }
         _ => false,
     }
@@ -123,7 +124,7 @@ pub fn same_ends(
     ensures { result ≡ same_state (end_of bound_one.now one.old)
         (end_of bound_two.now two.old) }
 {
-    if bound_one == bound_two && *one == *two {
+    if same_cells(bound_one, bound_two) && same_cells(one, two) {
         return true;
     }
     tidy(one, n);
