@@ -1,5 +1,6 @@
 -- A goal enters, cell by cell.
 --   starting-next            each goal variable is itself
+--   copying-…                the goal's cells in front
 --   Freeing, freeing-…       its constraints at none of the positions in front
 -- Assumes nothing.
 use Prim.Native.Nat.{ℕ, suc, ◌+◌, ◌-◌, ◌*◌, ◌≤◌, ◌<◌}
@@ -7,9 +8,9 @@ use native.Mathlib.Omega.{arith}
 use native.Mathlib.Numerals.{add-one}
 use mathlib.Core.Bool.{Bool, true, false}
 use mathlib.Core.List.{List, [], ◌∷◌, ◌++◌, map, map-append, append_assoc, append-nil}
-use mathlib.Core.Path.{◌≡◌, refl, sym, ◌∙◌}
-use lib.ListN.{length, set, take, drop, length-drop, drop_of_length-le}
-use lib.Seq.{take-suc-set, length-take-le}
+use mathlib.Core.Path.{◌≡◌, refl, ap, sym, ◌∙◌}
+use lib.ListN.{length, get_or, set, take, drop, length-drop, drop_of_length-le}
+use lib.Seq.{take-suc, take-suc-set, take_all, length-take-le}
 use lib.Seq.{paste, take-paste}
 use Rattle.text.specs.Lists.{has, tabled}
 use Rattle.semantics.specs.Terms.{Constraint, var}
@@ -34,6 +35,16 @@ starting-next bound i l h =
       h,
       variable-cell i,
     )
+
+-- where the first i cells are the goal's, one more is; and then all of them are
+module _ (goal cells : List ℕ) (i : ℕ) where
+  pub copying-next :
+      i < length goal → i < length cells → take i cells ≡ take i goal
+      → take (i + 1) (set cells i (get_or goal i 0)) ≡ take (i + 1) goal
+  copying-next l m h = rw (add-one i, take-suc-set cells i (get_or goal i 0) m, take-suc goal i 0 l, h)
+
+  pub copying-end : i ≡ length goal → take i cells ≡ take i goal → take (length goal) cells ≡ goal
+  copying-end e h = ap (λ k. take k cells) (sym e) ∙ h ∙ take_all i goal (omega arith)
 
 -- the constraints in front and those of the goal from p on that stay are all that stay
 pub record Freeing (goal ps cells : List ℕ) (p k : ℕ) : Type 0 where

@@ -25,7 +25,9 @@ pub fn copy_goal(goal: &[u16], cells: &mut [u16])
     requires { length goal.now ≤ length cells.old }
     ensures { take (length goal.now) cells.new ≡ goal.now }
 {
-    cells[..goal.len()].copy_from_slice(goal);
+    for (i, cell) in goal.iter().enumerate() {
+        cells[i] = *cell;
+    }
 }
 
 // Copies the goal's constraint at a position over the one at another in the cells.

@@ -1,4 +1,5 @@
 -- Laws of the pieces that the writers put one behind the other: what each leaves to count, and what it adds.
+--   copy-…         a part of a text, byte by byte
 --   digit-…        decimal digits
 --   head-…         a word, a number and the line feed
 --   lettered-…, unlettered-…     a goal variable's name
@@ -28,8 +29,20 @@ use Rattle.listing.specs.Writing.{Countable, Writes}
 use Rattle.listing.specs.Ends.{placed, cell_shown, bound_line}
 use Rattle.text.proofs.Decimals.{decimal-low, decimal-high}
 use Rattle.listing.proofs.WriteLaws.{wrote_then, wrote-is, count-is, count-first, count_next}
-use Rattle.listing.proofs.WriteLaws.{Writing, writing-count, writing-next}
+use Rattle.listing.proofs.WriteLaws.{Writing, writing-count, writing-next, writing-end}
 use Rattle.listing.proofs.WriteLaws.{writing-last}
+
+-- a part of a text, one byte on
+module _ {part o p : List ℕ} {at end : ℕ} (i : ℕ) (w : Writing part at o p end (drop i part)) where
+  pub copy-count : i < length part → Countable at part → Countable end (get_or part i 0 ∷ [])
+  copy-count h c = count-first (drop (suc i) part) (count-is (drop-cons part i 0 h) (writing-count c w))
+
+  pub copy-next : {q : List ℕ} {more : ℕ} → i < length part → Writes (get_or part i 0 ∷ []) end p q more → length q ≡ length p
+      → Writing part at o q more (drop (i + 1) part)
+  copy-next h v k = rw (add-one i) (writing-next (drop (suc i) part) (drop-cons part i 0 h) w v k)
+
+  pub copy-end : length part ≤ i → Writes part at o p end
+  copy-end h = writing-end w (drop_of_length-le part h)
 
 -- a number below ten is one digit, any other the digits of its tenth and one more
 module _ (n : ℕ) {at : ℕ} (c : Countable at (decimal n)) where

@@ -28,14 +28,14 @@ pub fn copy(out: &mut [u8], at: usize, part: &[u8]) -> usize
     requires { Countable at part.now }
     ensures { Writes part.now at out.old out.new result }
 {
-    let end = at + part.len();
-    if end <= out.len() {
-        out[at..end].copy_from_slice(part);
+    let mut end = at;
+    for byte in part {
+        end = put_byte(out, end, *byte);
     }
     end
 }
 
-// A number in decimal digits: few have more than three, so that one call for each costs little.
+// A number in decimal digits: up to three in a row; few have more, and each further digit costs a call.
 pub fn put_decimal(out: &mut [u8], at: usize, n: usize) -> usize
     requires { Countable at (decimal n) }
     ensures { Writes (decimal n) at out.old out.new result }
@@ -43,6 +43,16 @@ pub fn put_decimal(out: &mut [u8], at: usize, n: usize) -> usize
     if n < 10 {
         return put_byte(out, at, b'0' + n as u8);
     }
-    let end = put_decimal(out, at, n / 10);
+    let tens = n / 10;
+    if tens < 10 {
+        let end = put_byte(out, at, b'0' + tens as u8);
+        return put_byte(out, end, b'0' + (n % 10) as u8);
+    }
+    if tens < 100 {
+        let second = put_byte(out, at, b'0' + (tens / 10) as u8);
+        let third = put_byte(out, second, b'0' + (tens % 10) as u8);
+        return put_byte(out, third, b'0' + (n % 10) as u8);
+    }
+    let end = put_decimal(out, at, tens);
     put_byte(out, end, b'0' + (n % 10) as u8)
 }

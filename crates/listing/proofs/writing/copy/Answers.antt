@@ -1,10 +1,16 @@
--- `listing::writing::copy` meets its contract: where the part fits it is laid over the output. Assumes nothing.
-use Rattle.std.proofs.Common.{refl}
-use Rattle.listing.proofs.WriteLaws.{wrote-part, wrote-past}
+-- `listing::writing::copy` meets its contract: the bytes before an index are written. Assumes nothing.
+use Rattle.listing.proofs.WriteLaws.{writing_start}
+use Rattle.listing.proofs.LineLaws.{copy-count, copy-next, copy-end}
 use Rattle.listing.proofs.writing.copy.Goals as goal
 
-pub returns-then-end-out : goal.returns-then-end-out
-returns-then-end-out c = wrote-part _ _ refl c.copy_from_slice.ensures.after
+pub loop-byte-init : goal.loop-byte-init
+loop-byte-init c = writing_start _ _ _
 
-pub returns-else-end-out : goal.returns-else-end-out
-returns-else-end-out c = wrote-past _ _ _ _ refl c.if-end-out.false
+pub put_byte-end-requires : goal.put_byte-end-requires
+put_byte-end-requires c = search copy-count
+
+pub loop-byte-preserved : goal.loop-byte-preserved
+loop-byte-preserved c = search copy-next
+
+pub returns : goal.returns
+returns c = search copy-end
