@@ -25,6 +25,7 @@ pub fn copy_goal(goal: &[u16], cells: &mut [u16])
     requires { length goal.now ≤ length cells.old }
     ensures { take (length goal.now) cells.new ≡ goal.now }
 {
+    // No `copy_from_slice`: with it the library for C needs `memmove`.
     for (i, cell) in goal.iter().enumerate() {
         cells[i] = *cell;
     }

@@ -29,6 +29,7 @@ pub fn copy(out: &mut [u8], at: usize, part: &[u8]) -> usize
     ensures { Writes part.now at out.old out.new result }
 {
     let mut end = at;
+    // No `copy_from_slice`: with it the library for C needs `memmove`.
     for byte in part {
         end = put_byte(out, end, *byte);
     }
