@@ -99,29 +99,23 @@ fn rehearse_argument(rt: &(impl Print + Eprint + Files), path: &str) -> io::Resu
 }
 
 // The digit of a text swept, printed.
-fn print_digit(
-    rt: &impl Print,
-    i: usize,
-    b: u8,
-    output: &mut [u8; 32768],
-) -> io::Result<()> {
-    let digits = [swept(i, b, output)];
+fn print_digit(rt: &impl Print, i: usize, b: u8) -> io::Result<()> {
+    let digits = [swept(i, b)];
     print_bytes(rt, &digits)
 }
 
 // All bytes at place i.
-fn sweep_place(rt: &impl Print, i: usize, output: &mut [u8; 32768]) -> io::Result<()> {
+fn sweep_place(rt: &impl Print, i: usize) -> io::Result<()> {
     for b in 0..=255 {
-        print_digit(rt, i, b, output)?;
+        print_digit(rt, i, b)?;
     }
     print_bytes(rt, b"\n")
 }
 
 // All places of both texts.
 fn sweep_all(rt: &impl Print) -> io::Result<()> {
-    let mut output = [0u8; 32768];
     for i in 0..42 {
-        sweep_place(rt, i, &mut output)?;
+        sweep_place(rt, i)?;
     }
     Ok(())
 }

@@ -15,45 +15,46 @@ fn digit(number: u8) -> u8
     b'?'
 }
 
-// What a program and a goal over it meet. Room for every listing is lent, so that it is cleared once and not for each text.
-fn met<'a>(program: &'a [u8], goal: &'a [u8], output: &mut [u8; 32768]) -> u8
+// What a program and a goal over it meet.
+fn met<'a>(program: &'a [u8], goal: &'a [u8]) -> u8
     ensures { result ≡ digit_of (run_reply program.now goal.now ample) }
 {
-    match run(program, goal, output) {
+    let mut output = [0u8; 32768];
+    match run(program, goal, &mut output) {
         Err(refusal) => digit(refusal.number),
         Ok(_) => b'0',
     }
 }
 
 // What the program meets that has byte b at place i.
-fn swept_program(i: usize, b: u8, output: &mut [u8; 32768]) -> u8
+fn swept_program(i: usize, b: u8) -> u8
     requires { i < 26 }
     ensures { result ≡ digit_of (run_reply (set swept_program i b) [] ample) }
 {
     let mut text = *b"K,p,2,1\nR,r\nH,p,X,a\nE,X,b\n";
     text[i] = b;
-    met(&text, b"", output)
+    met(&text, b"")
 }
 
 // What the goal meets that has byte b at place i.
-fn swept_goal(i: usize, b: u8, output: &mut [u8; 32768]) -> u8
+fn swept_goal(i: usize, b: u8) -> u8
     requires { i < 16 }
     ensures { result ≡ digit_of (run_reply goal_program (set swept_goal i b) ample) }
 {
     let mut text = *b"G,p,A,a\nG,p,b,A\n";
     text[i] = b;
-    met(b"K,p,2,1\n", &text, output)
+    met(b"K,p,2,1\n", &text)
 }
 
 // The digit of place i and byte b: the first 26 places are the program's, the next 16 the goal's, and there are no others.
-pub fn swept(i: usize, b: u8, output: &mut [u8; 32768]) -> u8
+pub fn swept(i: usize, b: u8) -> u8
     ensures { result ≡ swept_digit i b }
 {
     if i < 26 {
-        return swept_program(i, b, output);
+        return swept_program(i, b);
     }
     if i < 42 {
-        return swept_goal(i - 26, b, output);
+        return swept_goal(i - 26, b);
     }
     b'?'
 }

@@ -7,14 +7,12 @@ pub returns-in-Err : goal.returns-in-Err
 unfolding ample
 returns-in-Err c =
     let args' = c.args in
-    let replied = rw c.run-arg-1.given.0.1 at c.run.ensures in
-    refused-digit args'.program.now args'.goal.now replied _ c.digit.result
+    refused-digit args'.program.now args'.goal.now c.run.ensures _ c.digit.result
     c.in-Err.is c.digit.ensures
 
 pub returns-in-Ok : goal.returns-in-Ok
 unfolding ample
 returns-in-Ok c =
     let args' = c.args in
-    let replied = rw c.run-arg-1.given.0.1 at c.run.ensures in
-    listed-digit args'.program.now args'.goal.now replied _
+    listed-digit args'.program.now args'.goal.now c.run.ensures _
     c.in-Ok.is
